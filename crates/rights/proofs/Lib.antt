@@ -1,0 +1,3 @@
+pub mod Subsets
+pub mod Changes
+pub mod Taken

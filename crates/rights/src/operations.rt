@@ -1,0 +1,30 @@
+//! The operations that a policy speaks of.
+
+ghost use Rattle.std.specs.Prelude.{◌≡◌};
+ghost use Rattle.rights.specs.Operations.{operation_name};
+ghost use Rattle.rights.specs.Views.{operation_of};
+
+/// What a call does to a place of the tree, and what a grant lists.
+#[derive(Clone, Copy, PartialEq, Eq, Debug)]
+pub enum Op {
+    Look,
+    Read,
+    Write,
+    Create,
+    Remove,
+}
+
+impl Op {
+    /// The operation's name, as a trace prints it and a task writes it.
+    pub fn name(self) -> &'static str
+        ensures { result.now ≡ operation_name (operation_of self) }
+    {
+        match self {
+            Op::Look => "look",
+            Op::Read => "read",
+            Op::Write => "write",
+            Op::Create => "create",
+            Op::Remove => "remove",
+        }
+    }
+}
