@@ -1,0 +1,43 @@
+-- A world as it is kept in memory, and the world that it stands for.
+use Rattle.std.specs.Prelude.{◌+◌, ◌*◌, ℕ, nat_lt, List, [], Option, Some, None, unwrap_or, if◌then◌else◌, Bool}
+use Rattle.std.specs.List.{slice_get, slice_index_or}
+use Rattle.process.specs.State.{ProcessState}
+use Rattle.capcheck.specs.Tree.{Node}
+use Rattle.capcheck.specs.Descriptions.{Object, State, Descriptor}
+use Rattle.capcheck.specs.Programs.{Program}
+use Rattle.capcheck.specs.World.{World}
+use Rattle.capcheck.specs.Plans.{no_object, first_state}
+
+-- sixteen entries for each of sixteen processes, and the descriptions in the order of making
+pub record Kept : Type 0 where
+  pub nodes : List Node
+  pub entries : List (Option Descriptor)
+  pub objects : List Object
+  pub states : List State
+  pub processes : List ProcessState
+
+abbrev pub entry : List (Option Descriptor) → ℕ → ℕ → Option Descriptor
+entry entries p n = if nat_lt n 16 then slice_index_or entries (p * 16 + n) None else None
+
+abbrev pub object : List Object → ℕ → Object
+object objects n = slice_index_or objects n no_object
+
+abbrev pub state : List State → ℕ → State
+state states n = slice_index_or states n first_state
+
+unfoldable pub world_of : Kept → World
+world_of k = record {
+  tree = k.nodes;
+  objects = object k.objects;
+  states = state k.states;
+  queue = λ pair side. [];
+  pairs = 0;
+  processes = k.processes;
+  table = entry k.entries;
+}
+
+-- A machine: its programs, its world, and whether it stopped for want of memory.
+pub record Device : Type 0 where
+  pub programs : List Program
+  pub kept : Kept
+  pub spent : Bool

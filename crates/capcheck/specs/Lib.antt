@@ -1,0 +1,13 @@
+pub mod Tree
+pub mod Descriptions
+pub mod Programs
+pub mod World
+pub mod Answers
+pub mod Steps
+pub mod Runs
+pub mod WellFormed
+pub mod Plans
+pub mod Named
+pub mod Traces
+pub mod Schedules
+pub mod Kept

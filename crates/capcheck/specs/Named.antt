@@ -1,0 +1,67 @@
+-- The tasks that the program knows by name. Each has one process `main` outside capability mode,
+-- with `/work/in` open for reading as descriptor 2, and the grant `work` to look and read beneath
+-- `/work`.
+use Rattle.std.specs.Prelude.{ℕ, true, false, List, [], ◌∷◌, codes, Option, Some, None, if◌then◌else◌}
+use Rattle.std.specs.Str.{bytes_eq}
+use Rattle.rights.specs.Sets.{all_rights, all_commands, seek_right}
+use Rattle.rights.specs.Operations.{Operation, Look, Read as Reads}
+use Rattle.capcheck.specs.Tree.{Node, File, Dir}
+use Rattle.capcheck.specs.Programs.{Program, Instruction, Set, Jeq, Halt, Invoke, Cap_enter, Read}
+use Rattle.capcheck.specs.Plans.{Plan, Grant, Start, FirstDescriptor}
+
+-- the root, `/work`, and the file `/work/in` with the bytes `AB`
+abbrev pub small_tree : List Node
+small_tree =
+    record { kind = Dir; place = []; linked = true; content = [] }
+    ∷ record { kind = Dir; place = codes "work" ∷ []; linked = true; content = [] }
+    ∷ record { kind = File; place = codes "work" ∷ codes "in" ∷ []; linked = true; content = codes "AB" }
+    ∷ []
+
+abbrev pub work_grant : Grant
+work_grant = record { name = codes "work"; path = codes "work" ∷ []; operations = Look ∷ Reads ∷ [] }
+
+abbrev pub plan_of : List Instruction → ℕ → Plan
+plan_of code rights = record {
+  nodes = small_tree;
+  grants = work_grant ∷ [];
+  programs = record { name = codes "main"; code = code } ∷ [];
+  starts =
+      record {
+        program = 0;
+        mode = false;
+        descriptors =
+            record {
+              number = 2;
+              node = 2;
+              access = record { readable = true; writable = false };
+              rights = rights;
+              fcntls = all_commands;
+            }
+            ∷ [];
+      }
+      ∷ [];
+}
+
+-- enters the mode and reads a byte
+abbrev pub enter_and_read : List Instruction
+enter_and_read = Invoke Cap_enter 2 ∷ Invoke (Read 2) 2 ∷ Halt ∷ []
+
+-- reads until the end, or until a byte is neither `A` nor `B`
+abbrev pub read_on : List Instruction
+read_on = Invoke (Read 2) 4 ∷ Jeq 0 256 4 ∷ Jeq 0 65 0 ∷ Jeq 0 66 0 ∷ Halt ∷ []
+
+abbrev pub first_plan : Plan
+first_plan = plan_of enter_and_read all_rights
+
+-- the same without the right to read
+abbrev pub bare_plan : Plan
+bare_plan = plan_of enter_and_read seek_right
+
+abbrev pub loop_plan : Plan
+loop_plan = plan_of read_on all_rights
+
+abbrev pub plan_named : List ℕ → Option Plan
+plan_named name =
+    if bytes_eq name (codes "first") then Some first_plan
+    else (if bytes_eq name (codes "bare") then Some bare_plan
+    else (if bytes_eq name (codes "loop") then Some loop_plan else None))

@@ -1,0 +1,17 @@
+-- Runs: any list of events, one step after another.
+use Rattle.std.specs.Prelude.{◌≡◌, ℕ, List, [], ◌∷◌}
+use Rattle.capcheck.specs.Programs.{Program}
+use Rattle.capcheck.specs.World.{World, Choice, IsFresh}
+use Rattle.capcheck.specs.Answers.{Event}
+use Rattle.capcheck.specs.Steps.{Line, step}
+
+-- From this world the events may show these lines, whatever fresh numbers are chosen at each step.
+abbrev pub Runs : List Program → World → List Event → List Line → Type 0
+Runs programs w [] [] = Unit {0}
+Runs programs w [] (line ∷ lines) = ⊥
+Runs programs w (e ∷ events) [] = ⊥
+Runs programs w (e ∷ events) (line ∷ lines) =
+    (choice : Choice)
+    × IsFresh w choice
+    × ((step programs w e choice).line ≡ line)
+    × Runs programs (step programs w e choice).world events lines

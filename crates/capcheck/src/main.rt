@@ -1,0 +1,6 @@
+//! Capcheck, the program.
+#![tactic(auto)]
+
+fn main(rt: HostRuntime) {
+    let _ = rt;
+}
