@@ -1,2 +1,9 @@
 pub mod Rows
 pub mod ScheduleRows
+pub mod Points
+pub mod Entries
+pub mod Fresh
+pub mod Good
+pub mod Keeping
+pub mod Determined
+pub mod Begins

@@ -33,27 +33,25 @@ is_last (Invoke call otherwise) = false
 
 abbrev pub ends_well : List Instruction → Bool
 ends_well [] = false
-ends_well (i ∷ code) = last_of i code
-  where
-    last_of : Instruction → List Instruction → Bool
-    last_of i [] = is_last i
-    last_of i (next ∷ code) = last_of next code
+ends_well (i ∷ []) = is_last i
+ends_well (i ∷ next ∷ code) = ends_well (next ∷ code)
 
 -- A program: at most 256 instructions, and each point that needs a next one has it.
 abbrev pub is_program : Program → Bool
 is_program p = nat_le (length p.code) 256 && list_all (is_instruction (length p.code)) p.code && ends_well p.code
 
 -- the instruction at a point of a program of the list
+abbrev pub at_point : ℕ → Option Program → Option Instruction
+at_point point None = None
+at_point point (Some p) = slice_get p.code point
+
 abbrev pub instruction_at : List Program → ℕ → ℕ → Option Instruction
-instruction_at programs program point = at_point (slice_get programs program)
-  where
-    at_point : Option Program → Option Instruction
-    at_point None = None
-    at_point (Some p) = slice_get p.code point
+instruction_at programs program point = at_point point (slice_get programs program)
+
+-- the name of a program of the list
+abbrev pub name_of : Option Program → List ℕ
+name_of None = []
+name_of (Some p) = p.name
 
 abbrev pub name_at : List Program → ℕ → List ℕ
 name_at programs program = name_of (slice_get programs program)
-  where
-    name_of : Option Program → List ℕ
-    name_of None = []
-    name_of (Some p) = p.name

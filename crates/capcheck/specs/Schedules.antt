@@ -57,15 +57,15 @@ abbrev pub event_of : Option (List ℕ) → Option Event
 event_of None = None
 event_of (Some line) = event_of_words (words_from [] line)
 
+abbrev pub with_event : ℕ → Option Event → Result (List Event) ℕ → Result (List Event) ℕ
+with_event n None rest = Err n
+with_event n (Some e) (Err line) = Err line
+with_event n (Some e) (Ok events) = Ok (e ∷ events)
+
 -- the events of the lines, or the number of the first faulty one
 abbrev pub events_from : ℕ → List (Option (List ℕ)) → Result (List Event) ℕ
 events_from n [] = Ok []
-events_from n (line ∷ lines) = behind n (event_of line) (events_from (n + 1) lines)
-  where
-    behind : ℕ → Option Event → Result (List Event) ℕ → Result (List Event) ℕ
-    behind n None rest = Err n
-    behind n (Some e) (Err line) = Err line
-    behind n (Some e) (Ok events) = Ok (e ∷ events)
+events_from n (line ∷ lines) = with_event n (event_of line) (events_from (n + 1) lines)
 
 -- The first faulty line is told before the limit.
 abbrev pub limited : Result (List Event) ℕ → Result (List Event) Fault

@@ -50,11 +50,8 @@ same_place (x ∷ xs) (y ∷ ys) = bytes_eq x y && same_place xs ys
 -- a place without its last name
 abbrev pub above : List (List ℕ) → List (List ℕ)
 above [] = []
-above (name ∷ names) = above_of name names
-  where
-    above_of : List ℕ → List (List ℕ) → List (List ℕ)
-    above_of name [] = []
-    above_of name (next ∷ names) = name ∷ above_of next names
+above (name ∷ []) = []
+above (name ∷ next ∷ names) = name ∷ above (next ∷ names)
 
 -- A name is 1 to 255 bytes from 33 to 126 without `/`, `"` and `\`, and neither `.` nor `..`. (own)
 abbrev pub is_name_byte : ℕ → Bool

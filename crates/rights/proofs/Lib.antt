@@ -1,3 +1,6 @@
 pub mod Subsets
 pub mod Changes
 pub mod Taken
+pub mod Lists
+pub mod Tests
+pub mod Numbers
