@@ -7,3 +7,4 @@ pub mod Good
 pub mod Keeping
 pub mod Determined
 pub mod Begins
+pub mod Tables

@@ -11,3 +11,4 @@ pub mod Named
 pub mod Traces
 pub mod Schedules
 pub mod Kept
+pub mod Views

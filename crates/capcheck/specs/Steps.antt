@@ -12,13 +12,13 @@ use Rattle.capcheck.specs.World.{World, Choice, IsFresh}
 use Rattle.capcheck.specs.Answers.{Event, Effect, Change, Answer, Fails, Waits, Gives, answer, changed}
 
 -- what a step comes to
-pub data Outcome : Type 0 where
-  Done : Outcome                                          -- an instruction that is no call
-  Halted : Outcome
-  Value : ℕ → Outcome                                     -- the call's, in the caller
-  Failed : (errno : Errno) (cause : Cause) → Outcome
-  Waiting : Outcome
-  Ended : Outcome                                         -- the process had ended before
+pub data LineResult : Type 0 where
+  Done : LineResult                                          -- an instruction that is no call
+  Halted : LineResult
+  Value : ℕ → LineResult                                     -- the call's, in the caller
+  Failed : (errno : Errno) (cause : Cause) → LineResult
+  Waiting : LineResult
+  Ended : LineResult                                         -- the process had ended before
 
 -- an effect as a trace prints it
 pub record Shown : Type 0 where
@@ -29,7 +29,7 @@ pub record Shown : Type 0 where
 pub record Acted : Type 0 where
   pub program : List ℕ
   pub point : ℕ
-  pub outcome : Outcome
+  pub outcome : LineResult
   pub effects : List Shown
 
 pub record Line : Type 0 where
@@ -48,7 +48,7 @@ shown e = record { operation = e.operation; place = place_text e.place }
 -- What an instruction does: the world after it, with the process in it.
 pub record Executed : Type 0 where
   pub world : World
-  pub outcome : Outcome
+  pub outcome : LineResult
   pub effects : List Effect
 
 abbrev pub register : ProcessState → ℕ → ℕ
@@ -106,7 +106,7 @@ executed w e choice s (Invoke call otherwise) = answered w e.process s choice ot
 
 -- A process that was not made, or has ended, changes nothing. So does one at a point without an
 -- instruction, where no run comes.
-abbrev pub line_of_process : List Program → Event → ProcessState → Outcome → List Shown → Line
+abbrev pub line_of_process : List Program → Event → ProcessState → LineResult → List Shown → Line
 line_of_process programs e s outcome effects = record {
   process = e.process;
   acted = Some (record { program = name_at programs s.program; point = s.point; outcome = outcome; effects = effects });

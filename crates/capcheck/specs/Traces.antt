@@ -4,15 +4,15 @@ use Rattle.std.specs.List.{flat_map}
 use Rattle.std.specs.Fmt.{decimal}
 use Rattle.rights.specs.Errors.{errno_name, cause_name}
 use Rattle.rights.specs.Operations.{operation_name}
-use Rattle.capcheck.specs.Steps.{Outcome, Done, Halted, Value, Failed, Waiting, Ended, Shown, Acted, Line}
+use Rattle.capcheck.specs.Steps.{LineResult, Done, Halted, Value, Failed, Waiting, Ended, Shown, Acted, Line}
 
-abbrev pub outcome_text : Outcome → List ℕ
-outcome_text Done = codes "ok"
-outcome_text Halted = codes "halt"
-outcome_text (Value n) = codes "= " ++ decimal n
-outcome_text (Failed errno cause) = codes "! " ++ errno_name errno ++ codes " " ++ cause_name cause
-outcome_text Waiting = codes "wait"
-outcome_text Ended = codes "ended"
+abbrev pub result_text : LineResult → List ℕ
+result_text Done = codes "ok"
+result_text Halted = codes "halt"
+result_text (Value n) = codes "= " ++ decimal n
+result_text (Failed errno cause) = codes "! " ++ errno_name errno ++ codes " " ++ cause_name cause
+result_text Waiting = codes "wait"
+result_text Ended = codes "ended"
 
 -- ` read /work/in`
 abbrev pub effect_text : Shown → List ℕ
@@ -22,7 +22,7 @@ effect_text e = codes " " ++ operation_name e.operation ++ codes " " ++ e.place
 abbrev pub acted_text : Option Acted → List ℕ
 acted_text None = codes " - none"
 acted_text (Some a) =
-    codes " " ++ a.program ++ codes ":" ++ decimal a.point ++ codes " " ++ outcome_text a.outcome
+    codes " " ++ a.program ++ codes ":" ++ decimal a.point ++ codes " " ++ result_text a.outcome
     ++ flat_map effect_text a.effects
 
 abbrev pub line_text : Line → List ℕ

@@ -1,6 +1,6 @@
 -- The file tree: its nodes in the order in which they were made, so that a node's number is its
 -- place in the list. (own, after open(2) and capsicum(4))
-use Rattle.std.specs.Prelude.{◌+◌, ◌==◌, ℕ, Bool, true, false, ◌&&◌, ◌||◌, not, nat_le, nat_lt, List, [], ◌∷◌, ◌++◌, length, Option, Some, None, if◌then◌else◌}
+use Rattle.std.specs.Prelude.{◌+◌, ◌==◌, ℕ, Bool, true, false, ◌&&◌, ◌||◌, not, nat_le, nat_lt, List, [], ◌∷◌, ◌++◌, length, codes, if◌then◌else◌}
 use Rattle.std.specs.List.{flat_map, list_all, list_any, slice_index_or}
 use Rattle.std.specs.Str.{bytes_eq}
 
@@ -35,10 +35,14 @@ is_link File = false
 is_link Dir = false
 is_link Link = true
 
+-- each name after a `/`
+abbrev pub names_text : List (List ℕ) → List ℕ
+names_text names = flat_map (λ n. 47 ∷ n) names
+
 -- A place as a trace prints it: `/` for the root, else each name after a `/`.
 abbrev pub place_text : List (List ℕ) → List ℕ
-place_text [] = 47 ∷ []
-place_text (name ∷ names) = flat_map (λ n. 47 ∷ n) (name ∷ names)
+place_text [] = codes "/"
+place_text (name ∷ names) = names_text (name ∷ names)
 
 -- the same names in the same order
 abbrev pub same_place : List (List ℕ) → List (List ℕ) → Bool

@@ -1,0 +1,71 @@
+//! A task: the tree, the policy, the programs, and the first processes with their descriptors.
+
+ghost use Rattle.std.specs.Prelude.{◌≡◌};
+
+use crate::files::Access;
+use crate::nodes::Node;
+use crate::programs::Program;
+use rights::{Fcntls, Op, Rights};
+use std::marker::Model;
+
+/// A grant: the operations that are allowed on a directory and on everything beneath it.
+#[derive(Drop)]
+pub struct Grant {
+    pub name: String,
+    /// The directory's place.
+    pub path: Vec<Vec<u8>>,
+    pub operations: Vec<Op>,
+}
+
+/// A descriptor that a process starts with, on a file or directory of the tree.
+#[derive(Clone, Copy)]
+pub struct FirstDescriptor {
+    pub number: u8,
+    pub node: u16,
+    pub access: Access,
+    pub rights: Rights,
+    pub fcntls: Fcntls,
+}
+
+/// A first process.
+#[derive(Drop)]
+pub struct Start {
+    /// The program's place in the task.
+    pub program: u8,
+    /// Whether it starts in capability mode.
+    pub mode: bool,
+    pub descriptors: Vec<FirstDescriptor>,
+}
+
+/// A task, valid by construction: its tree is one, its programs never run past their ends, its grants
+/// are on directories of their own, and its first descriptors are on files and directories.
+#[derive(Drop)]
+pub struct Task {
+    nodes: Vec<Node>,
+    grants: Vec<Grant>,
+    programs: Vec<Program>,
+    starts: Vec<Start>,
+}
+
+impl Model for Task {
+    ghost use Rattle.std.specs.Prelude.{◌≡◌, true, map};
+    ghost use Rattle.capcheck.specs.Plans.{Plan, is_plan};
+
+    ghost Value = { Plan };
+
+    ghost use Rattle.capcheck.specs.Views.{nodes_of, grants_of, programs_of, starts_of};
+
+    ghost view = { λ t. record {
+        nodes = nodes_of t.nodes.items;
+        grants = grants_of t.grants.items;
+        programs = programs_of t.programs.items;
+        starts = starts_of t.starts.items;
+    } };
+
+    ghost invariant = { λ t. is_plan (record {
+        nodes = nodes_of t.nodes.items;
+        grants = grants_of t.grants.items;
+        programs = programs_of t.programs.items;
+        starts = starts_of t.starts.items;
+    }) ≡ true };
+}
