@@ -8,3 +8,5 @@ pub mod Keeping
 pub mod Determined
 pub mod Begins
 pub mod Tables
+pub mod Reading
+pub mod Found

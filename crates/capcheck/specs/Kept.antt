@@ -1,9 +1,9 @@
 -- A world as it is kept in memory, and the world that it stands for.
-use Rattle.std.specs.Prelude.{◌+◌, ◌*◌, ℕ, nat_lt, List, [], Option, Some, None, unwrap_or, if◌then◌else◌, Bool}
+use Rattle.std.specs.Prelude.{◌≡◌, ◌+◌, ◌*◌, ◌<◌, ◌≤◌, ℕ, nat_lt, length, List, [], Option, Some, None, unwrap_or, if◌then◌else◌, Bool}
 use Rattle.std.specs.List.{slice_get, slice_index_or}
 use Rattle.process.specs.State.{ProcessState}
 use Rattle.capcheck.specs.Tree.{Node}
-use Rattle.capcheck.specs.Descriptions.{Object, State, Descriptor}
+use Rattle.capcheck.specs.Descriptions.{Object, At_node, At_end, State, Descriptor}
 use Rattle.capcheck.specs.Programs.{Program}
 use Rattle.capcheck.specs.World.{World}
 use Rattle.capcheck.specs.Plans.{no_object, first_state}
@@ -35,6 +35,21 @@ world_of k = record {
   processes = k.processes;
   table = entry k.entries;
 }
+
+-- Each entry names a description that is kept, of a node that is kept, at an offset within a file.
+abbrev pub IsOfNode : Kept → Object → Type 0
+IsOfNode k (At_node n access) = n < length k.nodes
+IsOfNode k (At_end pair side class) = ⊥
+
+abbrev pub IsNamed : Kept → Option Descriptor → Type 0
+IsNamed k None = Unit {0}
+IsNamed k (Some d) = (d.description < length k.objects) × IsOfNode k (object k.objects d.description)
+
+pub record IsReadable (k : Kept) : Type 0 where
+  pub room : length k.entries ≡ 256
+  pub states : length k.states ≡ length k.objects
+  pub named : (p n : ℕ) → IsNamed k (entry k.entries p n)
+  pub offsets : (n : ℕ) → (state k.states n).offset ≤ 4096
 
 -- A machine: its programs, its world, and whether it stopped for want of memory.
 pub record Device : Type 0 where

@@ -12,3 +12,5 @@ pub mod Traces
 pub mod Schedules
 pub mod Kept
 pub mod Views
+pub mod AnswerViews
+pub mod StepViews

@@ -21,6 +21,8 @@ use Rattle.capcheck.specs.declared.task.Start.{Start as StartCode}
 use Rattle.capcheck.specs.Tree.{Kind, File, Dir, Link, Node}
 use Rattle.capcheck.specs.Descriptions.{Access, Object, At_node, State, Descriptor}
 use Rattle.capcheck.specs.Programs.{Syscall, Cap_enter, Read, Instruction, Set, Jeq, Halt, Invoke, Program}
+use Rattle.capcheck.specs.declared.world.World.{World as WorldCode}
+use Rattle.capcheck.specs.Kept.{Kept}
 use Rattle.capcheck.specs.Plans.{Grant, FirstDescriptor, Start}
 
 abbrev pub kind_of : KindCode → Kind
@@ -87,3 +89,12 @@ start_of s = record { program = s.program; mode = s.mode; descriptors = map firs
 
 abbrev pub starts_of : List StartCode → List Start
 starts_of starts = map start_of starts
+
+abbrev pub kept_of : WorldCode → Kept
+kept_of w = record {
+  nodes = nodes_of w.nodes.items;
+  entries = entries_of w.files.entries.items;
+  objects = map object_of w.files.descriptions.items;
+  states = map state_of w.files.descriptions.items;
+  processes = w.processes.items;
+}

@@ -84,3 +84,11 @@ pub fn no_entries(alloc: Global) -> Result<Vec<Option<Descriptor>>, AllocError>
     }
     Ok(entries)
 }
+
+/// The tables of all processes, one map over (process, number), and the open descriptions.
+#[derive(Drop)]
+pub struct Files {
+    /// Sixteen entries for each of sixteen processes.
+    pub entries: Vec<Option<Descriptor>>,
+    pub descriptions: Vec<Description>,
+}

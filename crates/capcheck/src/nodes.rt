@@ -1,8 +1,8 @@
 //! The file tree as a plain list of nodes with their places. Nothing changes it yet.
 
 ghost use Rattle.std.specs.Prelude.{◌≡◌, ◌++◌, IfOk};
-ghost use Rattle.capcheck.specs.Tree.{names_text, place_text};
-ghost use Rattle.capcheck.specs.Views.{place_of};
+ghost use Rattle.capcheck.specs.Tree.{is_dir, names_text, place_text};
+ghost use Rattle.capcheck.specs.Views.{kind_of, place_of};
 
 use std::alloc::{AllocError, Global};
 
@@ -11,6 +11,18 @@ pub enum Kind {
     File,
     Dir,
     Link,
+}
+
+impl Kind {
+    /// Whether this is a directory's kind.
+    pub fn is_dir(self) -> bool
+        ensures { result ≡ is_dir (kind_of self) }
+    {
+        match self {
+            Kind::Dir => true,
+            Kind::File | Kind::Link => false,
+        }
+    }
 }
 
 /// A node of the tree. Its number is its place in the list of nodes.

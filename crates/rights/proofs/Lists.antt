@@ -1,5 +1,5 @@
 -- Lists at an index.
-use Rattle.std.proofs.Common.{◌≡◌, ℕ, zero, suc, ◌+◌, ◌<◌, ◌≤◌, Bool, true, false, List, [], ◌∷◌, ◌++◌, ◌⊎◌, inl, inr, refl, ap, length}
+use Rattle.std.proofs.Common.{◌≡◌, ℕ, zero, suc, ◌+◌, ◌<◌, ◌≤◌, Bool, true, false, List, [], ◌∷◌, ◌++◌, ◌⊎◌, inl, inr, refl, ap, sym, map, arith, length}
 use Rattle.std.specs.Prelude.{Option, Some, None, slice_set}
 use Rattle.std.specs.List.{slice_get, slice_index_or, list_all, list_any}
 use Rattle.rights.proofs.Tests.{both_left, both_right, neither}
@@ -39,3 +39,9 @@ pub list_any-false : {A : Type 0} (test : A → Bool) (xs : List A) → ((i : �
 list_any-false test [] none = refl
 list_any-false test (x ∷ xs) none =
     neither (test x) (list_any test xs) (none zero x refl) (list_any-false test xs (λ i y here. none (suc i) y here))
+
+-- an element that is seen through a function
+pub slice_index_or-map : {A B : Type 0} (f : A → B) (xs : List A) (i : ℕ) (x : A) (d : B) → i < length xs → x ≡ slice_index_or xs i x → slice_index_or (map f xs) i d ≡ f x
+slice_index_or-map f [] i x d within is = absurd (omega arith)
+slice_index_or-map f (y ∷ xs) zero x d within is = ap f (sym is)
+slice_index_or-map f (y ∷ xs) (suc i) x d within is = slice_index_or-map f xs i x d (omega arith) is

@@ -1,0 +1,31 @@
+use Rattle.std.proofs.Common.{◌≡◌, sym, ◌∙◌, ap, subst, true, false}
+use Rattle.std.specs.Prelude.{IfOk, Some, None}
+use Rattle.rights.proofs.Tests.{not_true, not_false}
+use Rattle.capcheck.specs.AnswerViews.{Shows}
+use Rattle.capcheck.specs.Kept.{entry}
+use Rattle.capcheck.specs.Views.{descriptor_of, entries_of, kept_of}
+use Rattle.capcheck.proofs.Reading.{answer-not_open, answer-lacks}
+use Rattle.capcheck.proofs.Found.{answer_is, offset_small}
+use Rattle.capcheck.proofs.answers.read.Goals as goal
+
+pub returns-in_default : goal.returns-in_default
+returns-in_default c =
+    λ e. answer-not_open (kept_of c.args.world.now) c.args.process c.args.number e (cc (c.in_default.ensures, c.deref.ensures.value))
+
+pub returns-then-not-contains : goal.returns-then-not-contains
+returns-then-not-contains c =
+    λ e. answer-lacks (kept_of c.args.world.now) c.args.process c.args.number e (descriptor_of c.in-Some.descriptor)
+        (cc (c.in-Some.ensures, c.deref.ensures.value)) (sym c.contains.ensures.computes ∙ c.if-not-contains.true)
+
+pub read_node-requires : goal.read_node-requires
+read_node-requires c =
+    offset_small c.args.world.now c.args.process c.args.number c.in-Some.descriptor c.requires
+        (cc (c.in-Some.ensures, c.deref.ensures.value)) c.index-description.result.now c.index-description.ensures
+
+pub returns : goal.returns
+returns c = λ e.
+    let is = answer_is c.args.world.now c.args.process c.args.number c.in-Some.descriptor c.requires
+      (cc (c.in-Some.ensures, c.deref.ensures.value)) c.index-description.result.now c.index.result.now
+      c.index-description.ensures c.index.ensures (sym c.contains.ensures.computes ∙ c.if-not-contains.false) e
+    in
+    subst (λ x. IfOk c.read_node.result (λ a. Shows a x)) (sym is) c.read_node.ensures
