@@ -10,3 +10,4 @@ pub mod Begins
 pub mod Tables
 pub mod Reading
 pub mod Found
+pub mod Changed

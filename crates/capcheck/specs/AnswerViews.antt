@@ -1,5 +1,5 @@
 -- What the code's answers stand for.
-use Rattle.std.specs.Prelude.{◌≡◌, ℕ, List, [], ◌∷◌, map, Option, Some, None}
+use Rattle.std.specs.Prelude.{◌≡◌, ◌<◌, ℕ, List, [], ◌∷◌, map, Option, Some, None}
 use Rattle.rights.specs.Views.{errno_of, cause_of, operation_of}
 use Rattle.capcheck.specs.declared.answers.Effect.{Effect as EffectCode}
 use Rattle.capcheck.specs.declared.answers.Moved.{Moved}
@@ -40,3 +40,13 @@ abbrev pub Shows : AnswerCode → Answer → Type 0
 Shows (code.Fails errno cause) a = a ≡ Fails (errno_of errno) (cause_of cause)
 Shows code.Waits a = a ≡ Waits
 Shows (code.Gives value change effects) a = GivesAs value (change_of change) (effects_of effects.items) a
+
+-- A change moves the offset of a description below the count, or of none.
+abbrev pub IsBelow : ℕ → Option Moved → Type 0
+IsBelow count None = Unit {0}
+IsBelow count (Some m) = m.description < count
+
+abbrev pub MovesBelow : ℕ → AnswerCode → Type 0
+MovesBelow count (code.Fails errno cause) = Unit {0}
+MovesBelow count code.Waits = Unit {0}
+MovesBelow count (code.Gives value change effects) = IsBelow count change.moved

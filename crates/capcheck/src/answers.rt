@@ -1,12 +1,12 @@
 //! What a system call answers. A call decides and changes nothing; what it changes is part of its
 //! answer, and an error has no such part.
 
-ghost use Rattle.std.specs.Prelude.{◌≡◌, ◌<◌, ◌≤◌, IfOk, length, slice_get};
+ghost use Rattle.std.specs.Prelude.{◌≡◌, ◌<◌, ℕ, ◌≤◌, IfOk, length, slice_get};
 ghost use Rattle.capcheck.specs.Answers.{Event, answer, read_node};
 ghost use Rattle.capcheck.specs.Programs.{Read};
 ghost use Rattle.capcheck.specs.Kept.{IsReadable, world_of};
 ghost use Rattle.capcheck.specs.Views.{access_of, kept_of, node_of, state_of, syscall_of};
-ghost use Rattle.capcheck.specs.AnswerViews.{Shows, effects_of, prints};
+ghost use Rattle.capcheck.specs.AnswerViews.{MovesBelow, Shows, effects_of, prints};
 
 use crate::files::{Description, entry_at};
 use crate::nodes::{Node, text_of_place};
@@ -74,7 +74,8 @@ fn read_node(
     node: &Node,
 ) -> Result<Answer, AllocError>
     requires { description.offset ≤ 4096 }
-    ensures { IfOk result (λ a. Shows a (read_node number (state_of description) (access_of description.access) (node_of node.now))) }
+    ensures shows { IfOk result (λ a. Shows a (read_node number (state_of description) (access_of description.access) (node_of node.now))) }
+    ensures moves { (count : ℕ) → number < count → IfOk result (λ a. MovesBelow count a) }
 {
     if node.kind.is_dir() {
         return Ok(Answer::Fails(Errno::EISDIR, Cause::Kind));
@@ -94,7 +95,8 @@ fn read_node(
 
 fn read(alloc: Global, world: &World, process: u8, number: u32) -> Result<Answer, AllocError>
     requires { IsReadable (kept_of world.now) }
-    ensures { (e : Event) → IfOk result (λ a. Shows a (answer (world_of (kept_of world.now)) process e (Read number))) }
+    ensures shows { (e : Event) → IfOk result (λ a. Shows a (answer (world_of (kept_of world.now)) process e (Read number))) }
+    ensures moves { IfOk result (λ a. MovesBelow (length world.now.files.descriptions.items) a) }
 {
     let Some(descriptor) = entry_at(&world.files.entries, process, number) else {
         return Ok(Answer::Fails(Errno::EBADF, Cause::BadDescriptor));
@@ -109,7 +111,8 @@ fn read(alloc: Global, world: &World, process: u8, number: u32) -> Result<Answer
 /// What the call of this process answers.
 pub fn decide(alloc: Global, world: &World, process: u8, call: Syscall) -> Result<Answer, AllocError>
     requires { IsReadable (kept_of world.now) }
-    ensures { (e : Event) → IfOk result (λ a. Shows a (answer (world_of (kept_of world.now)) process e (syscall_of call))) }
+    ensures shows { (e : Event) → IfOk result (λ a. Shows a (answer (world_of (kept_of world.now)) process e (syscall_of call))) }
+    ensures moves { IfOk result (λ a. MovesBelow (length world.now.files.descriptions.items) a) }
 {
     match call {
         Syscall::CapEnter => Ok(Answer::Gives(0, Change { moved: None, enters: true }, Vec::new(alloc))),

@@ -1,18 +1,18 @@
 //! What an instruction does to the world.
 
-ghost use Rattle.std.specs.Prelude.{◌≡◌, ◌<◌, ◌+◌, ◌||◌, ◌≤◌, IfOk, length, Some, slice_get, slice_set, false};
+ghost use Rattle.std.specs.Prelude.{◌≡◌, ◌<◌, ◌+◌, ◌||◌, ◌≤◌, IfOk, length, Some, map, slice_get, slice_set, false};
 ghost use Rattle.process.specs.State.{ProcessState};
 ghost use Rattle.rights.specs.Views.{errno_of};
-ghost use Rattle.capcheck.specs.Answers.{Answer as AnswerSeen, Event as EventSeen};
-ghost use Rattle.capcheck.specs.AnswerViews.{Shows, change_of};
+ghost use Rattle.capcheck.specs.Answers.{Answer as AnswerSeen, Event as EventSeen, changed};
+ghost use Rattle.capcheck.specs.AnswerViews.{IsBelow, MovesBelow, Shows, change_of};
 ghost use Rattle.capcheck.specs.Kept.{IsReadable, world_of};
 ghost use Rattle.capcheck.specs.Programs.{is_instruction, is_last};
-ghost use Rattle.capcheck.specs.Steps.{answered, executed, failed, given};
+ghost use Rattle.capcheck.specs.Steps.{answered, executed, failed, given, halted};
 ghost use Rattle.capcheck.specs.StepViews.{ExecutedAs};
-ghost use Rattle.capcheck.specs.Views.{instruction_of, kept_of};
+ghost use Rattle.capcheck.specs.Views.{instruction_of, kept_of, object_of, state_at, state_of};
 ghost use Rattle.capcheck.specs.World.{Choice};
 
-use crate::answers::{Answer, Change, Effect, decide};
+use crate::answers::{Answer, Change, Effect, Moved, decide};
 use crate::files::{Description, close_all};
 use crate::programs::{Instruction, Syscall};
 use crate::world::World;
@@ -68,6 +68,14 @@ fn with_mode(mut process: Process, enters: bool) -> Process
     process
 }
 
+/// The process after its end.
+fn ended(mut process: Process) -> Process
+    ensures { result ≡ record process { alive = false } }
+{
+    process.alive = false;
+    process
+}
+
 /// The process after a call that gave a value.
 fn given(process: Process, value: u32, change: Change) -> Process
     requires { process.point + 1 < 256 }
@@ -82,4 +90,48 @@ fn failed(process: Process, errno: Errno, otherwise: u8) -> Process
     ensures { result ≡ failed process (errno_of errno) otherwise }
 {
     moved_to(with_register(process, 7, u32::from(errno.number())), otherwise)
+}
+
+/// Puts a process in the place of the one of this number.
+fn put_process(world: &mut World, number: u8, process: Process)
+    requires { number < length world.old.processes.items }
+    ensures { kept_of world.new ≡ record (kept_of world.old) { processes = slice_set world.old.processes.items number process } }
+{
+    world.processes[number as usize] = process;
+}
+
+/// Moves the offset of a description.
+fn set_offset(descriptions: &mut [Description], moved: Moved)
+    requires { moved.description < length descriptions.old }
+    ensures objects { map object_of descriptions.new ≡ map object_of descriptions.old }
+    ensures states { map state_of descriptions.new ≡ slice_set (map state_of descriptions.old) moved.description (state_at moved.offset) }
+{
+    let description = descriptions[moved.description as usize];
+    descriptions[moved.description as usize] = Description {
+        offset: moved.offset,
+        ..description
+    };
+}
+
+/// Changes what a call changes beside its process.
+fn change_world(world: &mut World, change: Change)
+    requires { IsBelow (length world.old.files.descriptions.items) change.moved }
+    ensures changed { (choice : Choice) → world_of (kept_of world.new) ≡ changed (world_of (kept_of world.old)) choice (change_of change) }
+    ensures processes { world.new.processes.items ≡ world.old.processes.items }
+    ensures room { length world.new.files.entries.items ≡ length world.old.files.entries.items }
+{
+    if let Some(moved) = change.moved {
+        set_offset(&mut world.files.descriptions, moved);
+    }
+}
+
+/// Ends the process and closes its table.
+fn halt(world: &mut World, number: u8, process: Process)
+    requires made { number < length world.old.processes.items }
+    requires few { number < 16 }
+    requires room { length world.old.files.entries.items ≡ 256 }
+    ensures { world_of (kept_of world.new) ≡ halted (world_of (kept_of world.old)) number process }
+{
+    close_all(&mut world.files.entries, number);
+    put_process(world, number, ended(process));
 }

@@ -8,12 +8,12 @@ use Rattle.capcheck.proofs.Reading.{answer-not_open, answer-lacks}
 use Rattle.capcheck.proofs.Found.{answer_is, offset_small}
 use Rattle.capcheck.proofs.answers.read.Goals as goal
 
-pub returns-in_default : goal.returns-in_default
-returns-in_default c =
+pub returns-in_default-clause-shows : goal.returns-in_default-clause-shows
+returns-in_default-clause-shows c =
     λ e. answer-not_open (kept_of c.args.world.now) c.args.process c.args.number e (cc (c.in_default.ensures, c.deref.ensures.value))
 
-pub returns-then-not-contains : goal.returns-then-not-contains
-returns-then-not-contains c =
+pub returns-then-not-contains-clause-shows : goal.returns-then-not-contains-clause-shows
+returns-then-not-contains-clause-shows c =
     λ e. answer-lacks (kept_of c.args.world.now) c.args.process c.args.number e (descriptor_of c.in-Some.descriptor)
         (cc (c.in-Some.ensures, c.deref.ensures.value)) (sym c.contains.ensures.computes ∙ c.if-not-contains.true)
 
@@ -22,10 +22,10 @@ read_node-requires c =
     offset_small c.args.world.now c.args.process c.args.number c.in-Some.descriptor c.requires
         (cc (c.in-Some.ensures, c.deref.ensures.value)) c.index-description.result.now c.index-description.ensures
 
-pub returns : goal.returns
-returns c = λ e.
+pub returns-clause-shows : goal.returns-clause-shows
+returns-clause-shows c = λ e.
     let is = answer_is c.args.world.now c.args.process c.args.number c.in-Some.descriptor c.requires
       (cc (c.in-Some.ensures, c.deref.ensures.value)) c.index-description.result.now c.index.result.now
       c.index-description.ensures c.index.ensures (sym c.contains.ensures.computes ∙ c.if-not-contains.false) e
     in
-    subst (λ x. IfOk c.read_node.result (λ a. Shows a x)) (sym is) c.read_node.ensures
+    subst (λ x. IfOk c.read_node.result (λ a. Shows a x)) (sym is) c.read_node.ensures.shows

@@ -6,15 +6,15 @@ use Rattle.capcheck.specs.Views.{access_of, node_of, place_of, state_of}
 use Rattle.capcheck.proofs.Reading.{read_node-dir, read_node-access, read_node-end, read_node-byte}
 use Rattle.capcheck.proofs.answers.read_node.Goals as goal
 
-pub returns-then-is_dir : goal.returns-then-is_dir
-returns-then-is_dir c = read_node-dir _ _ _ _ (sym c.is_dir.ensures ∙ c.if-is_dir.true)
+pub returns-then-is_dir-clause-shows : goal.returns-then-is_dir-clause-shows
+returns-then-is_dir-clause-shows c = read_node-dir _ _ _ _ (sym c.is_dir.ensures ∙ c.if-is_dir.true)
 
-pub returns-then-not-description : goal.returns-then-not-description
-returns-then-not-description c =
+pub returns-then-not-description-clause-shows : goal.returns-then-not-description-clause-shows
+returns-then-not-description-clause-shows c =
     read_node-access _ _ _ _ (sym c.is_dir.ensures ∙ c.if-is_dir.false) (not_true _ c.if-not-description.true)
 
-pub returns-in-None : goal.returns-in-None
-returns-in-None c = record {
+pub returns-in-None-clause-shows : goal.returns-in-None-clause-shows
+returns-in-None-clause-shows c = record {
   effects = record { operation = Reads; place = place_of c.args.node.now.place.items } ∷ [];
   same = sym c.in_ok-effects.ensures;
   is =
@@ -22,8 +22,8 @@ returns-in-None c = record {
         (sym c.is_dir.ensures ∙ c.if-is_dir.false) (not_false _ c.if-not-description.false) (cc (c.in-None.ensures, c.deref.ensures.value));
 }
 
-pub returns-in-Some : goal.returns-in-Some
-returns-in-Some c = record {
+pub returns-in-Some-clause-shows : goal.returns-in-Some-clause-shows
+returns-in-Some-clause-shows c = record {
   effects = record { operation = Reads; place = place_of c.args.node.now.place.items } ∷ [];
   same = sym c.in_ok-effects.ensures;
   is =
