@@ -11,3 +11,4 @@ pub mod Tables
 pub mod Reading
 pub mod Found
 pub mod Changed
+pub mod Applied

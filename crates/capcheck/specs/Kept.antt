@@ -6,6 +6,7 @@ use Rattle.capcheck.specs.Tree.{Node}
 use Rattle.capcheck.specs.Descriptions.{Object, At_node, At_end, State, Descriptor}
 use Rattle.capcheck.specs.Programs.{Program}
 use Rattle.capcheck.specs.World.{World}
+use Rattle.capcheck.specs.WellFormed.{Pairs, IsWorld}
 use Rattle.capcheck.specs.Plans.{no_object, first_state}
 
 -- sixteen entries for each of sixteen processes, and the descriptions in the order of making
@@ -50,6 +51,20 @@ pub record IsReadable (k : Kept) : Type 0 where
   pub states : length k.states ≡ length k.objects
   pub named : (p n : ℕ) → IsNamed k (entry k.entries p n)
   pub offsets : (n : ℕ) → (state k.states n).offset ≤ 4096
+
+-- as many entries and descriptions as before
+pub record SameSizes (old new : Kept) : Type 0 where
+  pub entries : length new.entries ≡ length old.entries
+  pub objects : length new.objects ≡ length old.objects
+  pub states : length new.states ≡ length old.states
+  pub processes : length new.processes ≡ length old.processes
+
+-- The world is well formed, and its numbers are below the number of descriptions.
+pub record IsKept (programs : List Program) (k : Kept) : Type 0 where
+  pub pairs : Pairs
+  pub world : IsWorld programs pairs (length k.objects) (world_of k)
+  pub room : length k.entries ≡ 256
+  pub states : length k.states ≡ length k.objects
 
 -- A machine: its programs, its world, and whether it stopped for want of memory.
 pub record Device : Type 0 where

@@ -2,7 +2,9 @@
 #![tactic(auto)]
 
 mod answers;
+mod events;
 mod files;
+mod lines;
 mod nodes;
 mod programs;
 mod steps;

@@ -9,8 +9,8 @@ use Rattle.capcheck.specs.Views.{kept_of, entries_of}
 use Rattle.capcheck.proofs.Changed.{halted-world}
 use Rattle.capcheck.proofs.steps.halt.Goals as goal
 
-pub returns : goal.returns
-returns c =
+pub returns-clause-halted : goal.returns-clause-halted
+returns-clause-halted c =
     let k : Kept = kept_of c.args.world.now in
     let old = c.args.world.now.files.entries in
     let new = c.close_all.new.entries in
