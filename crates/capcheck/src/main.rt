@@ -9,6 +9,7 @@ mod nodes;
 mod programs;
 mod steps;
 mod task;
+mod trace;
 mod world;
 
 fn main(rt: HostRuntime) {
