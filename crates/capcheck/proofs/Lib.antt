@@ -12,3 +12,4 @@ pub mod Reading
 pub mod Found
 pub mod Changed
 pub mod Applied
+pub mod Ready

@@ -2,7 +2,7 @@
 use Rattle.std.proofs.Common.{◌≡◌, ℕ, zero, suc, ◌+◌, ◌<◌, ◌≤◌, Bool, true, false, List, [], ◌∷◌, refl, arith, length, ap, sym, ◌∙◌, subst}
 use Rattle.std.specs.Prelude.{◌&&◌, Option, Some, None, nat_le, nat_lt}
 use Rattle.std.specs.List.{slice_get, list_all}
-use Rattle.std.proofs.lemmas.Bool.{ltb-true}
+use Rattle.std.proofs.lemmas.Bool.{ltb-true, leb-true}
 use Rattle.std.proofs.lemmas.Option.{slice_get_within}
 use Rattle.rights.proofs.Lists.{list_all-slice_get}
 use Rattle.rights.proofs.Tests.{both_left, both_right}
@@ -28,7 +28,9 @@ point_below (i ∷ code) (suc k) below = point_below code k (omega arith)
 -- is one.
 pub record Placed (programs : List Program) (program point : ℕ) (i : Instruction) : Type 0 where
   pub points : ℕ
+  pub few : points ≤ 256
   pub fits : is_instruction points i ≡ true
+  pub next_below : is_last i ≡ false → point + 1 < points
   pub next : is_last i ≡ false → IsPoint (instruction_at programs program (point + 1))
   pub target : (target : ℕ) → target < points → IsPoint (instruction_at programs program target)
 
@@ -39,7 +41,9 @@ placed_in programs program point i p found valid here =
     let all : list_all (is_instruction (length p.code)) p.code ≡ true = both_right (nat_le (length p.code) 256) _ parts in
     record {
       points = length p.code;
+      few = leb-true (length p.code) 256 (both_left _ (list_all (is_instruction (length p.code)) p.code) parts);
       fits = list_all-slice_get (is_instruction (length p.code)) p.code point i all here;
+      next_below = next_point p.code point i ends here;
       next = λ goes_on.
         subst (λ o. IsPoint (at_point (point + 1) o)) (sym found)
           (point_below p.code (point + 1) (next_point p.code point i ends here goes_on));

@@ -5,6 +5,7 @@ mod answers;
 mod events;
 mod files;
 mod lines;
+mod machine;
 mod nodes;
 mod programs;
 mod steps;
