@@ -13,3 +13,4 @@ pub mod Found
 pub mod Changed
 pub mod Applied
 pub mod Ready
+pub mod Stepping

@@ -1,11 +1,12 @@
 //! A machine that runs a task step by step.
 
-ghost use Rattle.std.specs.Prelude.{◌≡◌, ◌↔◌, Err, IfOk, OnOk, IsErrOf, option_map, slice_get, string_bytes, true, false};
+ghost use Rattle.std.specs.Prelude.{◌≡◌, ◌↔◌, Err, IfOk, OnOk, IsErrOf, [], Some, option_map, slice_get, string_bytes, true, false};
 ghost use Rattle.std.specs.List.{list_all};
+ghost use Rattle.capcheck.specs.AnswerViews.{effects_of};
 ghost use Rattle.capcheck.specs.Kept.{IsKept, SameSizes, world_of};
 ghost use Rattle.capcheck.specs.Programs.{instruction_at, is_program, name_at};
-ghost use Rattle.capcheck.specs.Steps.{step};
-ghost use Rattle.capcheck.specs.StepViews.{SteppedAs, event_of};
+ghost use Rattle.capcheck.specs.Steps.{Ended, step, stepped};
+ghost use Rattle.capcheck.specs.StepViews.{SteppedAs, event_of, line_of, result_of};
 ghost use Rattle.capcheck.specs.Views.{instruction_of, kept_of, programs_of};
 ghost use Rattle.capcheck.specs.World.{Choice};
 
@@ -41,5 +42,84 @@ fn name_at(alloc: Global, programs: &[Program], program: u8) -> Result<String, A
     match programs.get(program as usize) {
         None => Ok(String::new(alloc)),
         Some(program) => program.name.clone(),
+    }
+}
+
+/// The line of a process that was made.
+fn line_of_process(event: Event, process: Process, program: String, done: Executed) -> Line
+    ensures { line_of result ≡ record {
+        process = event.process;
+        acted = Some (record { program = string_bytes program; point = process.point; outcome = result_of done.outcome; effects = effects_of done.effects.items });
+    } }
+{
+    Line {
+        process: event.process,
+        acted: Some(Acted {
+            program,
+            point: process.point,
+            outcome: done.outcome,
+            effects: done.effects,
+        }),
+    }
+}
+
+/// A process that can do nothing more.
+fn ended(alloc: Global) -> Executed
+    ensures outcome { result_of result.outcome ≡ Ended }
+    ensures effects { effects_of result.effects.items ≡ [] }
+{
+    Executed {
+        outcome: LineResult::Ended,
+        effects: Vec::new(alloc),
+    }
+}
+
+/// The step of a process that was made: the instruction at its point, unless it has ended.
+fn step_process(
+    alloc: Global,
+    programs: &[Program],
+    world: &mut World,
+    event: Event,
+    process: Process,
+) -> Result<Line, AllocError>
+    requires valid { list_all is_program (programs_of programs.now) ≡ true }
+    requires kept { IsKept (programs_of programs.now) (kept_of world.old) }
+    requires made { slice_get world.old.processes.items event.process ≡ Some process }
+    ensures stepped { (choice : Choice) → IfOk result (λ line. SteppedAs line (kept_of world.new)
+        (stepped (programs_of programs.now) (world_of (kept_of world.old)) (event_of event) choice (Some process))) }
+    ensures sizes { OnOk result (SameSizes (kept_of world.old) (kept_of world.new)) }
+{
+    let name = name_at(alloc, programs, process.program)?;
+    if !process.alive {
+        return Ok(line_of_process(event, process, name, ended(alloc)));
+    }
+    match instruction_at(programs, process.program, process.point) {
+        None => Ok(line_of_process(event, process, name, ended(alloc))),
+        Some(instruction) => {
+            let done = execute(alloc, world, event, process, instruction)?;
+            Ok(line_of_process(event, process, name, done))
+        }
+    }
+}
+
+/// The step of an event.
+fn step_world(
+    alloc: Global,
+    programs: &[Program],
+    world: &mut World,
+    event: Event,
+) -> Result<Line, AllocError>
+    requires valid { list_all is_program (programs_of programs.now) ≡ true }
+    requires kept { IsKept (programs_of programs.now) (kept_of world.old) }
+    ensures stepped { (choice : Choice) → IfOk result (λ line. SteppedAs line (kept_of world.new)
+        (step (programs_of programs.now) (world_of (kept_of world.old)) (event_of event) choice)) }
+    ensures sizes { OnOk result (SameSizes (kept_of world.old) (kept_of world.new)) }
+{
+    match process_at(&world.processes, event.process) {
+        None => Ok(Line {
+            process: event.process,
+            acted: None,
+        }),
+        Some(process) => step_process(alloc, programs, world, event, process),
     }
 }
