@@ -72,3 +72,43 @@ impl Call {
         }
     }
 }
+
+#[cfg(test)]
+mod tests {
+    use super::*;
+
+    #[test]
+    fn words_of_calls(rt: HostRuntime) {
+        for (call, word) in [
+            (Call::Open, "open"),
+            (Call::Openat, "openat"),
+            (Call::Read, "read"),
+            (Call::Write, "write"),
+            (Call::Sendfd, "sendfd"),
+            (Call::Recvfd, "recvfd"),
+            (Call::Lseek, "lseek"),
+            (Call::Ftruncate, "ftruncate"),
+            (Call::Fsync, "fsync"),
+            (Call::Fstat, "fstat"),
+            (Call::FcntlGetfl, "fcntl_getfl"),
+            (Call::FcntlSetfl, "fcntl_setfl"),
+            (Call::Fstatat, "fstatat"),
+            (Call::Stat, "stat"),
+            (Call::Mkdirat, "mkdirat"),
+            (Call::Mkdir, "mkdir"),
+            (Call::Unlinkat, "unlinkat"),
+            (Call::Unlink, "unlink"),
+            (Call::Renameat, "renameat"),
+            (Call::Dup, "dup"),
+            (Call::Close, "close"),
+            (Call::CapRightsLimit, "cap_rights_limit"),
+            (Call::CapFcntlsLimit, "cap_fcntls_limit"),
+            (Call::CapEnter, "cap_enter"),
+            (Call::CapGetmode, "cap_getmode"),
+            (Call::Socketpair, "socketpair"),
+            (Call::Fork, "fork"),
+        ] {
+            assert_eq!(rt; call.name(), word);
+        }
+    }
+}

@@ -107,3 +107,53 @@ impl Cause {
         }
     }
 }
+
+#[cfg(test)]
+mod tests {
+    use super::*;
+
+    #[test]
+    fn errors_by_number_and_name(rt: HostRuntime) {
+        for (error, number, name) in [
+            (Errno::EPERM, 1, "EPERM"),
+            (Errno::ENOENT, 2, "ENOENT"),
+            (Errno::EBADF, 9, "EBADF"),
+            (Errno::EEXIST, 17, "EEXIST"),
+            (Errno::ENOTDIR, 20, "ENOTDIR"),
+            (Errno::EISDIR, 21, "EISDIR"),
+            (Errno::EINVAL, 22, "EINVAL"),
+            (Errno::ENFILE, 23, "ENFILE"),
+            (Errno::EMFILE, 24, "EMFILE"),
+            (Errno::EFBIG, 27, "EFBIG"),
+            (Errno::ENOSPC, 28, "ENOSPC"),
+            (Errno::EPIPE, 32, "EPIPE"),
+            (Errno::EAGAIN, 35, "EAGAIN"),
+            (Errno::ENOTSOCK, 38, "ENOTSOCK"),
+            (Errno::ELOOP, 62, "ELOOP"),
+            (Errno::ENAMETOOLONG, 63, "ENAMETOOLONG"),
+            (Errno::ENOTEMPTY, 66, "ENOTEMPTY"),
+            (Errno::ENOTCAPABLE, 93, "ENOTCAPABLE"),
+            (Errno::ECAPMODE, 94, "ECAPMODE"),
+        ] {
+            assert_eq!(rt; error.number(), number, "{name}");
+            assert_eq!(rt; error.name(), name);
+        }
+    }
+
+    #[test]
+    fn names_of_causes(rt: HostRuntime) {
+        for (cause, name) in [
+            (Cause::CapMode, "CapMode"),
+            (Cause::BadDescriptor, "BadDescriptor"),
+            (Cause::MissingRight, "MissingRight"),
+            (Cause::Kind, "Kind"),
+            (Cause::Escape, "Escape"),
+            (Cause::Path, "Path"),
+            (Cause::Access, "Access"),
+            (Cause::Full, "Full"),
+            (Cause::Refused, "Refused"),
+        ] {
+            assert_eq!(rt; cause.name(), name);
+        }
+    }
+}

@@ -28,3 +28,21 @@ impl Op {
         }
     }
 }
+
+#[cfg(test)]
+mod tests {
+    use super::*;
+
+    #[test]
+    fn names_of_operations(rt: HostRuntime) {
+        for (operation, name) in [
+            (Op::Look, "look"),
+            (Op::Read, "read"),
+            (Op::Write, "write"),
+            (Op::Create, "create"),
+            (Op::Remove, "remove"),
+        ] {
+            assert_eq!(rt; operation.name(), name);
+        }
+    }
+}

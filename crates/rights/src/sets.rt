@@ -250,3 +250,60 @@ impl Flags for Fcntls {
         Fcntls(bits)
     }
 }
+
+#[cfg(test)]
+mod tests {
+    use super::*;
+
+    #[test]
+    fn rights_as_sets(rt: HostRuntime) {
+        let read_write = Rights::READ.union(Rights::WRITE);
+        assert_eq!(rt; read_write.bits(), 0x0003);
+        assert!(rt; read_write.contains(Rights::WRITE));
+        assert!(rt; !read_write.contains(Rights::SEEK.union(Rights::READ)));
+        assert_eq!(rt;
+            read_write.intersection(Rights::WRITE.union(Rights::LOOKUP)),
+            Rights::WRITE
+        );
+        assert_eq!(rt; Rights::all().bits(), 0x3fff);
+        assert_eq!(rt; Rights::empty().bits(), 0);
+    }
+
+    #[test]
+    fn rights_by_name(rt: HostRuntime) {
+        for (name, bits) in [
+            ("READ", 0x0001),
+            ("RECV", 0x0001),
+            ("WRITE", 0x0002),
+            ("SEND", 0x0002),
+            ("SEEK", 0x0004),
+            ("FTRUNCATE", 0x0008),
+            ("FSYNC", 0x0010),
+            ("FSTAT", 0x0020),
+            ("FCNTL", 0x0040),
+            ("LOOKUP", 0x0080),
+            ("CREATE", 0x0100),
+            ("FSTATAT", 0x0200),
+            ("MKDIRAT", 0x0400),
+            ("UNLINKAT", 0x0800),
+            ("RENAMEAT_SOURCE", 0x1000),
+            ("RENAMEAT_TARGET", 0x2000),
+        ] {
+            assert_eq!(rt; Rights::from_name(name), Some(Rights(bits)), "{name}");
+        }
+        assert_eq!(rt; Rights::from_name("CAP_READ"), None);
+    }
+
+    #[test]
+    fn commands_as_sets(rt: HostRuntime) {
+        let both = Fcntls::GETFL.union(Fcntls::SETFL);
+        assert_eq!(rt; both.bits(), 3);
+        assert_eq!(rt; both, Fcntls::all());
+        assert!(rt; both.contains(Fcntls::SETFL));
+        assert!(rt; !Fcntls::GETFL.contains(Fcntls::SETFL));
+        assert_eq!(rt; both.intersection(Fcntls::SETFL), Fcntls::SETFL);
+        assert_eq!(rt; Fcntls::empty().bits(), 0);
+        assert_eq!(rt; Fcntls::from_name("GETFL"), Some(Fcntls::GETFL));
+        assert_eq!(rt; Fcntls::from_name("SETFL"), Some(Fcntls::SETFL));
+    }
+}
