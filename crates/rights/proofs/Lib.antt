@@ -4,3 +4,4 @@ pub mod Taken
 pub mod Lists
 pub mod Tests
 pub mod Numbers
+pub mod NeedTable

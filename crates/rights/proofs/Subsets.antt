@@ -1,9 +1,10 @@
 -- Sets by their members.
-use Rattle.std.proofs.Common.{◌≡◌, ℕ, ◌+◌, ◌<◌, ◌≤◌, Bool, true, IsTrue, bit_and, bit_or, arith, ap, sym, ◌∙◌, refl, zero, suc, ◌⊎◌, inl, inr}
-use Rattle.std.specs.Prelude.{◌↔◌, ◌==◌, min, max}
+use Rattle.std.proofs.Common.{◌≡◌, ℕ, ◌<◌, true, bit_and, bit_or, arith, ap, ◌∙◌, refl, zero, suc, ◌⊎◌, inl, inr}
+use Rattle.std.specs.Prelude.{min}
 use Rattle.std.specs.Int.{bit_at}
 use Rattle.std.proofs.lemmas.Bool.{eqb-true, eq-eqb}
 use Rattle.std.proofs.lemmas.Nat.Bits.{same_from_bits, bit_at_and, bit_at_or, bit_at-lt}
+use Rattle.std.specs.Int.Bits.{and_zero_r}
 use Rattle.rights.specs.Sets.{IsIn, IsWithin, is_within}
 
 -- the test says whether each member of the small set is in the large one
@@ -13,13 +14,13 @@ is_within-members small large h k in_small =
     let bits : bit_at (bit_and large small) k ≡ bit_at small k = ap (λ n. bit_at n k) same in
     omega (arith, bits, bit_at_and large small k, bit_at-lt large k, in_small)
 
+one_or_none : (n : ℕ) → n < 2 → (n ≡ 1) ⊎ (n ≡ 0)
+one_or_none zero h = inr refl
+one_or_none (suc zero) h = inl refl
+one_or_none (suc (suc n)) h = absurd (omega arith)
+
 smaller : (a b : ℕ) → a < 2 → b < 2 → (a ≡ 1 → b ≡ 1) → min b a ≡ a
 smaller a b bit_a bit_b h = elim (one_or_none a bit_a) [ inl one ↦ let both : b ≡ 1 = h one in omega arith | inr none ↦ omega arith ]
-  where
-    one_or_none : (n : ℕ) → n < 2 → (n ≡ 1) ⊎ (n ≡ 0)
-    one_or_none zero h = inr refl
-    one_or_none (suc zero) h = inl refl
-    one_or_none (suc (suc n)) h = absurd (omega arith)
 
 pub is_within-from_members : (small large : ℕ) → IsWithin small large → is_within small large ≡ true
 is_within-from_members small large h =
@@ -29,6 +30,9 @@ is_within-from_members small large h =
 -- the empty set is within each, each set is within itself, and within goes on
 pub is_within-refl : (set : ℕ) → is_within set set ≡ true
 is_within-refl set = is_within-from_members set set (λ k h. h)
+
+pub is_within-none : (set : ℕ) → is_within 0 set ≡ true
+is_within-none set = eq-eqb _ _ (and_zero_r set)
 
 pub is_within-trans : (a b c : ℕ) → is_within a b ≡ true → is_within b c ≡ true → is_within a c ≡ true
 is_within-trans a b c ab bc =
@@ -52,3 +56,8 @@ IsIn-and a b k h =
 
 pub IsIn-and_both : (a b k : ℕ) → IsIn a k → IsIn b k → IsIn (bit_and a b) k
 IsIn-and_both a b k in_a in_b = omega (arith, bit_at_and a b k, in_a, in_b)
+
+-- the union of two sets that are within a third is within it
+pub is_within-or : (a b set : ℕ) → is_within a set ≡ true → is_within b set ≡ true → is_within (bit_or a b) set ≡ true
+is_within-or a b set within_a within_b =
+    is_within-from_members _ set (λ k h. elim (one_or_none (bit_at a k) (bit_at-lt a k)) [ inl one ↦ is_within-members a set within_a k one | inr none ↦ is_within-members b set within_b k (IsIn-or a b k h none) ])

@@ -6,3 +6,5 @@ pub mod Output
 pub mod Maps
 pub mod Views
 pub mod Stops
+pub mod Opens
+pub mod Needs

@@ -1,6 +1,6 @@
 -- Sets of rights and of fcntl commands. (rights(4), cap_fcntls_limit(2); that each right is one
 -- member, and that there are fourteen, is own)
-use Rattle.std.specs.Prelude.{◌≡◌, ◌==◌, ℕ, ◌*◌, ◌<◌, ◌^◌, Bool, true, false, List, [], ◌∷◌, codes, bit_and}
+use Rattle.std.specs.Prelude.{◌≡◌, ◌==◌, ℕ, ◌^◌, Bool, List, [], ◌∷◌, codes, bit_and}
 use Rattle.std.specs.Int.{bit_at}
 
 -- A set is the number that has bit k where member k is in the set.

@@ -7,9 +7,12 @@ use Rattle.rights.specs.declared.errors.Cause.{Cause as CauseCode}
 use Rattle.rights.specs.declared.errors.Cause.TheVariants as cause
 use Rattle.rights.specs.declared.operations.Op.{Op as OpCode}
 use Rattle.rights.specs.declared.operations.Op.TheVariants as op
+use Rattle.rights.specs.declared.need_table.Position.{Position as PositionCode}
+use Rattle.rights.specs.declared.need_table.Position.TheVariants as position
 use Rattle.rights.specs.Calls as calls
 use Rattle.rights.specs.Errors as errors
 use Rattle.rights.specs.Operations as operations
+use Rattle.rights.specs.Needs as needs
 
 abbrev pub call_of : CallCode → calls.Call
 call_of call.Open = calls.Open
@@ -78,3 +81,7 @@ operation_of op.Read = operations.Read
 operation_of op.Write = operations.Write
 operation_of op.Create = operations.Create
 operation_of op.Remove = operations.Remove
+
+abbrev pub position_of : PositionCode → needs.Position
+position_of position.First = needs.First
+position_of position.Second = needs.Second

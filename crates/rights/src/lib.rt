@@ -1,10 +1,12 @@
 //! What every layer of Capcheck speaks of: sets of rights and of fcntl commands, the system calls
-//! by name, errors with their causes, the operations of a policy, and the writer that a trace or a
-//! certificate goes to.
+//! by name, what each needs of a descriptor's rights, errors with their causes, the operations of a
+//! policy, and the writer that a trace or a certificate goes to.
 #![tactic(auto)]
 
 pub mod calls;
 pub mod errors;
+pub mod need_table;
+pub mod opens;
 pub mod operations;
 pub mod output;
 pub mod sets;
@@ -12,6 +14,8 @@ pub mod stops;
 
 pub use calls::Call;
 pub use errors::{Cause, Errno};
+pub use need_table::{Position, needs};
+pub use opens::OpenFlags;
 pub use operations::Op;
 pub use output::{Out, OutFault, write_all};
 pub use sets::{Fcntls, Rights};

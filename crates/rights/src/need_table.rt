@@ -1,0 +1,189 @@
+//! What each call needs of a descriptor's rights.
+
+ghost use Rattle.std.specs.Prelude.{◌≡◌};
+ghost use Rattle.rights.specs.Needs.{first_needs, needs_of, openat_needs, second_needs, when};
+ghost use Rattle.rights.specs.Views.{call_of, position_of};
+
+use crate::calls::Call;
+use crate::opens::OpenFlags;
+use crate::sets::Rights;
+
+/// Which of a call's descriptors is asked: its only one or the first of two, or the second.
+#[derive(Clone, Copy, PartialEq, Eq, Debug)]
+pub enum Position {
+    First,
+    Second,
+}
+
+/// The rights that the descriptor at this position must have for the call; none where the call has
+/// no such descriptor. `flags` are those of `openat`, and `replaces` says of the second descriptor of
+/// `renameat` that a node is replaced in it; where they say nothing they are ignored. (rights(4))
+pub fn needs(call: Call, flags: OpenFlags, position: Position, replaces: bool) -> Rights
+    ensures { result.0 ≡ needs_of (call_of call) flags (position_of position) replaces }
+{
+    match position {
+        Position::First => of_first(call, flags),
+        Position::Second => of_second(call, replaces),
+    }
+}
+
+/// The needs of the only descriptor, or of the first of two.
+fn of_first(call: Call, flags: OpenFlags) -> Rights
+    ensures { result.0 ≡ first_needs (call_of call) flags }
+{
+    match call {
+        Call::Openat => of_openat(flags),
+        Call::Read | Call::Recvfd => Rights::READ,
+        Call::Write | Call::Sendfd => Rights::WRITE,
+        Call::Lseek => Rights::SEEK,
+        Call::Ftruncate => Rights::FTRUNCATE,
+        Call::Fsync => Rights::FSYNC,
+        Call::Fstat => Rights::FSTAT,
+        Call::FcntlGetfl | Call::FcntlSetfl => Rights::FCNTL,
+        Call::Fstatat => Rights::LOOKUP.union(Rights::FSTATAT),
+        Call::Mkdirat => Rights::LOOKUP.union(Rights::MKDIRAT),
+        Call::Unlinkat => Rights::LOOKUP.union(Rights::UNLINKAT),
+        Call::Renameat => Rights::LOOKUP.union(Rights::RENAMEAT_SOURCE),
+        Call::Open | Call::Stat | Call::Mkdir | Call::Unlink => Rights::empty(),
+        Call::Dup | Call::Close | Call::CapRightsLimit | Call::CapFcntlsLimit => Rights::empty(),
+        Call::CapEnter | Call::CapGetmode | Call::Socketpair | Call::Fork => Rights::empty(),
+    }
+}
+
+/// The needs of the second descriptor.
+fn of_second(call: Call, replaces: bool) -> Rights
+    ensures { result.0 ≡ second_needs (call_of call) replaces }
+{
+    match call {
+        Call::Renameat => Rights::LOOKUP
+            .union(Rights::RENAMEAT_TARGET)
+            .union(when(replaces, Rights::UNLINKAT)),
+        _ => Rights::empty(),
+    }
+}
+
+/// The needs of the directory of `openat`.
+fn of_openat(flags: OpenFlags) -> Rights
+    ensures { result.0 ≡ openat_needs flags }
+{
+    let seeks = flags.write() && !(flags.append() || flags.trunc());
+    Rights::LOOKUP
+        .union(when(flags.read(), Rights::READ))
+        .union(when(flags.write(), Rights::WRITE))
+        .union(when(seeks, Rights::SEEK))
+        .union(when(flags.create(), Rights::CREATE))
+        .union(when(flags.trunc(), Rights::FTRUNCATE))
+}
+
+/// The right where it is asked for, and else none.
+fn when(asked: bool, right: Rights) -> Rights
+    ensures { result.0 ≡ when asked right.0 }
+{
+    if asked { right } else { Rights::empty() }
+}
+
+#[cfg(test)]
+mod tests {
+    use super::*;
+
+    #[test]
+    fn needs_of_a_first_descriptor(rt: HostRuntime) {
+        let flags = OpenFlags::new(true, true, false, true, true).expect(&rt, "valid flags");
+        for (call, expected) in [
+            (Call::Open, Rights::empty()),
+            (Call::Read, Rights::READ),
+            (Call::Write, Rights::WRITE),
+            (Call::Sendfd, Rights::SEND),
+            (Call::Recvfd, Rights::RECV),
+            (Call::Lseek, Rights::SEEK),
+            (Call::Ftruncate, Rights::FTRUNCATE),
+            (Call::Fsync, Rights::FSYNC),
+            (Call::Fstat, Rights::FSTAT),
+            (Call::FcntlGetfl, Rights::FCNTL),
+            (Call::FcntlSetfl, Rights::FCNTL),
+            (Call::Fstatat, Rights::LOOKUP.union(Rights::FSTATAT)),
+            (Call::Stat, Rights::empty()),
+            (Call::Mkdirat, Rights::LOOKUP.union(Rights::MKDIRAT)),
+            (Call::Mkdir, Rights::empty()),
+            (Call::Unlinkat, Rights::LOOKUP.union(Rights::UNLINKAT)),
+            (Call::Unlink, Rights::empty()),
+            (
+                Call::Renameat,
+                Rights::LOOKUP.union(Rights::RENAMEAT_SOURCE),
+            ),
+            (Call::Dup, Rights::empty()),
+            (Call::Close, Rights::empty()),
+            (Call::CapRightsLimit, Rights::empty()),
+            (Call::CapFcntlsLimit, Rights::empty()),
+            (Call::CapEnter, Rights::empty()),
+            (Call::CapGetmode, Rights::empty()),
+            (Call::Socketpair, Rights::empty()),
+            (Call::Fork, Rights::empty()),
+        ] {
+            assert_eq!(rt; needs(call, flags, Position::First, true), expected);
+        }
+    }
+
+    #[test]
+    fn needs_of_a_second_descriptor(rt: HostRuntime) {
+        let flags = OpenFlags::new(true, false, false, false, false).expect(&rt, "valid flags");
+        let target = Rights::LOOKUP.union(Rights::RENAMEAT_TARGET);
+        let replaced = target.union(Rights::UNLINKAT);
+        assert_eq!(rt;
+            needs(Call::Renameat, flags, Position::Second, false),
+            target
+        );
+        assert_eq!(rt;
+            needs(Call::Renameat, flags, Position::Second, true),
+            replaced
+        );
+        assert_eq!(rt;
+            needs(Call::Sendfd, flags, Position::Second, false),
+            Rights::empty()
+        );
+    }
+
+    #[test]
+    fn needs_of_openat(rt: HostRuntime) {
+        let look = Rights::LOOKUP;
+        let write = look.union(Rights::WRITE);
+        for (read, write, append, create, trunc, expected) in [
+            (true, false, false, false, false, look.union(Rights::READ)),
+            (false, true, false, false, false, write.union(Rights::SEEK)),
+            (false, true, true, false, false, write),
+            (
+                false,
+                true,
+                false,
+                false,
+                true,
+                write.union(Rights::FTRUNCATE),
+            ),
+            (
+                false,
+                true,
+                true,
+                false,
+                true,
+                write.union(Rights::FTRUNCATE),
+            ),
+            (
+                true,
+                false,
+                false,
+                true,
+                false,
+                look.union(Rights::READ).union(Rights::CREATE),
+            ),
+        ] {
+            let flags = OpenFlags::new(read, write, append, create, trunc).expect(
+                &rt,
+                "valid flags",
+            );
+            assert_eq!(rt;
+                needs(Call::Openat, flags, Position::First, false),
+                expected
+            );
+        }
+    }
+}

@@ -1,0 +1,116 @@
+//! How a file is opened.
+
+ghost use Rattle.std.specs.Prelude.{◌≡◌, ◌↔◌, IsSome, IfSome, IsTrue};
+ghost use Rattle.rights.specs.Opens.{OpenRequest, is_valid, open_request};
+
+use std::marker::Model;
+
+/// The flags of an open: to read, to write or both; append and trunc only with write. A clause sees
+/// the five. (open(2), in this profile's flags)
+#[derive(Clone, Copy, PartialEq, Eq, Debug)]
+pub struct OpenFlags {
+    read: bool,
+    write: bool,
+    append: bool,
+    create: bool,
+    trunc: bool,
+}
+
+impl Model for OpenFlags {
+    ghost Value = { OpenRequest };
+
+    ghost view = { λ f. open_request f.read f.write f.append f.create f.trunc };
+
+    ghost invariant = { λ f. IsTrue (is_valid (open_request f.read f.write f.append f.create f.trunc)) };
+
+    ghost inverse = { λ r. record { read = r.read; write = r.write; append = r.append; create = r.create; trunc = r.trunc } };
+}
+
+impl OpenFlags {
+    /// These flags, or `None` where neither read nor write is among them, or append or trunc comes
+    /// without write.
+    pub fn new(
+        read: bool,
+        write: bool,
+        append: bool,
+        create: bool,
+        trunc: bool,
+    ) -> Option<OpenFlags>
+        ensures valid { IsSome result ↔ IsTrue (is_valid (open_request read write append create trunc)) }
+        ensures value { IfSome result (λ flags. flags ≡ open_request read write append create trunc) }
+    {
+        if (read || write) && (!append || write) && (!trunc || write) {
+            Some(OpenFlags {
+                read,
+                write,
+                append,
+                create,
+                trunc,
+            })
+        } else {
+            None
+        }
+    }
+
+    /// Whether the file is opened to be read.
+    pub fn read(self) -> bool
+        ensures { result ≡ self.read }
+    {
+        self.read
+    }
+
+    /// Whether the file is opened to be written, as it is with append and with trunc.
+    pub fn write(self) -> bool
+        ensures value { result ≡ self.write }
+        ensures valid { IsTrue (is_valid self) }
+    {
+        self.write
+    }
+
+    /// Whether each write goes to the file's end.
+    pub fn append(self) -> bool
+        ensures { result ≡ self.append }
+    {
+        self.append
+    }
+
+    /// Whether a file that is not there is made.
+    pub fn create(self) -> bool
+        ensures { result ≡ self.create }
+    {
+        self.create
+    }
+
+    /// Whether a file that is there loses its bytes.
+    pub fn trunc(self) -> bool
+        ensures { result ≡ self.trunc }
+    {
+        self.trunc
+    }
+}
+
+#[cfg(test)]
+mod tests {
+    use super::*;
+
+    #[test]
+    fn valid_flags(rt: HostRuntime) {
+        for (read, write, append, create, trunc, valid) in [
+            (true, false, false, false, false, true),
+            (true, false, false, true, false, true),
+            (false, true, true, true, true, true),
+            (false, false, false, true, false, false),
+            (true, false, true, false, false, false),
+            (true, false, false, false, true, false),
+        ] {
+            let made = OpenFlags::new(read, write, append, create, trunc);
+            assert_eq!(rt; made.is_some(), valid);
+            let Some(flags) = made else { continue };
+            assert_eq!(rt; (flags.read(), flags.write()), (read, write));
+            assert_eq!(rt;
+                (flags.append(), flags.create(), flags.trunc()),
+                (append, create, trunc)
+            );
+        }
+    }
+}
