@@ -16,6 +16,7 @@ pub struct Process {
     pub program: u8,
     /// The next instruction.
     pub point: u8,
+    /// Registers 0 to 7. A call that succeeds sets register 0, and one that fails sets register 7.
     pub registers: [u32; REGISTERS],
     mode: bool,
     /// Whether it has not ended.

@@ -7,10 +7,15 @@ ghost use Rattle.rights.specs.Views.{operation_of};
 /// What a call does to a place of the tree, and what a grant lists.
 #[derive(Clone, Copy, PartialEq, Eq, Debug)]
 pub enum Op {
+    /// To ask what a node is.
     Look,
+    /// To read a file's byte.
     Read,
+    /// To change a file's bytes or its length.
     Write,
+    /// To make a node at the place, or to rename one to it.
     Create,
+    /// To take a node away from the place, or to rename it from there.
     Remove,
 }
 

@@ -34,7 +34,8 @@ pub trait Out {
         ensures err_taken { OnErr result (taken self.new ≡ taken self.old) };
 }
 
-/// Writes all the bytes, or answers `Device` after a failure of the writer.
+/// Writes all the bytes, or answers `Device` after a failure of the writer; what was taken is then
+/// a beginning of them. Takes no memory.
 pub fn write_all<W: Out>(out: &mut W, bytes: &[u8]) -> Result<(), Stop>
     requires { W.faults out.old < 2 ^ 64 - 1 }
     ensures ok { OnOk result (Took (W.taken out.old) (W.taken out.new) bytes.now) }

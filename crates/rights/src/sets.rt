@@ -79,32 +79,46 @@ const RIGHTS: [Flag<Rights>; 16] = [
 ];
 
 impl Rights {
+    /// To read, and to receive from a socket.
     pub const READ: Rights = Rights(0x0001);
 
+    /// To write, and to send on a socket.
     pub const WRITE: Rights = Rights(0x0002);
 
+    /// To set the offset, and to open a file that is written anywhere.
     pub const SEEK: Rights = Rights(0x0004);
 
+    /// To set a file's length.
     pub const FTRUNCATE: Rights = Rights(0x0008);
 
+    /// To have what was written stored.
     pub const FSYNC: Rights = Rights(0x0010);
 
+    /// To ask what the object is.
     pub const FSTAT: Rights = Rights(0x0020);
 
+    /// To ask for the status flags and to set them, as far as the fcntl commands allow.
     pub const FCNTL: Rights = Rights(0x0040);
 
+    /// To start a path at the directory.
     pub const LOOKUP: Rights = Rights(0x0080);
 
+    /// To create files beneath the directory by an open.
     pub const CREATE: Rights = Rights(0x0100);
 
+    /// To ask what a node beneath the directory is.
     pub const FSTATAT: Rights = Rights(0x0200);
 
+    /// To make directories beneath the directory.
     pub const MKDIRAT: Rights = Rights(0x0400);
 
+    /// To remove nodes beneath the directory.
     pub const UNLINKAT: Rights = Rights(0x0800);
 
+    /// To rename nodes that are beneath the directory.
     pub const RENAMEAT_SOURCE: Rights = Rights(0x1000);
 
+    /// To rename nodes to places beneath the directory.
     pub const RENAMEAT_TARGET: Rights = Rights(0x2000);
     /// Another name of `READ`.
     pub const RECV: Rights = Rights::READ;
@@ -188,8 +202,10 @@ const COMMANDS: [Flag<Fcntls>; 2] = [
 ];
 
 impl Fcntls {
+    /// To ask for the status flags, `F_GETFL`.
     pub const GETFL: Fcntls = Fcntls(0x1);
 
+    /// To set the status flags, `F_SETFL`.
     pub const SETFL: Fcntls = Fcntls(0x2);
 
     /// The set of no command.
