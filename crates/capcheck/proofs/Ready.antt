@@ -86,3 +86,6 @@ steps programs k e line next good is =
       line_is = (is choice).0;
       world_is = (is choice).1;
     }
+
+pub well_formed : (programs : List Program) (k : Kept) → IsKept programs k → IsWellFormed programs (world_of k)
+well_formed programs k good = record { pairs = good.pairs; bound = length k.objects; world = good.world }

@@ -1,10 +1,10 @@
 -- A world as it is kept in memory, and the world that it stands for.
-use Rattle.std.specs.Prelude.{◌≡◌, ◌+◌, ◌*◌, ◌<◌, ◌≤◌, ℕ, nat_lt, length, List, [], Option, Some, None, unwrap_or, if◌then◌else◌, Bool}
-use Rattle.std.specs.List.{slice_get, slice_index_or}
+use Rattle.std.specs.Prelude.{◌≡◌, ◌+◌, ◌*◌, ◌<◌, ◌≤◌, ℕ, nat_lt, length, List, [], Option, Some, None, unwrap_or, if◌then◌else◌, Bool, true, false}
+use Rattle.std.specs.List.{list_all, slice_get, slice_index_or}
 use Rattle.process.specs.State.{ProcessState}
 use Rattle.capcheck.specs.Tree.{Node}
 use Rattle.capcheck.specs.Descriptions.{Object, At_node, At_end, State, Descriptor}
-use Rattle.capcheck.specs.Programs.{Program}
+use Rattle.capcheck.specs.Programs.{Program, is_program}
 use Rattle.capcheck.specs.World.{World}
 use Rattle.capcheck.specs.WellFormed.{Pairs, IsWorld}
 use Rattle.capcheck.specs.Plans.{no_object, first_state}
@@ -71,3 +71,8 @@ pub record Device : Type 0 where
   pub programs : List Program
   pub kept : Kept
   pub spent : Bool
+
+-- A machine's programs are valid, and until it stops its world is kept well.
+pub record IsRunning (d : Device) : Type 0 where
+  pub valid : list_all is_program d.programs ≡ true
+  pub kept : d.spent ≡ false → IsKept d.programs d.kept

@@ -1,13 +1,14 @@
 //! A machine that runs a task step by step.
 
-ghost use Rattle.std.specs.Prelude.{◌≡◌, ◌↔◌, Err, IfOk, OnOk, IsErrOf, [], Some, option_map, slice_get, string_bytes, true, false};
+ghost use Rattle.std.specs.Prelude.{◌≡◌, ◌↔◌, Err, IfOk, OnErr, OnOk, IsErrOf, [], Some, option_map, slice_get, string_bytes, true, false};
 ghost use Rattle.std.specs.List.{list_all};
 ghost use Rattle.capcheck.specs.AnswerViews.{effects_of};
 ghost use Rattle.capcheck.specs.Kept.{IsKept, SameSizes, world_of};
 ghost use Rattle.capcheck.specs.Programs.{instruction_at, is_program, name_at};
-ghost use Rattle.capcheck.specs.Steps.{Ended, step, stepped};
+ghost use Rattle.capcheck.specs.Steps.{Ended, Steps, step, stepped};
 ghost use Rattle.capcheck.specs.StepViews.{SteppedAs, event_of, line_of, result_of};
 ghost use Rattle.capcheck.specs.Views.{instruction_of, kept_of, programs_of};
+ghost use Rattle.capcheck.specs.WellFormed.{IsWellFormed};
 ghost use Rattle.capcheck.specs.World.{Choice};
 
 use crate::events::Event;
@@ -16,7 +17,9 @@ use crate::programs::{Instruction, Program};
 use crate::steps::{Executed, LineResult, execute};
 use crate::world::World;
 use process::Process;
+use rights::Stop;
 use std::alloc::{AllocError, Global};
+use std::marker::Model;
 
 /// The process of this number, if it was made.
 fn process_at(processes: &[Process], number: u8) -> Option<Process>
@@ -121,5 +124,52 @@ fn step_world(
             acted: None,
         }),
         Some(process) => step_process(alloc, programs, world, event, process),
+    }
+}
+
+/// A machine: a task's programs, and the state of a run. After a refused growth it answers `Spent`
+/// for good.
+#[derive(Drop)]
+pub struct Machine {
+    alloc: Global,
+    programs: Vec<Program>,
+    world: World,
+    spent: bool,
+}
+
+impl Model for Machine {
+    ghost use Rattle.capcheck.specs.Kept.{Device, IsRunning};
+
+    ghost Value = { Device };
+
+    ghost use Rattle.capcheck.specs.Views.{kept_of, programs_of};
+
+    ghost view = { λ m. record { programs = programs_of m.programs.items; kept = kept_of m.world; spent = m.spent } };
+
+    ghost invariant = { λ m. IsRunning (record { programs = programs_of m.programs.items; kept = kept_of m.world; spent = m.spent }) };
+}
+
+impl Machine {
+    /// One step, and its line. A refused growth is `Memory`, and from then on each step is `Spent`.
+    pub fn step(&mut self, event: Event) -> Result<Line, Stop>
+        ensures step { IfOk result (λ line.
+            Steps self.old.programs (world_of self.old.kept) (event_of event) (line_of line) (world_of self.new.kept)) }
+        ensures well_formed { OnOk result (IsWellFormed self.new.programs (world_of self.new.kept)) }
+        ensures programs { self.new.programs ≡ self.old.programs }
+        ensures spent { IsErrOf result Stop.Spent ↔ (self.old.spent ≡ true) }
+        ensures runs_on { OnOk result (self.new.spent ≡ false) }
+        ensures stops { OnErr result (self.new.spent ≡ true) }
+        ensures no_device { IsErrOf result Stop.Device → ⊥ }
+    {
+        if self.spent {
+            return Err(Stop::Spent);
+        }
+        match step_world(self.alloc, &self.programs, &mut self.world, event) {
+            Ok(line) => Ok(line),
+            Err(_) => {
+                self.spent = true;
+                Err(Stop::Memory)
+            }
+        }
     }
 }
