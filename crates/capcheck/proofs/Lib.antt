@@ -14,3 +14,4 @@ pub mod Changed
 pub mod Applied
 pub mod Ready
 pub mod Stepping
+pub mod Opening

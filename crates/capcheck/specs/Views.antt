@@ -1,5 +1,5 @@
 -- What the values of the code stand for.
-use Rattle.std.specs.Prelude.{ℕ, Bool, false, List, [], ◌∷◌, map, Option, Some, None, string_bytes}
+use Rattle.std.specs.Prelude.{ℕ, Bool, false, List, [], ◌∷◌, map, Option, Some, None, length, string_bytes}
 use Rattle.std.specs.Option.{option_map}
 use Rattle.std.specs.declared.vec.Vec.{Vec}
 use Rattle.std.specs.declared.alloc.Global.{Global}
@@ -9,6 +9,7 @@ use Rattle.capcheck.specs.declared.nodes.Kind.TheVariants as kind
 use Rattle.capcheck.specs.declared.nodes.Node.{Node as NodeCode}
 use Rattle.capcheck.specs.declared.files.Access.{Access as AccessCode}
 use Rattle.capcheck.specs.declared.files.Description.{Description as DescriptionCode}
+use Rattle.capcheck.specs.declared.files.Files.{Files}
 use Rattle.capcheck.specs.declared.files.Descriptor.{Descriptor as DescriptorCode}
 use Rattle.capcheck.specs.declared.programs.Syscall.{Syscall as SyscallCode}
 use Rattle.capcheck.specs.declared.programs.Syscall.TheVariants as syscall
@@ -16,14 +17,14 @@ use Rattle.capcheck.specs.declared.programs.Instruction.{Instruction as Instruct
 use Rattle.capcheck.specs.declared.programs.Instruction.TheVariants as instruction
 use Rattle.capcheck.specs.declared.programs.Program.{Program as ProgramCode}
 use Rattle.capcheck.specs.declared.task.Grant.{Grant as GrantCode}
-use Rattle.capcheck.specs.declared.task.FirstDescriptor.{FirstDescriptor as FirstDescriptorCode}
+use Rattle.capcheck.specs.declared.files.FirstDescriptor.{FirstDescriptor as FirstDescriptorCode}
 use Rattle.capcheck.specs.declared.task.Start.{Start as StartCode}
 use Rattle.capcheck.specs.Tree.{Kind, File, Dir, Link, Node}
 use Rattle.capcheck.specs.Descriptions.{Access, Object, At_node, State, Descriptor}
 use Rattle.capcheck.specs.Programs.{Syscall, Cap_enter, Read, Instruction, Set, Jeq, Halt, Invoke, Program}
 use Rattle.capcheck.specs.declared.world.World.{World as WorldCode}
-use Rattle.capcheck.specs.Kept.{Kept}
-use Rattle.capcheck.specs.Plans.{Grant, FirstDescriptor, Start}
+use Rattle.capcheck.specs.Kept.{Kept, entry, object, state}
+use Rattle.capcheck.specs.Plans.{Grant, FirstDescriptor, Start, Opening}
 
 abbrev pub kind_of : KindCode → Kind
 kind_of kind.File = File
@@ -97,4 +98,13 @@ kept_of w = record {
   objects = map object_of w.files.descriptions.items;
   states = map state_of w.files.descriptions.items;
   processes = w.processes.items;
+}
+
+-- the descriptors and descriptions so far, as a first world is built of them
+abbrev pub opening_of : Files → Opening
+opening_of f = record {
+  next = length f.descriptions.items;
+  objects = object (map object_of f.descriptions.items);
+  states = state (map state_of f.descriptions.items);
+  table = entry (entries_of f.entries.items);
 }

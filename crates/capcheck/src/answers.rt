@@ -25,7 +25,7 @@ pub struct Effect {
 /// A description's next offset.
 #[derive(Clone, Copy)]
 pub struct Moved {
-    pub description: u16,
+    pub description: usize,
     pub offset: u16,
 }
 
@@ -69,7 +69,7 @@ fn byte_at(bytes: &[u8], offset: usize) -> Option<u8>
 /// `read` through a description of a node: one byte, or 256 at the end. (read(2))
 fn read_node(
     alloc: Global,
-    number: u16,
+    number: usize,
     description: Description,
     node: &Node,
 ) -> Result<Answer, AllocError>
@@ -104,7 +104,7 @@ fn read(alloc: Global, world: &World, process: u8, number: u32) -> Result<Answer
     if !descriptor.rights.contains(Rights::READ) {
         return Ok(Answer::Fails(Errno::ENOTCAPABLE, Cause::MissingRight));
     }
-    let description = world.files.descriptions[descriptor.description as usize];
+    let description = world.files.descriptions[descriptor.description];
     read_node(alloc, descriptor.description, description, &world.nodes[description.node as usize])
 }
 

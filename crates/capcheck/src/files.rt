@@ -35,7 +35,7 @@ pub struct Description {
 /// An entry of a process's table: a description's number, and what may be done through the entry.
 #[derive(Clone, Copy)]
 pub struct Descriptor {
-    pub description: u16,
+    pub description: usize,
     pub rights: Rights,
     pub fcntls: Fcntls,
 }
@@ -52,14 +52,14 @@ pub fn entry_at(entries: &[Option<Descriptor>], process: u8, number: u32) -> Opt
 }
 
 /// Fills an entry.
-pub fn set_entry(entries: &mut [Option<Descriptor>], process: u8, number: u8, descriptor: Descriptor)
+fn set_entry(entries: &mut [Option<Descriptor>], process: usize, number: u8, descriptor: Descriptor)
     requires room { length entries.old ≡ 256 }
     requires process { process < 16 }
     requires number { number < 16 }
     ensures entries { entry (entries_of entries.new)
         ≡ put2 (entry (entries_of entries.old)) process number (Some (descriptor_of descriptor)) }
 {
-    entries[process as usize * NUMBERS + number as usize] = Some(descriptor);
+    entries[process * NUMBERS + number as usize] = Some(descriptor);
 }
 
 /// Clears all entries of a process.
@@ -85,10 +85,61 @@ pub fn no_entries(alloc: Global) -> Result<Vec<Option<Descriptor>>, AllocError>
     Ok(entries)
 }
 
+/// A descriptor that a process starts with, on a file or directory of the tree.
+#[derive(Clone, Copy)]
+pub struct FirstDescriptor {
+    pub number: u8,
+    pub node: u16,
+    pub access: Access,
+    pub rights: Rights,
+    pub fcntls: Fcntls,
+}
+
 /// The tables of all processes, one map over (process, number), and the open descriptions.
 #[derive(Drop)]
 pub struct Files {
     /// Sixteen entries for each of sixteen processes.
     pub entries: Vec<Option<Descriptor>>,
     pub descriptions: Vec<Description>,
+}
+
+impl Files {
+    ghost use Rattle.std.specs.Prelude.{◌≡◌, ◌<◌, length, IfOk, OnOk};
+    ghost use Rattle.capcheck.specs.Plans.{nothing_open, with_descriptor};
+    ghost use Rattle.capcheck.specs.Views.{first_descriptor_of, opening_of};
+
+    /// Sixteen tables without an entry, and no description.
+    pub fn new(alloc: Global) -> Result<Files, AllocError>
+        ensures opening { IfOk result (λ files. opening_of files ≡ nothing_open) }
+        ensures room { IfOk result (λ files. length files.entries.items ≡ 256) }
+    {
+        Ok(Files {
+            entries: no_entries(alloc)?,
+            descriptions: Vec::new(alloc),
+        })
+    }
+
+    /// Opens a node at offset 0 as a new description, through an entry of the process.
+    pub fn open(&mut self, process: usize, first: FirstDescriptor) -> Result<(), AllocError>
+        requires room { length self.old.entries.items ≡ 256 }
+        requires process { process < 16 }
+        requires number { first.number < 16 }
+        ensures opening { OnOk result (opening_of self.new
+            ≡ with_descriptor (opening_of self.old) process (first_descriptor_of first)) }
+        ensures room { length self.new.entries.items ≡ 256 }
+    {
+        let description = self.descriptions.len();
+        self.descriptions.push(Description {
+            node: first.node,
+            access: first.access,
+            offset: 0,
+        })?;
+        let descriptor = Descriptor {
+            description,
+            rights: first.rights,
+            fcntls: first.fcntls,
+        };
+        set_entry(&mut self.entries, process, first.number, descriptor);
+        Ok(())
+    }
 }

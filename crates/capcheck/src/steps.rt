@@ -107,8 +107,8 @@ fn set_offset(descriptions: &mut [Description], moved: Moved)
     ensures objects { map object_of descriptions.new ≡ map object_of descriptions.old }
     ensures states { map state_of descriptions.new ≡ slice_set (map state_of descriptions.old) moved.description (state_at moved.offset) }
 {
-    let description = descriptions[moved.description as usize];
-    descriptions[moved.description as usize] = Description {
+    let description = descriptions[moved.description];
+    descriptions[moved.description] = Description {
         offset: moved.offset,
         ..description
     };

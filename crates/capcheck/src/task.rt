@@ -2,10 +2,10 @@
 
 ghost use Rattle.std.specs.Prelude.{◌≡◌};
 
-use crate::files::Access;
+use crate::files::FirstDescriptor;
 use crate::nodes::Node;
 use crate::programs::Program;
-use rights::{Fcntls, Op, Rights};
+use rights::Op;
 use std::marker::Model;
 
 /// A grant: the operations that are allowed on a directory and on everything beneath it.
@@ -15,16 +15,6 @@ pub struct Grant {
     /// The directory's place.
     pub path: Vec<Vec<u8>>,
     pub operations: Vec<Op>,
-}
-
-/// A descriptor that a process starts with, on a file or directory of the tree.
-#[derive(Clone, Copy)]
-pub struct FirstDescriptor {
-    pub number: u8,
-    pub node: u16,
-    pub access: Access,
-    pub rights: Rights,
-    pub fcntls: Fcntls,
 }
 
 /// A first process.
