@@ -59,3 +59,37 @@ impl Model for Task {
         starts = starts_of t.starts.items;
     }) ≡ true };
 }
+
+impl Task {
+    ghost use Rattle.std.specs.Prelude.{◌≡◌, true};
+    ghost use Rattle.capcheck.specs.Plans.{is_plan};
+    ghost use Rattle.capcheck.specs.Views.{nodes_of, grants_of, programs_of, starts_of};
+
+    /// The nodes of the tree, the root first.
+    pub fn nodes(&self) -> &[Node]
+        ensures nodes { nodes_of result.now ≡ self.now.nodes }
+        ensures valid { is_plan self.now ≡ true }
+    {
+        &self.nodes
+    }
+
+    /// The policy.
+    pub fn grants(&self) -> &[Grant]
+        ensures { grants_of result.now ≡ self.now.grants }
+    {
+        &self.grants
+    }
+
+    pub fn programs(&self) -> &[Program]
+        ensures { programs_of result.now ≡ self.now.programs }
+    {
+        &self.programs
+    }
+
+    /// The first processes, by number.
+    pub fn starts(&self) -> &[Start]
+        ensures { starts_of result.now ≡ self.now.starts }
+    {
+        &self.starts
+    }
+}
