@@ -5,7 +5,7 @@ use Rattle.std.specs.List.{slice_get, list_all}
 use Rattle.std.specs.Option.{option_map}
 use Rattle.std.specs.Str.{bytes_eq}
 use Rattle.std.specs.Cmp.Derive.{both_true}
-use Rattle.std.proofs.lemmas.Bool.{ltb-true, leb-true}
+use Rattle.std.proofs.lemmas.Bool.{ltb-true, leb-true, lt-ltb}
 use Rattle.std.proofs.Math.ListN.{length-map}
 use Rattle.std.proofs.lemmas.Option.{slice_get-map, slice_get_within, slice_get_past}
 use Rattle.rights.specs.Sets.{is_within, all_rights, all_commands}
@@ -18,8 +18,9 @@ use Rattle.capcheck.specs.Tree.{Node, node, is_dir, is_link, is_tree}
 use Rattle.capcheck.specs.Descriptions.{Class, Initial, Object, At_node, At_end, State, Descriptor, Message}
 use Rattle.capcheck.specs.Programs.{Program, Instruction, is_program, is_instruction, ends_well, instruction_at, at_point}
 use Rattle.capcheck.specs.World.{World}
-use Rattle.capcheck.specs.Plans.{Plan, is_word, FirstDescriptor, Start, Opening, are_programs, are_grants, is_descriptor, are_descriptors, is_start, is_plan, nothing_open, first_state, with_descriptor, with_descriptors, with_starts, first_process, world_with, first_world}
+use Rattle.capcheck.specs.Plans.{Plan, is_word, FirstDescriptor, Start, Opening, are_programs, are_grants, is_descriptor, are_descriptors, is_start, is_plan, have_numbers, nothing_open, first_state, with_descriptor, with_descriptors, with_starts, first_process, world_with, first_world}
 use Rattle.capcheck.specs.WellFormed.{Pairs, HasNone, IsObject, IsDescriptor, IsEntry, AreMessages, FitsRegister, IsMade, IsPoint, IsProcess, IsWorld, IsWellFormed}
+use Rattle.capcheck.specs.Kept.{Kept, IsKept, world_of}
 use Rattle.capcheck.proofs.Points.{point_below}
 
 abbrev no_pairs : Pairs
@@ -203,9 +204,9 @@ checked plan good =
       starts = both_right (valid && are_programs plan.programs && nat_le 1 (length plan.starts) && nat_le (length plan.starts) 16) _ good;
     }
 
-pub first_well_formed : (plan : Plan) → is_plan plan ≡ true → IsWellFormed plan.programs (first_world plan)
+pub first_is_world : (plan : Plan) → is_plan plan ≡ true → IsWorld plan.programs no_pairs (with_starts nothing_open 0 plan.starts).next (first_world plan)
 unfolding first_world
-first_well_formed plan good =
+first_is_world plan good =
     let facts = checked plan good in
     let o = with_starts nothing_open 0 plan.starts in
     let opened : IsOpened plan.nodes (0 + length plan.starts) o = opened-starts plan.nodes (length plan.programs) 0 nothing_open plan.starts (opened-nothing plan.nodes) facts.starts in
@@ -214,9 +215,6 @@ first_well_formed plan good =
     let some : 0 < length plan.starts = facts.some in
     let few : length plan.starts ≤ 16 = facts.few in
     record {
-      pairs = no_pairs;
-      bound = o.next;
-      world = record {
         tree = facts.tree;
         some = omega arith;
         few = omega arith;
@@ -229,5 +227,38 @@ first_well_formed plan good =
         idle = λ pair side far. refl;
         counted = refl;
         offsets = opened.offsets;
-      };
     }
+
+pub first_well_formed : (plan : Plan) → is_plan plan ≡ true → IsWellFormed plan.programs (first_world plan)
+first_well_formed plan good = record {
+  pairs = no_pairs;
+  bound = (with_starts nothing_open 0 plan.starts).next;
+  world = first_is_world plan good;
+}
+
+-- each first descriptor's number is below 16
+numbers_fit : (tree : List Node) (descriptors : List FirstDescriptor) → are_descriptors tree descriptors ≡ true → list_all (λ (d : FirstDescriptor). nat_lt d.number 16) descriptors ≡ true
+numbers_fit tree [] good = refl
+numbers_fit tree (d ∷ descriptors) good =
+    let front = both_left _ (are_descriptors tree descriptors) good in
+    let facts = tested tree d (both_left _ (list_all (λ (e : FirstDescriptor). not (d.number == e.number)) descriptors) front) in
+    both_true (lt-ltb d.number 16 facts.number)
+        (numbers_fit tree descriptors (both_right (is_descriptor tree d && list_all (λ (e : FirstDescriptor). not (d.number == e.number)) descriptors) _ good))
+
+pub starts_fit : (tree : List Node) (programs : ℕ) (starts : List Start) → list_all (is_start tree programs) starts ≡ true → have_numbers starts ≡ true
+starts_fit tree programs [] good = refl
+starts_fit tree programs (s ∷ starts) good =
+    let start : is_start tree programs s ≡ true = both_left _ (list_all (is_start tree programs) starts) good in
+    both_true (numbers_fit tree s.descriptors (both_right (nat_lt s.program programs) _ start))
+        (starts_fit tree programs starts (both_right (is_start tree programs s) _ good))
+
+-- a world that is kept as a task's first one
+pub first_kept : (plan : Plan) (k : Kept) → is_plan plan ≡ true → world_of k ≡ first_world plan → length k.objects ≡ (with_starts nothing_open 0 plan.starts).next → length k.entries ≡ 256 → length k.states ≡ length k.objects → IsKept plan.programs k
+first_kept plan k good is next room states = record {
+  pairs = no_pairs;
+  world =
+      subst (λ bound. IsWorld plan.programs no_pairs bound (world_of k)) (sym next)
+        (subst (IsWorld plan.programs no_pairs (with_starts nothing_open 0 plan.starts).next) (sym is) (first_is_world plan good));
+  room = room;
+  states = states;
+}

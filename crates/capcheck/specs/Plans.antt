@@ -86,6 +86,10 @@ are_descriptors tree (d ∷ descriptors) =
 abbrev pub is_start : List Node → ℕ → Start → Bool
 is_start tree programs s = nat_lt s.program programs && are_descriptors tree s.descriptors
 
+-- each number of a first descriptor is one
+abbrev pub have_numbers : List Start → Bool
+have_numbers starts = list_all (λ (s : Start). list_all (λ (d : FirstDescriptor). nat_lt d.number 16) s.descriptors) starts
+
 -- A task: one to 8 programs, up to 8 grants, one to 16 first processes.
 abbrev pub is_plan : Plan → Bool
 is_plan plan =

@@ -4,6 +4,7 @@ ghost use Rattle.std.specs.Prelude.{◌≡◌, ◌↔◌, Err, IfOk, OnErr, OnOk
 ghost use Rattle.std.specs.List.{list_all};
 ghost use Rattle.capcheck.specs.AnswerViews.{effects_of};
 ghost use Rattle.capcheck.specs.Kept.{IsKept, SameSizes, world_of};
+ghost use Rattle.capcheck.specs.Plans.{first_world};
 ghost use Rattle.capcheck.specs.Programs.{instruction_at, is_program, name_at};
 ghost use Rattle.capcheck.specs.Steps.{Ended, Steps, step, stepped};
 ghost use Rattle.capcheck.specs.StepViews.{SteppedAs, event_of, line_of, result_of};
@@ -14,7 +15,9 @@ ghost use Rattle.capcheck.specs.World.{Choice};
 use crate::events::Event;
 use crate::lines::{Acted, Line};
 use crate::programs::{Instruction, Program};
+use crate::starting::{copy_programs, first_world};
 use crate::steps::{Executed, LineResult, execute};
+use crate::task::Task;
 use crate::world::World;
 use process::Process;
 use rights::Stop;
@@ -150,6 +153,23 @@ impl Model for Machine {
 }
 
 impl Machine {
+    /// The machine at the start of a task. Want of memory alone keeps it from starting.
+    pub fn start(alloc: Global, task: &Task) -> Result<Machine, Stop>
+        ensures programs { IfOk result (λ machine. machine.programs ≡ task.now.programs) }
+        ensures world { IfOk result (λ machine. world_of machine.kept ≡ first_world task.now) }
+        ensures runs_on { IfOk result (λ machine. machine.spent ≡ false) }
+        ensures memory { OnErr result (IsErrOf result Stop.Memory) }
+    {
+        let programs = copy_programs(alloc, task.programs())?;
+        let world = first_world(alloc, task.nodes(), task.starts())?;
+        Ok(Machine {
+            alloc,
+            programs,
+            world,
+            spent: false,
+        })
+    }
+
     /// One step, and its line. A refused growth is `Memory`, and from then on each step is `Spent`.
     pub fn step(&mut self, event: Event) -> Result<Line, Stop>
         ensures step { IfOk result (λ line.

@@ -3,7 +3,7 @@
 ghost use Rattle.std.specs.Prelude.{◌≡◌, ◌+◌, ◌<◌, ◌≤◌, nat_lt, true, map, length, IfOk, OnOk};
 ghost use Rattle.std.specs.List.{list_all};
 ghost use Rattle.capcheck.specs.Kept.{world_of};
-ghost use Rattle.capcheck.specs.Plans.{FirstDescriptor as FirstSeen, first_process, nothing_open, with_descriptors, with_starts, world_with};
+ghost use Rattle.capcheck.specs.Plans.{FirstDescriptor as FirstSeen, first_process, have_numbers, nothing_open, with_descriptors, with_starts, world_with};
 ghost use Rattle.capcheck.specs.Views.{first_descriptor_of, kept_of, node_of, nodes_of, opening_of, place_of, program_of, programs_of, start_of, starts_of};
 
 use crate::files::{Files, FirstDescriptor};
@@ -92,4 +92,36 @@ fn open_all(
         files.open(process, *first)?;
     }
     Ok(())
+}
+
+/// Opens the first descriptors of all processes.
+fn open_starts(files: &mut Files, starts: &[Start]) -> Result<(), AllocError>
+    requires room { length files.old.entries.items ≡ 256 }
+    requires few { length starts.now ≤ 16 }
+    requires numbers { have_numbers (starts_of starts.now) ≡ true }
+    ensures opening { OnOk result (opening_of files.new ≡ with_starts (opening_of files.old) 0 (starts_of starts.now)) }
+    ensures room { length files.new.entries.items ≡ 256 }
+{
+    for (process, start) in starts.iter().enumerate() {
+        open_all(files, process, &start.descriptors)?;
+    }
+    Ok(())
+}
+
+/// The world in which a task starts.
+pub fn first_world(alloc: Global, nodes: &[Node], starts: &[Start]) -> Result<World, AllocError>
+    requires few { length starts.now ≤ 16 }
+    requires numbers { have_numbers (starts_of starts.now) ≡ true }
+    ensures world { IfOk result (λ w. world_of (kept_of w)
+        ≡ world_with (nodes_of nodes.now) (map first_process (starts_of starts.now)) (with_starts nothing_open 0 (starts_of starts.now))) }
+    ensures next { IfOk result (λ w. length w.files.descriptions.items ≡ (with_starts nothing_open 0 (starts_of starts.now)).next) }
+    ensures room { IfOk result (λ w. length w.files.entries.items ≡ 256) }
+{
+    let mut files = Files::new(alloc)?;
+    open_starts(&mut files, starts)?;
+    Ok(World {
+        nodes: copy_nodes(alloc, nodes)?,
+        files,
+        processes: first_processes(alloc, starts)?,
+    })
 }
