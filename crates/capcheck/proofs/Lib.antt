@@ -15,3 +15,6 @@ pub mod Applied
 pub mod Ready
 pub mod Stepping
 pub mod Opening
+pub mod Tracing
+pub mod Splitting
+pub mod Modes

@@ -14,3 +14,4 @@ pub mod Kept
 pub mod Views
 pub mod AnswerViews
 pub mod StepViews
+pub mod Simulations

@@ -158,6 +158,8 @@ impl Machine {
         ensures programs { IfOk result (λ machine. machine.programs ≡ task.now.programs) }
         ensures world { IfOk result (λ machine. world_of machine.kept ≡ first_world task.now) }
         ensures runs_on { IfOk result (λ machine. machine.spent ≡ false) }
+        ensures valid { IfOk result (λ machine. list_all is_program machine.programs ≡ true) }
+        ensures well_formed { IfOk result (λ machine. IsWellFormed machine.programs (world_of machine.kept)) }
         ensures memory { OnErr result (IsErrOf result Stop.Memory) }
     {
         let programs = copy_programs(alloc, task.programs())?;

@@ -1,6 +1,6 @@
 -- Tests, as facts.
 use Rattle.std.proofs.Common.{◌≡◌, ℕ, ◌<◌, ◌≤◌, Bool, true, false, ◌⊎◌, inl, inr, refl, nat_lt, nat_le}
-use Rattle.std.specs.Prelude.{◌&&◌, ◌||◌, not}
+use Rattle.std.specs.Prelude.{◌&&◌, ◌||◌, not, Result, Ok, Err, OnErr}
 
 -- the parts of a test that passes
 pub both_left : (a b : Bool) → (a && b) ≡ true → a ≡ true
@@ -26,3 +26,8 @@ not_true false h = refl
 pub not_false : (a : Bool) → not a ≡ false → a ≡ true
 not_false true h = refl
 not_false false h = absurd cc
+
+-- a fact of each error
+pub on_err : {A E P : Type 0} (r : Result A E) → P → OnErr r P
+on_err (Ok x) fact = tt
+on_err (Err e) fact = fact
