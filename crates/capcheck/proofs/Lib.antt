@@ -17,4 +17,5 @@ pub mod Stepping
 pub mod Opening
 pub mod Tracing
 pub mod Splitting
+pub mod Numerals
 pub mod Modes

@@ -15,3 +15,4 @@ pub mod Views
 pub mod AnswerViews
 pub mod StepViews
 pub mod Simulations
+pub mod ScheduleViews

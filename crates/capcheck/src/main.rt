@@ -8,6 +8,7 @@ mod lines;
 mod machine;
 mod nodes;
 mod programs;
+mod schedule;
 mod simulator;
 mod starting;
 mod steps;
