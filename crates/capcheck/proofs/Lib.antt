@@ -18,4 +18,5 @@ pub mod Opening
 pub mod Tracing
 pub mod Splitting
 pub mod Numerals
+pub mod LinesRead
 pub mod Modes

@@ -41,3 +41,6 @@ begins_some f all separator first o rest begins is = subst (λ o. Begins all sep
 pub begins_more : {T : Type 0} (f : T → List ℕ) (all : List (List ℕ)) (separator : ℕ) (first : List ℕ) (o : Option T) → Begins all separator first (option_map f o) → is_some o ≡ true → (rest : List ℕ) × (all ≡ first ∷ parts separator rest)
 begins_more f all separator first None begins is = absurd cc
 begins_more f all separator first (Some rest) begins is = (f rest, begins)
+
+pub begins_none : {T : Type 0} (f : T → List ℕ) (all : List (List ℕ)) (separator : ℕ) (first : List ℕ) (o : Option T) → Begins all separator first (option_map f o) → o ≡ None → all ≡ first ∷ []
+begins_none f all separator first o begins is = subst (λ o. Begins all separator first (option_map f o)) is begins

@@ -4,9 +4,10 @@ ghost use Rattle.std.specs.Prelude.{◌≡◌, ◌<◌, ◌≤◌, ◌==◌, ◌
 ghost use Rattle.capcheck.specs.Schedules.{at_most, event_of_line, is_number, number_from, number_of, parts, schedule_of};
 ghost use Rattle.capcheck.specs.ScheduleViews.{Begins, Reads, fault_number};
 ghost use Rattle.capcheck.specs.StepViews.{event_of};
+ghost use Rattle.capcheck.specs.declared.schedule.ScheduleFault.TheVariants as fault;
 
 use crate::events::Event;
-use std::alloc::{AllocError, AllocFailed, Global};
+use std::alloc::{AllocFailed, Global};
 use thiserror::Error;
 
 /// Why a schedule isn't read.
@@ -23,9 +24,34 @@ pub enum ScheduleFault {
     Memory,
 }
 
+/// How many events a schedule has at most.
+const MOST: usize = 65_536;
+
+impl ScheduleFault {
+    /// The fault's number.
+    pub fn number(self) -> u8
+        ensures { result ≡ fault_number self }
+    {
+        match self {
+            ScheduleFault::Line(_) => 1,
+            ScheduleFault::Limit => 2,
+            ScheduleFault::Memory => 3,
+        }
+    }
+}
+
+impl<T: Drop> From<AllocFailed<T>> for ScheduleFault {
+    ghost from_gives = { λ _ given. given ≡ fault.Memory };
+
+    fn from(_failed: AllocFailed<T>) -> ScheduleFault {
+        ScheduleFault::Memory
+    }
+}
+
 /// The first part of a text before a byte that separates, and the text behind that byte if it is there.
 fn first_part(text: &[u8], separator: u8) -> (&[u8], Option<&[u8]>)
     ensures parts { Begins (parts separator text.now) separator result.0.now (option_map (λ rest. rest.now) result.1) }
+    ensures within { length result.0.now ≤ length text.now }
     ensures shorter { IfSome result.1 (λ rest. length rest.now < length text.now) }
 {
     for (at, byte) in text.iter().enumerate() {
@@ -93,4 +119,34 @@ fn read_event(line: &[u8]) -> Option<Event>
         input,
         refuse,
     })
+}
+
+/// Reads a schedule: the events that the text stands for, or its first faulty line, or, where no line
+/// is faulty, that there are too many.
+pub fn read_schedule(alloc: Global, bytes: &[u8]) -> Result<Vec<Event>, ScheduleFault>
+    ensures { Reads result (schedule_of bytes.now) }
+{
+    let mut events = Vec::new(alloc);
+    let mut count: usize = 0;
+    let mut rest = bytes;
+    loop {
+        let (line, behind) = first_part(rest, b'\n');
+        let Some(behind) = behind else {
+            if !line.is_empty() {
+                return Err(ScheduleFault::Line(count + 1));
+            }
+            if count > MOST {
+                return Err(ScheduleFault::Limit);
+            }
+            return Ok(events);
+        };
+        let Some(event) = read_event(line) else {
+            return Err(ScheduleFault::Line(count + 1));
+        };
+        if count < MOST {
+            events.push(event)?;
+        }
+        count += 1;
+        rest = behind;
+    }
 }
