@@ -20,26 +20,28 @@ small_tree =
 abbrev pub work_grant : Grant
 work_grant = record { name = codes "work"; path = codes "work" ∷ []; operations = Look ∷ Reads ∷ [] }
 
+-- the one process, with these rights on the file
+abbrev pub start_with : ℕ → Start
+start_with rights = record {
+  program = 0;
+  mode = false;
+  descriptors =
+      record {
+        number = 2;
+        node = 2;
+        access = record { readable = true; writable = false };
+        rights = rights;
+        fcntls = all_commands;
+      }
+      ∷ [];
+}
+
 abbrev pub plan_of : List Instruction → ℕ → Plan
 plan_of code rights = record {
   nodes = small_tree;
   grants = work_grant ∷ [];
   programs = record { name = codes "main"; code = code } ∷ [];
-  starts =
-      record {
-        program = 0;
-        mode = false;
-        descriptors =
-            record {
-              number = 2;
-              node = 2;
-              access = record { readable = true; writable = false };
-              rights = rights;
-              fcntls = all_commands;
-            }
-            ∷ [];
-      }
-      ∷ [];
+  starts = start_with rights ∷ [];
 }
 
 -- enters the mode and reads a byte

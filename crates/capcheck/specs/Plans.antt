@@ -36,6 +36,10 @@ pub record Plan : Type 0 where
   pub programs : List Program
   pub starts : List Start
 
+-- the plan of these parts
+abbrev pub plan_with : List Node → List Grant → List Program → List Start → Plan
+plan_with nodes grants programs starts = record { nodes = nodes; grants = grants; programs = programs; starts = starts }
+
 -- A name is a letter, and then up to 15 letters, digits and `_`.
 abbrev pub is_letter : ℕ → Bool
 is_letter b = nat_le 97 b && nat_le b 122

@@ -6,6 +6,7 @@ mod events;
 mod files;
 mod lines;
 mod machine;
+mod named;
 mod nodes;
 mod programs;
 mod schedule;

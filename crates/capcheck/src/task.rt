@@ -1,7 +1,5 @@
 //! A task: the tree, the policy, the programs, and the first processes with their descriptors.
 
-ghost use Rattle.std.specs.Prelude.{◌≡◌};
-
 use crate::files::FirstDescriptor;
 use crate::nodes::Node;
 use crate::programs::Program;
@@ -62,8 +60,21 @@ impl Model for Task {
 
 impl Task {
     ghost use Rattle.std.specs.Prelude.{◌≡◌, true};
-    ghost use Rattle.capcheck.specs.Plans.{is_plan};
+    ghost use Rattle.capcheck.specs.Plans.{is_plan, plan_with};
     ghost use Rattle.capcheck.specs.Views.{nodes_of, grants_of, programs_of, starts_of};
+
+    /// The task of these parts, which its caller knows to be valid.
+    pub fn new(nodes: Vec<Node>, grants: Vec<Grant>, programs: Vec<Program>, starts: Vec<Start>) -> Task
+        requires { is_plan (plan_with (nodes_of nodes.items) (grants_of grants.items) (programs_of programs.items) (starts_of starts.items)) ≡ true }
+        ensures { result ≡ plan_with (nodes_of nodes.items) (grants_of grants.items) (programs_of programs.items) (starts_of starts.items) }
+    {
+        Task {
+            nodes,
+            grants,
+            programs,
+            starts,
+        }
+    }
 
     /// The nodes of the tree, the root first.
     pub fn nodes(&self) -> &[Node]
@@ -80,6 +91,7 @@ impl Task {
         &self.grants
     }
 
+    /// The programs, by their place in the task.
     pub fn programs(&self) -> &[Program]
         ensures { programs_of result.now ≡ self.now.programs }
     {
