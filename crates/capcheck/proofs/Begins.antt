@@ -84,14 +84,14 @@ opened-descriptor tree made p o d below good test =
     } in
     record {
       entries = λ q n.
-        put2-cases (IsEntry tree no_pairs (o.next + 1) (put o.objects o.next object)) o.table p d.number (Some new) q n
+          put2-cases (IsEntry tree no_pairs (o.next + 1) (put o.objects o.next object)) o.table p d.number (Some new) q n
           is_new (entry_more tree o.next o.objects object (o.table q n) (good.entries q n));
       numbers = λ q n far.
-        put-cases (λ row. row n ≡ None) o.table p (put (o.table p) d.number (Some new)) q
+          put-cases (λ row. row n ≡ None) o.table p (put (o.table p) d.number (Some new)) q
           (λ _. put-cases (λ x. x ≡ None) (o.table p) d.number (Some new) n (λ same. absurd (omega (arith, same))) (λ _. good.numbers p n far))
           (λ _. good.numbers q n far);
       unmade = λ q n above.
-        put-cases (λ row. row n ≡ None) o.table p (put (o.table p) d.number (Some new)) q
+          put-cases (λ row. row n ≡ None) o.table p (put (o.table p) d.number (Some new)) q
           (λ same. absurd (omega (arith, same)))
           (λ _. good.unmade q n above);
       offsets = λ n. put-cases (λ (s : State). s.offset ≤ 4096) o.states o.next first_state n (λ _. omega arith) (λ _. good.offsets n);
@@ -102,8 +102,8 @@ opened-descriptors tree made p o [] below good test = good
 opened-descriptors tree made p o (d ∷ descriptors) below good test =
     let front = both_left _ (are_descriptors tree descriptors) test in
     opened-descriptors tree made p (with_descriptor o p d) descriptors below
-        (opened-descriptor tree made p o d below good (both_left _ (list_all (λ (e : FirstDescriptor). not (d.number == e.number)) descriptors) front))
-        (both_right (is_descriptor tree d && list_all (λ (e : FirstDescriptor). not (d.number == e.number)) descriptors) _ test)
+    (opened-descriptor tree made p o d below good (both_left _ (list_all (λ (e : FirstDescriptor). not (d.number == e.number)) descriptors) front))
+    (both_right (is_descriptor tree d && list_all (λ (e : FirstDescriptor). not (d.number == e.number)) descriptors) _ test)
 
 unmade_more : (tree : List Node) (made : ℕ) (o : Opening) → IsOpened tree made o → IsOpened tree (made + 1) o
 unmade_more tree made o good = record {
@@ -215,18 +215,18 @@ first_is_world plan good =
     let some : 0 < length plan.starts = facts.some in
     let few : length plan.starts ≤ 16 = facts.few in
     record {
-        tree = facts.tree;
-        some = omega arith;
-        few = omega arith;
-        processes = first_made plan.programs plan.nodes facts.programs plan.starts facts.starts;
-        entries = opened.entries;
-        numbers = opened.numbers;
-        gone = λ p. none_gone plan.starts p (λ far n. opened.unmade p n (omega (arith, far)));
-        messages = λ pair side. tt;
-        queues = λ pair side. omega arith;
-        idle = λ pair side far. refl;
-        counted = refl;
-        offsets = opened.offsets;
+      tree = facts.tree;
+      some = omega arith;
+      few = omega arith;
+      processes = first_made plan.programs plan.nodes facts.programs plan.starts facts.starts;
+      entries = opened.entries;
+      numbers = opened.numbers;
+      gone = λ p. none_gone plan.starts p (λ far n. opened.unmade p n (omega (arith, far)));
+      messages = λ pair side. tt;
+      queues = λ pair side. omega arith;
+      idle = λ pair side far. refl;
+      counted = refl;
+      offsets = opened.offsets;
     }
 
 pub first_well_formed : (plan : Plan) → is_plan plan ≡ true → IsWellFormed plan.programs (first_world plan)
@@ -243,14 +243,14 @@ numbers_fit tree (d ∷ descriptors) good =
     let front = both_left _ (are_descriptors tree descriptors) good in
     let facts = tested tree d (both_left _ (list_all (λ (e : FirstDescriptor). not (d.number == e.number)) descriptors) front) in
     both_true (lt-ltb d.number 16 facts.number)
-        (numbers_fit tree descriptors (both_right (is_descriptor tree d && list_all (λ (e : FirstDescriptor). not (d.number == e.number)) descriptors) _ good))
+    (numbers_fit tree descriptors (both_right (is_descriptor tree d && list_all (λ (e : FirstDescriptor). not (d.number == e.number)) descriptors) _ good))
 
 pub starts_fit : (tree : List Node) (programs : ℕ) (starts : List Start) → list_all (is_start tree programs) starts ≡ true → have_numbers starts ≡ true
 starts_fit tree programs [] good = refl
 starts_fit tree programs (s ∷ starts) good =
     let start : is_start tree programs s ≡ true = both_left _ (list_all (is_start tree programs) starts) good in
     both_true (numbers_fit tree s.descriptors (both_right (nat_lt s.program programs) _ start))
-        (starts_fit tree programs starts (both_right (is_start tree programs s) _ good))
+    (starts_fit tree programs starts (both_right (is_start tree programs s) _ good))
 
 -- a world that is kept as a task's first one
 pub first_kept : (plan : Plan) (k : Kept) → is_plan plan ≡ true → world_of k ≡ first_world plan → length k.objects ≡ (with_starts nothing_open 0 plan.starts).next → length k.entries ≡ 256 → length k.states ≡ length k.objects → IsKept plan.programs k
@@ -258,7 +258,7 @@ first_kept plan k good is next room states = record {
   pairs = no_pairs;
   world =
       subst (λ bound. IsWorld plan.programs no_pairs bound (world_of k)) (sym next)
-        (subst (IsWorld plan.programs no_pairs (with_starts nothing_open 0 plan.starts).next) (sym is) (first_is_world plan good));
+      (subst (IsWorld plan.programs no_pairs (with_starts nothing_open 0 plan.starts).next) (sym is) (first_is_world plan good));
   room = room;
   states = states;
 }

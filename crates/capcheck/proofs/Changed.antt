@@ -17,6 +17,7 @@ state-set states n s within = λ i m. at m i
   where
     same : (m : ℕ) → m ≡ n → slice_index_or (slice_set states n s) m first_state ≡ s
     same m is = ap (λ k. slice_index_or (slice_set states n s) k first_state) is ∙ get_or-set_same states n s first_state within
+
     at : (m : ℕ) → slice_index_or (slice_set states n s) m first_state ≡ put (state states) n s m
     at m = put-cases (λ x. slice_index_or (slice_set states n s) m first_state ≡ x) (state states) n s m (λ is. same m is) (λ other. get_or-set_other states n m s first_state other)
 

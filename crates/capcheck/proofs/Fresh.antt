@@ -25,8 +25,8 @@ other_entry tree pairs bound n objects (Some d) above good =
 other_messages : (tree : List Node) (pairs : Pairs) (bound n : ℕ) (objects : ℕ → Object) (messages : List Message) → bound ≤ n → AreMessages tree pairs bound objects messages → AreOther n messages
 other_messages tree pairs bound n objects [] above good = tt
 other_messages tree pairs bound n objects (m ∷ messages) above good = (
-    other_entry tree pairs bound n objects m.passed above good.1,
-    other_messages tree pairs bound n objects messages above good.2,
+  other_entry tree pairs bound n objects m.passed above good.1,
+  other_messages tree pairs bound n objects messages above good.2,
 )
 
 pub unnamed : (programs : List Program) (pairs : Pairs) (bound : ℕ) (w : World) → IsWorld programs pairs bound w → (n : ℕ) → bound ≤ n → IsUnnamed w n
@@ -60,12 +60,12 @@ message_entry tree pairs bound objects (k ∷ messages) good (suc i) m here =
 pub closed : (programs : List Program) (pairs : Pairs) (bound : ℕ) (w : World) → IsWorld programs pairs bound w → (pair side : ℕ) → pairs.count ≤ pair → is_open w pair side ≡ false
 closed programs pairs bound w good pair side above =
     neither _ _
-      (any_below-false 16 _ (λ p. any_below-false 16 _ (λ n.
-          closed_entry w.tree pairs bound pair side w.objects (w.table p n) above (good.entries p n))))
-      (any_below-false w.pairs _ (λ q. any_below-false 2 _ (λ s.
-          list_any-false (λ (m : Message). names_end w.objects pair side m.passed) (w.queue q s) (λ i m here.
-              closed_entry w.tree pairs bound pair side w.objects m.passed above
-                (message_entry w.tree pairs bound w.objects (w.queue q s) (good.messages q s) i m here)))))
+    (any_below-false 16 _ (λ p. any_below-false 16 _ (λ n.
+    closed_entry w.tree pairs bound pair side w.objects (w.table p n) above (good.entries p n))))
+    (any_below-false w.pairs _ (λ q. any_below-false 2 _ (λ s.
+    list_any-false (λ (m : Message). names_end w.objects pair side m.passed) (w.queue q s) (λ i m here.
+    closed_entry w.tree pairs bound pair side w.objects m.passed above
+    (message_entry w.tree pairs bound w.objects (w.queue q s) (good.messages q s) i m here)))))
 
 -- so there is a fresh choice
 pub fresh_choice : (programs : List Program) (pairs : Pairs) (bound : ℕ) (w : World) → IsWorld programs pairs bound w → IsFresh w (record { first = bound; second = bound + 1; pair = w.pairs })

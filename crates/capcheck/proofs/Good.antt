@@ -27,8 +27,8 @@ IsGood (Gives value change effects) = (value < 2 ^ 32) × IsGoodState change.sta
 content_of_node : (tree : List Node) (n : ℕ) → is_tree tree ≡ true → is_link (node tree n).kind ≡ false → is_content (node tree n).kind (node tree n).content ≡ true
 content_of_node tree n good no_link =
     elim (list_all-slice_index_or (is_node tree) tree n nowhere (both_right (nat_le (length tree) 1024 && has_root tree) _ good)) [
-      inl out ↦ (let P : Node → Type 0 = λ m. is_link m.kind ≡ false in absurd (link_is_none (subst P out no_link)))
-    | inr is ↦ both_right (list_all is_name (node tree n).place) _ (both_left _ (stands tree (node tree n)) is)
+      | inl out ↦ (let P : Node → Type 0 = λ m. is_link m.kind ≡ false in absurd (link_is_none (subst P out no_link)))
+      | inr is ↦ both_right (list_all is_name (node tree n).place) _ (both_left _ (stands tree (node tree n)) is)
     ]
   where
     link_is_none : true ≡ false → ⊥
@@ -71,7 +71,7 @@ good-read_node number state access n no_link good =
     good-unless (not (is_dir n.kind)) _ _ _ (λ no_dir.
     good-unless access.readable _ _ _ (λ readable.
     good-read_byte number state n.place (slice_get n.content state.offset) (λ byte here.
-        file_byte n.kind n.content state.offset byte no_link (no (is_dir n.kind) no_dir) good here)))
+    file_byte n.kind n.content state.offset byte no_link (no (is_dir n.kind) no_dir) good here)))
   where
     no : (b : Bool) → not b ≡ true → b ≡ false
     no true h = absurd cc

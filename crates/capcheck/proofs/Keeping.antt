@@ -59,7 +59,7 @@ kept-halted programs pairs bound w p s good made =
       entries = λ q n. put-cases (λ row. IsEntry w.tree pairs bound w.objects (row n)) w.table p closed q (λ _. tt) (λ _. good.entries q n);
       numbers = λ q n far. put-cases (λ row. row n ≡ None) w.table p closed q (λ _. refl) (λ _. good.numbers q n far);
       gone = λ q.
-        put-cases (λ row. HasNone (slice_get (slice_set w.processes p ended) q) row) w.table p closed q
+          put-cases (λ row. HasNone (slice_get (slice_set w.processes p ended) q) row) w.table p closed q
           (λ _. none_at_all (slice_get (slice_set w.processes p ended) q))
           (λ other. slice_get-set_cases (λ o. HasNone o (w.table q)) w.processes p ended q (λ same. absurd (other same)) (good.gone q));
       messages = good.messages;
@@ -101,17 +101,19 @@ kept-changed programs pairs bound w choice change good fits = record {
   where
     shorter : (messages : List Message) → length messages ≤ 16 → length (drop 1 messages) ≤ 16
     shorter messages few = omega (arith, length-drop 1 messages)
+
     none : (messages : List Message) → messages ≡ [] → drop 1 messages ≡ []
     none [] is = refl
     none (m ∷ messages) is = absurd cc
+
     idle : (change : QueueChange) (pair side : ℕ) → w.pairs ≤ pair → queue_after w.queue change pair side ≡ []
     idle Same_queue pair side far = good.idle pair side far
     idle (Pop q s) pair side far =
         put-cases (λ (row : ℕ → List Message). row side ≡ []) w.queue q (put (w.queue q) s (drop 1 (w.queue q s))) pair
-            (λ same. put-cases (λ messages. messages ≡ []) (w.queue q) s (drop 1 (w.queue q s)) side
-                (λ _. none (w.queue q s) (good.idle q s (omega (arith, same))))
-                (λ _. good.idle q side (omega (arith, same))))
-            (λ _. good.idle pair side far)
+        (λ same. put-cases (λ messages. messages ≡ []) (w.queue q) s (drop 1 (w.queue q s)) side
+        (λ _. none (w.queue q s) (good.idle q s (omega (arith, same))))
+        (λ _. good.idle q side (omega (arith, same))))
+        (λ _. good.idle pair side far)
 
 number_small : (errno : Errno) → errno_number errno < 2 ^ 32
 number_small errno = let low : errno_number errno ≤ 94 = errno_number-le errno in omega arith
@@ -124,27 +126,28 @@ kept-answered programs pairs bound w p s choice otherwise (Fails errno cause) go
 kept-answered programs pairs bound w p s choice otherwise Waits good made alive label next fits = good
 kept-answered programs pairs bound w p s choice otherwise (Gives value change effects) good made alive label next fits =
     kept-process programs pairs bound (changed w choice change) p (given s value change) (kept-changed programs pairs bound w choice change good fits.1)
-        (process_at programs s 0 value (s.point + 1) (s.mode || change.enters) made fits.0 next) alive
+    (process_at programs s 0 value (s.point + 1) (s.mode || change.enters) made fits.0 next) alive
 
 kept-executed : (programs : List Program) (pairs : Pairs) (bound : ℕ) (w : World) (e : Event) (choice : Choice) (s : ProcessState) (i : Instruction) → IsWorld programs pairs bound w → IsProcess programs s → s.alive ≡ true → Placed programs s.program s.point i → IsWorld programs pairs bound (executed w e choice s i).world
 unfolding executed jumped
 kept-executed programs pairs bound w e choice s (Set r value) good made alive at =
     let parts = at.fits in
     kept-process programs pairs bound w e.process (moved_to (with_register s r value) (s.point + 1)) good
-        (process_at programs s r value (s.point + 1) s.mode made (ltb-true value (2 ^ 32) (both_right (nat_lt r 8) _ at.fits)) (at.next refl)) alive
+    (process_at programs s r value (s.point + 1) s.mode made (ltb-true value (2 ^ 32) (both_right (nat_lt r 8) _ at.fits)) (at.next refl)) alive
 kept-executed programs pairs bound w e choice s (Jeq r value target) good made alive at =
     jump (register s r == value)
   where
     below : target < at.points
     below = ltb-true target at.points (both_right (nat_lt r 8 && nat_lt value (2 ^ 32)) _ at.fits)
+
     jump : (taken : Bool) → IsWorld programs pairs bound (plain w e.process (jumped s taken target)).world
     jump true = kept-process programs pairs bound w e.process (moved_to s target) good (process_moved programs s target made (at.target target below)) alive
     jump false = kept-process programs pairs bound w e.process (moved_to s (s.point + 1)) good (process_moved programs s (s.point + 1) made (at.next refl)) alive
 kept-executed programs pairs bound w e choice s Halt good made alive at = kept-halted programs pairs bound w e.process s good made
 kept-executed programs pairs bound w e choice s (Invoke call otherwise) good made alive at =
     kept-answered programs pairs bound w e.process s choice otherwise (answer w e.process e call) good made alive
-        (at.target otherwise (ltb-true otherwise at.points at.fits)) (at.next refl)
-        (good-answer programs pairs bound w good e.process e call)
+    (at.target otherwise (ltb-true otherwise at.points at.fits)) (at.next refl)
+    (good-answer programs pairs bound w good e.process e call)
 
 kept-stepped_at : (programs : List Program) (pairs : Pairs) (bound : ℕ) (w : World) (e : Event) (choice : Choice) (s : ProcessState) → list_all is_program programs ≡ true → IsWorld programs pairs bound w → IsProcess programs s → s.alive ≡ true → (o : Option Instruction) → instruction_at programs s.program s.point ≡ o → IsWorld programs pairs bound (stepped_at programs w e choice s o).world
 unfolding stepped_at

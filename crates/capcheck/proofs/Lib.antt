@@ -19,4 +19,5 @@ pub mod Tracing
 pub mod Splitting
 pub mod Numerals
 pub mod LinesRead
+pub mod ThreeWords
 pub mod Modes

@@ -60,9 +60,9 @@ read-kept all rest line after kept more count e so_far splits is room pushed =
       so_far = events ++ e ∷ [];
       counted = longer;
       kept_is =
-        pushed
-        ∙ ap (λ xs. xs ++ e ∷ []) (so_far.kept_is ∙ take_all 65536 events (omega (arith, here)))
-        ∙ sym (take_all 65536 (events ++ e ∷ []) (omega (arith, longer)));
+          pushed
+          ∙ ap (λ xs. xs ++ e ∷ []) (so_far.kept_is ∙ take_all 65536 events (omega (arith, here)))
+          ∙ sym (take_all 65536 (events ++ e ∷ []) (omega (arith, longer)));
       leads = leads-line all rest line after kept count (Some e) so_far splits is ∙ next-event events (count + 1) e (events_from (count + 1 + 1) (parts 10 after));
     }
 

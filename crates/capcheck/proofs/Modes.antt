@@ -33,8 +33,8 @@ same w = record {
 modes_kept : (processes : List ProcessState) (p : ℕ) (s t : ProcessState) → slice_get processes p ≡ Some s → (s.mode ≡ true → t.mode ≡ true) → (m : ℕ) → StaysIn (slice_get processes m) (slice_get (slice_set processes p t) m)
 modes_kept processes p s t made stays m =
     slice_get-set_cases (StaysIn (slice_get processes m)) processes p t m
-        (λ at. subst (λ o. StaysIn o (Some t)) (sym (ap (slice_get processes) at ∙ made)) stays)
-        (stays_same (slice_get processes m))
+    (λ at. subst (λ o. StaysIn o (Some t)) (sym (ap (slice_get processes) at ∙ made)) stays)
+    (stays_same (slice_get processes m))
 
 process_kept : (w : World) (p : ℕ) (s t : ProcessState) → slice_get w.processes p ≡ Some s → (s.mode ≡ true → t.mode ≡ true) → GainsNothing w (with_process w p t)
 process_kept w p s t made stays = record {
@@ -47,11 +47,11 @@ queue_kept : (queue : ℕ → ℕ → List Message) (change : QueueChange) (q s 
 queue_kept queue Same_queue q s = ([], refl)
 queue_kept queue (Pop pair side) q s =
     put-cases (λ (row : ℕ → List Message). (gone : List Message) × (queue q s ≡ gone ++ row s)) queue pair (put (queue pair) side (drop 1 (queue pair side))) q
-        (λ same_pair.
-          put-cases (λ messages. (gone : List Message) × (queue q s ≡ gone ++ messages)) (queue pair) side (drop 1 (queue pair side)) s
-            (λ same_side. (take 1 (queue pair side), ap (λ n. queue n s) same_pair ∙ ap (queue pair) same_side ∙ sym (take-append-drop 1 (queue pair side))))
-            (λ _. ([], ap (λ n. queue n s) same_pair)))
-        (λ _. ([], refl))
+    (λ same_pair.
+    put-cases (λ messages. (gone : List Message) × (queue q s ≡ gone ++ messages)) (queue pair) side (drop 1 (queue pair side)) s
+    (λ same_side. (take 1 (queue pair side), ap (λ n. queue n s) same_pair ∙ ap (queue pair) same_side ∙ sym (take-append-drop 1 (queue pair side))))
+    (λ _. ([], ap (λ n. queue n s) same_pair)))
+    (λ _. ([], refl))
 
 still_on : (mode enters : Bool) → mode ≡ true → (mode || enters) ≡ true
 still_on true enters on = refl
@@ -95,6 +95,7 @@ stepped_kept programs w e choice (Some s) made = by s.alive
     at : (o : Option Instruction) → GainsNothing w (stepped_at programs w e choice s o).world
     at None = same w
     at (Some i) = executed_kept w e choice s i made
+
     by : (alive : Bool) → GainsNothing w (stepped_by programs w e choice s alive).world
     by false = same w
     by true = at (instruction_at programs s.program s.point)

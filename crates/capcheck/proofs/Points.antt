@@ -45,10 +45,10 @@ placed_in programs program point i p found valid here =
       fits = list_all-slice_get (is_instruction (length p.code)) p.code point i all here;
       next_below = next_point p.code point i ends here;
       next = λ goes_on.
-        subst (λ o. IsPoint (at_point (point + 1) o)) (sym found)
+          subst (λ o. IsPoint (at_point (point + 1) o)) (sym found)
           (point_below p.code (point + 1) (next_point p.code point i ends here goes_on));
       target = λ target below.
-        subst (λ o. IsPoint (at_point target o)) (sym found) (point_below p.code target below);
+          subst (λ o. IsPoint (at_point target o)) (sym found) (point_below p.code target below);
     }
 
 pub placed : (programs : List Program) → list_all is_program programs ≡ true → (program point : ℕ) (i : Instruction) → instruction_at programs program point ≡ Some i → Placed programs program point i

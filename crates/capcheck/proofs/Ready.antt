@@ -71,7 +71,7 @@ kept_on programs k new e choice valid good sizes is = record {
   pairs = good.pairs;
   world =
       subst (λ bound. IsWorld programs good.pairs bound (world_of new)) (sym sizes.objects)
-        (subst (IsWorld programs good.pairs (length k.objects)) (sym is) (kept programs good.pairs (length k.objects) (world_of k) e choice valid good.world));
+      (subst (IsWorld programs good.pairs (length k.objects)) (sym is) (kept programs good.pairs (length k.objects) (world_of k) e choice valid good.world));
   room = sizes.entries ∙ good.room;
   states = sizes.states ∙ good.states ∙ sym sizes.objects;
 }

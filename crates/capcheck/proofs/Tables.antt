@@ -33,23 +33,27 @@ entry-set es p n v room process number = λ i q m. at q m i
   where
     E : ℕ → ℕ → Option Descriptor
     E = entry (slice_set es (p * 16 + n) v)
+
     within : p * 16 + n < length es
     within = omega (arith, room, process, number)
+
     here : (q m : ℕ) → q ≡ p → m ≡ n → entry (slice_set es (p * 16 + n) v) q m ≡ v
     here q m same_process same_number =
         ap (λ k. entry (slice_set es (p * 16 + n) v) k m) same_process
         ∙ ap (λ k. entry (slice_set es (p * 16 + n) v) p k) same_number
         ∙ entry-same es p n v number within
+
     row : (q m : ℕ) → q ≡ p → entry (slice_set es (p * 16 + n) v) q m ≡ put (entry es p) n v m
     row q m same =
         put-cases (λ x. entry (slice_set es (p * 16 + n) v) q m ≡ x) (entry es p) n v m
-            (λ at. here q m same at)
-            (λ other. ap (λ k. entry (slice_set es (p * 16 + n) v) k m) same ∙ entry-other es (p * 16 + n) v p m (λ small. λ clash. other (omega (arith, clash))))
+        (λ at. here q m same at)
+        (λ other. ap (λ k. entry (slice_set es (p * 16 + n) v) k m) same ∙ entry-other es (p * 16 + n) v p m (λ small. λ clash. other (omega (arith, clash))))
+
     at : (q m : ℕ) → entry (slice_set es (p * 16 + n) v) q m ≡ put2 (entry es) p n v q m
     at q m =
         put-cases (λ (r : ℕ → Option Descriptor). entry (slice_set es (p * 16 + n) v) q m ≡ r m) (entry es) p (put (entry es p) n v) q
-            (λ same. row q m same)
-            (λ other. entry-other es (p * 16 + n) v q m (λ small. λ clash. other (omega (arith, clash, small, number))))
+        (λ same. row q m same)
+        (λ other. entry-other es (p * 16 + n) v q m (λ small. λ clash. other (omega (arith, clash, small, number))))
 
 -- the first n entries from one on, cleared
 abbrev pub cleared : {A : Type 0} → List (Option A) → ℕ → ℕ → List (Option A)
@@ -64,12 +68,12 @@ inside : (es : Entries) (p n m : ℕ) → length es ≡ 256 → p < 16 → n ≤
 inside es p zero m room process few below = absurd (omega arith)
 inside es p (suc n) m room process few below =
     let set : entry (cleared es (p * 16) (suc n)) ≡ put2 (entry (cleared es (p * 16) n)) p n None =
-      entry-set (cleared es (p * 16) n) p n None (length-cleared es (p * 16) n ∙ room) process (omega arith)
+    entry-set (cleared es (p * 16) n) p n None (length-cleared es (p * 16) n ∙ room) process (omega arith)
     in
     ap (λ (f : ℕ → ℕ → Option Descriptor). f p m) set
     ∙ put-cases (λ (r : ℕ → Option Descriptor). r m ≡ None) (entry (cleared es (p * 16) n)) p (put (entry (cleared es (p * 16) n) p) n None) p
-        (λ _. put-cases (λ x. x ≡ None) (entry (cleared es (p * 16) n) p) n None m (λ _. refl) (λ other. inside es p n m room process (omega arith) (omega (arith, other))))
-        (λ other. absurd (other refl))
+    (λ _. put-cases (λ x. x ≡ None) (entry (cleared es (p * 16) n) p) n None m (λ _. refl) (λ other. inside es p n m room process (omega arith) (omega (arith, other))))
+    (λ other. absurd (other refl))
 
 outside : (es : Entries) (p n q m : ℕ) → length es ≡ 256 → p < 16 → n ≤ 16 → q ≢ p → entry (cleared es (p * 16) n) q m ≡ entry es q m
 outside es p zero q m room process few other = refl
@@ -95,11 +99,12 @@ entry-cleared es p room process = λ i q m. at q m i
   where
     none : (m : ℕ) → entry (cleared es (p * 16) 16) p m ≡ None
     none m = elim (lt_or_le m 16) [ inl below ↦ inside es p 16 m room process (omega arith) below | inr far ↦ beyond (cleared es (p * 16) 16) p m far ]
+
     at : (q m : ℕ) → entry (cleared es (p * 16) 16) q m ≡ put (entry es) p (λ n. None) q m
     at q m =
         put-cases (λ (r : ℕ → Option Descriptor). entry (cleared es (p * 16) 16) q m ≡ r m) (entry es) p (λ n. None) q
-            (λ same. ap (λ k. entry (cleared es (p * 16) 16) k m) same ∙ none m)
-            (λ other. outside es p 16 q m room process (omega arith) other)
+        (λ same. ap (λ k. entry (cleared es (p * 16) 16) k m) same ∙ none m)
+        (λ other. outside es p 16 q m room process (omega arith) other)
 
 pub cleared-map : {A B : Type 0} (f : A → B) (es : List (Option A)) (first n : ℕ) → map (λ o. option_map f o) (cleared es first n) ≡ cleared (map (λ o. option_map f o) es) first n
 cleared-map f es first zero = refl

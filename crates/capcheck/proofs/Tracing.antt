@@ -61,7 +61,7 @@ traced-step plan events before mid after w next e left line so_far s took = reco
   lines = so_far.lines ++ line ∷ [];
   took = subst (Took before after) (sym (text-more so_far.lines line)) (took_more before mid after _ _ so_far.took took);
   leads = λ rest run.
-    subst (IsRun plan events) (sym (append_assoc so_far.lines (line ∷ []) rest))
+      subst (IsRun plan events) (sym (append_assoc so_far.lines (line ∷ []) rest))
       (so_far.leads (line ∷ rest) (more plan.programs w next e line left rest s run));
 }
 
@@ -72,7 +72,7 @@ traced-end plan events before after w so_far =
       lines = so_far.lines;
       run = run;
       every = λ others other.
-        subst (λ lines. Took before after (trace_text lines)) (same-lines plan.programs (first_world plan) events so_far.lines others run other) so_far.took;
+          subst (λ lines. Took before after (trace_text lines)) (same-lines plan.programs (first_world plan) events so_far.lines others run other) so_far.took;
     }
 
 -- what was taken, and a beginning of the next line, is a beginning of every run's trace
@@ -80,7 +80,7 @@ pub traced-front : (plan : Plan) (events : List Event) (before after : Option (L
 traced-front plan events before after w left valid good so_far lines run =
     let rest = run_from plan.programs valid w good left in
     let whole : so_far.lines ++ rest.0 ≡ lines =
-      same-lines plan.programs (first_world plan) events (so_far.lines ++ rest.0) lines (so_far.leads rest.0 rest.1) run
+    same-lines plan.programs (first_world plan) events (so_far.lines ++ rest.0) lines (so_far.leads rest.0 rest.1) run
     in
     let text : trace_text so_far.lines ++ trace_text rest.0 ≡ trace_text lines = sym (flat_map-append line_text so_far.lines rest.0) ∙ ap trace_text whole in
     record {
@@ -94,12 +94,12 @@ pub traced-line : (plan : Plan) (events : List Event) (before mid after : Option
 traced-line plan events before mid after w next e left line valid good so_far s front lines run =
     let rest = run_from plan.programs valid next good left in
     let whole : so_far.lines ++ line ∷ rest.0 ≡ lines =
-      same-lines plan.programs (first_world plan) events (so_far.lines ++ line ∷ rest.0) lines (so_far.leads (line ∷ rest.0) (more plan.programs w next e line left rest.0 s rest.1)) run
+    same-lines plan.programs (first_world plan) events (so_far.lines ++ line ∷ rest.0) lines (so_far.leads (line ∷ rest.0) (more plan.programs w next e line left rest.0 s rest.1)) run
     in
     let text : trace_text so_far.lines ++ (line_text line ++ trace_text rest.0) ≡ trace_text lines = sym (flat_map-append line_text so_far.lines (line ∷ rest.0)) ∙ ap trace_text whole in
     subst (TookFront before after) text
-        (front_after before mid after (trace_text so_far.lines) (line_text line ++ trace_text rest.0) so_far.took
-          (front_of_more mid after (line_text line) (trace_text rest.0) front))
+    (front_after before mid after (trace_text so_far.lines) (line_text line ++ trace_text rest.0) so_far.took
+    (front_of_more mid after (line_text line) (trace_text rest.0) front))
 
 pub nothing-front : (plan : Plan) (events : List Event) (before after : Option (List ℕ)) → after ≡ before → WritesFront plan events before after
 nothing-front plan events before after same lines run = record {

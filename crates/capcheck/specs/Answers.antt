@@ -27,7 +27,7 @@ pub record Effect : Type 0 where
 -- A change has a part for each part of the world.
 pub data QueueChange : Type 0 where
   Same_queue : QueueChange
-  Pop : (pair side : ℕ) → QueueChange                   -- the front message of what the side sent goes
+  Pop : (pair side : ℕ) → QueueChange  -- the front message of what the side sent goes
 
 pub data StateChange : Type 0 where
   Same_state : StateChange
@@ -36,7 +36,7 @@ pub data StateChange : Type 0 where
 pub record Change : Type 0 where
   pub queue : QueueChange
   pub state : StateChange
-  pub enters : Bool                                     -- the process enters capability mode
+  pub enters : Bool  -- the process enters capability mode
 
 pub data Answer : Type 0 where
   Fails : (errno : Errno) (cause : Cause) → Answer
@@ -69,7 +69,7 @@ unfoldable pub read_byte : ℕ → State → List (List ℕ) → Option ℕ → 
 read_byte number state place None = Gives 256 same (record { operation = Reads; place = place } ∷ [])
 read_byte number state place (Some byte) =
     Gives byte (record same { state = Set_state number (record state { offset = state.offset + 1 }) })
-        (record { operation = Reads; place = place } ∷ [])
+    (record { operation = Reads; place = place } ∷ [])
 
 unfoldable pub read_node : ℕ → State → Access → Node → Answer
 read_node number state access n =
@@ -92,8 +92,8 @@ answer w p e Cap_enter = Gives 0 (record same { enters = true }) []
 answer w p e (Read n) =
     through read_right (w.table p n) (λ d.
     at_object (w.objects d.description)
-        (λ m access. read_node d.description (w.states d.description) access (node w.tree m))
-        (λ pair side. read_end (is_open w pair (other_side side)) (w.states d.description) pair side (w.queue pair (other_side side))))
+    (λ m access. read_node d.description (w.states d.description) access (node w.tree m))
+    (λ pair side. read_end (is_open w pair (other_side side)) (w.states d.description) pair side (w.queue pair (other_side side))))
 
 -- The world after a change, under the numbers that were chosen for what it makes.
 abbrev pub states_after : (ℕ → State) → StateChange → ℕ → State

@@ -16,3 +16,4 @@ pub mod AnswerViews
 pub mod StepViews
 pub mod Simulations
 pub mod ScheduleViews
+pub mod Served

@@ -11,7 +11,7 @@ pub data Instruction : Type 0 where
   Set : (register value : ℕ) → Instruction
   Jeq : (register value target : ℕ) → Instruction
   Halt : Instruction
-  Invoke : (call : Syscall) (otherwise : ℕ) → Instruction     -- `otherwise` is where an error leads
+  Invoke : (call : Syscall) (otherwise : ℕ) → Instruction  -- `otherwise` is where an error leads
 
 pub record Program : Type 0 where
   pub name : List ℕ

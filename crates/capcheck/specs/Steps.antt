@@ -13,12 +13,12 @@ use Rattle.capcheck.specs.Answers.{Event, Effect, Change, Answer, Fails, Waits, 
 
 -- what a step comes to
 pub data LineResult : Type 0 where
-  Done : LineResult                                          -- an instruction that is no call
+  Done : LineResult  -- an instruction that is no call
   Halted : LineResult
-  Value : ℕ → LineResult                                     -- the call's, in the caller
+  Value : ℕ → LineResult  -- the call's, in the caller
   Failed : (errno : Errno) (cause : Cause) → LineResult
   Waiting : LineResult
-  Ended : LineResult                                         -- the process had ended before
+  Ended : LineResult  -- the process had ended before
 
 -- an effect as a trace prints it
 pub record Shown : Type 0 where
@@ -34,7 +34,7 @@ pub record Acted : Type 0 where
 
 pub record Line : Type 0 where
   pub process : ℕ
-  pub acted : Option Acted                                -- nothing if the process was not made
+  pub acted : Option Acted  -- nothing if the process was not made
 
 -- the next world, the line, and the effects with their places as names
 pub record Stepped : Type 0 where

@@ -15,7 +15,7 @@ pub record Node : Type 0 where
   pub kind : Kind
   pub place : List (List ℕ)
   pub linked : Bool
-  pub content : List ℕ        -- a file's bytes, a link's target, and of a directory nothing
+  pub content : List ℕ  -- a file's bytes, a link's target, and of a directory nothing
 
 -- what stands at a number that no node has
 abbrev pub nowhere : Node

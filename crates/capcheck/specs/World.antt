@@ -12,9 +12,9 @@ pub record World : Type 0 where
   pub objects : ℕ → Object
   pub states : ℕ → State
   pub queue : ℕ → ℕ → List Message
-  pub pairs : ℕ                                   -- the pairs in use are numbered below it
+  pub pairs : ℕ  -- the pairs in use are numbered below it
   pub processes : List ProcessState
-  pub table : ℕ → ℕ → Option Descriptor           -- by process and number
+  pub table : ℕ → ℕ → Option Descriptor  -- by process and number
 
 -- The end of a pair and a side is open if some entry of the table, or some queued message, names its
 -- description.

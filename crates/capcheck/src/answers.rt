@@ -44,7 +44,10 @@ pub enum Answer {
     Gives(u32, Change, Vec<Effect>),
 }
 
-const NO_CHANGE: Change = Change { moved: None, enters: false };
+const NO_CHANGE: Change = Change {
+    moved: None,
+    enters: false,
+};
 
 /// What `read` tells at the end of a file, in place of a byte.
 const END: u32 = 256;
@@ -55,7 +58,10 @@ fn reads(alloc: Global, node: &Node) -> Result<Vec<Effect>, AllocError>
 {
     let place = text_of_place(alloc, &node.place)?;
     let mut effects = Vec::new(alloc);
-    effects.push(Effect { op: Op::Read, place })?;
+    effects.push(Effect {
+        op: Op::Read,
+        place,
+    })?;
     Ok(effects)
 }
 
@@ -87,8 +93,18 @@ fn read_node(
     match byte_at(&node.content, description.offset as usize) {
         None => Ok(Answer::Gives(END, NO_CHANGE, effects)),
         Some(byte) => {
-            let moved = Moved { description: number, offset: description.offset + 1 };
-            Ok(Answer::Gives(u32::from(byte), Change { moved: Some(moved), enters: false }, effects))
+            let moved = Moved {
+                description: number,
+                offset: description.offset + 1,
+            };
+            Ok(Answer::Gives(
+                u32::from(byte),
+                Change {
+                    moved: Some(moved),
+                    enters: false,
+                },
+                effects,
+            ))
         }
     }
 }
@@ -105,17 +121,34 @@ fn read(alloc: Global, world: &World, process: u8, number: u32) -> Result<Answer
         return Ok(Answer::Fails(Errno::ENOTCAPABLE, Cause::MissingRight));
     }
     let description = world.files.descriptions[descriptor.description];
-    read_node(alloc, descriptor.description, description, &world.nodes[description.node as usize])
+    read_node(
+        alloc,
+        descriptor.description,
+        description,
+        &world.nodes[description.node as usize],
+    )
 }
 
 /// What the call of this process answers.
-pub fn decide(alloc: Global, world: &World, process: u8, call: Syscall) -> Result<Answer, AllocError>
+pub fn decide(
+    alloc: Global,
+    world: &World,
+    process: u8,
+    call: Syscall,
+) -> Result<Answer, AllocError>
     requires { IsReadable (kept_of world.now) }
     ensures shows { (e : Event) → IfOk result (λ a. Shows a (answer (world_of (kept_of world.now)) process e (syscall_of call))) }
     ensures moves { IfOk result (λ a. MovesBelow (length world.now.files.descriptions.items) a) }
 {
     match call {
-        Syscall::CapEnter => Ok(Answer::Gives(0, Change { moved: None, enters: true }, Vec::new(alloc))),
+        Syscall::CapEnter => Ok(Answer::Gives(
+            0,
+            Change {
+                moved: None,
+                enters: true,
+            },
+            Vec::new(alloc),
+        )),
         Syscall::Read { descriptor } => read(alloc, world, process, descriptor),
     }
 }

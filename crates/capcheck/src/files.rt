@@ -1,6 +1,5 @@
 //! Descriptors and open descriptions of all processes.
 
-
 ghost use Rattle.std.specs.Prelude.{◌≡◌, ◌+◌, ◌<◌, ◌*◌, ◌∷◌, ◌++◌, [], ℕ, Some, None, length, option_map, slice_set, replicate, IfOk, OnOk, OnErr};
 ghost use Rattle.rights.specs.Maps.{put, put2};
 ghost use Rattle.capcheck.specs.Descriptions.{Descriptor as DescriptorSeen};

@@ -54,8 +54,8 @@ fn name_at(alloc: Global, programs: &[Program], program: u8) -> Result<String, A
 /// The line of a process that was made.
 fn line_of_process(event: Event, process: Process, program: String, done: Executed) -> Line
     ensures { line_of result ≡ record {
-        process = event.process;
-        acted = Some (record { program = string_bytes program; point = process.point; outcome = result_of done.outcome; effects = effects_of done.effects.items });
+      process = event.process;
+      acted = Some (record { program = string_bytes program; point = process.point; outcome = result_of done.outcome; effects = effects_of done.effects.items });
     } }
 {
     Line {

@@ -1,7 +1,9 @@
-//! Capcheck, the program.
+//! Capcheck, the program: without words the trace of an example, and with `run TASK SCHEDULE` the trace
+//! of a task that it knows by name over the events of a file.
 #![tactic(auto)]
 
 mod answers;
+mod console;
 mod events;
 mod files;
 mod lines;
@@ -10,6 +12,7 @@ mod named;
 mod nodes;
 mod programs;
 mod schedule;
+mod serve;
 mod simulator;
 mod starting;
 mod steps;
@@ -17,6 +20,80 @@ mod task;
 mod trace;
 mod world;
 
-fn main(rt: HostRuntime) {
-    let _ = rt;
+use crate::console::Console;
+use crate::serve::{Source, Unread, serve};
+use rights::write_all;
+use std::io::{BufWriter, ErrorKind};
+use std::process::ExitCode;
+use std::{env, fs};
+
+/// Files of the system, by path.
+#[derive(Drop)]
+struct Disk<'a> {
+    rt: &'a HostRuntime,
+}
+
+impl<'a> Source for Disk<'a> {
+    fn fetch(&mut self, name: &str) -> Result<Vec<u8>, Unread> {
+        match fs::read(self.rt, name) {
+            Ok(bytes) => Ok(bytes),
+            Err(error) => {
+                if error.kind() == ErrorKind::OutOfMemory {
+                    return Err(Unread::Memory);
+                }
+                Err(Unread::NotThere)
+            }
+        }
+    }
+}
+
+/// The program's own words.
+fn words(rt: &HostRuntime) -> Result<Vec<String>, Unread> {
+    match env::args(rt) {
+        Ok(args) => match args.skip(1).collect(rt.alloc()) {
+            Ok(words) => Ok(words),
+            Err(_) => Err(Unread::Memory),
+        },
+        Err(error) => {
+            if error.kind() == ErrorKind::OutOfMemory {
+                return Err(Unread::Memory);
+            }
+            Err(Unread::NotThere)
+        }
+    }
+}
+
+/// Serves the words, and hands on what standard output still holds.
+fn run(rt: &HostRuntime) -> u8 {
+    let mut err = Console::new(rt.stderr());
+    let words = match words(rt) {
+        Ok(words) => words,
+        Err(Unread::NotThere) => {
+            let _ = write_all(&mut err, b"capcheck: words\n");
+            return 2;
+        }
+        Err(Unread::Memory) => {
+            let _ = write_all(&mut err, b"capcheck: memory\n");
+            return 3;
+        }
+    };
+    let Ok(stream) = BufWriter::new(rt.alloc(), rt.stdout()) else {
+        let _ = write_all(&mut err, b"capcheck: memory\n");
+        return 3;
+    };
+    let mut out = Console::new(stream);
+    let mut disk = Disk { rt };
+    let status = serve(rt.alloc(), &words, &mut disk, &mut out, &mut err);
+    if out.flush() {
+        return status;
+    }
+    if status == 0 {
+        let mut err = Console::new(rt.stderr());
+        let _ = write_all(&mut err, b"capcheck: output\n");
+    }
+    3
+}
+
+fn main(rt: HostRuntime) -> ExitCode {
+    ExitCode::from(run(&rt))
 }

@@ -102,22 +102,48 @@ fn task_of(alloc: Global, code: &[Instruction], rights: Rights) -> Result<Task, 
         name: String::from_str(alloc, "main")?,
         code: Vec::from_slice(alloc, code)?,
     })?;
-    Ok(Task::new(nodes(alloc)?, grants(alloc)?, programs, starts(alloc, rights)?))
+    Ok(Task::new(
+        nodes(alloc)?,
+        grants(alloc)?,
+        programs,
+        starts(alloc, rights)?,
+    ))
 }
 
 /// Enters the mode and reads a byte.
 const ENTER_AND_READ: [Instruction; 3] = [
-    Instruction::Invoke { call: Syscall::CapEnter, otherwise: 2 },
-    Instruction::Invoke { call: Syscall::Read { descriptor: 2 }, otherwise: 2 },
+    Instruction::Invoke {
+        call: Syscall::CapEnter,
+        otherwise: 2,
+    },
+    Instruction::Invoke {
+        call: Syscall::Read { descriptor: 2 },
+        otherwise: 2,
+    },
     Instruction::Halt,
 ];
 
 /// Reads until the end, or until a byte is neither `A` nor `B`.
 const READ_ON: [Instruction; 5] = [
-    Instruction::Invoke { call: Syscall::Read { descriptor: 2 }, otherwise: 4 },
-    Instruction::Jeq { register: 0, value: 256, target: 4 },
-    Instruction::Jeq { register: 0, value: 65, target: 0 },
-    Instruction::Jeq { register: 0, value: 66, target: 0 },
+    Instruction::Invoke {
+        call: Syscall::Read { descriptor: 2 },
+        otherwise: 4,
+    },
+    Instruction::Jeq {
+        register: 0,
+        value: 256,
+        target: 4,
+    },
+    Instruction::Jeq {
+        register: 0,
+        value: 65,
+        target: 0,
+    },
+    Instruction::Jeq {
+        register: 0,
+        value: 66,
+        target: 0,
+    },
     Instruction::Halt,
 ];
 

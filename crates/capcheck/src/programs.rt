@@ -11,7 +11,10 @@ pub enum Syscall {
 #[derive(Clone, Copy)]
 pub enum Instruction {
     /// Sets the register to the value.
-    Set { register: u8, value: u32 },
+    Set {
+        register: u8,
+        value: u32,
+    },
     /// Goes to the target if the register has the value.
     Jeq {
         register: u8,
@@ -21,7 +24,10 @@ pub enum Instruction {
     /// Ends the process and closes its table.
     Halt,
     /// Makes the call, and goes to `otherwise` after an error.
-    Invoke { call: Syscall, otherwise: u8 },
+    Invoke {
+        call: Syscall,
+        otherwise: u8,
+    },
 }
 
 /// A program: its name, and its instructions by point.

@@ -83,14 +83,20 @@ fn given(process: Process, value: u32, change: Change) -> Process
     ensures { result ≡ given process value (change_of change) }
 {
     let point = process.point + 1;
-    with_mode(moved_to(with_register(process, 0, value), point), change.enters)
+    with_mode(
+        moved_to(with_register(process, 0, value), point),
+        change.enters,
+    )
 }
 
 /// The process after a call that failed.
 fn failed(process: Process, errno: Errno, otherwise: u8) -> Process
     ensures { result ≡ failed process (errno_of errno) otherwise }
 {
-    moved_to(with_register(process, 7, u32::from(errno.number())), otherwise)
+    moved_to(
+        with_register(process, 7, u32::from(errno.number())),
+        otherwise,
+    )
 }
 
 /// Puts a process in the place of the one of this number.
@@ -222,9 +228,18 @@ pub fn execute(
     match instruction {
         Instruction::Set { register, value } => {
             let point = process.point + 1;
-            Ok(plain(alloc, world, number, moved_to(with_register(process, register, value), point)))
+            Ok(plain(
+                alloc,
+                world,
+                number,
+                moved_to(with_register(process, register, value), point),
+            ))
         }
-        Instruction::Jeq { register, value, target } => {
+        Instruction::Jeq {
+            register,
+            value,
+            target,
+        } => {
             let taken = process.registers[register as usize] == value;
             Ok(plain(alloc, world, number, jumped(process, taken, target)))
         }

@@ -44,17 +44,17 @@ impl Model for Task {
     ghost use Rattle.capcheck.specs.Views.{nodes_of, grants_of, programs_of, starts_of};
 
     ghost view = { λ t. record {
-        nodes = nodes_of t.nodes.items;
-        grants = grants_of t.grants.items;
-        programs = programs_of t.programs.items;
-        starts = starts_of t.starts.items;
+      nodes = nodes_of t.nodes.items;
+      grants = grants_of t.grants.items;
+      programs = programs_of t.programs.items;
+      starts = starts_of t.starts.items;
     } };
 
     ghost invariant = { λ t. is_plan (record {
-        nodes = nodes_of t.nodes.items;
-        grants = grants_of t.grants.items;
-        programs = programs_of t.programs.items;
-        starts = starts_of t.starts.items;
+      nodes = nodes_of t.nodes.items;
+      grants = grants_of t.grants.items;
+      programs = programs_of t.programs.items;
+      starts = starts_of t.starts.items;
     }) ≡ true };
 }
 
@@ -64,7 +64,12 @@ impl Task {
     ghost use Rattle.capcheck.specs.Views.{nodes_of, grants_of, programs_of, starts_of};
 
     /// The task of these parts, which its caller knows to be valid.
-    pub fn new(nodes: Vec<Node>, grants: Vec<Grant>, programs: Vec<Program>, starts: Vec<Start>) -> Task
+    pub fn new(
+        nodes: Vec<Node>,
+        grants: Vec<Grant>,
+        programs: Vec<Program>,
+        starts: Vec<Start>,
+    ) -> Task
         requires { is_plan (plan_with (nodes_of nodes.items) (grants_of grants.items) (programs_of programs.items) (starts_of starts.items)) ≡ true }
         ensures { result ≡ plan_with (nodes_of nodes.items) (grants_of grants.items) (programs_of programs.items) (starts_of starts.items) }
     {

@@ -17,4 +17,4 @@ returns-in-CapEnter-clause-shows c = λ e. record {
 pub returns-in-Read-clause-shows : goal.returns-in-Read-clause-shows
 returns-in-Read-clause-shows c = λ e.
     subst (λ call. IfOk c.read.result (λ a. Shows a (answer (world_of (kept_of c.args.world.now)) c.args.process e (syscall_of call))))
-        (sym c.in-Read.is) (c.read.ensures.shows e)
+    (sym c.in-Read.is) (c.read.ensures.shows e)

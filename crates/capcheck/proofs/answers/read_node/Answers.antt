@@ -19,7 +19,7 @@ returns-in-None-clause-shows c = record {
   same = sym c.in_ok-effects.ensures;
   is =
       read_node-end c.args.number (state_of c.args.description) (access_of c.args.description.access) (node_of c.args.node.now)
-        (sym c.is_dir.ensures ∙ c.if-is_dir.false) (not_false _ c.if-not-description.false) (cc (c.in-None.ensures, c.deref.ensures.value));
+      (sym c.is_dir.ensures ∙ c.if-is_dir.false) (not_false _ c.if-not-description.false) (cc (c.in-None.ensures, c.deref.ensures.value));
 }
 
 pub returns-in-Some-clause-shows : goal.returns-in-Some-clause-shows
@@ -28,5 +28,5 @@ returns-in-Some-clause-shows c = record {
   same = sym c.in_ok-effects.ensures;
   is =
       read_node-byte c.args.number (state_of c.args.description) (access_of c.args.description.access) (node_of c.args.node.now) c.from.result
-        (sym c.is_dir.ensures ∙ c.if-is_dir.false) (not_false _ c.if-not-description.false) (cc (c.in-Some.ensures, c.deref.ensures.value, c.from.ensures));
+      (sym c.is_dir.ensures ∙ c.if-is_dir.false) (not_false _ c.if-not-description.false) (cc (c.in-Some.ensures, c.deref.ensures.value, c.from.ensures));
 }

@@ -12,5 +12,5 @@ returns c = record {
   entries =
       ap entry (map-set _ c.args.entries.now (c.args.process * 16 + c.args.number) (Some c.args.descriptor))
       ∙ entry-set (entries_of c.args.entries.now) c.args.process c.args.number (Some (descriptor_of c.args.descriptor))
-        (length-map c.args.entries.now _ ∙ c.requires.room) c.requires.process c.requires.number;
+      (length-map c.args.entries.now _ ∙ c.requires.room) c.requires.process c.requires.number;
 }

@@ -19,11 +19,11 @@ returns-then-not-process-clause-stepped c = λ choice.
     let e = event_of c.args.event in
     let s : ProcessState = c.args.process in
     let name : string_bytes c.in_ok-name.name ≡ name_at programs s.program =
-      c.in_ok-name.ensures ∙ ap (λ (t : ProcessState). name_at programs t.program) c.process.view_is
+    c.in_ok-name.ensures ∙ ap (λ (t : ProcessState). name_at programs t.program) c.process.view_is
     in
     let dead : s.alive ≡ false = sym (ap (λ (t : ProcessState). t.alive) c.process.view_is) ∙ not_true _ c.if-not-process.true in
     shows-idle programs (world_of k) e choice s c.line_of_process.result k (string_bytes c.in_ok-name.name) c.ended.result
-        c.line_of_process.ensures name c.ended.ensures.outcome c.ended.ensures.effects refl (stepped-ended programs (world_of k) e choice s dead)
+    c.line_of_process.ensures name c.ended.ensures.outcome c.ended.ensures.effects refl (stepped-ended programs (world_of k) e choice s dead)
 
 pub execute-requires-clause-made : goal.execute-requires-clause-made
 execute-requires-clause-made c = slice_get_within _ _ _ c.requires.made
@@ -37,7 +37,7 @@ execute-requires-clause-readable c = readable (programs_of c.args.programs.now) 
 pub execute-requires-clause-fits : goal.execute-requires-clause-fits
 execute-requires-clause-fits c =
     can_run (programs_of c.args.programs.now) c.args.process (instruction_of c.in-Some.instruction) c.requires.valid
-        (sym (ap (λ (t : ProcessState). instruction_at (programs_of c.args.programs.now) t.program t.point) c.process.view_is) ∙ sym c.in-Some.ensures)
+    (sym (ap (λ (t : ProcessState). instruction_at (programs_of c.args.programs.now) t.program t.point) c.process.view_is) ∙ sym c.in-Some.ensures)
 
 pub returns-in-None-clause-stepped : goal.returns-in-None-clause-stepped
 returns-in-None-clause-stepped c = λ choice.
@@ -46,14 +46,14 @@ returns-in-None-clause-stepped c = λ choice.
     let e = event_of c.args.event in
     let s : ProcessState = c.args.process in
     let name : string_bytes c.in_ok-name.name ≡ name_at programs s.program =
-      c.in_ok-name.ensures ∙ ap (λ (t : ProcessState). name_at programs t.program) c.process.view_is
+    c.in_ok-name.ensures ∙ ap (λ (t : ProcessState). name_at programs t.program) c.process.view_is
     in
     let lives : s.alive ≡ true = sym (ap (λ (t : ProcessState). t.alive) c.process.view_is) ∙ not_false _ c.if-not-process.false in
     let none : instruction_at programs s.program s.point ≡ None =
-      sym (ap (λ (t : ProcessState). instruction_at programs t.program t.point) c.process.view_is) ∙ sym c.in-None.ensures
+    sym (ap (λ (t : ProcessState). instruction_at programs t.program t.point) c.process.view_is) ∙ sym c.in-None.ensures
     in
     shows-idle programs (world_of k) e choice s c.line_of_process-in-None.result k (string_bytes c.in_ok-name.name) c.ended-in-None.result
-        c.line_of_process-in-None.ensures name c.ended-in-None.ensures.outcome c.ended-in-None.ensures.effects refl (stepped-nowhere programs (world_of k) e choice s lives none)
+    c.line_of_process-in-None.ensures name c.ended-in-None.ensures.outcome c.ended-in-None.ensures.effects refl (stepped-nowhere programs (world_of k) e choice s lives none)
 
 pub returns-in_ok-done-in-Some-clause-stepped : goal.returns-in_ok-done-in-Some-clause-stepped
 returns-in_ok-done-in-Some-clause-stepped c = λ choice.
@@ -63,11 +63,11 @@ returns-in_ok-done-in-Some-clause-stepped c = λ choice.
     let s : ProcessState = c.args.process in
     let i = instruction_of c.in-Some.instruction in
     let name : string_bytes c.in_ok-name.name ≡ name_at programs s.program =
-      c.in_ok-name.ensures ∙ ap (λ (t : ProcessState). name_at programs t.program) c.process.view_is
+    c.in_ok-name.ensures ∙ ap (λ (t : ProcessState). name_at programs t.program) c.process.view_is
     in
     let lives : s.alive ≡ true = sym (ap (λ (t : ProcessState). t.alive) c.process.view_is) ∙ not_false _ c.if-not-process.false in
     let here : instruction_at programs s.program s.point ≡ Some i =
-      sym (ap (λ (t : ProcessState). instruction_at programs t.program t.point) c.process.view_is) ∙ sym c.in-Some.ensures
+    sym (ap (λ (t : ProcessState). instruction_at programs t.program t.point) c.process.view_is) ∙ sym c.in-Some.ensures
     in
     shows-done programs (world_of k) e choice s c.line_of_process-in-Some.result (kept_of c.execute.new.world) (string_bytes c.in_ok-name.name) c.in_ok-done-in-Some.done (executed (world_of k) e choice s i)
-        c.line_of_process-in-Some.ensures name (c.in_ok-done-in-Some.ensures.done choice) (stepped-executes programs (world_of k) e choice s i lives here)
+    c.line_of_process-in-Some.ensures name (c.in_ok-done-in-Some.ensures.done choice) (stepped-executes programs (world_of k) e choice s i lives here)

@@ -51,7 +51,7 @@ returns-in_err-write_all-clause-err g c =
     let w = world_of c.loop-event.machine.kept in
     let next = world_of c.step.new.self.kept in
     let so_far = subst (IsTraced plan (map event_of c.args.events.now) (g.W.Out.taken c.args.out.now) (g.W.Out.taken c.loop-event.out) w)
-      (map-drop event_of c.args.events.now c.loop-event.event-index none c.loop-event-test.true) inv.traced
+    (map-drop event_of c.args.events.now c.loop-event.event-index none c.loop-event-test.true) inv.traced
     in
     let s = subst (λ programs. Steps programs w e line next) inv.programs c.in_ok-line.ensures.step in
     let front = subst (TookFront (g.W.Out.taken c.loop-event.out) (g.W.Out.taken c.write_all.new.out)) (c.deref.ensures.value ∙ c.in_ok-text.ensures) c.in_err-write_all.ensures.err in
@@ -69,7 +69,7 @@ loop-event-preserved g c =
     let w = world_of c.loop-event.machine.kept in
     let next = world_of c.step.new.self.kept in
     let so_far = subst (IsTraced plan (map event_of c.args.events.now) (g.W.Out.taken c.args.out.now) (g.W.Out.taken c.loop-event.out) w)
-      (map-drop event_of c.args.events.now c.loop-event.event-index none c.loop-event-test.true) inv.traced
+    (map-drop event_of c.args.events.now c.loop-event.event-index none c.loop-event-test.true) inv.traced
     in
     let s = subst (λ programs. Steps programs w e line next) inv.programs c.in_ok-line.ensures.step in
     let took = subst (Took (g.W.Out.taken c.loop-event.out) (g.W.Out.taken c.write_all.new.out)) (c.deref.ensures.value ∙ c.in_ok-text.ensures) c.in_ok-write_all.ensures.ok in
@@ -88,4 +88,4 @@ returns-clause-ok g c =
     let plan = c.args.task.now in
     let all : drop c.loop-event.event-index c.args.events.now ≡ [] = drop-end c.args.events.now c.loop-event.event-index c.loop-event-test.false in
     traced-end plan (map event_of c.args.events.now) _ _ (world_of c.loop-event.machine.kept)
-        (subst (λ events. IsTraced plan (map event_of c.args.events.now) (g.W.Out.taken c.args.out.now) (g.W.Out.taken c.loop-event.out) (world_of c.loop-event.machine.kept) (map event_of events)) all c.loop-event.invariant.traced)
+    (subst (λ events. IsTraced plan (map event_of c.args.events.now) (g.W.Out.taken c.args.out.now) (g.W.Out.taken c.loop-event.out) (world_of c.loop-event.machine.kept) (map event_of events)) all c.loop-event.invariant.traced)

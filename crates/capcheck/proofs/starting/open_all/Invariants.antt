@@ -8,8 +8,8 @@ use Rattle.capcheck.proofs.starting.open_all.Given as goal
 abbrev pub invariant-loop-first : goal.invariant-loop-first
 invariant-loop-first l = record {
   opened :
-    with_descriptors (opening_of l.files) l.process (map first_descriptor_of (drop l.first-index l.descriptors))
-    ≡ with_descriptors (opening_of l.fn.files) l.process (map first_descriptor_of l.descriptors);
+      with_descriptors (opening_of l.files) l.process (map first_descriptor_of (drop l.first-index l.descriptors))
+      ≡ with_descriptors (opening_of l.fn.files) l.process (map first_descriptor_of l.descriptors);
   room : length l.files.entries.items ≡ 256;
   numbers : list_all (λ (d : FirstDescriptor). nat_lt d.number 16) (map first_descriptor_of (drop l.first-index l.descriptors)) ≡ true;
 }

@@ -7,8 +7,8 @@ use Rattle.capcheck.proofs.starting.open_starts.Given as goal
 abbrev pub invariant-loop-process : goal.invariant-loop-process
 invariant-loop-process l = record {
   opened :
-    with_starts (opening_of l.files) l.process (starts_of (drop l.process l.starts))
-    ≡ with_starts (opening_of l.fn.files) 0 (starts_of l.starts);
+      with_starts (opening_of l.files) l.process (starts_of (drop l.process l.starts))
+      ≡ with_starts (opening_of l.fn.files) 0 (starts_of l.starts);
   room : length l.files.entries.items ≡ 256;
   numbers : have_numbers (starts_of (drop l.process l.starts)) ≡ true;
 }

@@ -19,7 +19,7 @@ returns-in-Some-clause-changed c = λ choice.
     let is : (with_items old new).items ≡ new = with_items_is old new (c.set_offset.auto.descriptions ∙ c.deref_mut.ensures.len) in
     let below : m.description < length old.items = subst (IsBelow (length old.items)) c.in-Some.is c.requires in
     moved-world k (map object_of (with_items old new).items) (map state_of (with_items old new).items) m.description (state_at m.offset) c.args.change.enters choice
-        (ap (map object_of) is ∙ c.set_offset.ensures.objects ∙ ap (map object_of) c.deref_mut.ensures.value)
-        (ap (map state_of) is ∙ c.set_offset.ensures.states ∙ ap (λ ds. slice_set (map state_of ds) m.description (state_at m.offset)) c.deref_mut.ensures.value)
-        (omega (arith, below, length-map old.items state_of))
+    (ap (map object_of) is ∙ c.set_offset.ensures.objects ∙ ap (map object_of) c.deref_mut.ensures.value)
+    (ap (map state_of) is ∙ c.set_offset.ensures.states ∙ ap (λ ds. slice_set (map state_of ds) m.description (state_at m.offset)) c.deref_mut.ensures.value)
+    (omega (arith, below, length-map old.items state_of))
     ∙ ap (λ moved. changed (world_of k) choice (record { queue = Same_queue; state = moved_of moved; enters = c.args.change.enters })) (sym c.in-Some.is)

@@ -19,4 +19,4 @@ returns-clause-halted c =
     ∙ ap (λ es. world_of (record k { entries = entries_of es; processes = slice_set k.processes c.args.number c.ended.result })) is
     ∙ ap (λ s. world_of (record k { entries = entries_of new; processes = slice_set k.processes c.args.number s })) c.ended.ensures
     ∙ halted-world k (entries_of new) c.args.number c.args.process
-        (c.close_all.ensures ∙ ap (λ es. put (entry (entries_of es)) c.args.number (λ n. None)) c.deref_mut.ensures.value)
+    (c.close_all.ensures ∙ ap (λ es. put (entry (entries_of es)) c.args.number (λ n. None)) c.deref_mut.ensures.value)

@@ -7,4 +7,4 @@ use Rattle.capcheck.proofs.steps.plain.Goals as goal
 pub returns-clause-done : goal.returns-clause-done
 returns-clause-done c =
     applied-plain (kept_of c.args.world.now) (kept_of c.put_process.new.world) c.args.number c.args.process _
-        c.put_process.ensures refl (ap effects_of c.new.ensures.items)
+    c.put_process.ensures refl (ap effects_of c.new.ensures.items)

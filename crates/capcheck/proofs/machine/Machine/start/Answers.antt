@@ -13,7 +13,7 @@ pub first_world-requires-clause-numbers : goal.first_world-requires-clause-numbe
 first_world-requires-clause-numbers c =
     let plan : Plan = c.args.task.now in
     subst (λ starts. have_numbers starts ≡ true) (sym c.starts.ensures)
-        (starts_fit plan.nodes (length plan.programs) plan.starts (checked plan c.nodes.ensures.valid).starts)
+    (starts_fit plan.nodes (length plan.programs) plan.starts (checked plan c.nodes.ensures.valid).starts)
 
 same_programs : (c : goal.In_ok-world) → programs_of c.in_ok-programs.programs.items ≡ c.args.task.now.programs
 same_programs c = c.in_ok-programs.ensures ∙ c.programs.ensures
@@ -30,10 +30,10 @@ first_is_kept c =
     let k = kept_of c.in_ok-world.world in
     let ds = c.in_ok-world.world.files.descriptions.items in
     subst (λ programs. IsKept programs k) (sym (same_programs c))
-        (first_kept plan k c.nodes.ensures.valid (same_world c)
-          (length-map ds object_of ∙ c.in_ok-world.ensures.next ∙ ap (λ starts. (with_starts nothing_open 0 starts).next) c.starts.ensures)
-          (length-map c.in_ok-world.world.files.entries.items _ ∙ c.in_ok-world.ensures.room)
-          (length-map ds state_of ∙ sym (length-map ds object_of)))
+    (first_kept plan k c.nodes.ensures.valid (same_world c)
+    (length-map ds object_of ∙ c.in_ok-world.ensures.next ∙ ap (λ starts. (with_starts nothing_open 0 starts).next) c.starts.ensures)
+    (length-map c.in_ok-world.world.files.entries.items _ ∙ c.in_ok-world.ensures.room)
+    (length-map ds state_of ∙ sym (length-map ds object_of)))
 
 valid : (c : goal.In_ok-world) → list_all is_program (programs_of c.in_ok-programs.programs.items) ≡ true
 valid c =

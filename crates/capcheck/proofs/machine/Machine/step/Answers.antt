@@ -11,13 +11,13 @@ use Rattle.capcheck.proofs.machine.Machine.step.Goals as goal
 stepped : (c : goal.In-Ok) (choice : Choice) → SteppedAs c.in-Ok.line (kept_of c.step_world.new.world) (step (programs_of c.self.inside.programs.items) (world_of (kept_of c.self.inside.world)) (event_of c.args.event) choice)
 stepped c choice =
     subst (λ programs. SteppedAs c.in-Ok.line (kept_of c.step_world.new.world) (step (programs_of programs) (world_of (kept_of c.self.inside.world)) (event_of c.args.event) choice))
-        c.deref.ensures.value (c.in-Ok.ensures.stepped choice)
+    c.deref.ensures.value (c.in-Ok.ensures.stepped choice)
 
 kept : (c : goal.In-Ok) → IsKept (programs_of c.self.inside.programs.items) (kept_of c.step_world.new.world)
 kept c =
     let none : Choice = record { first = 0; second = 0; pair = 0 } in
     kept_on (programs_of c.self.inside.programs.items) (kept_of c.self.inside.world) (kept_of c.step_world.new.world) (event_of c.args.event) none
-        c.self.invariant.valid (c.self.invariant.kept c.if-self.false) c.in-Ok.ensures.sizes (stepped c none).world
+    c.self.invariant.valid (c.self.invariant.kept c.if-self.false) c.in-Ok.ensures.sizes (stepped c none).world
 
 pub invariant_of-self : goal.invariant_of-self
 invariant_of-self c = record { valid = c.self.invariant.valid; kept = λ _. kept c }
@@ -25,8 +25,8 @@ invariant_of-self c = record { valid = c.self.invariant.valid; kept = λ _. kept
 pub returns-in-Ok-clause-step : goal.returns-in-Ok-clause-step
 returns-in-Ok-clause-step c =
     subst (λ (d : Device). Steps d.programs (world_of d.kept) (event_of c.args.event) (line_of c.in-Ok.line) (world_of (kept_of c.step_world.new.world))) c.self.view_is
-        (steps (programs_of c.self.inside.programs.items) (kept_of c.self.inside.world) (event_of c.args.event) (line_of c.in-Ok.line) (world_of (kept_of c.step_world.new.world))
-          (c.self.invariant.kept c.if-self.false) (λ choice. (sym (stepped c choice).line, sym (stepped c choice).world)))
+    (steps (programs_of c.self.inside.programs.items) (kept_of c.self.inside.world) (event_of c.args.event) (line_of c.in-Ok.line) (world_of (kept_of c.step_world.new.world))
+    (c.self.invariant.kept c.if-self.false) (λ choice. (sym (stepped c choice).line, sym (stepped c choice).world)))
 
 pub returns-in-Ok-clause-well_formed : goal.returns-in-Ok-clause-well_formed
 returns-in-Ok-clause-well_formed c = well_formed _ _ (kept c)

@@ -1,0 +1,28 @@
+-- What the program has written when it says that it is done.
+use Rattle.std.specs.Prelude.{◌≡◌, ℕ, false, List, [], ◌∷◌, codes, Option, Some}
+use Rattle.capcheck.specs.Answers.{Event}
+use Rattle.capcheck.specs.Named.{first_plan, plan_named}
+use Rattle.capcheck.specs.Plans.{Plan}
+use Rattle.capcheck.specs.Simulations.{WritesTrace}
+
+abbrev pub example_event : Event
+example_event = record { process = 0; input = 0; refuse = false }
+
+-- what runs without words
+abbrev pub example_events : List Event
+example_events = example_event ∷ example_event ∷ []
+
+-- the trace of the task of this name over the events of a schedule
+pub record RunsNamed (task : List ℕ) (before after : Option (List ℕ)) : Type 0 where
+  pub plan : Plan
+  pub named : plan_named task ≡ Some plan
+  pub events : List Event
+  pub writes : WritesTrace plan events before after
+
+-- without words the example, and with `run TASK SCHEDULE` a trace of the task
+abbrev pub Serves : List (List ℕ) → Option (List ℕ) → Option (List ℕ) → Type 0
+Serves [] before after = WritesTrace first_plan example_events before after
+Serves (command ∷ []) before after = ⊥
+Serves (command ∷ task ∷ []) before after = ⊥
+Serves (command ∷ task ∷ schedule ∷ []) before after = (command ≡ codes "run") × RunsNamed task before after
+Serves (command ∷ task ∷ schedule ∷ more ∷ words) before after = ⊥

@@ -1,0 +1,221 @@
+//! The program's words, the files that they name, and what it tells of faults.
+
+ghost use Rattle.std.specs.Prelude.{◌≡◌, ◌<◌, ◌≤◌, ◌-◌, ◌^◌, IfOk, OnOk, Some, map, string_bytes};
+ghost use Rattle.capcheck.specs.Named.{first_plan, plan_named};
+ghost use Rattle.capcheck.specs.Served.{RunsNamed, Serves, example_events};
+ghost use Rattle.capcheck.specs.Simulations.{WritesTrace};
+
+use crate::events::Event;
+use crate::named::task_named;
+use crate::schedule::{ScheduleFault, read_schedule};
+use crate::simulator::simulate;
+use crate::task::Task;
+use rights::{Out, Stop, write_all};
+use std::alloc::{AllocError, Global};
+
+/// Why a file isn't read.
+#[derive(Clone, Copy, PartialEq, Eq, Debug)]
+pub enum Unread {
+    /// There is no such file, or it can't be read.
+    NotThere,
+    /// A growth was refused.
+    Memory,
+}
+
+/// Where files come from.
+pub trait Source {
+    /// The bytes of the file of this name. Nothing is claimed of them.
+    fn fetch(&mut self, name: &str) -> Result<Vec<u8>, Unread>;
+}
+
+/// Why the program does not do what its words say.
+#[derive(Clone, Copy)]
+enum Fault<'a> {
+    /// The words are none of the program's.
+    Words,
+    /// The file of this name can't be read.
+    File(&'a str),
+    Schedule(ScheduleFault),
+    Memory,
+    /// The output failed.
+    Output,
+}
+
+impl<'a> From<AllocError> for Fault<'a> {
+    fn from(_error: AllocError) -> Fault<'a> {
+        Fault::Memory
+    }
+}
+
+impl<'a> From<Stop> for Fault<'a> {
+    fn from(stop: Stop) -> Fault<'a> {
+        match stop {
+            Stop::Device => Fault::Output,
+            Stop::Memory | Stop::Spent => Fault::Memory,
+        }
+    }
+}
+
+impl<'a> From<ScheduleFault> for Fault<'a> {
+    fn from(fault: ScheduleFault) -> Fault<'a> {
+        match fault {
+            ScheduleFault::Memory => Fault::Memory,
+            ScheduleFault::Line(_) | ScheduleFault::Limit => Fault::Schedule(fault),
+        }
+    }
+}
+
+/// The status of a program that did what its words say.
+const DONE: u8 = 0;
+
+/// The status of faults in words and files.
+const REFUSED: u8 = 2;
+
+/// The status of want of memory and of a failed output.
+const STOPPED: u8 = 3;
+
+/// Two events of the first process.
+const EXAMPLE: [Event; 2] = [
+    Event {
+        process: 0,
+        input: 0,
+        refuse: false,
+    },
+    Event {
+        process: 0,
+        input: 0,
+        refuse: false,
+    },
+];
+
+/// The status of a fault.
+fn status_of(fault: Fault<'_>) -> u8
+    ensures failed { 0 < result }
+    ensures known { result ≤ 3 }
+{
+    match fault {
+        Fault::Words | Fault::File(_) | Fault::Schedule(_) => REFUSED,
+        Fault::Memory | Fault::Output => STOPPED,
+    }
+}
+
+/// The line that tells a fault.
+fn text_of_fault(alloc: Global, fault: Fault<'_>) -> Result<String, AllocError> {
+    match fault {
+        Fault::Words => String::from_str(alloc, "capcheck: words\n"),
+        Fault::File(name) => format!(in alloc; "capcheck: file {name}\n"),
+        Fault::Schedule(ScheduleFault::Line(line)) => format!(in alloc;
+            "capcheck: schedule 1 Line {line}\n"
+        ),
+        Fault::Schedule(_) => String::from_str(alloc, "capcheck: schedule 2 Limit\n"),
+        Fault::Memory => String::from_str(alloc, "capcheck: memory\n"),
+        Fault::Output => String::from_str(alloc, "capcheck: output\n"),
+    }
+}
+
+/// Tells a fault. A fault of this writer changes nothing, and without memory for its line another
+/// fault is told as want of memory.
+fn tell<V: Out>(alloc: Global, fault: Fault<'_>, err: &mut V)
+    requires { V.faults err.old < 2 ^ 64 - 1 }
+{
+    let told = match text_of_fault(alloc, fault) {
+        Ok(text) => write_all(err, text.as_bytes()),
+        Err(_) => write_all(err, b"capcheck: memory\n"),
+    };
+    let _ = told;
+}
+
+fn fetch<'a, S: Source>(files: &mut S, name: &'a str) -> Result<Vec<u8>, Fault<'a>> {
+    match files.fetch(name) {
+        Ok(bytes) => Ok(bytes),
+        Err(Unread::NotThere) => Err(Fault::File(name)),
+        Err(Unread::Memory) => Err(Fault::Memory),
+    }
+}
+
+fn named(alloc: Global, name: &str) -> Result<Task, Fault<'_>>
+    ensures { IfOk result (λ task. plan_named name.now ≡ Some task) }
+{
+    match task_named(alloc, name)? {
+        Some(task) => Ok(task),
+        None => Err(Fault::File(name)),
+    }
+}
+
+/// Runs a task over the events of a file.
+fn run<'a, S: Source, W: Out>(
+    alloc: Global,
+    task: &'a str,
+    schedule: &'a str,
+    files: &mut S,
+    out: &mut W,
+) -> Result<(), Fault<'a>>
+    requires { W.faults out.old < 2 ^ 64 - 1 }
+    ensures { OnOk result (RunsNamed task.now (W.taken out.old) (W.taken out.new)) }
+{
+    let task = named(alloc, task)?;
+    let bytes = fetch(files, schedule)?;
+    let events = read_schedule(alloc, &bytes)?;
+    simulate(alloc, &task, &events, out)?;
+    Ok(())
+}
+
+/// The trace of the task `first` on two events.
+fn example<'a, W: Out>(alloc: Global, out: &mut W) -> Result<(), Fault<'a>>
+    requires { W.faults out.old < 2 ^ 64 - 1 }
+    ensures { OnOk result (WritesTrace first_plan example_events (W.taken out.old) (W.taken out.new)) }
+{
+    let task = named(alloc, "first")?;
+    simulate(alloc, &task, &EXAMPLE, out)?;
+    Ok(())
+}
+
+/// Does what the words say.
+fn perform<'a, S: Source, W: Out>(
+    alloc: Global,
+    words: &'a [String],
+    files: &mut S,
+    out: &mut W,
+) -> Result<(), Fault<'a>>
+    requires { W.faults out.old < 2 ^ 64 - 1 }
+    ensures { OnOk result (Serves (map string_bytes words.now) (W.taken out.old) (W.taken out.new)) }
+{
+    for word in words {
+        if word.as_bytes().first() == Some(&b'-') {
+            return Err(Fault::Words);
+        }
+    }
+    match words {
+        [] => example(alloc, out),
+        [command, task, schedule] => {
+            if command.as_str() != "run" {
+                return Err(Fault::Words);
+            }
+            run(alloc, task.as_str(), schedule.as_str(), files, out)
+        }
+        _ => Err(Fault::Words),
+    }
+}
+
+/// The program: does what its words say, tells a fault on the error stream, and gives the status: 0,
+/// or 2 for a fault in words or files, or 3 for want of memory or a failed output.
+pub fn serve<S: Source, W: Out, V: Out>(
+    alloc: Global,
+    words: &[String],
+    files: &mut S,
+    out: &mut W,
+    err: &mut V,
+) -> u8
+    requires out { W.faults out.old < 2 ^ 64 - 1 }
+    requires err { V.faults err.old < 2 ^ 64 - 1 }
+    ensures done { result ≡ 0 → Serves (map string_bytes words.now) (W.taken out.old) (W.taken out.new) }
+    ensures known { result ≤ 3 }
+{
+    match perform(alloc, words, files, out) {
+        Ok(()) => DONE,
+        Err(fault) => {
+            tell(alloc, fault, err);
+            status_of(fault)
+        }
+    }
+}
