@@ -9,7 +9,7 @@ use Rattle.capcheck.specs.Programs.{Program, is_program}
 use Rattle.capcheck.specs.World.{World, Choice, IsFresh}
 use Rattle.capcheck.specs.Answers.{Event}
 use Rattle.capcheck.specs.Steps.{Line, Steps, Stepped, step}
-use Rattle.capcheck.specs.Runs.{Runs}
+use Rattle.capcheck.specs.Runs.{HasNext, Runs}
 use Rattle.capcheck.specs.Plans.{Plan, first_world}
 use Rattle.capcheck.specs.Simulations.{IsRun, WritesTrace, WritesFront}
 use Rattle.capcheck.specs.Traces.{line_text, trace_text}
@@ -108,3 +108,15 @@ nothing-front plan events before after same lines run = record {
   whole = refl;
   took = same ∙ took_nothing before;
 }
+
+pub has_next : (programs : List Program) → list_all is_program programs ≡ true → (w : World) (e : Event) → IsWellFormed programs w → HasNext programs w e
+has_next programs valid w e good =
+    let choice : Choice = record { first = good.bound; second = good.bound + 1; pair = w.pairs } in
+    record {
+      some = (choice, fresh_choice programs good.pairs good.bound w good.world);
+      each = λ choice fresh. record {
+        pairs = good.pairs;
+        bound = good.bound;
+        world = kept programs good.pairs good.bound w e choice valid good.world;
+      };
+    }

@@ -4,6 +4,7 @@ use Rattle.capcheck.specs.Programs.{Program}
 use Rattle.capcheck.specs.World.{World, Choice, IsFresh}
 use Rattle.capcheck.specs.Answers.{Event}
 use Rattle.capcheck.specs.Steps.{Line, step}
+use Rattle.capcheck.specs.WellFormed.{IsWellFormed}
 
 -- From this world the events may show these lines, whatever fresh numbers are chosen at each step.
 abbrev pub Runs : List Program → World → List Event → List Line → Type 0
@@ -15,3 +16,8 @@ Runs programs w (e ∷ events) (line ∷ lines) =
     × IsFresh w choice
     × ((step programs w e choice).line ≡ line)
     × Runs programs (step programs w e choice).world events lines
+
+-- There is a fresh choice, and every fresh choice leads to a well-formed world.
+pub record HasNext (programs : List Program) (w : World) (e : Event) : Type 0 where
+  pub some : (choice : Choice) × IsFresh w choice
+  pub each : (choice : Choice) → IsFresh w choice → IsWellFormed programs (step programs w e choice).world

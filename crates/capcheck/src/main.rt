@@ -6,6 +6,7 @@ mod answers;
 mod console;
 mod events;
 mod files;
+mod laws;
 mod lines;
 mod machine;
 mod named;
@@ -17,6 +18,8 @@ mod simulator;
 mod starting;
 mod steps;
 mod task;
+#[cfg(test)]
+mod tests;
 mod trace;
 mod world;
 

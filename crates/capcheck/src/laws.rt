@@ -1,0 +1,40 @@
+//! Laws of the model: what holds of every task and every step, whatever the code does. Each is the
+//! contract of a function that does nothing.
+
+ghost use Rattle.std.specs.Prelude.{◌≡◌, true, List, ℕ};
+ghost use Rattle.std.specs.List.{list_all};
+ghost use Rattle.capcheck.specs.Answers.{Event};
+ghost use Rattle.capcheck.specs.Plans.{Plan, first_world, is_plan};
+ghost use Rattle.capcheck.specs.Programs.{Program, is_program};
+ghost use Rattle.capcheck.specs.Runs.{HasNext, Runs};
+ghost use Rattle.capcheck.specs.Simulations.{NeverGains};
+ghost use Rattle.capcheck.specs.Steps.{Line};
+ghost use Rattle.capcheck.specs.WellFormed.{IsWellFormed};
+ghost use Rattle.capcheck.specs.World.{World};
+
+/// A task's first world is well formed.
+pub fn first_worlds_are_well_formed()
+    ensures { (plan : Plan) → is_plan plan ≡ true → IsWellFormed plan.programs (first_world plan) }
+{
+}
+
+/// From a well-formed world each event has a next world: there are fresh numbers to choose, and
+/// whichever are chosen, the next world is well formed.
+pub fn a_next_world_exists()
+    ensures { (programs : List Program) (w : World) (e : Event) → list_all is_program programs ≡ true
+        → IsWellFormed programs w → HasNext programs w e }
+{
+}
+
+/// All runs of the same events from one world show the same lines.
+pub fn runs_show_the_same_lines()
+    ensures { (programs : List Program) (w : World) (events : List Event) (lines others : List Line)
+        → Runs programs w events lines → Runs programs w events others → lines ≡ others }
+{
+}
+
+/// In every run, from any world, no process leaves capability mode, and no descriptor is new.
+pub fn no_run_gains()
+    ensures { (programs : List Program) (w : World) (events : List Event) → NeverGains programs w events }
+{
+}
