@@ -20,4 +20,7 @@ pub mod Splitting
 pub mod Numerals
 pub mod LinesRead
 pub mod ThreeWords
+pub mod Opens
+pub mod Alike
+pub mod SteppedAlike
 pub mod Modes

@@ -88,7 +88,7 @@ beyond es q m far = go (nat_lt m 16) refl
     go true is = let below : m < 16 = ltb-true m 16 is in absurd (omega arith)
     go false is = refl
 
-lt_or_le : (m n : ℕ) → (m < n) ⊎ (n ≤ m)
+pub lt_or_le : (m n : ℕ) → (m < n) ⊎ (n ≤ m)
 lt_or_le m zero = inr (omega arith)
 lt_or_le zero (suc n) = inl (omega arith)
 lt_or_le (suc m) (suc n) = elim (lt_or_le m n) [ inl below ↦ inl (omega arith) | inr far ↦ inr (omega arith) ]

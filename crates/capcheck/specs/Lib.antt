@@ -17,3 +17,4 @@ pub mod StepViews
 pub mod Simulations
 pub mod ScheduleViews
 pub mod Served
+pub mod Renamings

@@ -6,11 +6,12 @@ ghost use Rattle.std.specs.List.{list_all};
 ghost use Rattle.capcheck.specs.Answers.{Event};
 ghost use Rattle.capcheck.specs.Plans.{Plan, first_world, is_plan};
 ghost use Rattle.capcheck.specs.Programs.{Program, is_program};
+ghost use Rattle.capcheck.specs.Renamings.{DiffersInNumbers, StepsAlike};
 ghost use Rattle.capcheck.specs.Runs.{HasNext, Runs};
 ghost use Rattle.capcheck.specs.Simulations.{NeverGains};
 ghost use Rattle.capcheck.specs.Steps.{Line};
 ghost use Rattle.capcheck.specs.WellFormed.{IsWellFormed};
-ghost use Rattle.capcheck.specs.World.{World};
+ghost use Rattle.capcheck.specs.World.{Choice, World};
 
 /// A task's first world is well formed.
 pub fn first_worlds_are_well_formed()
@@ -23,6 +24,14 @@ pub fn first_worlds_are_well_formed()
 pub fn a_next_world_exists()
     ensures { (programs : List Program) (w : World) (e : Event) → list_all is_program programs ≡ true
         → IsWellFormed programs w → HasNext programs w e }
+{
+}
+
+/// Two well-formed worlds that differ only in the numbers of descriptions and pairs show the same line,
+/// and their next worlds differ only so, whatever is chosen in each.
+pub fn numbers_do_not_matter()
+    ensures { (programs : List Program) (w v : World) (e : Event) (j k : Choice) → IsWellFormed programs w
+        → IsWellFormed programs v → DiffersInNumbers w v → StepsAlike programs w v e j k }
 {
 }
 
