@@ -1,21 +1,15 @@
 -- Worlds that differ only in numbers step alike.
-use Rattle.std.proofs.Common.{◌≡◌, ◌≢◌, ℕ, ◌+◌, Bool, true, false, List, [], ◌∷◌, drop, refl, ap, sym, ◌∙◌, subst, map}
-use Rattle.std.specs.Prelude.{◌==◌, ◌||◌, Option, Some, None, not, slice_set}
+use Rattle.std.proofs.Common.{◌≡◌, ℕ, Bool, true, false, List, [], ◌∷◌, refl, ap, sym, ◌∙◌}
+use Rattle.std.specs.Prelude.{Option, Some, None, not}
 use Rattle.std.specs.List.{slice_get}
 use Rattle.rights.specs.Errors.{Errno, ENOTCAPABLE, Cause, MissingRight}
-use Rattle.rights.specs.Maps.{put, put2}
 use Rattle.rights.specs.Sets.{is_within, read_right}
-use Rattle.rights.proofs.Changes.{put-cases}
-use Rattle.process.specs.State.{ProcessState}
 use Rattle.capcheck.specs.Tree.{Node, node, is_dir}
 use Rattle.capcheck.specs.Descriptions.{Access, Object, At_node, At_end, State, Descriptor, Message, other_side}
-use Rattle.capcheck.specs.Programs.{Program, Instruction, Set, Jeq, Halt, Invoke, Syscall, Cap_enter, Read, instruction_at}
-use Rattle.capcheck.specs.World.{World, Choice, is_open}
-use Rattle.capcheck.specs.Answers.{Event, Effect, Change, QueueChange, Same_queue, Pop, StateChange, Same_state, Set_state, Answer, Fails, Waits, Gives, same, unless, held, through, at_object, read_byte, read_node, read_empty, read_end, answer, changed, states_after, queue_after}
-use Rattle.capcheck.specs.Steps.{Executed, Stepped, Line, LineResult, Ended, with_process, plain, halted, given, failed, answered, jumped, executed, register, with_register, moved_to, line_of_process, stepped_at, stepped_by, stepped, step, shown}
-use Rattle.capcheck.specs.WellFormed.{IsWorld, IsWellFormed}
-use Rattle.capcheck.specs.Renamings.{Renaming, SameDescriptor, SameEntry, SameMessages, DiffersInNumbers, StepsAlike, renamed_object}
-use Rattle.capcheck.proofs.Opens.{same_open}
+use Rattle.capcheck.specs.Programs.{Syscall, Cap_enter, Read}
+use Rattle.capcheck.specs.World.{World, is_open}
+use Rattle.capcheck.specs.Answers.{Event, Change, QueueChange, Same_queue, Pop, StateChange, Same_state, Set_state, Answer, Fails, Waits, Gives, same, unless, held, through, at_object, read_byte, read_node, read_empty, read_end, answer}
+use Rattle.capcheck.specs.Renamings.{Renaming, SameEntry, SameMessages, DiffersInNumbers, renamed_object}
 
 abbrev pub renamed_state : Renaming → StateChange → StateChange
 renamed_state f Same_state = Same_state
@@ -93,7 +87,7 @@ module _ (w v : World) (d : DiffersInNumbers w v) (opens : (pair side : ℕ) →
   renamed-entry (Some a) (Some e) alike =
       ap (λ rights. unless (is_within read_right rights) ENOTCAPABLE MissingRight (read_object v e.description (v.objects e.description))) alike.rights
       ∙ renamed-unless d.renaming (is_within read_right a.rights) _ _ _ _
-        (ap (read_object v e.description) alike.object ∙ renamed-object a.description e.description alike.number alike.state (w.objects a.description))
+      (ap (read_object v e.description) alike.object ∙ renamed-object a.description e.description alike.number alike.state (w.objects a.description))
 
   pub renamed-answer : (p : ℕ) (e : Event) (call : Syscall) → answer v p e call ≡ renamed d.renaming (answer w p e call)
   unfolding answer read_object

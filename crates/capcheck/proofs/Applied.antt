@@ -1,13 +1,13 @@
 -- What the code does of an answer is the model's.
-use Rattle.std.proofs.Common.{◌≡◌, ℕ, List, [], refl, ap, sym, ◌∙◌, subst}
-use Rattle.std.specs.Prelude.{slice_set, map}
+use Rattle.std.proofs.Common.{◌≡◌, ℕ, [], refl, ap, sym, ◌∙◌, subst}
+use Rattle.std.specs.Prelude.{slice_set}
 use Rattle.rights.specs.Errors.{Errno, Cause}
 use Rattle.process.specs.State.{ProcessState}
 use Rattle.capcheck.specs.declared.steps.Executed.{Executed as ExecutedCode}
-use Rattle.capcheck.specs.World.{World, Choice}
-use Rattle.capcheck.specs.Answers.{Change, Answer, Fails, Waits, Gives, changed}
+use Rattle.capcheck.specs.World.{Choice}
+use Rattle.capcheck.specs.Answers.{Change, Answer, Fails, Waits, changed}
 use Rattle.capcheck.specs.AnswerViews.{effects_of, GivesAs}
-use Rattle.capcheck.specs.Steps.{LineResult, Done, Value, Failed, Waiting, Shown, shown, with_process, plain, given, failed, answered}
+use Rattle.capcheck.specs.Steps.{Done, Value, Failed, Waiting, with_process, plain, given, failed, answered}
 use Rattle.capcheck.specs.StepViews.{ExecutedAs, result_of}
 use Rattle.capcheck.specs.Kept.{Kept, world_of}
 

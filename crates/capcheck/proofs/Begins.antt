@@ -1,27 +1,21 @@
 -- The first world of a task is well formed.
-use Rattle.std.proofs.Common.{◌≡◌, ◌≢◌, ℕ, zero, suc, ◌+◌, ◌<◌, ◌≤◌, ◌^◌, Bool, true, false, List, [], ◌∷◌, refl, arith, length, map, replicate, ap, sym, ◌∙◌, subst}
+use Rattle.std.proofs.Common.{◌≡◌, ◌≢◌, ℕ, zero, suc, ◌+◌, ◌<◌, ◌≤◌, ◌^◌, true, false, List, [], ◌∷◌, refl, arith, length, map, replicate, sym, subst}
 use Rattle.std.specs.Prelude.{◌==◌, ◌&&◌, ◌||◌, not, nat_lt, nat_le, Option, Some, None}
 use Rattle.std.specs.List.{slice_get, list_all}
-use Rattle.std.specs.Option.{option_map}
 use Rattle.std.specs.Str.{bytes_eq}
 use Rattle.std.specs.Cmp.Derive.{both_true}
 use Rattle.std.proofs.lemmas.Bool.{ltb-true, leb-true, lt-ltb}
 use Rattle.std.proofs.Math.ListN.{length-map}
-use Rattle.std.proofs.lemmas.Option.{slice_get-map, slice_get_within, slice_get_past}
 use Rattle.rights.specs.Sets.{is_within, all_rights, all_commands}
-use Rattle.rights.specs.Maps.{put, put2}
+use Rattle.rights.specs.Maps.{put}
 use Rattle.rights.proofs.Changes.{put-cases, put2-cases, put-same, put-other}
-use Rattle.rights.proofs.Lists.{list_all-slice_get}
 use Rattle.rights.proofs.Tests.{both_left, both_right, not_true}
-use Rattle.process.specs.State.{ProcessState, new_process}
 use Rattle.capcheck.specs.Tree.{Node, node, is_dir, is_link, is_tree}
-use Rattle.capcheck.specs.Descriptions.{Class, Initial, Object, At_node, At_end, State, Descriptor, Message}
-use Rattle.capcheck.specs.Programs.{Program, Instruction, is_program, is_instruction, ends_well, instruction_at, at_point}
-use Rattle.capcheck.specs.World.{World}
-use Rattle.capcheck.specs.Plans.{Plan, is_word, FirstDescriptor, Start, Opening, are_programs, are_grants, is_descriptor, are_descriptors, is_start, is_plan, have_numbers, nothing_open, first_state, with_descriptor, with_descriptors, with_starts, first_process, world_with, first_world}
-use Rattle.capcheck.specs.WellFormed.{Pairs, HasNone, IsObject, IsDescriptor, IsEntry, AreMessages, FitsRegister, IsMade, IsPoint, IsProcess, IsWorld, IsWellFormed}
+use Rattle.capcheck.specs.Descriptions.{Initial, Object, At_node, State, Descriptor}
+use Rattle.capcheck.specs.Programs.{Program, Instruction, is_program, is_instruction, ends_well, instruction_at}
+use Rattle.capcheck.specs.Plans.{Plan, is_word, FirstDescriptor, Start, Opening, are_programs, are_grants, is_descriptor, are_descriptors, is_start, is_plan, have_numbers, nothing_open, first_state, with_descriptor, with_descriptors, with_starts, first_process, first_world}
+use Rattle.capcheck.specs.WellFormed.{Pairs, HasNone, IsObject, IsEntry, FitsRegister, IsMade, IsPoint, IsWorld, IsWellFormed}
 use Rattle.capcheck.specs.Kept.{Kept, IsKept, world_of}
-use Rattle.capcheck.proofs.Points.{point_below}
 
 abbrev no_pairs : Pairs
 no_pairs = record { count = 0; holder = λ pair side. 0; class = λ pair. Initial 0 }

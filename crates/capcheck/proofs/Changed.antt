@@ -1,13 +1,13 @@
 -- Changes of the lists that a world is kept in are the model's changes.
-use Rattle.std.proofs.Common.{◌≡◌, ℕ, ◌<◌, Bool, true, false, List, length, refl, ap, sym, ◌∙◌, subst, get_or-set_same, get_or-set_other}
-use Rattle.std.specs.Prelude.{Option, Some, None, slice_set}
+use Rattle.std.proofs.Common.{◌≡◌, ℕ, ◌<◌, Bool, false, List, length, ap, ◌∙◌, get_or-set_same, get_or-set_other}
+use Rattle.std.specs.Prelude.{Option, None, slice_set}
 use Rattle.std.specs.List.{slice_index_or}
 use Rattle.rights.specs.Maps.{put}
 use Rattle.rights.proofs.Changes.{put-cases}
 use Rattle.process.specs.State.{ProcessState}
 use Rattle.capcheck.specs.Descriptions.{Object, State, Descriptor}
-use Rattle.capcheck.specs.World.{World, Choice}
-use Rattle.capcheck.specs.Answers.{Change, Same_queue, Set_state, changed}
+use Rattle.capcheck.specs.World.{Choice}
+use Rattle.capcheck.specs.Answers.{Same_queue, Set_state, changed}
 use Rattle.capcheck.specs.Steps.{halted}
 use Rattle.capcheck.specs.Plans.{first_state}
 use Rattle.capcheck.specs.Kept.{Kept, entry, object, state, world_of}

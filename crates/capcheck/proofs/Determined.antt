@@ -5,9 +5,9 @@ use Rattle.std.specs.Prelude.{Bool, true, false, map, Option, Some, None}
 use Rattle.std.specs.List.{slice_get}
 use Rattle.process.specs.State.{ProcessState}
 use Rattle.capcheck.specs.Programs.{Program, Instruction, Set, Jeq, Halt, Invoke, instruction_at}
-use Rattle.capcheck.specs.World.{World, Choice, IsFresh}
+use Rattle.capcheck.specs.World.{World, Choice}
 use Rattle.capcheck.specs.Answers.{Event, Answer, Fails, Waits, Gives, answer}
-use Rattle.capcheck.specs.Steps.{Line, Executed, Stepped, Shown, shown, line_of_process, answered, executed, stepped_at, stepped_by, stepped, step}
+use Rattle.capcheck.specs.Steps.{Line, Executed, Stepped, shown, line_of_process, answered, executed, stepped_at, stepped_by, stepped, step}
 use Rattle.capcheck.specs.Runs.{Runs}
 
 same-answered : (w : World) (p : ℕ) (s : ProcessState) (j k : Choice) (otherwise : ℕ) (a : Answer) → answered w p s j otherwise a ≡ answered w p s k otherwise a

@@ -1,12 +1,12 @@
 -- Well-formed entries, messages and processes after a change of one of them.
-use Rattle.std.proofs.Common.{◌≡◌, ℕ, zero, suc, ◌+◌, ◌<◌, ◌≤◌, ◌^◌, ◌-◌, Bool, true, false, List, [], ◌∷◌, refl, arith, length, drop, ap, sym, ◌∙◌, subst}
-use Rattle.std.specs.Prelude.{Option, Some, None, slice_set}
+use Rattle.std.proofs.Common.{ℕ, ◌<◌, ◌^◌, Bool, false, List, [], ◌∷◌, drop, ◌∙◌}
+use Rattle.std.specs.Prelude.{slice_set}
 use Rattle.std.specs.List.{slice_get}
 use Rattle.std.proofs.Math.ListN.{length-set}
 use Rattle.rights.proofs.Lists.{slice_get-set_cases}
 use Rattle.process.specs.State.{ProcessState}
 use Rattle.capcheck.specs.Tree.{Node}
-use Rattle.capcheck.specs.Descriptions.{Object, Message, Descriptor}
+use Rattle.capcheck.specs.Descriptions.{Object, Message}
 use Rattle.capcheck.specs.Programs.{Program, instruction_at}
 use Rattle.capcheck.specs.WellFormed.{Pairs, AreMessages, FitsRegister, IsMade, IsPoint, IsProcess}
 

@@ -1,6 +1,6 @@
 -- Descriptions and nodes that the code finds are the model's.
-use Rattle.std.proofs.Common.{◌≡◌, ℕ, ◌<◌, ◌≤◌, Bool, true, List, length, refl, arith, ap, sym, ◌∙◌, subst}
-use Rattle.std.specs.Prelude.{Option, Some, map}
+use Rattle.std.proofs.Common.{◌≡◌, ℕ, ◌<◌, ◌≤◌, true, length, arith, ap, ◌∙◌, subst}
+use Rattle.std.specs.Prelude.{Some, map}
 use Rattle.std.specs.List.{slice_index_or}
 use Rattle.std.proofs.Math.ListN.{length-map}
 use Rattle.rights.specs.Sets.{is_within, read_right}
@@ -9,12 +9,12 @@ use Rattle.capcheck.specs.declared.files.Description.{Description as Description
 use Rattle.capcheck.specs.declared.files.Descriptor.{Descriptor as DescriptorCode}
 use Rattle.capcheck.specs.declared.nodes.Node.{Node as NodeCode}
 use Rattle.capcheck.specs.declared.world.World.{World as WorldCode}
-use Rattle.capcheck.specs.Tree.{Node, nowhere}
-use Rattle.capcheck.specs.Descriptions.{Object, At_node, State, Descriptor}
+use Rattle.capcheck.specs.Tree.{nowhere}
+use Rattle.capcheck.specs.Descriptions.{State}
 use Rattle.capcheck.specs.Programs.{Read}
 use Rattle.capcheck.specs.Answers.{Event, read_node, answer}
 use Rattle.capcheck.specs.Plans.{no_object, first_state}
-use Rattle.capcheck.specs.Kept.{Kept, IsReadable, IsOfNode, entry, object, state, world_of}
+use Rattle.capcheck.specs.Kept.{IsReadable, IsOfNode, entry, object, state, world_of}
 use Rattle.capcheck.specs.Views.{access_of, descriptor_of, kept_of, node_of, object_of, state_of}
 use Rattle.capcheck.proofs.Reading.{answer-node, named_at}
 

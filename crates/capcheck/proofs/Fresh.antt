@@ -1,15 +1,15 @@
 -- In a well-formed world there are numbers that nobody names.
-use Rattle.std.proofs.Common.{◌≡◌, ◌≢◌, ℕ, zero, suc, ◌+◌, ◌<◌, ◌≤◌, Bool, true, false, List, [], ◌∷◌, refl, arith, ap, sym, ◌∙◌, subst}
-use Rattle.std.specs.Prelude.{◌==◌, ◌&&◌, ◌||◌, Option, Some, None}
-use Rattle.std.specs.List.{slice_get, list_any}
+use Rattle.std.proofs.Common.{◌≡◌, ◌≢◌, ℕ, zero, suc, ◌+◌, ◌<◌, ◌≤◌, Bool, false, List, [], ◌∷◌, refl, arith, ap, subst}
+use Rattle.std.specs.Prelude.{◌==◌, ◌&&◌, Option, Some, None}
+use Rattle.std.specs.List.{slice_get}
 use Rattle.std.proofs.lemmas.Bool.{ne_eqb}
 use Rattle.rights.proofs.Lists.{list_any-false}
 use Rattle.rights.proofs.Tests.{neither}
 use Rattle.capcheck.specs.Tree.{Node}
-use Rattle.capcheck.specs.Descriptions.{Class, Object, At_node, At_end, Descriptor, Message}
+use Rattle.capcheck.specs.Descriptions.{Object, At_node, At_end, Descriptor, Message}
 use Rattle.capcheck.specs.Programs.{Program}
-use Rattle.capcheck.specs.World.{World, Choice, IsFresh, IsUnnamed, IsOther, AreOther, is_end, names_end, any_below, is_open}
-use Rattle.capcheck.specs.WellFormed.{Pairs, IsObject, IsDescriptor, IsEntry, AreMessages, IsWorld, IsWellFormed}
+use Rattle.capcheck.specs.World.{World, IsFresh, IsUnnamed, IsOther, AreOther, is_end, names_end, any_below, is_open}
+use Rattle.capcheck.specs.WellFormed.{Pairs, IsObject, IsEntry, AreMessages, IsWorld}
 
 pub any_below-false : (n : ℕ) (test : ℕ → Bool) → ((k : ℕ) → test k ≡ false) → any_below n test ≡ false
 any_below-false zero test none = refl

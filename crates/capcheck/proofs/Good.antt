@@ -1,18 +1,18 @@
 -- What a call answers is a value that a register holds, and keeps offsets within a file.
-use Rattle.std.proofs.Common.{◌≡◌, ℕ, zero, suc, ◌+◌, ◌<◌, ◌≤◌, ◌^◌, Bool, true, false, List, [], ◌∷◌, ◌⊎◌, inl, inr, refl, arith, length, ap, sym, ◌∙◌, subst}
-use Rattle.std.specs.Prelude.{◌&&◌, ◌||◌, Option, Some, None, not, nat_lt, nat_le}
-use Rattle.std.specs.List.{slice_get, slice_index_or, list_all}
+use Rattle.std.proofs.Common.{◌≡◌, ℕ, ◌+◌, ◌<◌, ◌≤◌, ◌^◌, Bool, true, false, List, [], ◌∷◌, inl, inr, refl, arith, length, subst}
+use Rattle.std.specs.Prelude.{◌&&◌, Option, Some, None, not, nat_lt, nat_le}
+use Rattle.std.specs.List.{slice_get, list_all}
 use Rattle.std.proofs.lemmas.Bool.{ltb-true, leb-true}
 use Rattle.std.proofs.lemmas.Option.{slice_get_within}
 use Rattle.rights.specs.Sets.{is_within, read_right}
 use Rattle.rights.proofs.Lists.{list_all-slice_get, list_all-slice_index_or}
 use Rattle.rights.proofs.Tests.{both_left, both_right}
 use Rattle.capcheck.specs.Tree.{Node, Kind, File, Dir, Link, node, nowhere, is_dir, is_link, is_content, is_node, is_name, is_tree, has_root, stands}
-use Rattle.capcheck.specs.Descriptions.{Access, Class, Object, At_node, At_end, State, Descriptor, Message, other_side}
+use Rattle.capcheck.specs.Descriptions.{Access, Object, At_node, At_end, State, Descriptor, Message, other_side}
 use Rattle.capcheck.specs.Programs.{Program, Syscall, Cap_enter, Read}
 use Rattle.capcheck.specs.World.{World, is_open}
 use Rattle.capcheck.specs.Answers.{Event, StateChange, Same_state, Set_state, Answer, Fails, Waits, Gives, unless, held, through, at_object, read_byte, read_node, read_empty, read_end, answer}
-use Rattle.capcheck.specs.WellFormed.{Pairs, IsObject, IsDescriptor, IsEntry, AreMessages, IsWorld}
+use Rattle.capcheck.specs.WellFormed.{Pairs, IsObject, IsEntry, AreMessages, IsWorld}
 
 abbrev pub IsGoodState : StateChange → Type 0
 IsGoodState Same_state = Unit {0}

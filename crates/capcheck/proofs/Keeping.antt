@@ -1,25 +1,24 @@
 -- A step keeps a world well formed.
-use Rattle.std.proofs.Common.{◌≡◌, ℕ, zero, suc, ◌+◌, ◌<◌, ◌≤◌, ◌^◌, ◌-◌, Bool, true, false, List, [], ◌∷◌, refl, arith, length, drop, length-drop, ap, sym, ◌∙◌, subst}
+use Rattle.std.proofs.Common.{◌≡◌, ℕ, ◌+◌, ◌<◌, ◌≤◌, ◌^◌, Bool, true, false, List, [], ◌∷◌, refl, arith, length, drop, length-drop}
 use Rattle.std.specs.Prelude.{◌==◌, ◌&&◌, ◌||◌, Option, Some, None, slice_set, nat_lt}
 use Rattle.std.specs.List.{slice_get, list_all}
 use Rattle.std.proofs.Math.ListN.{length-set}
 use Rattle.std.proofs.lemmas.Bool.{ltb-true}
-use Rattle.rights.specs.Errors.{Errno, Cause, errno_number}
+use Rattle.rights.specs.Errors.{Errno, errno_number}
 use Rattle.rights.specs.Maps.{put}
 use Rattle.rights.proofs.Numbers.{errno_number-le}
 use Rattle.rights.proofs.Changes.{put-cases, put2-cases}
 use Rattle.rights.proofs.Lists.{slice_get-set_cases}
-use Rattle.rights.proofs.Tests.{both_left, both_right}
+use Rattle.rights.proofs.Tests.{both_right}
 use Rattle.process.specs.State.{ProcessState}
 use Rattle.capcheck.specs.Descriptions.{State, Descriptor, Message}
-use Rattle.capcheck.specs.Programs.{Program, Instruction, Set, Jeq, Halt, Invoke, Syscall, is_program, is_last, instruction_at}
-use Rattle.capcheck.specs.World.{World, Choice, IsFresh}
-use Rattle.capcheck.specs.Answers.{Event, Effect, Change, QueueChange, Same_queue, Pop, StateChange, Same_state, Set_state, Answer, Fails, Waits, Gives, answer, changed, states_after, queue_after}
-use Rattle.capcheck.specs.Steps.{Executed, register, with_register, moved_to, with_process, plain, halted, given, failed, answered, jumped, executed, stepped_at, stepped_by, stepped, step}
-use Rattle.capcheck.specs.WellFormed.{Pairs, HasNone, IsEntry, AreMessages, IsMade, IsPoint, IsProcess, IsWorld, IsWellFormed}
+use Rattle.capcheck.specs.Programs.{Program, Instruction, Set, Jeq, Halt, Invoke, is_program, instruction_at}
+use Rattle.capcheck.specs.World.{World, Choice}
+use Rattle.capcheck.specs.Answers.{Event, Change, QueueChange, Same_queue, Pop, StateChange, Same_state, Set_state, Answer, Fails, Waits, Gives, answer, changed, states_after, queue_after}
+use Rattle.capcheck.specs.Steps.{register, with_register, moved_to, with_process, plain, halted, given, failed, answered, jumped, executed, stepped_at, stepped_by, stepped, step}
+use Rattle.capcheck.specs.WellFormed.{Pairs, HasNone, IsEntry, AreMessages, IsMade, IsPoint, IsProcess, IsWorld}
 use Rattle.capcheck.proofs.Points.{Placed, placed}
 use Rattle.capcheck.proofs.Entries.{messages-drop, process_at, process_moved, process_ended, made-set}
-use Rattle.capcheck.proofs.Fresh.{fresh_choice}
 use Rattle.capcheck.proofs.Good.{IsGood, IsGoodState, good-answer}
 
 -- a living process in place of a living one

@@ -1,10 +1,10 @@
 -- The lines of a schedule, one after another.
-use Rattle.std.proofs.Common.{◌≡◌, ℕ, zero, suc, ◌+◌, ◌<◌, ◌≤◌, Bool, true, false, List, [], ◌∷◌, ◌++◌, length, take, refl, arith, ap, sym, ◌∙◌, subst, append_assoc, append-nil, length-append}
+use Rattle.std.proofs.Common.{◌≡◌, ℕ, ◌+◌, ◌<◌, ◌≤◌, Bool, true, false, List, [], ◌∷◌, ◌++◌, length, take, refl, arith, ap, sym, ◌∙◌, append_assoc, append-nil, length-append}
 use Rattle.std.specs.Prelude.{Option, Some, None, Result, Ok, Err, cond, nat_le, ◌==◌}
 use Rattle.std.proofs.lemmas.Bool.{leb-true, le-leb}
 use Rattle.std.proofs.lemmas.List.{take-append-le, take_all}
 use Rattle.capcheck.specs.Answers.{Event}
-use Rattle.capcheck.specs.Schedules.{Fault, Faulty, Too_many, parts, parts_from, event_of_line, with_event, unended, events_from, limited, schedule_of}
+use Rattle.capcheck.specs.Schedules.{Faulty, Too_many, parts, parts_from, event_of_line, with_event, events_from, limited, schedule_of}
 
 -- events, and then what comes of the rest
 abbrev pub behind : List Event → Result (List Event) ℕ → Result (List Event) ℕ

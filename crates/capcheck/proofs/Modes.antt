@@ -9,8 +9,8 @@ use Rattle.rights.proofs.Lists.{slice_get-set_cases}
 use Rattle.process.specs.State.{ProcessState}
 use Rattle.capcheck.specs.Descriptions.{Descriptor, Message}
 use Rattle.capcheck.specs.Programs.{Program, Instruction, Set, Jeq, Halt, Invoke, instruction_at}
-use Rattle.capcheck.specs.World.{World, Choice, IsFresh}
-use Rattle.capcheck.specs.Answers.{Event, Change, QueueChange, Same_queue, Pop, Answer, Fails, Waits, Gives, answer, changed, queue_after}
+use Rattle.capcheck.specs.World.{World, Choice}
+use Rattle.capcheck.specs.Answers.{Event, QueueChange, Same_queue, Pop, Answer, Fails, Waits, Gives, answer, queue_after}
 use Rattle.capcheck.specs.Steps.{with_process, given, failed, answered, jumped, halted, executed, register, stepped_at, stepped_by, stepped, step}
 use Rattle.capcheck.specs.Simulations.{StaysIn, WasThere, GainsNothing, NeverGains}
 

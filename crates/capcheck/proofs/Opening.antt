@@ -1,5 +1,5 @@
 -- Descriptions and entries, one after another, are the first world's.
-use Rattle.std.proofs.Common.{◌≡◌, ◌≢◌, ℕ, zero, suc, ◌+◌, ◌*◌, ◌<◌, List, [], ◌∷◌, ◌++◌, length, map, refl, arith, ap, sym, ◌∙◌, subst, length-append, replicate}
+use Rattle.std.proofs.Common.{◌≡◌, ◌≢◌, ℕ, zero, suc, ◌+◌, ◌*◌, List, [], ◌∷◌, ◌++◌, length, map, refl, ap, ◌∙◌, length-append, replicate}
 use Rattle.std.specs.Prelude.{Option, Some, None, Bool, true, false, cond, nat_lt}
 use Rattle.std.specs.List.{slice_index_or}
 use Rattle.std.specs.Option.{option_map}
@@ -9,8 +9,8 @@ use Rattle.rights.specs.Maps.{put, put2}
 use Rattle.rights.proofs.Changes.{put-cases}
 use Rattle.capcheck.specs.declared.files.Description.{Description as DescriptionCode}
 use Rattle.capcheck.specs.declared.files.Descriptor.{Descriptor as DescriptorCode}
-use Rattle.capcheck.specs.Descriptions.{Object, State, Descriptor, Access, At_node}
-use Rattle.capcheck.specs.Plans.{Opening, FirstDescriptor, no_object, first_state, nothing_open, with_descriptor}
+use Rattle.capcheck.specs.Descriptions.{Descriptor, At_node}
+use Rattle.capcheck.specs.Plans.{FirstDescriptor, no_object, first_state, nothing_open, with_descriptor}
 use Rattle.capcheck.specs.Kept.{entry, object, state}
 use Rattle.capcheck.specs.Views.{entries_of, descriptor_of, object_of, state_of}
 

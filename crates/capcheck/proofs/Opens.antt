@@ -1,15 +1,13 @@
 -- Whether an end is open doesn't depend on numbers.
-use Rattle.std.proofs.Common.{◌≡◌, ◌≢◌, ℕ, zero, suc, ◌+◌, ◌<◌, ◌≤◌, Bool, true, false, List, [], ◌∷◌, ◌⊎◌, inl, inr, refl, arith, ap, sym, ◌∙◌, subst}
+use Rattle.std.proofs.Common.{◌≡◌, ℕ, zero, suc, ◌<◌, ◌≤◌, Bool, true, false, List, [], ◌∷◌, ◌⊎◌, inl, inr, refl, arith, ap, sym, ◌∙◌}
 use Rattle.std.specs.Prelude.{◌==◌, ◌&&◌, ◌||◌, Option, Some, None}
 use Rattle.std.specs.List.{list_any}
-use Rattle.std.proofs.lemmas.Bool.{eqb-true, eq-eqb, ne_eqb}
+use Rattle.std.proofs.lemmas.Bool.{eqb-true, eq-eqb}
 use Rattle.rights.proofs.Tests.{either_one}
 use Rattle.capcheck.proofs.Tables.{lt_or_le}
-use Rattle.capcheck.specs.Descriptions.{Class, Object, At_node, At_end, State, Descriptor, Message}
-use Rattle.capcheck.specs.Programs.{Program}
+use Rattle.capcheck.specs.Descriptions.{Object, At_node, At_end, Descriptor, Message}
 use Rattle.capcheck.specs.World.{World, is_end, names_end, any_below, is_open}
-use Rattle.capcheck.specs.WellFormed.{IsWellFormed}
-use Rattle.capcheck.specs.Renamings.{Renaming, SameDescriptor, SameEntry, SameMessages, DiffersInNumbers, renamed_object}
+use Rattle.capcheck.specs.Renamings.{Renaming, SameEntry, SameMessages, renamed_object}
 
 -- two tests of which each passes where the other does
 same_tests : (a b : Bool) → (a ≡ true → b ≡ true) → (b ≡ true → a ≡ true) → a ≡ b
@@ -21,8 +19,8 @@ same_tests false false to from = refl
 pub same_eqb : (f g : ℕ → ℕ) → ((n : ℕ) → g (f n) ≡ n) → (m n : ℕ) → (m == n) ≡ (f m == f n)
 same_eqb f g back m n =
     same_tests (m == n) (f m == f n)
-        (λ is. eq-eqb (f m) (f n) (ap f (eqb-true m n is)))
-        (λ is. eq-eqb m n (sym (back m) ∙ ap g (eqb-true (f m) (f n) is) ∙ back n))
+    (λ is. eq-eqb (f m) (f n) (ap f (eqb-true m n is)))
+    (λ is. eq-eqb m n (sym (back m) ∙ ap g (eqb-true (f m) (f n) is) ∙ back n))
 
 same_end : (f : Renaming) (pair side : ℕ) (o : Object) → is_end pair side o ≡ is_end (f.pair pair) side (renamed_object f.pair o)
 same_end f pair side (At_node n access) = refl
@@ -51,8 +49,8 @@ found_below : (n : ℕ) (test : ℕ → Bool) → any_below n test ≡ true → 
 found_below zero test some = absurd cc
 found_below (suc n) test some =
     elim (either_one (test n) (any_below n test) some) [
-      inl here ↦ (n, below_next n, here)
-    | inr there ↦ (let rest = found_below n test there in (rest.0, omega (arith, rest.1), rest.2))
+      | inl here ↦ (n, below_next n, here)
+      | inr there ↦ (let rest = found_below n test there in (rest.0, omega (arith, rest.1), rest.2))
     ]
   where
     below_next : (n : ℕ) → n < suc n
@@ -77,8 +75,8 @@ one_below : (n : ℕ) (test : ℕ → Bool) (k : ℕ) → k < n → test k ≡ t
 one_below zero test k below is = absurd (omega arith)
 one_below (suc n) test k below is =
     elim (one_or_below k n below) [
-      inl same ↦ or_left (test n) (any_below n test) (ap test (sym same) ∙ is)
-    | inr less ↦ or_right (test n) (any_below n test) (one_below n test k less is)
+      | inl same ↦ or_left (test n) (any_below n test) (ap test (sym same) ∙ is)
+      | inr less ↦ or_right (test n) (any_below n test) (one_below n test k less is)
     ]
 
 -- The scans of the queues find the same, although they go over other numbers: beyond the pairs in use
@@ -99,8 +97,8 @@ idle_scan w pair side q none =
 in_use : (w : World) (pair side q : ℕ) → ((p s : ℕ) → w.pairs ≤ p → w.queue p s ≡ []) → messages_in w pair side q ≡ true → q < w.pairs
 in_use w pair side q idle some =
     elim (lt_or_le q w.pairs) [
-      inl below ↦ below
-    | inr far ↦ (let none : messages_in w pair side q ≡ false = idle_scan w pair side q (λ s. idle q s far) in absurd (clash (sym some ∙ none)))
+      | inl below ↦ below
+      | inr far ↦ (let none : messages_in w pair side q ≡ false = idle_scan w pair side q (λ s. idle q s far) in absurd (clash (sym some ∙ none)))
     ]
   where
     clash : true ≡ false → ⊥
@@ -113,18 +111,21 @@ same_open f w v entries queues idle others_idle pair side =
   where
     same_entries : any_below 16 (λ p. any_below 16 (λ n. names_end w.objects pair side (w.table p n))) ≡ any_below 16 (λ p. any_below 16 (λ n. names_end v.objects (f.pair pair) side (v.table p n)))
     same_entries = below_same 16 _ _ (λ p. below_same 16 _ _ (λ n. same_names f w v pair side (w.table p n) (v.table p n) (entries p n)))
+
     there : any_below w.pairs (messages_in w pair side) ≡ true → any_below v.pairs (messages_in v (f.pair pair) side) ≡ true
     there some =
         let found = found_below w.pairs (messages_in w pair side) some in
         let is : messages_in v (f.pair pair) side (f.pair found.0) ≡ true = sym (same_scan f w v pair side found.0 queues) ∙ found.2 in
         one_below v.pairs (messages_in v (f.pair pair) side) (f.pair found.0) (in_use v (f.pair pair) side (f.pair found.0) others_idle is) is
+
     back : any_below v.pairs (messages_in v (f.pair pair) side) ≡ true → any_below w.pairs (messages_in w pair side) ≡ true
     back some =
         let found = found_below v.pairs (messages_in v (f.pair pair) side) some in
         let q : ℕ = f.pair_back found.0 in
         let is : messages_in w pair side q ≡ true =
-          same_scan f w v pair side q queues ∙ ap (messages_in v (f.pair pair) side) (f.pair_there found.0) ∙ found.2
+        same_scan f w v pair side q queues ∙ ap (messages_in v (f.pair pair) side) (f.pair_there found.0) ∙ found.2
         in
         one_below w.pairs (messages_in w pair side) q (in_use w pair side q idle is) is
+
     same_queues : any_below w.pairs (messages_in w pair side) ≡ any_below v.pairs (messages_in v (f.pair pair) side)
     same_queues = same_tests _ _ there back

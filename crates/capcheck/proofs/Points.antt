@@ -1,9 +1,8 @@
 -- Programs that a task may have: where each point leads.
-use Rattle.std.proofs.Common.{◌≡◌, ℕ, zero, suc, ◌+◌, ◌<◌, ◌≤◌, Bool, true, false, List, [], ◌∷◌, refl, arith, length, ap, sym, ◌∙◌, subst}
-use Rattle.std.specs.Prelude.{◌&&◌, Option, Some, None, nat_le, nat_lt}
+use Rattle.std.proofs.Common.{◌≡◌, ℕ, zero, suc, ◌+◌, ◌<◌, ◌≤◌, true, false, List, [], ◌∷◌, refl, arith, length, sym, subst}
+use Rattle.std.specs.Prelude.{◌&&◌, Option, Some, None, nat_le}
 use Rattle.std.specs.List.{slice_get, list_all}
-use Rattle.std.proofs.lemmas.Bool.{ltb-true, leb-true}
-use Rattle.std.proofs.lemmas.Option.{slice_get_within}
+use Rattle.std.proofs.lemmas.Bool.{leb-true}
 use Rattle.rights.proofs.Lists.{list_all-slice_get}
 use Rattle.rights.proofs.Tests.{both_left, both_right}
 use Rattle.capcheck.specs.Programs.{Program, Instruction, is_program, is_instruction, is_last, ends_well, instruction_at, at_point}

@@ -1,5 +1,5 @@
 -- What `read` answers, case by case.
-use Rattle.std.proofs.Common.{◌≡◌, ℕ, Bool, true, false, List, [], ◌∷◌, refl, ap, sym, ◌∙◌, subst, ◌<◌, length}
+use Rattle.std.proofs.Common.{◌≡◌, ℕ, Bool, true, false, [], ◌∷◌, refl, ap, ◌∙◌, subst, ◌<◌, length}
 use Rattle.std.specs.Prelude.{◌+◌, not, Option, Some, None}
 use Rattle.std.specs.List.{slice_get}
 use Rattle.rights.specs.Sets.{is_within, read_right}
@@ -9,7 +9,7 @@ use Rattle.capcheck.specs.Tree.{Node, node, is_dir}
 use Rattle.capcheck.specs.Descriptions.{Access, Object, At_node, State, Descriptor}
 use Rattle.capcheck.specs.Programs.{Read}
 use Rattle.capcheck.specs.Kept.{Kept, entry, object, state, world_of, IsReadable, IsNamed, IsOfNode}
-use Rattle.capcheck.specs.Answers.{Event, Answer, Fails, Gives, Effect, same, Change, StateChange, Set_state, unless, held, through, at_object, read_byte, read_node, answer}
+use Rattle.capcheck.specs.Answers.{Event, Answer, Fails, Gives, same, Set_state, unless, held, through, at_object, read_byte, read_node, answer}
 
 pub unless-fails : (test : Bool) (errno : Errno) (cause : Cause) (rest : Answer) → test ≡ false → unless test errno cause rest ≡ Fails errno cause
 unfolding unless

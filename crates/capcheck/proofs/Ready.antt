@@ -1,17 +1,17 @@
 -- A world that is kept well has what the code needs of it.
-use Rattle.std.proofs.Common.{◌≡◌, ℕ, ◌+◌, ◌<◌, ◌≤◌, ◌^◌, Bool, true, false, List, [], ◌∷◌, zero, suc, length, ◌⊎◌, inl, inr, refl, arith, ap, sym, ◌∙◌, subst}
-use Rattle.std.specs.Prelude.{◌&&◌, Option, Some, None, nat_lt}
-use Rattle.std.specs.List.{slice_get, slice_index_or, list_all}
+use Rattle.std.proofs.Common.{◌≡◌, ℕ, ◌+◌, ◌<◌, ◌≤◌, ◌^◌, true, false, List, [], ◌∷◌, zero, suc, length, refl, arith, sym, ◌∙◌, subst}
+use Rattle.std.specs.Prelude.{Option, Some, None, nat_lt}
+use Rattle.std.specs.List.{slice_get, list_all}
 use Rattle.std.proofs.lemmas.Bool.{ltb-true}
 use Rattle.std.proofs.lemmas.Option.{slice_get_within}
-use Rattle.rights.proofs.Tests.{both_left, both_right}
+use Rattle.rights.proofs.Tests.{both_left}
 use Rattle.process.specs.State.{ProcessState}
-use Rattle.capcheck.specs.Tree.{Node, node, nowhere, is_link}
+use Rattle.capcheck.specs.Tree.{Node, node, is_link}
 use Rattle.capcheck.specs.Descriptions.{Object, At_node, At_end, Descriptor}
-use Rattle.capcheck.specs.Programs.{Program, Instruction, Set, Jeq, Halt, Invoke, is_program, is_last, instruction_at}
+use Rattle.capcheck.specs.Programs.{Program, Instruction, Set, Jeq, Halt, Invoke, is_program, instruction_at}
 use Rattle.capcheck.specs.Kept.{Kept, IsNamed, IsOfNode, IsReadable, IsKept, SameSizes, entry, object, world_of}
 use Rattle.capcheck.specs.StepViews.{CanRun}
-use Rattle.capcheck.specs.WellFormed.{Pairs, IsObject, IsEntry, IsMade, IsProcess, IsWorld, IsWellFormed}
+use Rattle.capcheck.specs.WellFormed.{Pairs, IsObject, IsEntry, IsWorld, IsWellFormed}
 use Rattle.capcheck.specs.World.{World, Choice}
 use Rattle.capcheck.specs.Answers.{Event}
 use Rattle.capcheck.specs.Steps.{Line, Steps, step}

@@ -1,12 +1,12 @@
 -- The worked rows, by computation.
 use Rattle.std.proofs.Common.{◌≡◌, ℕ, zero, suc, List, [], ◌∷◌, ◌++◌, codes, refl}
-use Rattle.std.specs.Prelude.{Bool, true, false, map}
+use Rattle.std.specs.Prelude.{true, false}
 use Rattle.std.proofs.Math.Decide.{ℕ_discrete}
 use Rattle.std.specs.Fmt.{digits}
 use Rattle.capcheck.specs.Programs.{Program}
 use Rattle.capcheck.specs.World.{World, Choice}
 use Rattle.capcheck.specs.Answers.{Event, unless, held, through, at_object, read_byte, read_node, read_empty, read_end, answer}
-use Rattle.capcheck.specs.Steps.{Line, answered, jumped, executed, stepped_at, stepped_by, stepped, step}
+use Rattle.capcheck.specs.Steps.{answered, jumped, executed, stepped_at, stepped_by, stepped, step}
 use Rattle.capcheck.specs.Plans.{Plan, is_plan, first_world}
 use Rattle.capcheck.specs.Named.{first_plan, bare_plan, loop_plan}
 use Rattle.capcheck.specs.Traces.{line_text}

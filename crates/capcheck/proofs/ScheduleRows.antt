@@ -1,6 +1,6 @@
 -- The worked rows on schedules, by computation.
-use Rattle.std.proofs.Common.{◌≡◌, List, [], ◌∷◌, codes, refl}
-use Rattle.std.specs.Prelude.{Bool, true, false, Ok, Err}
+use Rattle.std.proofs.Common.{◌≡◌, [], ◌∷◌, codes, refl}
+use Rattle.std.specs.Prelude.{true, false, Ok, Err}
 use Rattle.capcheck.specs.Schedules.{schedule_of, Faulty}
 
 two_events : schedule_of (codes "0 0\n15 255 refuse\n") ≡ Ok (record { process = 0; input = 0; refuse = false } ∷ record { process = 15; input = 255; refuse = true } ∷ [])

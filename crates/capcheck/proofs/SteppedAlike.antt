@@ -1,26 +1,26 @@
 -- Steps in worlds that differ only in numbers.
-use Rattle.std.proofs.Common.{◌≡◌, ◌≢◌, ℕ, ◌+◌, Bool, true, false, List, [], ◌∷◌, drop, refl, ap, sym, ◌∙◌, subst, map}
-use Rattle.std.specs.Prelude.{◌==◌, ◌||◌, Option, Some, None, slice_set}
+use Rattle.std.proofs.Common.{◌≡◌, ℕ, ◌+◌, Bool, true, false, List, [], ◌∷◌, drop, refl, ap, sym, ◌∙◌, subst, map}
+use Rattle.std.specs.Prelude.{◌==◌, Option, Some, None, slice_set}
 use Rattle.std.specs.List.{slice_get}
-use Rattle.rights.specs.Maps.{put, put2}
+use Rattle.rights.specs.Maps.{put}
 use Rattle.rights.proofs.Changes.{put-cases, put-both}
 use Rattle.process.specs.State.{ProcessState}
 use Rattle.capcheck.specs.Descriptions.{State, Descriptor, Message}
 use Rattle.capcheck.specs.Programs.{Program, Instruction, Set, Jeq, Halt, Invoke, instruction_at}
 use Rattle.capcheck.specs.World.{World, Choice, is_open}
-use Rattle.capcheck.specs.Answers.{Event, Effect, Change, QueueChange, Same_queue, Pop, StateChange, Same_state, Set_state, Answer, Fails, Waits, Gives, answer, changed, states_after, queue_after}
-use Rattle.capcheck.specs.Steps.{Executed, Stepped, Line, LineResult, Ended, with_process, plain, halted, given, failed, answered, jumped, executed, register, with_register, moved_to, line_of_process, stepped_at, stepped_by, stepped, step, shown}
-use Rattle.capcheck.specs.WellFormed.{IsWorld, IsWellFormed}
-use Rattle.capcheck.specs.Renamings.{Renaming, SameDescriptor, SameEntry, SameMessages, DiffersInNumbers, StepsAlike}
-use Rattle.capcheck.proofs.Alike.{renamed, renamed_change, renamed_state, renamed_queue, renamed-answer}
+use Rattle.capcheck.specs.Answers.{Event, QueueChange, Same_queue, Pop, StateChange, Same_state, Set_state, Answer, Fails, Waits, Gives, answer, states_after, queue_after}
+use Rattle.capcheck.specs.Steps.{Executed, Stepped, with_process, plain, halted, given, failed, answered, jumped, executed, register, with_register, moved_to, line_of_process, stepped_at, stepped_by, stepped, step, shown}
+use Rattle.capcheck.specs.WellFormed.{IsWellFormed}
+use Rattle.capcheck.specs.Renamings.{Renaming, SameEntry, SameMessages, DiffersInNumbers, StepsAlike}
+use Rattle.capcheck.proofs.Alike.{renamed, renamed_state, renamed_queue, renamed-answer}
 use Rattle.capcheck.proofs.Opens.{same_open}
 
 -- maps that are changed at a number and at its new name
 put-renamed : {A B : Type 0} (R : A → B → Type 0) (f back : ℕ → ℕ) → ((n : ℕ) → back (f n) ≡ n) → (g : ℕ → A) (h : ℕ → B) (n m : ℕ) (x : A) (y : B) → R x y → R (g m) (h (f m)) → R (put g n x m) (put h (f n) y (f m))
 put-renamed R f back here g h n m x y new old =
     put-cases (λ b. R (put g n x m) b) h (f n) y (f m)
-        (λ clash. put-cases (λ a. R a y) g n x m (λ _. new) (λ other. absurd (other (sym (here m) ∙ ap back clash ∙ here n))))
-        (λ other. put-cases (λ a. R a (h (f m))) g n x m (λ clash. absurd (other (ap f clash))) (λ _. old))
+    (λ clash. put-cases (λ a. R a y) g n x m (λ _. new) (λ other. absurd (other (sym (here m) ∙ ap back clash ∙ here n))))
+    (λ other. put-cases (λ a. R a (h (f m))) g n x m (λ clash. absurd (other (ap f clash))) (λ _. old))
 
 states-alike : (f : Renaming) (old new : ℕ → State) (change : StateChange) (a b : ℕ) → b ≡ f.description a → new b ≡ old a → states_after new (renamed_state f change) b ≡ states_after old change a
 states-alike f old new Same_state a b number is = is
@@ -38,10 +38,10 @@ queues-alike : (f : Renaming) (w v : World) (change : QueueChange) → ((pair si
 queues-alike f w v Same_queue alike pair side = alike pair side
 queues-alike f w v (Pop q s) alike pair side =
     put-renamed (λ (x y : ℕ → List Message). SameMessages f w v (x side) (y side)) f.pair f.pair_back f.pair_here w.queue v.queue q pair
-        (put (w.queue q) s (drop 1 (w.queue q s))) (put (v.queue (f.pair q)) s (drop 1 (v.queue (f.pair q) s)))
-        (put-both (SameMessages f w v) (w.queue q) (v.queue (f.pair q)) s (drop 1 (w.queue q s)) (drop 1 (v.queue (f.pair q) s))
-          (drop-alike f w v (w.queue q s) (v.queue (f.pair q) s) (alike q s)) (alike q) side)
-        (alike pair side)
+    (put (w.queue q) s (drop 1 (w.queue q s))) (put (v.queue (f.pair q)) s (drop 1 (v.queue (f.pair q) s)))
+    (put-both (SameMessages f w v) (w.queue q) (v.queue (f.pair q)) s (drop 1 (w.queue q s)) (drop 1 (v.queue (f.pair q) s))
+    (drop-alike f w v (w.queue q s) (v.queue (f.pair q) s) (alike q s)) (alike q) side)
+    (alike pair side)
 
 -- worlds of which some parts have changed alike
 module _ (w v : World) (d : DiffersInNumbers w v) (old new : ℕ → State) (queue others : ℕ → ℕ → List Message) (processes moved : List ProcessState) (table entries : ℕ → ℕ → Option Descriptor) (states : (a b : ℕ) → b ≡ d.renaming.description a → v.states b ≡ w.states a → new b ≡ old a) where
@@ -88,7 +88,7 @@ module _ (w v : World) (d : DiffersInNumbers w v) (opens : (pair side : ℕ) →
   process_alike : (p : ℕ) (s : ProcessState) → DiffersInNumbers (with_process w p s) (with_process v p s)
   process_alike p s =
       differs_on w v d w.states v.states w.queue v.queue (slice_set w.processes p s) (slice_set v.processes p s) w.table v.table (λ a b number state. state)
-          (ap (λ processes. slice_set processes p s) d.processes) d.queues d.entries
+      (ap (λ processes. slice_set processes p s) d.processes) d.queues d.entries
 
   plain_alike : (p : ℕ) (s : ProcessState) → SameDone (plain w p s) (plain v p s)
   plain_alike p s = record { world = process_alike p s; outcome = refl; effects = refl }
@@ -97,8 +97,8 @@ module _ (w v : World) (d : DiffersInNumbers w v) (opens : (pair side : ℕ) →
   halted_alike p s =
       let closed : ℕ → Option Descriptor = λ n. None in
       differs_on w v d w.states v.states w.queue v.queue (slice_set w.processes p (record s { alive = false })) (slice_set v.processes p (record s { alive = false })) (put w.table p closed) (put v.table p closed) (λ a b number state. state)
-          (ap (λ processes. slice_set processes p (record s { alive = false })) d.processes) d.queues
-          (λ q n. put-both (λ (x y : ℕ → Option Descriptor). SameEntry d.renaming w v (x n) (y n)) w.table v.table p closed closed tt (λ m. d.entries m n) q)
+      (ap (λ processes. slice_set processes p (record s { alive = false })) d.processes) d.queues
+      (λ q n. put-both (λ (x y : ℕ → Option Descriptor). SameEntry d.renaming w v (x n) (y n)) w.table v.table p closed closed tt (λ m. d.entries m n) q)
 
   answered_alike : (p : ℕ) (s : ProcessState) (j k : Choice) (otherwise : ℕ) (a : Answer) → SameDone (answered w p s j otherwise a) (answered v p s k otherwise (renamed d.renaming a))
   unfolding answered
@@ -107,11 +107,11 @@ module _ (w v : World) (d : DiffersInNumbers w v) (opens : (pair side : ℕ) →
   answered_alike p s j k otherwise (Gives value change effects) = record {
     world =
         differs_on w v d (states_after w.states change.state) (states_after v.states (renamed_state d.renaming change.state))
-          (queue_after w.queue change.queue) (queue_after v.queue (renamed_queue d.renaming change.queue))
-          (slice_set w.processes p (given s value change)) (slice_set v.processes p (given s value change)) w.table v.table
-          (λ a b number state. states-alike d.renaming w.states v.states change.state a b number state)
-          (ap (λ processes. slice_set processes p (given s value change)) d.processes)
-          (queues-alike d.renaming w v change.queue d.queues) d.entries;
+        (queue_after w.queue change.queue) (queue_after v.queue (renamed_queue d.renaming change.queue))
+        (slice_set w.processes p (given s value change)) (slice_set v.processes p (given s value change)) w.table v.table
+        (λ a b number state. states-alike d.renaming w.states v.states change.state a b number state)
+        (ap (λ processes. slice_set processes p (given s value change)) d.processes)
+        (queues-alike d.renaming w v change.queue d.queues) d.entries;
     outcome = refl;
     effects = refl;
   }
@@ -123,8 +123,8 @@ module _ (w v : World) (d : DiffersInNumbers w v) (opens : (pair side : ℕ) →
   executed_alike e j k s Halt = record { world = halted_alike e.process s; outcome = refl; effects = refl }
   executed_alike e j k s (Invoke call otherwise) =
       subst (λ a. SameDone (answered w e.process s j otherwise (answer w e.process e call)) (answered v e.process s k otherwise a))
-          (sym (renamed-answer w v d opens e.process e call))
-          (answered_alike e.process s j k otherwise (answer w e.process e call))
+      (sym (renamed-answer w v d opens e.process e call))
+      (answered_alike e.process s j k otherwise (answer w e.process e call))
 
   -- the same line, and next worlds that differ only in numbers
   record SameStep (x y : Stepped) : Type 0 where
@@ -155,9 +155,9 @@ module _ (w v : World) (d : DiffersInNumbers w v) (opens : (pair side : ℕ) →
   unfolding step
   step_alike programs e j k =
       let both : SameStep (stepped programs w e j (slice_get w.processes e.process)) (stepped programs v e k (slice_get v.processes e.process)) =
-        subst (λ o. SameStep (stepped programs w e j (slice_get w.processes e.process)) (stepped programs v e k o))
-          (ap (λ processes. slice_get processes e.process) (sym d.processes))
-          (of_alike programs e j k (slice_get w.processes e.process))
+      subst (λ o. SameStep (stepped programs w e j (slice_get w.processes e.process)) (stepped programs v e k o))
+      (ap (λ processes. slice_get processes e.process) (sym d.processes))
+      (of_alike programs e j k (slice_get w.processes e.process))
       in
       record { line = both.line; next = both.world }
 

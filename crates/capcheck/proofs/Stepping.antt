@@ -1,6 +1,6 @@
 -- The step of a process, case by case.
-use Rattle.std.proofs.Common.{◌≡◌, ℕ, Bool, true, false, List, [], ◌∷◌, refl, ap, sym, ◌∙◌, subst}
-use Rattle.std.specs.Prelude.{Option, Some, None, map}
+use Rattle.std.proofs.Common.{◌≡◌, ℕ, true, false, List, [], ap, sym, ◌∙◌, subst}
+use Rattle.std.specs.Prelude.{Some, None, map}
 use Rattle.process.specs.State.{ProcessState}
 use Rattle.capcheck.specs.declared.lines.Line.{Line as LineCode}
 use Rattle.capcheck.specs.declared.steps.Executed.{Executed as ExecutedCode}
@@ -8,7 +8,7 @@ use Rattle.capcheck.specs.Programs.{Program, Instruction, instruction_at, name_a
 use Rattle.capcheck.specs.World.{World, Choice}
 use Rattle.capcheck.specs.Answers.{Event}
 use Rattle.capcheck.specs.AnswerViews.{effects_of}
-use Rattle.capcheck.specs.Steps.{LineResult, Ended, Shown, shown, Acted, Line, Stepped, Executed, line_of_process, executed, stepped_at, stepped_by, stepped}
+use Rattle.capcheck.specs.Steps.{LineResult, Ended, Shown, shown, Stepped, Executed, line_of_process, executed, stepped_at, stepped_by, stepped}
 use Rattle.capcheck.specs.StepViews.{ExecutedAs, SteppedAs, line_of, result_of}
 use Rattle.capcheck.specs.Kept.{Kept, world_of}
 

@@ -1,14 +1,14 @@
 -- What a simulation has written so far, and where it is in the run.
-use Rattle.std.proofs.Common.{◌≡◌, ℕ, Bool, true, List, [], ◌∷◌, ◌++◌, ◌+◌, refl, ap, sym, ◌∙◌, subst, append_assoc, append-nil}
+use Rattle.std.proofs.Common.{◌≡◌, ℕ, true, List, [], ◌∷◌, ◌++◌, ◌+◌, refl, ap, sym, ◌∙◌, subst, append_assoc, append-nil}
 use Rattle.std.specs.Prelude.{Option, Some, None}
-use Rattle.std.specs.List.{flat_map, list_all}
+use Rattle.std.specs.List.{list_all}
 use Rattle.std.proofs.lemmas.List.Concat.{flat_map-append}
 use Rattle.rights.specs.Output.{Took, TookFront}
 use Rattle.rights.proofs.Taken.{took_more, front_after, front_of_more}
 use Rattle.capcheck.specs.Programs.{Program, is_program}
-use Rattle.capcheck.specs.World.{World, Choice, IsFresh}
+use Rattle.capcheck.specs.World.{World, Choice}
 use Rattle.capcheck.specs.Answers.{Event}
-use Rattle.capcheck.specs.Steps.{Line, Steps, Stepped, step}
+use Rattle.capcheck.specs.Steps.{Line, Steps, step}
 use Rattle.capcheck.specs.Runs.{HasNext, Runs}
 use Rattle.capcheck.specs.Plans.{Plan, first_world}
 use Rattle.capcheck.specs.Simulations.{IsRun, WritesTrace, WritesFront}

@@ -6,7 +6,7 @@ use Rattle.capcheck.specs.declared.answers.Moved.{Moved}
 use Rattle.capcheck.specs.declared.answers.Change.{Change as ChangeCode}
 use Rattle.capcheck.specs.declared.answers.Answer.{Answer as AnswerCode}
 use Rattle.capcheck.specs.declared.answers.Answer.TheVariants as code
-use Rattle.capcheck.specs.Answers.{Effect, Change, QueueChange, Same_queue, StateChange, Same_state, Set_state, Answer, Fails, Waits, Gives}
+use Rattle.capcheck.specs.Answers.{Effect, Change, Same_queue, StateChange, Same_state, Set_state, Answer, Fails, Waits, Gives}
 use Rattle.rights.specs.Operations.{Read as Reads}
 use Rattle.capcheck.specs.Tree.{place_text}
 use Rattle.capcheck.specs.Steps.{Shown, shown}

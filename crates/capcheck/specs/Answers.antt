@@ -6,7 +6,6 @@ use Rattle.rights.specs.Sets.{is_within, read_right}
 use Rattle.rights.specs.Errors.{Errno, EBADF, EISDIR, EAGAIN, ENOTCAPABLE, Cause, BadDescriptor, MissingRight, Kind, Access as No_access, Refused}
 use Rattle.rights.specs.Operations.{Operation, Read as Reads}
 use Rattle.rights.specs.Maps.{put, put2}
-use Rattle.process.specs.State.{ProcessState}
 use Rattle.capcheck.specs.Tree.{Node, node, is_dir}
 use Rattle.capcheck.specs.Descriptions.{Access, Object, At_node, At_end, State, Descriptor, Message, other_side}
 use Rattle.capcheck.specs.Programs.{Syscall, Cap_enter, Read}

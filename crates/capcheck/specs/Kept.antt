@@ -1,6 +1,6 @@
 -- A world as it is kept in memory, and the world that it stands for.
-use Rattle.std.specs.Prelude.{◌≡◌, ◌+◌, ◌*◌, ◌<◌, ◌≤◌, ℕ, nat_lt, length, List, [], Option, Some, None, unwrap_or, if◌then◌else◌, Bool, true, false}
-use Rattle.std.specs.List.{list_all, slice_get, slice_index_or}
+use Rattle.std.specs.Prelude.{◌≡◌, ◌+◌, ◌*◌, ◌<◌, ◌≤◌, ℕ, nat_lt, length, List, [], Option, Some, None, if◌then◌else◌, Bool, true, false}
+use Rattle.std.specs.List.{list_all, slice_index_or}
 use Rattle.process.specs.State.{ProcessState}
 use Rattle.capcheck.specs.Tree.{Node}
 use Rattle.capcheck.specs.Descriptions.{Object, At_node, At_end, State, Descriptor}

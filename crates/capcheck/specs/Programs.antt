@@ -1,5 +1,5 @@
 -- Programs: a name, and instructions by point. Registers are 0 to 7. (own)
-use Rattle.std.specs.Prelude.{◌+◌, ◌^◌, ℕ, Bool, true, false, ◌&&◌, nat_le, nat_lt, List, [], ◌∷◌, length, Option, Some, None}
+use Rattle.std.specs.Prelude.{◌^◌, ℕ, Bool, true, false, ◌&&◌, nat_le, nat_lt, List, [], ◌∷◌, length, Option, Some, None}
 use Rattle.std.specs.List.{list_all, slice_get}
 
 -- a system call with its operands

@@ -1,12 +1,10 @@
 -- Worlds that differ only in the numbers of descriptions and pairs, which nothing shows.
 use Rattle.std.specs.Prelude.{◌≡◌, ℕ, List, [], ◌∷◌, Option, Some, None}
-use Rattle.process.specs.State.{ProcessState}
-use Rattle.capcheck.specs.Descriptions.{Object, At_node, At_end, State, Descriptor, Message}
+use Rattle.capcheck.specs.Descriptions.{Object, At_node, At_end, Descriptor, Message}
 use Rattle.capcheck.specs.Programs.{Program}
-use Rattle.capcheck.specs.World.{World, Choice, IsFresh}
+use Rattle.capcheck.specs.World.{World, Choice}
 use Rattle.capcheck.specs.Answers.{Event}
 use Rattle.capcheck.specs.Steps.{step}
-use Rattle.capcheck.specs.WellFormed.{IsWellFormed}
 
 -- other numbers for descriptions and pairs, each with its way back
 pub record Renaming : Type 0 where

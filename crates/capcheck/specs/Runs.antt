@@ -1,5 +1,5 @@
 -- Runs: any list of events, one step after another.
-use Rattle.std.specs.Prelude.{◌≡◌, ℕ, List, [], ◌∷◌}
+use Rattle.std.specs.Prelude.{◌≡◌, List, [], ◌∷◌}
 use Rattle.capcheck.specs.Programs.{Program}
 use Rattle.capcheck.specs.World.{World, Choice, IsFresh}
 use Rattle.capcheck.specs.Answers.{Event}

@@ -1,5 +1,5 @@
 -- What the code's lines and executed instructions stand for.
-use Rattle.std.specs.Prelude.{◌≡◌, ◌+◌, ◌<◌, ℕ, List, map, Option, Some, None, string_bytes}
+use Rattle.std.specs.Prelude.{◌≡◌, ◌+◌, ◌<◌, map, string_bytes}
 use Rattle.std.specs.Option.{option_map}
 use Rattle.rights.specs.Views.{errno_of, cause_of}
 use Rattle.capcheck.specs.declared.steps.LineResult.{LineResult as LineResultCode}
@@ -11,7 +11,7 @@ use Rattle.capcheck.specs.declared.lines.Line.{Line as LineCode}
 use Rattle.process.specs.State.{ProcessState}
 use Rattle.capcheck.specs.Answers.{Event}
 use Rattle.capcheck.specs.Programs.{Instruction, Set, Jeq, Halt, Invoke}
-use Rattle.capcheck.specs.Steps.{LineResult, Done, Halted, Value, Failed, Waiting, Ended, Shown, shown, Executed, Acted, Line, Stepped}
+use Rattle.capcheck.specs.Steps.{LineResult, Done, Halted, Value, Failed, Waiting, Ended, shown, Executed, Acted, Line, Stepped}
 use Rattle.capcheck.specs.AnswerViews.{effects_of}
 use Rattle.capcheck.specs.Kept.{Kept, world_of}
 

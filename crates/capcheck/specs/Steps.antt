@@ -1,13 +1,12 @@
 -- One step of a run: the instruction of one process, and the line that a trace has of it. (own)
-use Rattle.std.specs.Prelude.{◌+◌, ◌==◌, ◌≡◌, ℕ, Bool, true, false, ◌||◌, List, [], ◌∷◌, map, slice_set, Option, Some, None, if◌then◌else◌}
+use Rattle.std.specs.Prelude.{◌+◌, ◌==◌, ◌≡◌, ℕ, Bool, true, false, ◌||◌, List, [], map, slice_set, Option, Some, None}
 use Rattle.std.specs.List.{slice_get, slice_index_or}
 use Rattle.rights.specs.Errors.{Errno, errno_number, Cause}
 use Rattle.rights.specs.Operations.{Operation}
 use Rattle.rights.specs.Maps.{put}
 use Rattle.process.specs.State.{ProcessState}
 use Rattle.capcheck.specs.Tree.{place_text}
-use Rattle.capcheck.specs.Descriptions.{Descriptor}
-use Rattle.capcheck.specs.Programs.{Program, Instruction, Set, Jeq, Halt, Invoke, Syscall, instruction_at, name_at}
+use Rattle.capcheck.specs.Programs.{Program, Instruction, Set, Jeq, Halt, Invoke, instruction_at, name_at}
 use Rattle.capcheck.specs.World.{World, Choice, IsFresh}
 use Rattle.capcheck.specs.Answers.{Event, Effect, Change, Answer, Fails, Waits, Gives, answer, changed}
 

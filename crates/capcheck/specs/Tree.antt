@@ -1,6 +1,6 @@
 -- The file tree: its nodes in the order in which they were made, so that a node's number is its
 -- place in the list. (own, after open(2) and capsicum(4))
-use Rattle.std.specs.Prelude.{◌+◌, ◌==◌, ℕ, Bool, true, false, ◌&&◌, ◌||◌, not, nat_le, nat_lt, List, [], ◌∷◌, ◌++◌, length, codes, if◌then◌else◌}
+use Rattle.std.specs.Prelude.{◌+◌, ◌==◌, ℕ, Bool, true, false, ◌&&◌, ◌||◌, not, nat_le, nat_lt, List, [], ◌∷◌, length, codes, if◌then◌else◌}
 use Rattle.std.specs.List.{flat_map, list_all, list_any, slice_index_or}
 use Rattle.std.specs.Str.{bytes_eq}
 

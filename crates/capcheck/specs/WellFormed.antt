@@ -1,11 +1,11 @@
 -- Well-formed worlds. (own)
-use Rattle.std.specs.Prelude.{◌≡◌, ◌+◌, ◌^◌, ◌<◌, ◌≤◌, ℕ, Bool, true, false, not, List, [], ◌∷◌, length, Option, Some, None}
-use Rattle.std.specs.List.{slice_get, list_all}
+use Rattle.std.specs.Prelude.{◌≡◌, ◌^◌, ◌<◌, ◌≤◌, ℕ, true, false, List, [], ◌∷◌, length, Option, Some, None}
+use Rattle.std.specs.List.{slice_get}
 use Rattle.rights.specs.Sets.{is_within, all_rights, all_commands}
 use Rattle.process.specs.State.{ProcessState}
 use Rattle.capcheck.specs.Tree.{Node, node, is_link, is_tree}
-use Rattle.capcheck.specs.Descriptions.{Class, Object, At_node, At_end, State, Descriptor, Message}
-use Rattle.capcheck.specs.Programs.{Program, Instruction, is_program, instruction_at}
+use Rattle.capcheck.specs.Descriptions.{Class, Object, At_node, At_end, Descriptor, Message}
+use Rattle.capcheck.specs.Programs.{Program, Instruction, instruction_at}
 use Rattle.capcheck.specs.World.{World}
 
 -- What there is to know of the pairs: they are numbered below a bound, each side has one

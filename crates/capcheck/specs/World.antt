@@ -1,9 +1,9 @@
 -- The state of a run. (after capsicum(4) and Watson et al., USENIX Security 2010; own)
-use Rattle.std.specs.Prelude.{◌≡◌, ◌≢◌, ◌==◌, ℕ, zero, suc, Bool, true, false, ◌&&◌, ◌||◌, List, [], ◌∷◌, Option, Some, None}
+use Rattle.std.specs.Prelude.{◌≡◌, ◌≢◌, ◌==◌, ℕ, zero, suc, Bool, false, ◌&&◌, ◌||◌, List, [], ◌∷◌, Option, Some, None}
 use Rattle.std.specs.List.{list_any}
 use Rattle.process.specs.State.{ProcessState}
 use Rattle.capcheck.specs.Tree.{Node}
-use Rattle.capcheck.specs.Descriptions.{Class, Object, At_node, At_end, State, Descriptor, Message}
+use Rattle.capcheck.specs.Descriptions.{Object, At_node, At_end, State, Descriptor, Message}
 
 -- Maps are functions. What `objects` and `states` say at a number that no descriptor names means
 -- nothing. The queue of a pair and a side has what that side sent.

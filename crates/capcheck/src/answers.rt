@@ -80,7 +80,9 @@ fn read_node(
     node: &Node,
 ) -> Result<Answer, AllocError>
     requires { description.offset ≤ 4096 }
-    ensures shows { IfOk result (λ a. Shows a (read_node number (state_of description) (access_of description.access) (node_of node.now))) }
+    ensures shows { IfOk result
+        (λ a. Shows a (read_node number (state_of description) (access_of description.access)
+        (node_of node.now))) }
     ensures moves { (count : ℕ) → number < count → IfOk result (λ a. MovesBelow count a) }
 {
     if node.kind.is_dir() {
@@ -111,7 +113,9 @@ fn read_node(
 
 fn read(alloc: Global, world: &World, process: u8, number: u32) -> Result<Answer, AllocError>
     requires { IsReadable (kept_of world.now) }
-    ensures shows { (e : Event) → IfOk result (λ a. Shows a (answer (world_of (kept_of world.now)) process e (Read number))) }
+    ensures shows { (e : Event)
+        → IfOk result (λ a. Shows a
+        (answer (world_of (kept_of world.now)) process e (Read number))) }
     ensures moves { IfOk result (λ a. MovesBelow (length world.now.files.descriptions.items) a) }
 {
     let Some(descriptor) = entry_at(&world.files.entries, process, number) else {
@@ -137,7 +141,9 @@ pub fn decide(
     call: Syscall,
 ) -> Result<Answer, AllocError>
     requires { IsReadable (kept_of world.now) }
-    ensures shows { (e : Event) → IfOk result (λ a. Shows a (answer (world_of (kept_of world.now)) process e (syscall_of call))) }
+    ensures shows { (e : Event)
+        → IfOk result (λ a. Shows a
+        (answer (world_of (kept_of world.now)) process e (syscall_of call))) }
     ensures moves { IfOk result (λ a. MovesBelow (length world.now.files.descriptions.items) a) }
 {
     match call {

@@ -65,7 +65,8 @@ fn set_entry(entries: &mut [Option<Descriptor>], process: usize, number: u8, des
 pub fn close_all(entries: &mut [Option<Descriptor>], process: u8)
     requires room { length entries.old ≡ 256 }
     requires process { process < 16 }
-    ensures { entry (entries_of entries.new) ≡ put (entry (entries_of entries.old)) process (λ n. None) }
+    ensures { entry (entries_of entries.new)
+        ≡ put (entry (entries_of entries.old)) process (λ n. None) }
 {
     let first = process as usize * NUMBERS;
     for number in 0..NUMBERS {

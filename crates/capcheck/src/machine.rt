@@ -33,7 +33,8 @@ fn process_at(processes: &[Process], number: u8) -> Option<Process>
 
 /// The instruction at a point of a program, if both are there.
 fn instruction_at(programs: &[Program], program: u8, point: u8) -> Option<Instruction>
-    ensures { option_map instruction_of result ≡ instruction_at (programs_of programs.now) program point }
+    ensures { option_map instruction_of result
+        ≡ instruction_at (programs_of programs.now) program point }
 {
     match programs.get(program as usize) {
         None => None,
@@ -159,7 +160,8 @@ impl Machine {
         ensures world { IfOk result (λ machine. world_of machine.kept ≡ first_world task.now) }
         ensures runs_on { IfOk result (λ machine. machine.spent ≡ false) }
         ensures valid { IfOk result (λ machine. list_all is_program machine.programs ≡ true) }
-        ensures well_formed { IfOk result (λ machine. IsWellFormed machine.programs (world_of machine.kept)) }
+        ensures well_formed { IfOk result
+            (λ machine. IsWellFormed machine.programs (world_of machine.kept)) }
         ensures memory { OnErr result (IsErrOf result Stop.Memory) }
     {
         let programs = copy_programs(alloc, task.programs())?;
@@ -176,7 +178,8 @@ impl Machine {
     pub fn step(&mut self, event: Event) -> Result<Line, Stop>
         ensures step { IfOk result (λ line.
             Steps self.old.programs (world_of self.old.kept) (event_of event) (line_of line) (world_of self.new.kept)) }
-        ensures well_formed { OnOk result (IsWellFormed self.new.programs (world_of self.new.kept)) }
+        ensures well_formed { OnOk result
+            (IsWellFormed self.new.programs (world_of self.new.kept)) }
         ensures programs { self.new.programs ≡ self.old.programs }
         ensures spent { IsErrOf result Stop.Spent ↔ (self.old.spent ≡ true) }
         ensures runs_on { OnOk result (self.new.spent ≡ false) }

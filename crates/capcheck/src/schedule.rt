@@ -50,7 +50,8 @@ impl<T: Drop> From<AllocFailed<T>> for ScheduleFault {
 
 /// The first part of a text before a byte that separates, and the text behind that byte if it is there.
 fn first_part(text: &[u8], separator: u8) -> (&[u8], Option<&[u8]>)
-    ensures parts { Begins (parts separator text.now) separator result.0.now (option_map (λ rest. rest.now) result.1) }
+    ensures parts { Begins (parts separator text.now) separator result.0.now
+        (option_map (λ rest. rest.now) result.1) }
     ensures within { length result.0.now ≤ length text.now }
     ensures shorter { IfSome result.1 (λ rest. length rest.now < length text.now) }
 {

@@ -163,7 +163,8 @@ fn run<'a, S: Source, W: Out>(
 /// The trace of the task `first` on two events.
 fn example<'a, W: Out>(alloc: Global, out: &mut W) -> Result<(), Fault<'a>>
     requires { W.faults out.old < 2 ^ 64 - 1 }
-    ensures { OnOk result (WritesTrace first_plan example_events (W.taken out.old) (W.taken out.new)) }
+    ensures { OnOk result
+        (WritesTrace first_plan example_events (W.taken out.old) (W.taken out.new)) }
 {
     let task = named(alloc, "first")?;
     simulate(alloc, &task, &EXAMPLE, out)?;
@@ -178,7 +179,8 @@ fn perform<'a, S: Source, W: Out>(
     out: &mut W,
 ) -> Result<(), Fault<'a>>
     requires { W.faults out.old < 2 ^ 64 - 1 }
-    ensures { OnOk result (Serves (map string_bytes words.now) (W.taken out.old) (W.taken out.new)) }
+    ensures { OnOk result
+        (Serves (map string_bytes words.now) (W.taken out.old) (W.taken out.new)) }
 {
     for word in words {
         if word.as_bytes().first() == Some(&b'-') {
@@ -208,7 +210,8 @@ pub fn serve<S: Source, W: Out, V: Out>(
 ) -> u8
     requires out { W.faults out.old < 2 ^ 64 - 1 }
     requires err { V.faults err.old < 2 ^ 64 - 1 }
-    ensures done { result ≡ 0 → Serves (map string_bytes words.now) (W.taken out.old) (W.taken out.new) }
+    ensures done { result
+        ≡ 0 → Serves (map string_bytes words.now) (W.taken out.old) (W.taken out.new) }
     ensures known { result ≤ 3 }
 {
     match perform(alloc, words, files, out) {

@@ -22,8 +22,10 @@ pub fn simulate<W: Out>(
     out: &mut W,
 ) -> Result<(), Stop>
     requires { W.faults out.old < 2 ^ 64 - 1 }
-    ensures ok { OnOk result (WritesTrace task.now (map event_of events.now) (W.taken out.old) (W.taken out.new)) }
-    ensures err { OnErr result (WritesFront task.now (map event_of events.now) (W.taken out.old) (W.taken out.new)) }
+    ensures ok { OnOk result
+        (WritesTrace task.now (map event_of events.now) (W.taken out.old) (W.taken out.new)) }
+    ensures err { OnErr result
+        (WritesFront task.now (map event_of events.now) (W.taken out.old) (W.taken out.new)) }
     ensures steady { OnOk result (W.faults out.new ≡ W.faults out.old) }
     ensures device { IsErrOf result Stop.Device → W.faults out.old < W.faults out.new }
     ensures not_spent { IsErrOf result Stop.Spent → ⊥ }

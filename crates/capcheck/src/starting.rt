@@ -67,7 +67,8 @@ pub fn copy_programs(alloc: Global, programs: &[Program]) -> Result<Vec<Program>
 
 /// The first processes, each at point 0.
 fn first_processes(alloc: Global, starts: &[Start]) -> Result<Vec<Process>, AllocError>
-    ensures { IfOk result (λ processes. processes.items ≡ map first_process (starts_of starts.now)) }
+    ensures { IfOk result (λ processes. processes.items
+        ≡ map first_process (starts_of starts.now)) }
 {
     let mut processes = Vec::new(alloc);
     for start in starts {
@@ -84,8 +85,11 @@ fn open_all(
 ) -> Result<(), AllocError>
     requires room { length files.old.entries.items ≡ 256 }
     requires process { process < 16 }
-    requires numbers { list_all (λ (d : FirstSeen). nat_lt d.number 16) (map first_descriptor_of descriptors.now) ≡ true }
-    ensures opening { OnOk result (opening_of files.new ≡ with_descriptors (opening_of files.old) process (map first_descriptor_of descriptors.now)) }
+    requires numbers { list_all (λ (d : FirstSeen). nat_lt d.number 16)
+        (map first_descriptor_of descriptors.now) ≡ true }
+    ensures opening { OnOk result (opening_of files.new
+        ≡ with_descriptors (opening_of files.old) process
+        (map first_descriptor_of descriptors.now)) }
     ensures room { length files.new.entries.items ≡ 256 }
 {
     for first in descriptors {
@@ -99,7 +103,8 @@ fn open_starts(files: &mut Files, starts: &[Start]) -> Result<(), AllocError>
     requires room { length files.old.entries.items ≡ 256 }
     requires few { length starts.now ≤ 16 }
     requires numbers { have_numbers (starts_of starts.now) ≡ true }
-    ensures opening { OnOk result (opening_of files.new ≡ with_starts (opening_of files.old) 0 (starts_of starts.now)) }
+    ensures opening { OnOk result (opening_of files.new
+        ≡ with_starts (opening_of files.old) 0 (starts_of starts.now)) }
     ensures room { length files.new.entries.items ≡ 256 }
 {
     for (process, start) in starts.iter().enumerate() {
@@ -114,7 +119,8 @@ pub fn first_world(alloc: Global, nodes: &[Node], starts: &[Start]) -> Result<Wo
     requires numbers { have_numbers (starts_of starts.now) ≡ true }
     ensures world { IfOk result (λ w. world_of (kept_of w)
         ≡ world_with (nodes_of nodes.now) (map first_process (starts_of starts.now)) (with_starts nothing_open 0 (starts_of starts.now))) }
-    ensures next { IfOk result (λ w. length w.files.descriptions.items ≡ (with_starts nothing_open 0 (starts_of starts.now)).next) }
+    ensures next { IfOk result (λ w. length w.files.descriptions.items
+        ≡ (with_starts nothing_open 0 (starts_of starts.now)).next) }
     ensures room { IfOk result (λ w. length w.files.entries.items ≡ 256) }
 {
     let mut files = Files::new(alloc)?;

@@ -102,7 +102,8 @@ fn failed(process: Process, errno: Errno, otherwise: u8) -> Process
 /// Puts a process in the place of the one of this number.
 fn put_process(world: &mut World, number: u8, process: Process)
     requires { number < length world.old.processes.items }
-    ensures { kept_of world.new ≡ record (kept_of world.old) { processes = slice_set world.old.processes.items number process } }
+    ensures { kept_of world.new
+        ≡ record (kept_of world.old) { processes = slice_set world.old.processes.items number process } }
 {
     world.processes[number as usize] = process;
 }
@@ -111,7 +112,8 @@ fn put_process(world: &mut World, number: u8, process: Process)
 fn set_offset(descriptions: &mut [Description], moved: Moved)
     requires { moved.description < length descriptions.old }
     ensures objects { map object_of descriptions.new ≡ map object_of descriptions.old }
-    ensures states { map state_of descriptions.new ≡ slice_set (map state_of descriptions.old) moved.description (state_at moved.offset) }
+    ensures states { map state_of descriptions.new
+        ≡ slice_set (map state_of descriptions.old) moved.description (state_at moved.offset) }
 {
     let description = descriptions[moved.description];
     descriptions[moved.description] = Description {
@@ -123,7 +125,8 @@ fn set_offset(descriptions: &mut [Description], moved: Moved)
 /// Changes what a call changes beside its process.
 fn change_world(world: &mut World, change: Change)
     requires { IsBelow (length world.old.files.descriptions.items) change.moved }
-    ensures changed { (choice : Choice) → world_of (kept_of world.new) ≡ changed (world_of (kept_of world.old)) choice (change_of change) }
+    ensures changed { (choice : Choice) → world_of (kept_of world.new)
+        ≡ changed (world_of (kept_of world.old)) choice (change_of change) }
     ensures processes { world.new.processes.items ≡ world.old.processes.items }
     ensures sizes { SameSizes (kept_of world.old) (kept_of world.new) }
 {
@@ -137,7 +140,8 @@ fn halt(world: &mut World, number: u8, process: Process)
     requires made { number < length world.old.processes.items }
     requires few { number < 16 }
     requires room { length world.old.files.entries.items ≡ 256 }
-    ensures halted { world_of (kept_of world.new) ≡ halted (world_of (kept_of world.old)) number process }
+    ensures halted { world_of (kept_of world.new)
+        ≡ halted (world_of (kept_of world.old)) number process }
     ensures sizes { SameSizes (kept_of world.old) (kept_of world.new) }
 {
     close_all(&mut world.files.entries, number);
@@ -186,7 +190,8 @@ fn apply(
 /// An instruction that is no call leaves this process.
 fn plain(alloc: Global, world: &mut World, number: u8, process: Process) -> Executed
     requires { number < length world.old.processes.items }
-    ensures done { ExecutedAs result (kept_of world.new) (plain (world_of (kept_of world.old)) number process) }
+    ensures done { ExecutedAs result (kept_of world.new)
+        (plain (world_of (kept_of world.old)) number process) }
     ensures sizes { SameSizes (kept_of world.old) (kept_of world.new) }
 {
     put_process(world, number, process);

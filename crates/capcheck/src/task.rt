@@ -70,8 +70,10 @@ impl Task {
         programs: Vec<Program>,
         starts: Vec<Start>,
     ) -> Task
-        requires { is_plan (plan_with (nodes_of nodes.items) (grants_of grants.items) (programs_of programs.items) (starts_of starts.items)) ≡ true }
-        ensures { result ≡ plan_with (nodes_of nodes.items) (grants_of grants.items) (programs_of programs.items) (starts_of starts.items) }
+        requires { is_plan (plan_with (nodes_of nodes.items) (grants_of grants.items)
+            (programs_of programs.items) (starts_of starts.items)) ≡ true }
+        ensures { result ≡ plan_with (nodes_of nodes.items) (grants_of grants.items)
+            (programs_of programs.items) (starts_of starts.items) }
     {
         Task {
             nodes,

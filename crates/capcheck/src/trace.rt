@@ -54,7 +54,8 @@ fn push_effect(text: &mut Vec<u8>, effect: &Effect) -> Result<(), AllocError>
 
 /// Appends the effects, one after another.
 fn push_effects(text: &mut Vec<u8>, effects: &[Effect]) -> Result<(), AllocError>
-    ensures { OnOk result (text.new.items ≡ text.old.items ++ flat_map effect_text (effects_of effects.now)) }
+    ensures { OnOk result (text.new.items
+        ≡ text.old.items ++ flat_map effect_text (effects_of effects.now)) }
 {
     for effect in effects {
         push_effect(text, effect)?;
@@ -64,7 +65,8 @@ fn push_effects(text: &mut Vec<u8>, effects: &[Effect]) -> Result<(), AllocError
 
 /// Appends what a process that was made did.
 fn push_acted(text: &mut Vec<u8>, alloc: Global, acted: &Acted) -> Result<(), AllocError>
-    ensures { OnOk result (text.new.items ≡ text.old.items ++ acted_text (Some (acted_of acted.now))) }
+    ensures { OnOk result (text.new.items
+        ≡ text.old.items ++ acted_text (Some (acted_of acted.now))) }
 {
     text.extend_from_slice(b" ")?;
     text.extend_from_slice(acted.program.as_bytes())?;

@@ -1,6 +1,6 @@
 -- Lists at an index.
-use Rattle.std.proofs.Common.{◌≡◌, ℕ, zero, suc, ◌+◌, ◌<◌, ◌≤◌, Bool, true, false, List, [], ◌∷◌, ◌++◌, ◌⊎◌, inl, inr, refl, ap, sym, map, arith, length}
-use Rattle.std.specs.Prelude.{Option, Some, None, slice_set}
+use Rattle.std.proofs.Common.{◌≡◌, ℕ, zero, suc, ◌<◌, Bool, true, false, List, [], ◌∷◌, ◌⊎◌, inl, inr, refl, ap, sym, map, arith, length}
+use Rattle.std.specs.Prelude.{Option, Some, slice_set}
 use Rattle.std.specs.List.{slice_get, slice_index_or, list_all, list_any}
 use Rattle.rights.proofs.Tests.{both_left, both_right, neither}
 

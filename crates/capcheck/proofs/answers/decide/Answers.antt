@@ -1,4 +1,4 @@
-use Rattle.std.proofs.Common.{◌≡◌, sym, ap, subst, []}
+use Rattle.std.proofs.Common.{sym, ap, subst, []}
 use Rattle.std.specs.Prelude.{IfOk}
 use Rattle.capcheck.specs.Answers.{answer}
 use Rattle.capcheck.specs.AnswerViews.{effects_of, Shows}

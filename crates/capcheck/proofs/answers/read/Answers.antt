@@ -1,9 +1,7 @@
-use Rattle.std.proofs.Common.{◌≡◌, sym, ◌∙◌, ap, subst, true, false}
-use Rattle.std.specs.Prelude.{IfOk, Some, None}
-use Rattle.rights.proofs.Tests.{not_true, not_false}
+use Rattle.std.proofs.Common.{sym, ◌∙◌, subst}
+use Rattle.std.specs.Prelude.{IfOk}
 use Rattle.capcheck.specs.AnswerViews.{Shows}
-use Rattle.capcheck.specs.Kept.{entry}
-use Rattle.capcheck.specs.Views.{descriptor_of, entries_of, kept_of}
+use Rattle.capcheck.specs.Views.{descriptor_of, kept_of}
 use Rattle.capcheck.proofs.Reading.{answer-not_open, answer-lacks}
 use Rattle.capcheck.proofs.Found.{answer_is, offset_small}
 use Rattle.capcheck.proofs.answers.read.Goals as goal

@@ -1,5 +1,4 @@
-use Rattle.std.proofs.Common.{◌≡◌, sym, ◌∙◌, ap, [], ◌∷◌, true, false, Bool, refl}
-use Rattle.std.specs.Prelude.{not}
+use Rattle.std.proofs.Common.{sym, ◌∙◌, [], ◌∷◌}
 use Rattle.rights.specs.Operations.{Read as Reads}
 use Rattle.rights.proofs.Tests.{not_true, not_false}
 use Rattle.capcheck.specs.Views.{access_of, node_of, place_of, state_of}

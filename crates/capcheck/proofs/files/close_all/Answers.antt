@@ -1,4 +1,4 @@
-use Rattle.std.proofs.Common.{◌≡◌, ap, ◌∙◌, ◌*◌, arith, length}
+use Rattle.std.proofs.Common.{◌≡◌, ap, ◌∙◌, ◌*◌, arith}
 use Rattle.std.proofs.Math.ListN.{length-map}
 use Rattle.capcheck.specs.Kept.{entry}
 use Rattle.capcheck.specs.Views.{descriptor_of, entries_of}

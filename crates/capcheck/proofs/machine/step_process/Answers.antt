@@ -1,5 +1,5 @@
-use Rattle.std.proofs.Common.{◌≡◌, ◌<◌, List, ℕ, ap, sym, ◌∙◌, refl, true, false}
-use Rattle.std.specs.Prelude.{Some, None, length, string_bytes}
+use Rattle.std.proofs.Common.{◌≡◌, ap, sym, ◌∙◌, refl, true, false}
+use Rattle.std.specs.Prelude.{Some, None, string_bytes}
 use Rattle.std.proofs.lemmas.Option.{slice_get_within}
 use Rattle.rights.proofs.Tests.{not_true, not_false}
 use Rattle.process.specs.State.{ProcessState}

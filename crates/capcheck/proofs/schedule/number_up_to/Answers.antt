@@ -1,4 +1,4 @@
-use Rattle.std.proofs.Common.{◌≡◌, suc, ◌+◌, ◌-◌, ◌*◌, ◌<◌, ◌∷◌, ap, sym, ◌∙◌, arith, drop, drop-cons, add-one}
+use Rattle.std.proofs.Common.{suc, ◌+◌, ◌-◌, ◌*◌, ◌<◌, ap, sym, ◌∙◌, arith, drop, drop-cons}
 use Rattle.std.specs.Prelude.{cond, None}
 use Rattle.std.specs.List.{slice_index_or}
 use Rattle.capcheck.specs.Schedules.{at_most, number_from}

@@ -1,4 +1,4 @@
-use Rattle.std.proofs.Common.{◌≡◌, List, ℕ, ◌∷◌, ap, sym, ◌∙◌, true}
+use Rattle.std.proofs.Common.{◌≡◌, ◌∷◌, ap, sym, ◌∙◌}
 use Rattle.capcheck.specs.Schedules.{parts}
 use Rattle.capcheck.proofs.Numerals.{begins_some, begins_more, four_words}
 use Rattle.capcheck.proofs.schedule.read_event.Goals as goal

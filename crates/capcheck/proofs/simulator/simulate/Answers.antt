@@ -1,5 +1,4 @@
-use Rattle.std.proofs.Common.{◌≡◌, ℕ, ◌+◌, ◌≤◌, List, [], ◌∷◌, length, map, drop, ap, sym, ◌∙◌, subst, arith, false}
-use Rattle.std.specs.Prelude.{Option}
+use Rattle.std.proofs.Common.{◌≡◌, ◌+◌, List, [], map, drop, ◌∙◌, subst, false}
 use Rattle.std.specs.List.{slice_index_or}
 use Rattle.rights.specs.Output.{Took, TookFront}
 use Rattle.rights.proofs.Tests.{on_err}

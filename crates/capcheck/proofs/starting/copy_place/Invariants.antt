@@ -1,6 +1,5 @@
-use Rattle.std.proofs.Common.{◌≡◌, ◌++◌, drop, map}
-use Rattle.capcheck.specs.Plans.{first_process}
-use Rattle.capcheck.specs.Views.{place_of, nodes_of, programs_of, starts_of}
+use Rattle.std.proofs.Common.{◌≡◌, ◌++◌, drop}
+use Rattle.capcheck.specs.Views.{place_of}
 use Rattle.capcheck.proofs.starting.copy_place.Given as goal
 
 -- what is copied, and then what is left

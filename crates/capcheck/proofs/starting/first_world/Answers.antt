@@ -1,6 +1,6 @@
 use Rattle.std.proofs.Common.{◌≡◌, ap, ◌∙◌}
 use Rattle.capcheck.specs.Kept.{world_of}
-use Rattle.capcheck.specs.Plans.{Opening, nothing_open, with_starts, world_with}
+use Rattle.capcheck.specs.Plans.{nothing_open, with_starts, world_with}
 use Rattle.capcheck.specs.Views.{opening_of, starts_of}
 use Rattle.capcheck.proofs.starting.first_world.Goals as goal
 

@@ -1,7 +1,7 @@
 use Rattle.std.proofs.Common.{◌≡◌, ◌<◌, ◌∙◌, ap, sym, subst, arith, length}
 use Rattle.std.proofs.Math.ListN.{length-map}
 use Rattle.std.proofs.lemmas.List.{with_items_is}
-use Rattle.std.specs.Prelude.{Some, map, slice_set}
+use Rattle.std.specs.Prelude.{map, slice_set}
 use Rattle.std.specs.Vec.{with_items}
 use Rattle.capcheck.specs.Answers.{Same_queue, changed}
 use Rattle.capcheck.specs.AnswerViews.{moved_of, IsBelow}

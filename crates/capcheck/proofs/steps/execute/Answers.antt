@@ -1,10 +1,9 @@
 use Rattle.std.proofs.Common.{◌≡◌, ◌+◌, refl, ap, sym, subst, ◌∙◌}
-use Rattle.std.specs.Prelude.{slice_set, ◌==◌}
+use Rattle.std.specs.Prelude.{◌==◌}
 use Rattle.process.specs.State.{ProcessState}
 use Rattle.capcheck.specs.AnswerViews.{effects_of}
 use Rattle.capcheck.specs.Answers.{answer}
-use Rattle.capcheck.specs.Kept.{Kept, world_of}
-use Rattle.capcheck.specs.Programs.{Instruction, Set, Jeq}
+use Rattle.capcheck.specs.Kept.{world_of}
 use Rattle.capcheck.specs.Steps.{executed, plain, jumped, moved_to, with_register, register}
 use Rattle.capcheck.specs.StepViews.{ExecutedAs, event_of}
 use Rattle.capcheck.specs.Views.{instruction_of, kept_of, syscall_of}

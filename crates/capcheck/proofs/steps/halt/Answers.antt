@@ -1,9 +1,8 @@
-use Rattle.std.proofs.Common.{◌≡◌, ◌∙◌, ap, sym}
+use Rattle.std.proofs.Common.{◌≡◌, ◌∙◌, ap}
 use Rattle.std.proofs.lemmas.List.{with_items_is}
 use Rattle.std.specs.Prelude.{None, slice_set}
 use Rattle.std.specs.Vec.{with_items}
 use Rattle.rights.specs.Maps.{put}
-use Rattle.process.specs.State.{ProcessState}
 use Rattle.capcheck.specs.Kept.{Kept, entry, world_of}
 use Rattle.capcheck.specs.Views.{kept_of, entries_of}
 use Rattle.capcheck.proofs.Changed.{halted-world}

@@ -1,4 +1,4 @@
-use Rattle.std.proofs.Common.{◌≡◌, ◌+◌, ◌∙◌, ap, sym}
+use Rattle.std.proofs.Common.{◌+◌, ◌∙◌, ap, sym}
 use Rattle.process.specs.State.{ProcessState}
 use Rattle.capcheck.specs.Steps.{jumped}
 use Rattle.capcheck.proofs.steps.jumped.Goals as goal

@@ -1,4 +1,4 @@
-use Rattle.std.proofs.Common.{◌≡◌, ap, sym, ◌∙◌, refl, length}
+use Rattle.std.proofs.Common.{◌≡◌, ap, ◌∙◌, refl, length}
 use Rattle.std.specs.Prelude.{Some}
 use Rattle.std.specs.Vec.{with_items}
 use Rattle.std.proofs.lemmas.List.{with_items_is}

@@ -2,7 +2,7 @@ use Rattle.std.proofs.Common.{◌≡◌, ap, sym, ◌∙◌, subst, true, length
 use Rattle.std.proofs.Math.ListN.{length-map}
 use Rattle.std.specs.List.{list_all}
 use Rattle.capcheck.specs.Kept.{IsKept, world_of}
-use Rattle.capcheck.specs.Plans.{Plan, is_plan, have_numbers, first_process, first_world, nothing_open, with_starts, world_with}
+use Rattle.capcheck.specs.Plans.{Plan, have_numbers, first_process, first_world, nothing_open, with_starts, world_with}
 use Rattle.capcheck.specs.Programs.{Program, is_program}
 use Rattle.capcheck.specs.Views.{kept_of, object_of, programs_of, state_of}
 use Rattle.capcheck.proofs.Begins.{checked, first_kept, starts_fit}

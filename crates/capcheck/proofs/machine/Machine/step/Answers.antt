@@ -1,4 +1,4 @@
-use Rattle.std.proofs.Common.{◌≡◌, ap, sym, ◌∙◌, subst, length}
+use Rattle.std.proofs.Common.{sym, subst}
 use Rattle.capcheck.specs.Kept.{Device, IsKept, world_of}
 use Rattle.capcheck.specs.Steps.{Steps, step}
 use Rattle.capcheck.specs.StepViews.{SteppedAs, event_of, line_of}
