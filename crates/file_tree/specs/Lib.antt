@@ -1,0 +1,5 @@
+pub mod Places
+pub mod Nodes
+pub mod Changes
+pub mod WellFormed
+pub mod Views

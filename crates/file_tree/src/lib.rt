@@ -1,0 +1,2 @@
+//! The file tree.
+#![tactic(auto)]
