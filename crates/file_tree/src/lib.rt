@@ -1,2 +1,19 @@
-//! The file tree.
+//! The file tree: nodes with their places, as every layer above sees them, and one way to keep it.
+//!
+//! A `Tree` is a list of nodes in the order in which they were made. Each has the place that it has, or
+//! had when it was removed. The contracts of `Tree` say of each call what becomes of that list, and
+//! which changes are refused. `PlaceTree` keeps the list itself.
 #![tactic(auto)]
+
+mod changes;
+mod entries;
+pub mod faults;
+pub mod nodes;
+pub mod place_tree;
+mod places;
+pub mod tree;
+
+pub use faults::TreeFault;
+pub use nodes::{Kind, New, NodeId};
+// pub use place_tree::PlaceTree;
+pub use tree::{MAX_BYTES, MAX_NODES, Tree};

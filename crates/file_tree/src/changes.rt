@@ -1,0 +1,1 @@
+//! The plain list of nodes: how it is changed.
