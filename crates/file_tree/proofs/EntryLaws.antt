@@ -1,8 +1,11 @@
 -- What an entry of the plain list says of its node.
-use Rattle.std.proofs.Common.{◌≡◌, ℕ, ◌<◌, ◌-◌, List, [], ◌∷◌, Bool, true, length, take, get_or, ap, sym, ◌∙◌, refl, arith}
-use Rattle.std.proofs.lemmas.List.{get_or-map, length-map, take-map}
+use Rattle.std.proofs.Common.{◌≡◌, ℕ, ◌<◌, ◌-◌, List, [], ◌∷◌, Bool, true, false, Vec, Global, Result, Ok, Err, slice_set, replicate, ◌++◌, length, take, get_or, ap, sym, ◌∙◌, refl, arith}
+use Rattle.std.proofs.lemmas.List.{get_or-map, length-map, take-map, map-set}
+use Rattle.std.proofs.Math.Seq.{map-set_same}
+use Rattle.std.specs.Prelude.{vec_len, OnErr}
 use Rattle.file_tree.specs.Places.{above}
 use Rattle.file_tree.specs.Nodes.{Node, node, nowhere, node_at, holder_at, parent_of}
+use Rattle.file_tree.specs.Changes.{unlinked, removed, filled, resized}
 use Rattle.file_tree.specs.Views.{names_of, node_of, nodes_of}
 use Rattle.file_tree.specs.declared.entries.Entry.{Entry}
 
@@ -27,3 +30,37 @@ parent_in_entries es n e there is linked low =
     let low_place : 0 < length (node (nodes_of es) n).place = rw same (omega arith) in
     parent_above (nodes_of es) n (ap (λ (m : Node). m.linked) at ∙ linked) low_place
     ∙ ap (node_at (nodes_of es)) (ap above same ∙ ap (λ k. take (k - 1) (names_of e.place.items)) count ∙ take-map _ _ _)
+
+-- An entry is replaced: by one of the same node, by the same one removed, by the same one with another content.
+pub entry_kept : (es : List Entry) (n : ℕ) (e f : Entry) → n < length es → e ≡ get_or es n e → node_of f ≡ node_of e → nodes_of (slice_set es n f) ≡ nodes_of es
+entry_kept es n e f there is same = map-set_same node_of es n f e (same ∙ ap node_of is)
+
+pub entry_removed : (es : List Entry) (n : ℕ) (e f : Entry) → n < length es → e ≡ get_or es n e → node_of f ≡ unlinked (node_of e) → nodes_of (slice_set es n f) ≡ removed (nodes_of es) n
+unfolding removed
+entry_removed es n e f there is same = map-set node_of es n f ∙ ap (slice_set (nodes_of es) n) (same ∙ ap unlinked (sym (entry_node es n e there is)))
+
+with_content : List ℕ → Node → Node
+with_content content m = record { kind = m.kind; place = m.place; linked = m.linked; content = content }
+
+pub entry_filled : (es : List Entry) (n : ℕ) (e : Entry) (v : Vec ℕ Global) (content : List ℕ) → n < length es → e ≡ get_or es n e → v.items ≡ content → nodes_of (slice_set es n (record { kind = e.kind; linked = e.linked; place = e.place; content = v })) ≡ filled (nodes_of es) n content
+unfolding filled with_content
+entry_filled es n e v content there is same =
+    map-set node_of es n _ ∙ ap (slice_set (nodes_of es) n) (ap (λ (c : List ℕ). with_content c (node_of e)) same ∙ ap (with_content content) (sym (entry_node es n e there is)))
+
+-- a number below a vector's length is one of its list
+pub in_items : {X A : Type 0} (v : Vec X A) (n : ℕ) → n < vec_len v → n < length v.items
+in_items v n h = let same : vec_len v ≡ length v.items = v.ok.0 in omega arith
+
+-- what holds anyway holds on an error
+pub on_err : {T E P : Type 0} (r : Result T E) → P → OnErr r P
+on_err (Ok x) p = tt
+on_err (Err e) p = p
+
+-- a vector of the same bytes makes the same node
+pub same_content : (e : Entry) (v : Vec ℕ Global) → v.items ≡ e.content.items → node_of (record { kind = e.kind; linked = e.linked; place = e.place; content = v }) ≡ node_of e
+unfolding with_content
+same_content e v same = ap (λ (c : List ℕ). with_content c (node_of e)) same
+
+-- a vector's resizing is that of its list
+pub resized_items : (v w : Vec ℕ Global) (len : ℕ) → w.items ≡ take len v.items ++ replicate (len - vec_len v) 0 → w.items ≡ resized v.items len
+resized_items v w len h = let same : vec_len v ≡ length v.items = v.ok.0 in rw same at h

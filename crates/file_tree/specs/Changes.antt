@@ -64,7 +64,7 @@ unfoldable pub renamed : List Node → ℕ → ℕ → List ℕ → List Node
 renamed t n d name =
     let from = (node t n).place in
     let to = at_name (node t d).place name in
-    if same_place from to then t else map (λ m. moved from to (replaced_at to m)) t
+    if same_place to from then t else map (λ m. moved from to (replaced_at to m)) t
 
 -- A rename is refused of what was removed and into what was removed, to a place below the node itself,
 -- and over a directory that holds something. All places are below the root's.
@@ -73,7 +73,7 @@ rename_fault t n d name =
     let from = (node t n).place in
     let to = at_name (node t d).place name in
     if not ((node t n).linked && (node t d).linked) then Some Gone
-    else (if same_place from to then None
+    else (if same_place to from then None
     else (if begins from to then Some IntoItself
     else (if has_below t to then Some NotEmpty else None)))
 

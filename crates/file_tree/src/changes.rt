@@ -1,1 +1,269 @@
 //! The plain list of nodes: how it is changed.
+
+ghost use Rattle.std.specs.Prelude.{◌≡◌, ◌≢◌, ◌<◌, ◌≤◌, ◌++◌, Option, Some, None, true, drop, length, map, vec_len, IfOk, IfErr, OnOk, OnErr};
+ghost use Rattle.std.specs.List.{list_all};
+ghost use Rattle.file_tree.specs.Nodes.{node};
+ghost use Rattle.file_tree.specs.Changes.{create_fault, created, filled, moved, put_byte_fault, remove_fault, removed, rename_fault, renamed, replaced_at, resized, truncate_fault, written};
+ghost use Rattle.file_tree.specs.WellFormed.{is_byte};
+ghost use Rattle.file_tree.specs.Views.{fault_of, kind_of, names_of, new_content, new_kind, node_of, nodes_of};
+
+use crate::entries::{Entry, child_in, holds_below};
+use crate::faults::TreeFault;
+use crate::nodes::{Kind, New, NodeId};
+use crate::places::{append_names, child_place, copy_of, is_child, is_front, is_same};
+use crate::tree::{MAX_BYTES, MAX_NODES};
+use std::alloc::{AllocError, Global};
+
+/// The kind of a node that is to be made.
+fn kind_to_make(what: New<'_>) -> Kind
+    ensures { kind_of result ≡ new_kind what.entry }
+{
+    match what {
+        New::File => Kind::File,
+        New::Dir => Kind::Dir,
+        New::Link(_) => Kind::Link,
+    }
+}
+
+/// A copy of some bytes.
+fn copy_of_bytes(alloc: Global, bytes: &[u8]) -> Result<Vec<u8>, AllocError>
+    ensures copied { IfOk result (λ copy. copy.items ≡ bytes.now) }
+    ensures bytes { OnOk result (list_all is_byte bytes.now ≡ true) }
+{
+    let copy = Vec::from_slice(alloc, bytes)?;
+    Ok(copy)
+}
+
+/// The content of a node that is to be made.
+fn content_to_make(alloc: Global, what: New<'_>) -> Result<Vec<u8>, AllocError>
+    ensures copied { IfOk result (λ content. content.items ≡ new_content what.entry) }
+    ensures bytes { OnOk result (list_all is_byte (new_content what.entry) ≡ true) }
+{
+    match what {
+        New::File => Ok(Vec::new(alloc)),
+        New::Dir => Ok(Vec::new(alloc)),
+        New::Link(target) => {
+            let content = copy_of_bytes(alloc, target)?;
+            Ok(content)
+        }
+    }
+}
+
+/// Makes a node of that name in a directory.
+#[tactic(auto, unfolding(crate::specs::Changes::created, crate::specs::Changes::create_fault, crate::specs::Nodes::child_of))]
+pub(crate) fn create_in(
+    alloc: Global,
+    entries: &mut Vec<Entry>,
+    dir: usize,
+    name: &[u8],
+    what: New<'_>,
+) -> Result<NodeId, TreeFault>
+    requires { dir < vec_len entries.old }
+    ensures ok { IfOk result (λ n. (n ≡ length (nodes_of entries.old.items)) × (nodes_of entries.new.items ≡ created (nodes_of entries.old.items) dir name.now (new_kind what.entry) (new_content what.entry))) }
+    ensures allowed { OnOk result (create_fault (nodes_of entries.old.items) dir name.now ≡ None) }
+    ensures refused { IfErr result (λ e. e ≢ TreeFault.Memory → create_fault (nodes_of entries.old.items) dir name.now ≡ fault_of e) }
+    ensures bytes { OnOk result (list_all is_byte (new_content what.entry) ≡ true) }
+    ensures err { OnErr result (nodes_of entries.new.items ≡ nodes_of entries.old.items) }
+{
+    let holder = &entries[dir];
+    if !holder.linked {
+        return Err(TreeFault::Gone);
+    }
+    if child_in(entries, dir, name).is_some() {
+        return Err(TreeFault::Exists);
+    }
+    let number = entries.len();
+    if number >= MAX_NODES {
+        return Err(TreeFault::Full);
+    }
+    let place = child_place(alloc, holder.place.as_slice(), name)?;
+    let content = content_to_make(alloc, what)?;
+    entries.push(Entry {
+        kind: kind_to_make(what),
+        linked: true,
+        place,
+        content,
+    })?;
+    Ok(NodeId::at(number))
+}
+
+/// Removes a node.
+#[tactic(auto, unfolding(crate::specs::Changes::removed, crate::specs::Changes::remove_fault))]
+pub(crate) fn remove_in(entries: &mut Vec<Entry>, n: usize) -> Result<(), TreeFault>
+    requires { n < vec_len entries.old }
+    ensures ok { OnOk result (nodes_of entries.new.items ≡ removed (nodes_of entries.old.items) n) }
+    ensures allowed { OnOk result (remove_fault (nodes_of entries.old.items) n ≡ None) }
+    ensures refused { IfErr result (λ e. remove_fault (nodes_of entries.old.items) n ≡ fault_of e) }
+    ensures err { OnErr result (nodes_of entries.new.items ≡ nodes_of entries.old.items) }
+{
+    let entry = &entries[n];
+    if !entry.linked {
+        return Err(TreeFault::Gone);
+    }
+    if entry.place.is_empty() {
+        return Err(TreeFault::NotEmpty);
+    }
+    if holds_below(entries, entry.place.as_slice()) {
+        return Err(TreeFault::NotEmpty);
+    }
+    entries[n].linked = false;
+    Ok(())
+}
+
+/// The place that begins with another front.
+fn moved_place(
+    alloc: Global,
+    from: &[Vec<u8>],
+    to: &[Vec<u8>],
+    place: &[Vec<u8>],
+) -> Result<Vec<Vec<u8>>, AllocError>
+    requires { length from.now ≤ length place.now }
+    ensures { IfOk result (λ made. names_of made.items ≡ names_of to.now ++ drop (length (names_of from.now)) (names_of place.now)) }
+{
+    let mut made = copy_of(alloc, to)?;
+    append_names(alloc, &mut made, &place[from.len()..])?;
+    Ok(made)
+}
+
+/// What a rename from one place to another makes of an entry.
+fn moved_entry(
+    alloc: Global,
+    from: &[Vec<u8>],
+    to: &[Vec<u8>],
+    entry: &Entry,
+) -> Result<Entry, AllocError>
+    ensures { IfOk result (λ made. node_of made ≡ moved (names_of from.now) (names_of to.now) (replaced_at (names_of to.now) (node_of entry.now))) }
+{
+    let stands = entry.place.as_slice();
+    let content = Vec::from_slice(alloc, entry.content.as_slice())?;
+    if entry.linked {
+        if is_same(to, stands) {
+            return Ok(Entry {
+                kind: entry.kind,
+                linked: false,
+                place: copy_of(alloc, stands)?,
+                content,
+            });
+        }
+        if is_front(from, stands) {
+            return Ok(Entry {
+                kind: entry.kind,
+                linked: true,
+                place: moved_place(alloc, from, to, stands)?,
+                content,
+            });
+        }
+    }
+    Ok(Entry {
+        kind: entry.kind,
+        linked: entry.linked,
+        place: copy_of(alloc, stands)?,
+        content,
+    })
+}
+
+/// What a rename from one place to another makes of all entries.
+fn moved_entries(
+    alloc: Global,
+    from: &[Vec<u8>],
+    to: &[Vec<u8>],
+    entries: &[Entry],
+) -> Result<Vec<Entry>, AllocError>
+    ensures { IfOk result (λ made. nodes_of made.items ≡ map (λ m. moved (names_of from.now) (names_of to.now) (replaced_at (names_of to.now) m)) (nodes_of entries.now)) }
+{
+    let mut made = Vec::new(alloc);
+    for entry in entries {
+        made.push(moved_entry(alloc, from, to, entry)?)?;
+    }
+    Ok(made)
+}
+
+/// Gives a node that name in a directory. The new list is made first, and then it takes the old one's place.
+#[tactic(auto, unfolding(crate::specs::Changes::renamed, crate::specs::Changes::rename_fault))]
+pub(crate) fn rename_in(
+    alloc: Global,
+    entries: &mut Vec<Entry>,
+    n: usize,
+    dir: usize,
+    name: &[u8],
+) -> Result<(), TreeFault>
+    requires there { n < vec_len entries.old }
+    requires dir_there { dir < vec_len entries.old }
+    ensures ok { OnOk result (nodes_of entries.new.items ≡ renamed (nodes_of entries.old.items) n dir name.now) }
+    ensures allowed { OnOk result (rename_fault (nodes_of entries.old.items) n dir name.now ≡ None) }
+    ensures refused { IfErr result (λ e. e ≢ TreeFault.Memory → rename_fault (nodes_of entries.old.items) n dir name.now ≡ fault_of e) }
+    ensures err { OnErr result (nodes_of entries.new.items ≡ nodes_of entries.old.items) }
+{
+    let entry = &entries[n];
+    let holder = &entries[dir];
+    if !entry.linked {
+        return Err(TreeFault::Gone);
+    }
+    if !holder.linked {
+        return Err(TreeFault::Gone);
+    }
+    let from = entry.place.as_slice();
+    if is_child(holder.place.as_slice(), name, from) {
+        return Ok(());
+    }
+    let to = child_place(alloc, holder.place.as_slice(), name)?;
+    if is_front(from, to.as_slice()) {
+        return Err(TreeFault::IntoItself);
+    }
+    if holds_below(entries, to.as_slice()) {
+        return Err(TreeFault::NotEmpty);
+    }
+    let made = moved_entries(alloc, from, to.as_slice(), entries)?;
+    *entries = made;
+    Ok(())
+}
+
+/// Writes a byte into a content, the gap before it filled with zeros.
+fn put(content: &mut Vec<u8>, at: usize, b: u8) -> Result<(), AllocError>
+    requires { at < MAX_BYTES }
+    ensures ok { OnOk result (content.new.items ≡ written content.old.items at b) }
+    ensures err { OnErr result (content.new.items ≡ content.old.items) }
+{
+    if at >= content.len() {
+        content.resize(at + 1, 0)?;
+    }
+    content[at] = b;
+    Ok(())
+}
+
+/// Writes a byte into a file.
+#[tactic(auto, unfolding(crate::specs::Changes::filled))]
+pub(crate) fn put_in(
+    entries: &mut Vec<Entry>,
+    n: usize,
+    at: usize,
+    b: u8,
+) -> Result<(), TreeFault>
+    requires { n < vec_len entries.old }
+    ensures ok { OnOk result (nodes_of entries.new.items ≡ filled (nodes_of entries.old.items) n (written (node (nodes_of entries.old.items) n).content at b)) }
+    ensures allowed { OnOk result (put_byte_fault at ≡ None) }
+    ensures refused { IfErr result (λ e. e ≢ TreeFault.Memory → put_byte_fault at ≡ fault_of e) }
+    ensures err { OnErr result (nodes_of entries.new.items ≡ nodes_of entries.old.items) }
+{
+    if at >= MAX_BYTES {
+        return Err(TreeFault::Full);
+    }
+    put(&mut entries[n].content, at, b)?;
+    Ok(())
+}
+
+/// Cuts a file, or fills it up with zeros.
+#[tactic(auto, unfolding(crate::specs::Changes::filled))]
+pub(crate) fn truncate_in(entries: &mut Vec<Entry>, n: usize, len: usize) -> Result<(), TreeFault>
+    requires { n < vec_len entries.old }
+    ensures ok { OnOk result (nodes_of entries.new.items ≡ filled (nodes_of entries.old.items) n (resized (node (nodes_of entries.old.items) n).content len)) }
+    ensures allowed { OnOk result (truncate_fault len ≡ None) }
+    ensures refused { IfErr result (λ e. e ≢ TreeFault.Memory → truncate_fault len ≡ fault_of e) }
+    ensures err { OnErr result (nodes_of entries.new.items ≡ nodes_of entries.old.items) }
+{
+    if len > MAX_BYTES {
+        return Err(TreeFault::Full);
+    }
+    entries[n].content.resize(len, 0)?;
+    Ok(())
+}

@@ -1,8 +1,9 @@
 //! The plain list of nodes: what is read of it.
 
 ghost use Rattle.std.specs.Prelude.{◌≡◌, ◌<◌, Option, length, IfSome};
+ghost use Rattle.std.specs.Option.{option_copied};
 ghost use Rattle.file_tree.specs.Places.{at_name};
-ghost use Rattle.file_tree.specs.Nodes.{child_of, has_below, node_at, parent_of};
+ghost use Rattle.file_tree.specs.Nodes.{child_of, has_below, node_at, parent_of, target_of};
 ghost use Rattle.file_tree.specs.Views.{names_of, nodes_of};
 
 use crate::nodes::Kind;
@@ -95,4 +96,18 @@ pub(crate) fn parent_in(entries: &[Entry], n: usize) -> Option<usize>
         return None;
     }
     find_place(entries, &place[..place.len() - 1])
+}
+
+/// What a link holds.
+#[tactic(auto, unfolding(crate::specs::Nodes::target_of))]
+pub(crate) fn target_in(entries: &[Entry], n: usize) -> Option<&[u8]>
+    requires { n < length entries.now }
+    ensures { option_copied result ≡ target_of (nodes_of entries.now) n }
+{
+    let entry = &entries[n];
+    match entry.kind {
+        Kind::Link => Some(entry.content.as_slice()),
+        Kind::File => None,
+        Kind::Dir => None,
+    }
 }

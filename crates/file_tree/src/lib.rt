@@ -15,5 +15,5 @@ pub mod tree;
 
 pub use faults::TreeFault;
 pub use nodes::{Kind, New, NodeId};
-// pub use place_tree::PlaceTree;
+pub use place_tree::PlaceTree;
 pub use tree::{MAX_BYTES, MAX_NODES, Tree};

@@ -104,14 +104,26 @@ pub(crate) fn begins_with_path(path: &[u8], place: &[Vec<u8>]) -> bool
     after_name(&path[from..], rest).is_some()
 }
 
+/// Copies some names behind those of a place.
+pub(crate) fn append_names(
+    alloc: Global,
+    place: &mut Vec<Vec<u8>>,
+    names: &[Vec<u8>],
+) -> Result<(), AllocError>
+    ensures { OnOk result (names_of place.new.items ≡ names_of place.old.items ++ names_of names.now) }
+{
+    for name in names {
+        place.push(Vec::from_slice(alloc, name.as_slice())?)?;
+    }
+    Ok(())
+}
+
 /// A copy of some names.
 pub(crate) fn copy_of(alloc: Global, names: &[Vec<u8>]) -> Result<Vec<Vec<u8>>, AllocError>
     ensures { IfOk result (λ copy. names_of copy.items ≡ names_of names.now) }
 {
     let mut copy = Vec::new(alloc);
-    for name in names {
-        copy.push(Vec::from_slice(alloc, name.as_slice())?)?;
-    }
+    append_names(alloc, &mut copy, names)?;
     Ok(copy)
 }
 
