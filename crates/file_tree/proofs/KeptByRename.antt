@@ -178,9 +178,6 @@ module _ (t : List Node) (n d : ℕ) (name : List ℕ) (tree : IsTree t) (direct
       in directory_stays t (node t n).place (at_name (node t d).place name) (node t d).place it off back
 
 module _ (t : List Node) (p q : List (List ℕ)) (tree : IsTree t) (apart : begins p q ≡ false) (empty : has_below t q ≡ false) where
-  Place : ℕ → Type 0
-  Place k = ((begins p (node t k).place ≡ true) × ((node (after t p q) k).place ≡ q ++ drop (length p) (node t k).place)) ⊎ ((begins p (node t k).place ≡ false) × ((node (after t p q) k).place ≡ (node t k).place))
-
   -- what moved stands nowhere where something stays
   not_met : (i j : ℕ) → Still p q (node t j) (node (after t p q) j) → (node t j).place ≡ q ++ drop (length p) (node t i).place → ⊥
   not_met i j still_j same = nothing_in t q empty j still_j.linked still_j.elsewhere (begins_from q (node t j).place (drop (length p) (node t i).place) same)

@@ -11,7 +11,7 @@ abbrev pub is_dots : List ℕ → Bool
 is_dots name = bytes_eq name (46 ∷ []) || bytes_eq name (46 ∷ 46 ∷ [])
 
 unfoldable pub is_name : List ℕ → Bool
-is_name name = nat_le 1 (length name) && nat_le (length name) 255 && list_all is_name_byte name && not (is_dots name)
+is_name name = not (nat_eq (length name) 0) && nat_le (length name) 255 && list_all is_name_byte name && not (is_dots name)
 
 -- whether each name in a text has at most 255 bytes, of which so many of the first are already read
 abbrev pub names_fit : ℕ → List ℕ → Bool
@@ -20,7 +20,7 @@ names_fit read (b ∷ text) = if nat_eq b 47 then nat_le read 255 && names_fit 0
 
 -- What a symbolic link may hold: a text of 1 to 1023 bytes whose names have at most 255 bytes each.
 unfoldable pub is_target : List ℕ → Bool
-is_target text = nat_le 1 (length text) && nat_le (length text) 1023 && names_fit 0 text
+is_target text = not (nat_eq (length text) 0) && nat_le (length text) 1023 && names_fit 0 text
 
 -- A place is the list of the names from the root down. The root's is empty.
 abbrev pub same_place : List (List ℕ) → List (List ℕ) → Bool

@@ -148,7 +148,7 @@ fn moved_entry(
         if is_front(from, stands) {
             return Ok(Entry {
                 kind: entry.kind,
-                linked: true,
+                linked: entry.linked,
                 place: moved_place(alloc, from, to, stands)?,
                 content,
             });

@@ -8,12 +8,14 @@
 mod changes;
 mod entries;
 pub mod faults;
+pub mod names;
 pub mod nodes;
 pub mod place_tree;
 mod places;
 pub mod tree;
 
 pub use faults::TreeFault;
+pub use names::{MAX_NAME, MAX_TARGET, is_valid_name, is_valid_target};
 pub use nodes::{Kind, New, NodeId};
 pub use place_tree::PlaceTree;
 pub use tree::{MAX_BYTES, MAX_NODES, Tree};

@@ -1,0 +1,75 @@
+//! What may be the name of a node, and what a symbolic link may hold.
+
+ghost use Rattle.std.specs.Prelude.{◌≡◌};
+ghost use Rattle.std.specs.List.{list_all};
+ghost use Rattle.file_tree.specs.Places.{is_dots, is_name, is_name_byte, is_target, names_fit};
+
+/// How many bytes a name may have. (own)
+pub const MAX_NAME: usize = 255;
+
+/// How many bytes the target of a symbolic link may have. (own)
+pub const MAX_TARGET: usize = 1023;
+
+/// Whether a byte may stand in a name.
+fn may_stand_in_name(byte: u8) -> bool
+    ensures { result ≡ is_name_byte byte }
+{
+    byte >= 33 && byte <= 126 && !(byte == b'"' || byte == b'/' || byte == b'\\')
+}
+
+/// Whether a name is `.` or `..`.
+fn is_dot_name(name: &[u8]) -> bool
+    ensures { result ≡ is_dots name.now }
+{
+    name == b".".as_slice() || name == b"..".as_slice()
+}
+
+/// Whether each byte may stand in a name.
+fn has_name_bytes(name: &[u8]) -> bool
+    ensures { result ≡ list_all is_name_byte name.now }
+{
+    for byte in name {
+        if !may_stand_in_name(*byte) {
+            return false;
+        }
+    }
+    true
+}
+
+/// Whether a node may have the name: 1 to 255 bytes from 33 to 126 without `/`, `"` and `\`, and neither
+/// `.` nor `..`. (own)
+#[tactic(auto, unfolding(crate::specs::Places::is_name))]
+pub fn is_valid_name(name: &[u8]) -> bool
+    ensures { result ≡ is_name name.now }
+{
+    let has_name_bytes = has_name_bytes(name);
+    let is_dot_name = is_dot_name(name);
+    !name.is_empty() && name.len() <= MAX_NAME && has_name_bytes && !is_dot_name
+}
+
+/// Whether each name in a text has at most 255 bytes.
+fn has_short_names(text: &[u8]) -> bool
+    ensures { result ≡ names_fit 0 text.now }
+{
+    let mut read = 0;
+    for byte in text {
+        if *byte == b'/' {
+            read = 0;
+        } else {
+            if read == MAX_NAME {
+                return false;
+            }
+            read += 1;
+        }
+    }
+    true
+}
+
+/// Whether a symbolic link may have the target: 1 to 1023 bytes, whose names have at most 255 bytes. (own)
+#[tactic(auto, unfolding(crate::specs::Places::is_target))]
+pub fn is_valid_target(target: &[u8]) -> bool
+    ensures { result ≡ is_target target.now }
+{
+    let has_short_names = has_short_names(target);
+    !target.is_empty() && target.len() <= MAX_TARGET && has_short_names
+}
