@@ -65,7 +65,7 @@ same_directory t u p d same = record {
 
 module _ (t : List Node) (m : Node) where
   -- what was there stays, and each linked node is the new one or was there
-  old_node : (n : ℕ) → n < length t → node (t ++ m ∷ []) n ≡ node t n
+  pub old_node : (n : ℕ) → n < length t → node (t ++ m ∷ []) n ≡ node t n
   old_node n there = get_or_append_left t (m ∷ []) nowhere n there
 
   old_linked : (n : ℕ) → (node t n).linked ≡ true → node (t ++ m ∷ []) n ≡ node t n
@@ -75,8 +75,8 @@ module _ (t : List Node) (m : Node) where
   new_or_old n linked =
       let there : n < length t + 1 = omega (arith, linked_there (t ++ m ∷ []) n linked, length-append t (m ∷ [])) in
       elim (more_cases t m n there) [
-        inl new ↦ inl new
-      | inr old ↦ inr (sym (ap (λ (x : Node). x.linked) old.1) ∙ linked, old.1)
+        | inl new ↦ inl new
+        | inr old ↦ inr (sym (ap (λ (x : Node). x.linked) old.1) ∙ linked, old.1)
       ]
 
   -- Two linked nodes at one place are one, if the new one's place was free.
@@ -85,6 +85,7 @@ module _ (t : List Node) (m : Node) where
     where
       taken : (k : ℕ) → (node t k).linked ≡ true → m.place ≡ (node t k).place → ⊥
       taken k linked place = both_ways (stands_at m.place (node t k)) (missing k) (stands_from m.place (node t k) linked place)
+
       both : ((i ≡ length t) × (node (t ++ m ∷ []) i ≡ m)) ⊎ (((node t i).linked ≡ true) × (node (t ++ m ∷ []) i ≡ node t i)) → ((j ≡ length t) × (node (t ++ m ∷ []) j ≡ m)) ⊎ (((node t j).linked ≡ true) × (node (t ++ m ∷ []) j ≡ node t j)) → i ≡ j
       both (inl a) (inl b) = a.0 ∙ sym b.0
       both (inl a) (inr b) = absurd (taken j b.0 (sym (ap (λ (x : Node). x.place) a.1) ∙ same ∙ ap (λ (x : Node). x.place) b.1))
@@ -96,6 +97,7 @@ module _ (t : List Node) (m : Node) where
     where
       still : (p : List (List ℕ)) → Directory t p → Directory (t ++ m ∷ []) p
       still p d = same_directory t (t ++ m ∷ []) p d (old_linked d.number d.linked)
+
       held : ((n ≡ length t) × (node (t ++ m ∷ []) n ≡ m)) ⊎ (((node t n).linked ≡ true) × (node (t ++ m ∷ []) n ≡ node t n)) → is_held (t ++ m ∷ []) (node (t ++ m ∷ []) n).place ≡ true
       held (inl new) = rw new.1 (held_from (t ++ m ∷ []) m.place (λ low. still (above m.place) (holder low)))
       held (inr old) = rw old.1 (held_from (t ++ m ∷ []) (node t n).place (λ low. still (above (node t n).place) (held_above t (node t n).place (tree.held n old.0) low)))
@@ -104,8 +106,8 @@ module _ (t : List Node) (m : Node) where
   limits_after tree fits n there =
       let less : n < length t + 1 = omega (arith, length-append t (m ∷ [])) in
       elim (more_cases t m n less) [
-        inl new ↦ ap is_within_limits new.1 ∙ fits
-      | inr old ↦ ap is_within_limits old.1 ∙ tree.limits n old.0
+        | inl new ↦ ap is_within_limits new.1 ∙ fits
+        | inr old ↦ ap is_within_limits old.1 ∙ tree.limits n old.0
       ]
 
 -- a tree to which a node is added, at a free place in a linked directory
@@ -129,7 +131,7 @@ created_is_tree t d name kind content tree directory named fits bytes allowed =
     let dir : Directory t (above (at_name (node t d).place name)) = record { number = d; linked = may.linked; kind = directory; place = sym (above_at_name (node t d).place name) } in
     let names = all_of_both is_name (node t d).place (name ∷ []) (names_kept t tree d may.linked) (both_true named refl) in
     added_is_tree t (record { kind = kind; place = at_name (node t d).place name; linked = true; content = content }) tree
-      (node_at_none t (at_name (node t d).place name) may.free)
-      (λ _. dir)
-      (limits_from (record { kind = kind; place = at_name (node t d).place name; linked = true; content = content }) (record { names = names; content = fits; bytes = bytes }))
-      may.room
+    (node_at_none t (at_name (node t d).place name) may.free)
+    (λ _. dir)
+    (limits_from (record { kind = kind; place = at_name (node t d).place name; linked = true; content = content }) (record { names = names; content = fits; bytes = bytes }))
+    may.room

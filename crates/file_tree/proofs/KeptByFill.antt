@@ -8,6 +8,7 @@ use Rattle.file_tree.specs.Nodes.{Kind, File, Node, node}
 use Rattle.file_tree.specs.Changes.{most_bytes, filled, written, resized, put_byte_fault, truncate_fault}
 use Rattle.file_tree.specs.WellFormed.{IsTree, is_held, is_within_limits, is_content, is_byte}
 use Rattle.file_tree.proofs.NodeLaws.{Directory, held_above, held_from, set_cases, passed, passed_last}
+use Rattle.file_tree.proofs.TreeLaws.{filled_length}
 use Rattle.file_tree.proofs.KeptByCreate.{Limits, limits_of, limits_from, all_of_both, all_after}
 
 -- one node has the kind, the place and the link of another
@@ -20,26 +21,22 @@ frames : (t : List Node) (n : ℕ) (content : List ℕ) → n < length t → (k 
 unfolding filled
 frames t n content there k =
     elim (set_cases t n k (record { kind = (node t n).kind; place = (node t n).place; linked = (node t n).linked; content = content }) there) [
-      inl same ↦ let at : node t n ≡ node t k = ap (node t) (sym same.0) in record {
+      | inl same ↦ let at : node t n ≡ node t k = ap (node t) (sym same.0) in record {
         kind = ap (λ (m : Node). m.kind) same.1 ∙ ap (λ (m : Node). m.kind) at;
         place = ap (λ (m : Node). m.place) same.1 ∙ ap (λ (m : Node). m.place) at;
         linked = ap (λ (m : Node). m.linked) same.1 ∙ ap (λ (m : Node). m.linked) at;
       }
-    | inr other ↦ record { kind = ap (λ (m : Node). m.kind) other.1; place = ap (λ (m : Node). m.place) other.1; linked = ap (λ (m : Node). m.linked) other.1 }
+      | inr other ↦ record { kind = ap (λ (m : Node). m.kind) other.1; place = ap (λ (m : Node). m.place) other.1; linked = ap (λ (m : Node). m.linked) other.1 }
     ]
-
-filled_length : (t : List Node) (n : ℕ) (content : List ℕ) → length (filled t n content) ≡ length t
-unfolding filled
-filled_length t n content = length-set t n _
 
 filled_limits : (t : List Node) (n : ℕ) (content : List ℕ) → IsTree t → (node t n).kind ≡ File → n < length t → length content ≤ most_bytes → list_all is_byte content ≡ true → (k : ℕ) → k < length t → is_within_limits (node (filled t n content) k) ≡ true
 unfolding filled
 filled_limits t n content tree file there short bytes k k_there =
     let new : Node = record { kind = (node t n).kind; place = (node t n).place; linked = (node t n).linked; content = content } in
     elim (set_cases t n k new there) [
-      inl same ↦ let old = limits_of (node t n) (tree.limits n there) in
-        ap is_within_limits same.1 ∙ limits_from new (record { names = old.names; content = rw file (le-leb (length content) most_bytes short); bytes = bytes })
-    | inr other ↦ ap is_within_limits other.1 ∙ tree.limits k k_there
+      | inl same ↦ let old = limits_of (node t n) (tree.limits n there) in
+          ap is_within_limits same.1 ∙ limits_from new (record { names = old.names; content = rw file (le-leb (length content) most_bytes short); bytes = bytes })
+      | inr other ↦ ap is_within_limits other.1 ∙ tree.limits k k_there
     ]
 
 pub filled_is_tree : (t : List Node) (n : ℕ) (content : List ℕ) → IsTree t → (node t n).kind ≡ File → n < length t → length content ≤ most_bytes → list_all is_byte content ≡ true → IsTree (filled t n content)
@@ -99,13 +96,13 @@ written_is_tree t n at b tree file there small allowed =
     let old = file_content t n tree file there in
     let low : at < most_bytes = ltb-true at most_bytes (passed_last _ _ allowed) in
     filled_is_tree t n (written (node t n).content at b) tree file there
-      (written_length (node t n).content at b most_bytes low old.0)
-      (written_bytes (node t n).content at b small old.1)
+    (written_length (node t n).content at b most_bytes low old.0)
+    (written_bytes (node t n).content at b small old.1)
 
 pub resized_is_tree : (t : List Node) (n len : ℕ) → IsTree t → (node t n).kind ≡ File → n < length t → truncate_fault len ≡ None → IsTree (filled t n (resized (node t n).content len))
 resized_is_tree t n len tree file there allowed =
     let old = file_content t n tree file there in
     let low : len ≤ most_bytes = ltb-false most_bytes len (passed _ _ _ allowed).0 in
     filled_is_tree t n (resized (node t n).content len) tree file there
-      (omega (arith, resized_length (node t n).content len))
-      (resized_bytes (node t n).content len old.1)
+    (omega (arith, resized_length (node t n).content len))
+    (resized_bytes (node t n).content len old.1)

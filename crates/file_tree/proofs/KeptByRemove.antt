@@ -42,8 +42,8 @@ module _ (t : List Node) (n : ℕ) (tree : IsTree t) (may : MayRemove t n) where
   still_linked : (k : ℕ) → (node (slice_set t n (unlinked (node t n))) k).linked ≡ true → (k ≢ n) × (node (slice_set t n (unlinked (node t n))) k ≡ node t k)
   still_linked k linked =
       elim (set_cases t n k (unlinked (node t n)) (linked_there t n may.linked)) [
-        inl same ↦ let gone : false ≡ true = sym (ap (λ (m : Node). m.linked) same.1) ∙ linked in cc
-      | inr other ↦ other
+        | inl same ↦ let gone : false ≡ true = sym (ap (λ (m : Node). m.linked) same.1) ∙ linked in cc
+        | inr other ↦ other
       ]
 
   other_stays : (k : ℕ) → k ≢ n → node (slice_set t n (unlinked (node t n))) k ≡ node t k
@@ -76,8 +76,8 @@ module _ (t : List Node) (n : ℕ) (tree : IsTree t) (may : MayRemove t n) where
   limits_stay k there =
       let k_there : k < length t = omega (arith, length-set t n (unlinked (node t n))) in
       elim (set_cases t n k (unlinked (node t n)) (linked_there t n may.linked)) [
-        inl same ↦ let old = limits_of (node t n) (tree.limits n (linked_there t n may.linked)) in ap is_within_limits same.1 ∙ limits_from (unlinked (node t n)) (record { names = old.names; content = old.content; bytes = old.bytes })
-      | inr kept ↦ ap is_within_limits kept.1 ∙ tree.limits k k_there
+        | inl same ↦ let old = limits_of (node t n) (tree.limits n (linked_there t n may.linked)) in ap is_within_limits same.1 ∙ limits_from (unlinked (node t n)) (record { names = old.names; content = old.content; bytes = old.bytes })
+        | inr kept ↦ ap is_within_limits kept.1 ∙ tree.limits k k_there
       ]
 
 pub removed_is_tree : (t : List Node) (n : ℕ) → IsTree t → remove_fault t n ≡ None → IsTree (removed t n)
@@ -90,7 +90,7 @@ removed_is_tree t n tree allowed =
       root_kind = ap (λ (m : Node). m.kind) root ∙ tree.root_kind;
       root_place = ap (λ (m : Node). m.place) root ∙ tree.root_place;
       apart = λ i j linked_i linked_j same. tree.apart i j (linked_was t n tree may i linked_i) (linked_was t n tree may j linked_j)
-        (sym (place_was t n tree may i linked_i) ∙ same ∙ place_was t n tree may j linked_j);
+          (sym (place_was t n tree may i linked_i) ∙ same ∙ place_was t n tree may j linked_j);
       held = held_stays t n tree may;
       few = omega (arith, length-set t n (unlinked (node t n)), tree.few);
       limits = limits_stay t n tree may;

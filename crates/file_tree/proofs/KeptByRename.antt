@@ -75,6 +75,7 @@ still p q m linked = by_cases (cases_Bool m.linked) (cases_Bool (same_place q m.
   where
     unlink : {x : Node} → moved p q (replaced_at q m) ≡ x → x.linked ≡ false → ⊥
     unlink is gone = both_ways (moved p q (replaced_at q m)).linked (ap (λ (y : Node). y.linked) is ∙ gone) linked
+
     by_cases : (m.linked ≡ true) ⊎ (m.linked ≡ false) → (same_place q m.place ≡ true) ⊎ (same_place q m.place ≡ false) → (begins p m.place ≡ true) ⊎ (begins p m.place ≡ false) → Still p q m (moved p q (replaced_at q m))
     by_cases (inr gone) at front = absurd (unlink (is_kept p q m (rw gone refl) (rw gone refl)) gone)
     by_cases (inl there) (inl at) front = absurd (unlink (replaced p q m (both_true there at)) refl)
@@ -95,6 +96,7 @@ moved_limits p q m names h = by_cases (cases_Bool (stands_at q m)) (cases_Bool (
   where
     old : Limits m
     old = limits_of m h
+
     by_cases : (stands_at q m ≡ true) ⊎ (stands_at q m ≡ false) → ((m.linked && begins p m.place) ≡ true) ⊎ ((m.linked && begins p m.place) ≡ false) → is_within_limits (moved p q (replaced_at q m)) ≡ true
     by_cases (inl at) front = ap is_within_limits (replaced p q m at) ∙ limits_from (unlinked m) (record { names = old.names; content = old.content; bytes = old.bytes })
     by_cases (inr off) (inl front) =
@@ -161,20 +163,20 @@ module _ (t : List Node) (n d : ℕ) (name : List ℕ) (tree : IsTree t) (direct
   root_stays : node (after t (node t n).place (at_name (node t d).place name)) 0 ≡ node t 0
   root_stays =
       let off : same_place (at_name (node t d).place name) [] ≡ false = false_from_ne_true _ (λ h.
-          let same : at_name (node t d).place name ≡ [] = same_place_is _ _ h in
-          let none : length (at_name (node t d).place name) ≡ 0 = ap length same in
-          absurd (omega (arith, at_name_length (node t d).place name)))
+      let same : at_name (node t d).place name ≡ [] = same_place_is _ _ h in
+      let none : length (at_name (node t d).place name) ≡ 0 = ap length same in
+      absurd (omega (arith, at_name_length (node t d).place name)))
       in unaffected_at t (node t n).place (at_name (node t d).place name) 0 (rw tree.root_place off) (rw tree.root_place below_root)
 
   target_stays : Directory (after t (node t n).place (at_name (node t d).place name)) (node t d).place
   target_stays =
       let it : Directory t (node t d).place = record { number = d; linked = may.dir_linked; kind = directory; place = refl } in
       let off : same_place (at_name (node t d).place name) (node t d).place ≡ false = false_from_ne_true _ (λ h.
-          let same : length (at_name (node t d).place name) ≡ length (node t d).place = ap length (same_place_is _ _ h) in
-          absurd (omega (arith, at_name_length (node t d).place name)))
+      let same : length (at_name (node t d).place name) ≡ length (node t d).place = ap length (same_place_is _ _ h) in
+      absurd (omega (arith, at_name_length (node t d).place name)))
       in
       let back : begins (node t n).place (node t d).place ≡ false = false_from_ne_true _ (λ h.
-          both_ways _ may.apart (begins_trans (node t n).place (node t d).place (at_name (node t d).place name) h (begins_append (node t d).place (name ∷ []))))
+      both_ways _ may.apart (begins_trans (node t n).place (node t d).place (at_name (node t d).place name) h (begins_append (node t d).place (name ∷ []))))
       in directory_stays t (node t n).place (at_name (node t d).place name) (node t d).place it off back
 
 module _ (t : List Node) (p q : List (List ℕ)) (tree : IsTree t) (apart : begins p q ≡ false) (empty : has_below t q ≡ false) where
@@ -199,11 +201,11 @@ module _ (t : List Node) (p q : List (List ℕ)) (tree : IsTree t) (apart : begi
   held_staying k was back low =
       let d = held_above t (node t k).place (tree.held k was.linked) low in
       let off : same_place q (above (node t k).place) ≡ false = false_from_ne_true _ (λ h.
-          let at : q ≡ above (node t k).place = same_place_is _ _ h in
-          nothing_in t q empty k was.linked was.elsewhere (rw at (begins_above (node t k).place)))
+      let at : q ≡ above (node t k).place = same_place_is _ _ h in
+      nothing_in t q empty k was.linked was.elsewhere (rw at (begins_above (node t k).place)))
       in
       let above_back : begins p (above (node t k).place) ≡ false = false_from_ne_true _ (λ h.
-          both_ways _ back (begins_trans p (above (node t k).place) (node t k).place h (begins_above (node t k).place)))
+      both_ways _ back (begins_trans p (above (node t k).place) (node t k).place h (begins_above (node t k).place)))
       in directory_stays t p q (above (node t k).place) d off above_back
 
   -- a node that moves, but for the one at the top, is held by the moved directory
@@ -214,7 +216,7 @@ module _ (t : List Node) (p q : List (List ℕ)) (tree : IsTree t) (apart : begi
       let d = held_above t (node t k).place (tree.held k was.linked) low in
       let front_above : begins p (above (node t k).place) ≡ true = begins_above_other p (node t k).place front other in
       let off : same_place q (above (node t k).place) ≡ false = false_from_ne_true _ (λ h.
-          both_ways _ apart (rw (same_place_is q (above (node t k).place) h) front_above))
+      both_ways _ apart (rw (same_place_is q (above (node t k).place) h) front_above))
       in
       let rest = rest_above p (node t k).place front other in
       let place : above (q ++ drop (length p) (node t k).place) ≡ q ++ drop (length p) (above (node t k).place) = above_append q _ rest.0 ∙ ap (λ r. q ++ r) (sym rest.1) in
@@ -225,6 +227,7 @@ module _ (t : List Node) (p q : List (List ℕ)) (tree : IsTree t) (apart : begi
     where
       was : Still p q (node t k) (node (after t p q) k)
       was = still_at t p q k linked
+
       by_cases : ((begins p (node t k).place ≡ true) × ((node (after t p q) k).place ≡ q ++ drop (length p) (node t k).place)) ⊎ ((begins p (node t k).place ≡ false) × ((node (after t p q) k).place ≡ (node t k).place)) → (same_place p (node t k).place ≡ true) ⊎ (same_place p (node t k).place ≡ false) → is_held (after t p q) (node (after t p q) k).place ≡ true
       by_cases (inl a) (inl at) = rw (a.1, ← same_place_is p (node t k).place at, drop-length p, append-nil q) (held_from (after t p q) q (λ _. top))
       by_cases (inl a) (inr other) = rw a.1 (held_from (after t p q) (q ++ drop (length p) (node t k).place) (λ _. held_moving k was a.0 other))
@@ -251,5 +254,5 @@ pub renamed_is_tree : (t : List Node) (n d : ℕ) (name : List ℕ) → IsTree t
 unfolding renamed after
 renamed_is_tree t n d name tree directory named allowed =
     cond_both (same_place (at_name (node t d).place name) (node t n).place) t (after t (node t n).place (at_name (node t d).place name)) IsTree
-      (λ own. tree)
-      (λ other. moved_is_tree t n d name tree directory named (may_rename t n d name allowed other))
+    (λ own. tree)
+    (λ other. moved_is_tree t n d name tree directory named (may_rename t n d name allowed other))

@@ -28,8 +28,8 @@ pub any_found : (test : Node → Bool) (t : List Node) → list_any test t ≡ t
 any_found test [] h = cc
 any_found test (m ∷ t) h =
     elim (cases_Bool (test m)) [
-      inl passes ↦ (0, passes)
-    | inr fails ↦ let rest : list_any test t ≡ true = rw fails at h in let found = any_found test t rest in (suc found.0, found.1)
+      | inl passes ↦ (0, passes)
+      | inr fails ↦ let rest : list_any test t ≡ true = rw fails at h in let found = any_found test t rest in (suc found.0, found.1)
     ]
 
 pub none_at : (test : Node → Bool) (t : List Node) (n : ℕ) → test nowhere ≡ false → list_any test t ≡ false → test (node t n) ≡ false
@@ -48,11 +48,11 @@ pub found_from : (k : ℕ) (p : List (List ℕ)) (t : List Node) (n : ℕ) → n
 found_from k p [] n h = cc
 found_from k p (m ∷ t) n h =
     elim (cases_Bool (stands_at p m)) [
-      inl passes ↦ let here : Some k ≡ Some n = rw passes at h in let same : k ≡ n = cc in let none : n - k ≡ 0 = omega arith in (omega arith, rw none passes)
-    | inr fails ↦ let rest : node_from (k + 1) p t ≡ Some n = rw fails at h in
-      let found = found_from (k + 1) p t n rest in
-      let more : k + 1 ≤ n = found.0 in
-      let step : n - k ≡ suc (n - (k + 1)) = omega arith in (omega arith, rw step found.1)
+      | inl passes ↦ let here : Some k ≡ Some n = rw passes at h in let same : k ≡ n = cc in let none : n - k ≡ 0 = omega arith in (omega arith, rw none passes)
+      | inr fails ↦ let rest : node_from (k + 1) p t ≡ Some n = rw fails at h in
+          let found = found_from (k + 1) p t n rest in
+          let more : k + 1 ≤ n = found.0 in
+          let step : n - k ≡ suc (n - (k + 1)) = omega arith in (omega arith, rw step found.1)
     ]
 
 pub missing_from : (k : ℕ) (p : List (List ℕ)) (t : List Node) → node_from k p t ≡ None → (n : ℕ) → stands_at p (node t n) ≡ false
@@ -108,8 +108,8 @@ held_from t (name ∷ p) h = let low : 0 < length (name ∷ p) = omega arith in 
 pub set_cases : (t : List Node) (n k : ℕ) (m : Node) → n < length t → ((k ≡ n) × (node (slice_set t n m) k ≡ m)) ⊎ ((k ≢ n) × (node (slice_set t n m) k ≡ node t k))
 set_cases t n k m there =
     elim (eqb_tells k n) [
-      inl same ↦ inl (same.1, ap (node (slice_set t n m)) same.1 ∙ get_or-set_same t n m nowhere there)
-    | inr other ↦ inr (other.1, get_or-set_other t n k m nowhere other.1)
+      | inl same ↦ inl (same.1, ap (node (slice_set t n m)) same.1 ∙ get_or-set_same t n m nowhere there)
+      | inr other ↦ inr (other.1, get_or-set_other t n k m nowhere other.1)
     ]
 
 -- one node stands behind a list
@@ -120,8 +120,8 @@ more_cases (n ∷ t) m zero h = inr (omega arith, refl)
 more_cases (n ∷ t) m (suc k) h =
     let rest : k < length t + 1 = omega arith in
     elim (more_cases t m k rest) [
-      inl new ↦ inl (ap suc new.0, new.1)
-    | inr old ↦ let less : k < length t = old.0 in inr (omega arith, old.1)
+      | inl new ↦ inl (ap suc new.0, new.1)
+      | inr old ↦ let less : k < length t = old.0 in inr (omega arith, old.1)
     ]
 
 -- a chain of refusals that gives none

@@ -1,5 +1,5 @@
 -- What the values of the code stand for.
-use Rattle.std.specs.Prelude.{ℕ, Bool, true, List, [], map, Option, Some, None, Vec}
+use Rattle.std.specs.Prelude.{◌≡◌, ◌≢◌, ℕ, Bool, true, List, [], map, Option, Some, None, Vec}
 use Rattle.std.specs.Borrow.{Bor}
 use Rattle.file_tree.specs.declared.nodes.Kind.{Kind as KindCode}
 use Rattle.file_tree.specs.declared.nodes.Kind.TheVariants as kind
@@ -42,6 +42,10 @@ fault_of fault.Full = Some Full
 fault_of fault.IntoItself = Some IntoItself
 fault_of fault.Gone = Some Gone
 fault_of fault.Memory = None
+
+-- The error tells what is refused; want of memory may come in place of any other answer.
+abbrev pub Tells : Option Fault → TreeFault → Type 0
+Tells refusal error = error ≢ fault.Memory → refusal ≡ fault_of error
 
 -- the numbers of the refusals
 abbrev pub tree_fault_number : TreeFault → ℕ

@@ -1,11 +1,11 @@
 //! The plain list of nodes: how it is changed.
 
-ghost use Rattle.std.specs.Prelude.{◌≡◌, ◌≢◌, ◌<◌, ◌≤◌, ◌++◌, Option, Some, None, true, drop, length, map, vec_len, IfOk, IfErr, OnOk, OnErr};
+ghost use Rattle.std.specs.Prelude.{◌≡◌, ◌<◌, ◌≤◌, ◌++◌, Option, Some, None, true, drop, length, map, vec_len, IfOk, IfErr, OnOk, OnErr};
 ghost use Rattle.std.specs.List.{list_all};
 ghost use Rattle.file_tree.specs.Nodes.{node};
 ghost use Rattle.file_tree.specs.Changes.{create_fault, created, filled, moved, put_byte_fault, remove_fault, removed, rename_fault, renamed, replaced_at, resized, truncate_fault, written};
 ghost use Rattle.file_tree.specs.WellFormed.{is_byte};
-ghost use Rattle.file_tree.specs.Views.{fault_of, kind_of, names_of, new_content, new_kind, node_of, nodes_of};
+ghost use Rattle.file_tree.specs.Views.{Tells, kind_of, names_of, new_content, new_kind, node_of, nodes_of};
 
 use crate::entries::{Entry, child_in, holds_below};
 use crate::faults::TreeFault;
@@ -59,9 +59,10 @@ pub(crate) fn create_in(
     what: New<'_>,
 ) -> Result<NodeId, TreeFault>
     requires { dir < vec_len entries.old }
-    ensures ok { IfOk result (λ n. (n ≡ length (nodes_of entries.old.items)) × (nodes_of entries.new.items ≡ created (nodes_of entries.old.items) dir name.now (new_kind what.entry) (new_content what.entry))) }
+    ensures ok { IfOk result (λ n. (n ≡ length (nodes_of entries.old.items))
+        × (nodes_of entries.new.items ≡ created (nodes_of entries.old.items) dir name.now (new_kind what.entry) (new_content what.entry))) }
     ensures allowed { OnOk result (create_fault (nodes_of entries.old.items) dir name.now ≡ None) }
-    ensures refused { IfErr result (λ e. e ≢ TreeFault.Memory → create_fault (nodes_of entries.old.items) dir name.now ≡ fault_of e) }
+    ensures refused { IfErr result (Tells (create_fault (nodes_of entries.old.items) dir name.now)) }
     ensures bytes { OnOk result (list_all is_byte (new_content what.entry) ≡ true) }
     ensures err { OnErr result (nodes_of entries.new.items ≡ nodes_of entries.old.items) }
 {
@@ -93,7 +94,7 @@ pub(crate) fn remove_in(entries: &mut Vec<Entry>, n: usize) -> Result<(), TreeFa
     requires { n < vec_len entries.old }
     ensures ok { OnOk result (nodes_of entries.new.items ≡ removed (nodes_of entries.old.items) n) }
     ensures allowed { OnOk result (remove_fault (nodes_of entries.old.items) n ≡ None) }
-    ensures refused { IfErr result (λ e. remove_fault (nodes_of entries.old.items) n ≡ fault_of e) }
+    ensures refused { IfErr result (Tells (remove_fault (nodes_of entries.old.items) n)) }
     ensures err { OnErr result (nodes_of entries.new.items ≡ nodes_of entries.old.items) }
 {
     let entry = &entries[n];
@@ -191,7 +192,7 @@ pub(crate) fn rename_in(
     requires dir_there { dir < vec_len entries.old }
     ensures ok { OnOk result (nodes_of entries.new.items ≡ renamed (nodes_of entries.old.items) n dir name.now) }
     ensures allowed { OnOk result (rename_fault (nodes_of entries.old.items) n dir name.now ≡ None) }
-    ensures refused { IfErr result (λ e. e ≢ TreeFault.Memory → rename_fault (nodes_of entries.old.items) n dir name.now ≡ fault_of e) }
+    ensures refused { IfErr result (Tells (rename_fault (nodes_of entries.old.items) n dir name.now)) }
     ensures err { OnErr result (nodes_of entries.new.items ≡ nodes_of entries.old.items) }
 {
     let entry = &entries[n];
@@ -233,16 +234,12 @@ fn put(content: &mut Vec<u8>, at: usize, b: u8) -> Result<(), AllocError>
 
 /// Writes a byte into a file.
 #[tactic(auto, unfolding(crate::specs::Changes::filled))]
-pub(crate) fn put_in(
-    entries: &mut Vec<Entry>,
-    n: usize,
-    at: usize,
-    b: u8,
-) -> Result<(), TreeFault>
+pub(crate) fn put_in(entries: &mut Vec<Entry>, n: usize, at: usize, b: u8) -> Result<(), TreeFault>
     requires { n < vec_len entries.old }
-    ensures ok { OnOk result (nodes_of entries.new.items ≡ filled (nodes_of entries.old.items) n (written (node (nodes_of entries.old.items) n).content at b)) }
+    ensures ok { OnOk result (nodes_of entries.new.items ≡
+        filled (nodes_of entries.old.items) n (written (node (nodes_of entries.old.items) n).content at b)) }
     ensures allowed { OnOk result (put_byte_fault at ≡ None) }
-    ensures refused { IfErr result (λ e. e ≢ TreeFault.Memory → put_byte_fault at ≡ fault_of e) }
+    ensures refused { IfErr result (Tells (put_byte_fault at)) }
     ensures err { OnErr result (nodes_of entries.new.items ≡ nodes_of entries.old.items) }
 {
     if at >= MAX_BYTES {
@@ -256,9 +253,10 @@ pub(crate) fn put_in(
 #[tactic(auto, unfolding(crate::specs::Changes::filled))]
 pub(crate) fn truncate_in(entries: &mut Vec<Entry>, n: usize, len: usize) -> Result<(), TreeFault>
     requires { n < vec_len entries.old }
-    ensures ok { OnOk result (nodes_of entries.new.items ≡ filled (nodes_of entries.old.items) n (resized (node (nodes_of entries.old.items) n).content len)) }
+    ensures ok { OnOk result (nodes_of entries.new.items ≡
+        filled (nodes_of entries.old.items) n (resized (node (nodes_of entries.old.items) n).content len)) }
     ensures allowed { OnOk result (truncate_fault len ≡ None) }
-    ensures refused { IfErr result (λ e. e ≢ TreeFault.Memory → truncate_fault len ≡ fault_of e) }
+    ensures refused { IfErr result (Tells (truncate_fault len)) }
     ensures err { OnErr result (nodes_of entries.new.items ≡ nodes_of entries.old.items) }
 {
     if len > MAX_BYTES {

@@ -95,7 +95,13 @@ impl Tree for PlaceTree {
     }
 
     fn rename(&mut self, n: NodeId, dir: NodeId, name: &[u8]) -> Result<(), TreeFault> {
-        rename_in(self.alloc, &mut self.entries, n.number(), dir.number(), name)
+        rename_in(
+            self.alloc,
+            &mut self.entries,
+            n.number(),
+            dir.number(),
+            name,
+        )
     }
 
     fn len(&self, n: NodeId) -> usize {

@@ -69,7 +69,8 @@ pub(crate) fn is_child(dir: &[Vec<u8>], name: &[u8], place: &[Vec<u8>]) -> bool
 
 /// What is left of a place after a name of a path; an empty name leaves all of it.
 fn after_name<'a>(name: &[u8], place: &'a [Vec<u8>]) -> Option<&'a [Vec<u8>]>
-    ensures { MatchOption result ((names : List (List ℕ)) → begins (with_name name.now names) (names_of place.now) ≡ false) (λ rest. (names : List (List ℕ)) → begins (with_name name.now names) (names_of place.now) ≡ begins names (names_of rest.now)) }
+    ensures { MatchOption result ((names : List (List ℕ)) → begins (with_name name.now names) (names_of place.now) ≡ false)
+        (λ rest. (names : List (List ℕ)) → begins (with_name name.now names) (names_of place.now) ≡ begins names (names_of rest.now)) }
 {
     if name.is_empty() {
         return Some(place);

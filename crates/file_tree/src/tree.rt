@@ -1,12 +1,12 @@
 //! What every tree does, however it is kept.
 
-ghost use Rattle.std.specs.Prelude.{◌≡◌, ◌≢◌, ◌<◌, ◌++◌, ℕ, List, Option, Some, None, length, IsTrue, IfOk, IfErr, OnOk, OnErr};
+ghost use Rattle.std.specs.Prelude.{◌≡◌, ◌<◌, ◌++◌, ℕ, List, Option, Some, None, length, IsTrue, IfOk, IfErr, OnOk, OnErr};
 ghost use Rattle.std.specs.Option.{option_copied};
 ghost use Rattle.file_tree.specs.Places.{begins, is_name, path_components, place_text};
 ghost use Rattle.file_tree.specs.Nodes.{Dir, File, Node, byte_of, child_of, node, parent_of, target_of};
 ghost use Rattle.file_tree.specs.Changes.{create_fault, created, filled, new_tree, put_byte_fault, remove_fault, removed, rename_fault, renamed, resized, truncate_fault, written};
 ghost use Rattle.file_tree.specs.WellFormed.{IsTree};
-ghost use Rattle.file_tree.specs.Views.{fault_of, is_new, kind_of, new_content, new_kind};
+ghost use Rattle.file_tree.specs.Views.{Tells, is_new, kind_of, new_content, new_kind};
 
 use crate::faults::TreeFault;
 use crate::nodes::{Kind, New, NodeId};
@@ -83,9 +83,10 @@ pub trait Tree: Sized + Drop {
         requires directory { (node (nodes self.old) dir).kind ≡ Dir }
         requires name { IsTrue (is_name name.now) }
         requires target { IsTrue (is_new what) }
-        ensures ok { IfOk result (λ n. (n ≡ length (nodes self.old)) × (nodes self.new ≡ created (nodes self.old) dir name.now (new_kind what.entry) (new_content what.entry))) }
+        ensures ok { IfOk result (λ n. (n ≡ length (nodes self.old))
+            × (nodes self.new ≡ created (nodes self.old) dir name.now (new_kind what.entry) (new_content what.entry))) }
         ensures allowed { OnOk result (create_fault (nodes self.old) dir name.now ≡ None) }
-        ensures refused { IfErr result (λ e. e ≢ TreeFault.Memory → create_fault (nodes self.old) dir name.now ≡ fault_of e) }
+        ensures refused { IfErr result (Tells (create_fault (nodes self.old) dir name.now)) }
         ensures err { OnErr result (nodes self.new ≡ nodes self.old) };
 
     /// Removes a node. Refused of a removed one (`Gone`), and of the root and a directory that holds
@@ -94,7 +95,7 @@ pub trait Tree: Sized + Drop {
         requires { n < length (nodes self.old) }
         ensures ok { OnOk result (nodes self.new ≡ removed (nodes self.old) n) }
         ensures allowed { OnOk result (remove_fault (nodes self.old) n ≡ None) }
-        ensures refused { IfErr result (λ e. e ≢ TreeFault.Memory → remove_fault (nodes self.old) n ≡ fault_of e) }
+        ensures refused { IfErr result (Tells (remove_fault (nodes self.old) n)) }
         ensures err { OnErr result (nodes self.new ≡ nodes self.old) };
 
     /// Gives a node that name in a directory. What is linked below it moves along, and nothing else; a
@@ -109,7 +110,7 @@ pub trait Tree: Sized + Drop {
         requires name { IsTrue (is_name name.now) }
         ensures ok { OnOk result (nodes self.new ≡ renamed (nodes self.old) n dir name.now) }
         ensures allowed { OnOk result (rename_fault (nodes self.old) n dir name.now ≡ None) }
-        ensures refused { IfErr result (λ e. e ≢ TreeFault.Memory → rename_fault (nodes self.old) n dir name.now ≡ fault_of e) }
+        ensures refused { IfErr result (Tells (rename_fault (nodes self.old) n dir name.now)) }
         ensures err { OnErr result (nodes self.new ≡ nodes self.old) };
 
     /// How many bytes a file has, or a link's target; a directory has none.
@@ -127,9 +128,10 @@ pub trait Tree: Sized + Drop {
     fn put_byte(&mut self, n: NodeId, at: usize, b: u8) -> Result<(), TreeFault>
         requires there { n < length (nodes self.old) }
         requires file { (node (nodes self.old) n).kind ≡ File }
-        ensures ok { OnOk result (nodes self.new ≡ filled (nodes self.old) n (written (node (nodes self.old) n).content at b)) }
+        ensures ok { OnOk result (nodes self.new ≡
+            filled (nodes self.old) n (written (node (nodes self.old) n).content at b)) }
         ensures allowed { OnOk result (put_byte_fault at ≡ None) }
-        ensures refused { IfErr result (λ e. e ≢ TreeFault.Memory → put_byte_fault at ≡ fault_of e) }
+        ensures refused { IfErr result (Tells (put_byte_fault at)) }
         ensures err { OnErr result (nodes self.new ≡ nodes self.old) };
 
     /// Cuts a file to that many bytes, or fills it up with zeros. Refused past 4096 bytes (`Full`).
@@ -137,8 +139,9 @@ pub trait Tree: Sized + Drop {
     fn truncate(&mut self, n: NodeId, len: usize) -> Result<(), TreeFault>
         requires there { n < length (nodes self.old) }
         requires file { (node (nodes self.old) n).kind ≡ File }
-        ensures ok { OnOk result (nodes self.new ≡ filled (nodes self.old) n (resized (node (nodes self.old) n).content len)) }
+        ensures ok { OnOk result (nodes self.new ≡
+            filled (nodes self.old) n (resized (node (nodes self.old) n).content len)) }
         ensures allowed { OnOk result (truncate_fault len ≡ None) }
-        ensures refused { IfErr result (λ e. e ≢ TreeFault.Memory → truncate_fault len ≡ fault_of e) }
+        ensures refused { IfErr result (Tells (truncate_fault len)) }
         ensures err { OnErr result (nodes self.new ≡ nodes self.old) };
 }

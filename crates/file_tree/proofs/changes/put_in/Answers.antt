@@ -13,4 +13,4 @@ returns-clause-ok c =
     let there = in_items c.args.entries.now c.args.n c.requires in
     let before = entry_node c.args.entries.now.items c.args.n c.index_mut.result.now there c.index_mut.ensures.value in
     entry_filled c.args.entries.now.items c.args.n c.index_mut.result.now c.put.new.content _ there c.index_mut.ensures.value
-      (c.in_ok-put.ensures.ok ∙ ap (λ (m : Node). written m.content c.args.at c.args.b) (sym before))
+    (c.in_ok-put.ensures.ok ∙ ap (λ (m : Node). written m.content c.args.at c.args.b) (sym before))

@@ -13,4 +13,4 @@ returns-clause-ok c =
     let there = in_items c.args.entries.now c.args.n c.requires in
     let before = entry_node c.args.entries.now.items c.args.n c.index_mut.result.now there c.index_mut.ensures.value in
     entry_filled c.args.entries.now.items c.args.n c.index_mut.result.now c.resize.new.self _ there c.index_mut.ensures.value
-      (resized_items c.index_mut.result.now.content c.resize.new.self c.args.len c.in_ok-resize.ensures.items ∙ ap (λ (m : Node). resized m.content c.args.len) (sym before))
+    (resized_items c.index_mut.result.now.content c.resize.new.self c.args.len c.in_ok-resize.ensures.items ∙ ap (λ (m : Node). resized m.content c.args.len) (sym before))
