@@ -54,6 +54,9 @@ child_is t d name n h = by_link (cases_Bool (node t d).linked)
         record { holder = holder; there = found.there; linked = found.linked; place = found.place }
     by_link (inr gone) = let none : None ≡ Some n = rw gone at h in cc
 
+pub child_there : (t : List Node) (d : ℕ) (name : List ℕ) (n : ℕ) → child_of t d name ≡ Some n → n < length t
+child_there t d name n h = (child_is t d name n h).there
+
 pub child_by_place : (t : List Node) (d : ℕ) (name : List ℕ) → (node t d).linked ≡ true → child_of t d name ≡ node_at t (at_name (node t d).place name)
 unfolding child_of
 child_by_place t d name linked = rw linked refl

@@ -1,0 +1,333 @@
+//! What no clause says: that the definitions mean what the worked examples say, and that calls succeed
+//! where memory is there. Each test goes over any tree, through the bound.
+
+ghost use Rattle.std.specs.Prelude.{◌≡◌, ◌<◌, ◌≤◌, length, IfOk, OnOk};
+
+use crate::{
+    Kind, MAX_BYTES, MAX_NODES, New, NodeId, PlaceTree, Tree, TreeFault, is_valid_name,
+    is_valid_target,
+};
+use std::alloc::Global;
+use std::process::Abort;
+use std::test::Fail;
+
+/// Makes a node where the caller's conditions hold, which are asked first.
+#[tactic(auto, using(crate::proofs::TreeLaws::created_length))]
+fn make<T: Tree>(
+    rt: &impl Abort,
+    tree: &mut T,
+    dir: NodeId,
+    name: &[u8],
+    what: New<'_>,
+) -> Result<NodeId, TreeFault>
+    requires { dir < length (T.nodes tree.old) }
+    ensures made { IfOk result (λ n. n < length (T.nodes tree.new)) }
+    ensures grows { length (T.nodes tree.old) ≤ length (T.nodes tree.new) }
+{
+    assert!(rt; tree.kind(dir) == Kind::Dir);
+    assert!(rt; is_valid_name(name));
+    if let New::Link(target) = what {
+        assert!(rt; is_valid_target(target));
+    }
+    tree.create(dir, name, what)
+}
+
+/// Renames a node where the caller's conditions hold, which are asked first.
+#[tactic(auto, using(crate::proofs::TreeLaws::renamed_length))]
+fn move_to<T: Tree>(
+    rt: &impl Abort,
+    tree: &mut T,
+    n: NodeId,
+    dir: NodeId,
+    name: &[u8],
+) -> Result<(), TreeFault>
+    requires there { n < length (T.nodes tree.old) }
+    requires dir_there { dir < length (T.nodes tree.old) }
+    ensures { length (T.nodes tree.new) ≡ length (T.nodes tree.old) }
+{
+    assert!(rt; tree.kind(dir) == Kind::Dir);
+    assert!(rt; is_valid_name(name));
+    tree.rename(n, dir, name)
+}
+
+/// Removes a node.
+#[tactic(auto, using(crate::proofs::TreeLaws::removed_length))]
+fn take_away<T: Tree>(tree: &mut T, n: NodeId) -> Result<(), TreeFault>
+    requires { n < length (T.nodes tree.old) }
+    ensures { length (T.nodes tree.new) ≡ length (T.nodes tree.old) }
+{
+    tree.remove(n)
+}
+
+/// Writes a byte into a node that is a file, which is asked first.
+#[tactic(auto, using(crate::proofs::TreeLaws::filled_length))]
+fn write<T: Tree>(
+    rt: &impl Abort,
+    tree: &mut T,
+    n: NodeId,
+    at: usize,
+    b: u8,
+) -> Result<(), TreeFault>
+    requires { n < length (T.nodes tree.old) }
+    ensures { length (T.nodes tree.new) ≡ length (T.nodes tree.old) }
+{
+    assert!(rt; tree.kind(n) == Kind::File);
+    tree.put_byte(n, at, b)
+}
+
+/// Cuts or fills up a node that is a file, which is asked first.
+#[tactic(auto, using(crate::proofs::TreeLaws::filled_length))]
+fn set_len<T: Tree>(rt: &impl Abort, tree: &mut T, n: NodeId, len: usize) -> Result<(), TreeFault>
+    requires { n < length (T.nodes tree.old) }
+    ensures { length (T.nodes tree.new) ≡ length (T.nodes tree.old) }
+{
+    assert!(rt; tree.kind(n) == Kind::File);
+    tree.truncate(n, len)
+}
+
+/// The root.
+#[tactic(auto, using(crate::proofs::TreeLaws::root_there))]
+fn top<T: Tree>(tree: &T) -> NodeId
+    ensures { result < length (T.nodes tree.now) }
+{
+    tree.root()
+}
+
+/// The node of a name in a directory, which has to be there.
+#[tactic(auto, using(crate::proofs::TreeLaws::child_there))]
+fn inside<T: Tree>(rt: &impl Abort, tree: &T, dir: NodeId, name: &[u8]) -> NodeId
+    requires { dir < length (T.nodes tree.now) }
+    ensures { result < length (T.nodes tree.now) }
+{
+    tree.child(dir, name).expect(rt, "a node that is there")
+}
+
+/// The place of a node as text.
+fn place<T: Tree>(alloc: Global, tree: &T, n: NodeId) -> Result<Vec<u8>, TreeFault>
+    requires { n < length (T.nodes tree.now) }
+{
+    let mut text = Vec::new(alloc);
+    tree.place_text(n, &mut text)?;
+    Ok(text)
+}
+
+/// Fills the tree: `/work` with the file `in` of `AB`, the directory `out`, and the links `same`, `up` and
+/// `abs`; `/workshop` with the file `x` of `w`; `/log`; `/etc` with the file `passwd` of `x`.
+fn fill<T: Tree>(rt: &impl Abort, tree: &mut T) -> Result<(), TreeFault> {
+    let root = top(tree);
+    let work = make(rt, tree, root, b"work", New::Dir)?;
+    let letters = make(rt, tree, work, b"in", New::File)?;
+    make(rt, tree, work, b"out", New::Dir)?;
+    make(rt, tree, work, b"same", New::Link(b"out/../in"))?;
+    make(rt, tree, work, b"up", New::Link(b"../etc/passwd"))?;
+    make(rt, tree, work, b"abs", New::Link(b"/etc/passwd"))?;
+    let workshop = make(rt, tree, root, b"workshop", New::Dir)?;
+    let x = make(rt, tree, workshop, b"x", New::File)?;
+    make(rt, tree, root, b"log", New::Dir)?;
+    let etc = make(rt, tree, root, b"etc", New::Dir)?;
+    let passwd = make(rt, tree, etc, b"passwd", New::File)?;
+    write(rt, tree, letters, 0, b'A')?;
+    write(rt, tree, letters, 1, b'B')?;
+    write(rt, tree, x, 0, b'w')?;
+    write(rt, tree, passwd, 0, b'x')
+}
+
+fn base<T: Tree>(rt: &impl Abort, alloc: Global) -> Result<T, TreeFault> {
+    let mut tree = T::new(alloc)?;
+    fill(rt, &mut tree)?;
+    Ok(tree)
+}
+
+/// What the calls that change nothing say of the base tree.
+fn reads<T: Tree>(rt: &impl Abort, alloc: Global) -> Result<(), Fail> {
+    let tree = base::<T>(rt, alloc)?;
+    let root = top(&tree);
+    let work = inside(rt, &tree, root, b"work");
+    let letters = inside(rt, &tree, work, b"in");
+    let same = inside(rt, &tree, work, b"same");
+    assert_eq!(rt; tree.kind(work), Kind::Dir);
+    assert_eq!(rt; tree.kind(letters), Kind::File);
+    assert_eq!(rt; tree.kind(same), Kind::Link);
+    assert!(rt; tree.is_linked(root));
+    assert!(rt; tree.parent(root).is_none());
+    assert!(rt; tree.parent(letters) == Some(work));
+    assert!(rt; tree.child(work, b"nope").is_none());
+    assert!(rt; tree.child(work, b"..").is_none());
+    assert!(rt; tree.target(letters).is_none());
+    assert_eq!(rt;
+        tree.target(same).expect(rt, "a target"),
+        b"out/../in".as_slice()
+    );
+    assert_eq!(rt; tree.len(letters), 2);
+    assert_eq!(rt; tree.byte_at(letters, 1), Some(b'B'));
+    assert_eq!(rt; tree.byte_at(letters, 2), None);
+    assert_eq!(rt; place(alloc, &tree, root)?.as_slice(), b"/".as_slice());
+    assert_eq!(rt;
+        place(alloc, &tree, letters)?.as_slice(),
+        b"/work/in".as_slice()
+    );
+    Ok(())
+}
+
+/// A removed node keeps its place and is gone, though its name is taken again.
+fn made_again<T: Tree>(rt: &impl Abort, alloc: Global) -> Result<(), Fail> {
+    let mut tree = base::<T>(rt, alloc)?;
+    let root = top(&tree);
+    let work = inside(rt, &tree, root, b"work");
+    let first = inside(rt, &tree, work, b"out");
+    take_away(&mut tree, first)?;
+    assert!(rt; tree.child(work, b"out").is_none());
+    let again = make(rt, &mut tree, work, b"out", New::Dir)?;
+    let inner = make(rt, &mut tree, again, b"f", New::File)?;
+    assert_eq!(rt;
+        place(alloc, &tree, first)?.as_slice(),
+        b"/work/out".as_slice()
+    );
+    assert_eq!(rt;
+        place(alloc, &tree, inner)?.as_slice(),
+        b"/work/out/f".as_slice()
+    );
+    assert!(rt; !tree.is_linked(first));
+    assert!(rt; tree.parent(first).is_none());
+    assert!(rt; tree.child(first, b"f").is_none());
+    assert!(rt; tree.child(work, b"out") == Some(again));
+    assert!(rt; make(rt, &mut tree, first, b"g", New::File) == Err(TreeFault::Gone));
+    assert!(rt; take_away(&mut tree, first) == Err(TreeFault::Gone));
+    assert!(rt; move_to(rt, &mut tree, first, root, b"g") == Err(TreeFault::Gone));
+    assert!(rt; move_to(rt, &mut tree, inner, first, b"g") == Err(TreeFault::Gone));
+    Ok(())
+}
+
+/// What is refused otherwise.
+fn refusals<T: Tree>(rt: &impl Abort, alloc: Global) -> Result<(), Fail> {
+    let mut tree = base::<T>(rt, alloc)?;
+    let root = top(&tree);
+    let work = inside(rt, &tree, root, b"work");
+    let out = inside(rt, &tree, work, b"out");
+    let log = inside(rt, &tree, root, b"log");
+    assert!(rt; make(rt, &mut tree, work, b"in", New::Dir) == Err(TreeFault::Exists));
+    assert!(rt; move_to(rt, &mut tree, work, out, b"new") == Err(TreeFault::IntoItself));
+    assert!(rt; move_to(rt, &mut tree, root, log, b"root") == Err(TreeFault::IntoItself));
+    assert!(rt; move_to(rt, &mut tree, log, root, b"work") == Err(TreeFault::NotEmpty));
+    assert!(rt; take_away(&mut tree, work) == Err(TreeFault::NotEmpty));
+    assert!(rt; take_away(&mut tree, root) == Err(TreeFault::NotEmpty));
+    Ok(())
+}
+
+/// A rename moves what is below, by names, and nothing else.
+fn renames<T: Tree>(rt: &impl Abort, alloc: Global) -> Result<(), Fail> {
+    let mut tree = base::<T>(rt, alloc)?;
+    let root = top(&tree);
+    let work = inside(rt, &tree, root, b"work");
+    let letters = inside(rt, &tree, work, b"in");
+    let out = inside(rt, &tree, work, b"out");
+    let log = inside(rt, &tree, root, b"log");
+    let workshop = inside(rt, &tree, root, b"workshop");
+    let x = inside(rt, &tree, workshop, b"x");
+    assert!(rt; !tree.place_begins(x, b"/work"));
+    assert!(rt; tree.place_begins(letters, b"/work"));
+    assert!(rt; tree.place_begins(letters, b"/"));
+    let removed = make(rt, &mut tree, work, b"old", New::File)?;
+    take_away(&mut tree, removed)?;
+    move_to(rt, &mut tree, work, root, b"w2")?;
+    assert_eq!(rt;
+        place(alloc, &tree, x)?.as_slice(),
+        b"/workshop/x".as_slice()
+    );
+    assert_eq!(rt;
+        place(alloc, &tree, letters)?.as_slice(),
+        b"/w2/in".as_slice()
+    );
+    assert_eq!(rt;
+        place(alloc, &tree, removed)?.as_slice(),
+        b"/work/old".as_slice()
+    );
+    assert!(rt; tree.place_begins(letters, b"/w2"));
+    assert!(rt; !tree.place_begins(letters, b"/work"));
+    move_to(rt, &mut tree, log, work, b"out")?;
+    assert_eq!(rt; place(alloc, &tree, log)?.as_slice(), b"/w2/out".as_slice());
+    assert!(rt; !tree.is_linked(out));
+    assert!(rt; tree.child(work, b"out") == Some(log));
+    move_to(rt, &mut tree, log, work, b"out")?;
+    assert!(rt; tree.is_linked(log));
+    Ok(())
+}
+
+/// A file's bytes, up to its limit.
+fn bytes<T: Tree>(rt: &impl Abort, alloc: Global) -> Result<(), Fail> {
+    let mut tree = base::<T>(rt, alloc)?;
+    let root = top(&tree);
+    let work = inside(rt, &tree, root, b"work");
+    let letters = inside(rt, &tree, work, b"in");
+    write(rt, &mut tree, letters, 4, b'C')?;
+    assert_eq!(rt; tree.len(letters), 5);
+    assert_eq!(rt; tree.byte_at(letters, 1), Some(b'B'));
+    assert_eq!(rt; tree.byte_at(letters, 3), Some(0));
+    assert_eq!(rt; tree.byte_at(letters, 4), Some(b'C'));
+    set_len(rt, &mut tree, letters, 1)?;
+    set_len(rt, &mut tree, letters, 3)?;
+    assert_eq!(rt; tree.len(letters), 3);
+    assert_eq!(rt; tree.byte_at(letters, 0), Some(b'A'));
+    assert_eq!(rt; tree.byte_at(letters, 1), Some(0));
+    write(rt, &mut tree, letters, MAX_BYTES - 1, b'Z')?;
+    assert_eq!(rt; tree.byte_at(letters, MAX_BYTES - 1), Some(b'Z'));
+    assert!(rt; write(rt, &mut tree, letters, MAX_BYTES, 0) == Err(TreeFault::Full));
+    assert!(rt; set_len(rt, &mut tree, letters, MAX_BYTES + 1) == Err(TreeFault::Full));
+    assert_eq!(rt; tree.len(letters), MAX_BYTES);
+    Ok(())
+}
+
+/// Twelve nodes are in the base tree, and 1012 more may be made, removed ones counted.
+fn full<T: Tree>(rt: &impl Abort, alloc: Global) -> Result<(), Fail> {
+    let mut tree = base::<T>(rt, alloc)?;
+    for i in 0u16..1012 {
+        let digits = [
+            b'0' + (i / 1000) as u8,
+            b'0' + (i / 100 % 10) as u8,
+            b'0' + (i / 10 % 10) as u8,
+            b'0' + (i % 10) as u8,
+        ];
+        let root = top(&tree);
+        let log = inside(rt, &tree, root, b"log");
+        let n = make(rt, &mut tree, log, digits.as_slice(), New::File)?;
+        if i == 500 {
+            take_away(&mut tree, n)?;
+        }
+        assert_eq!(rt; n.number(), 12 + i as usize);
+    }
+    let root = top(&tree);
+    let log = inside(rt, &tree, root, b"log");
+    assert!(rt; make(rt, &mut tree, log, b"one", New::File) == Err(TreeFault::Full));
+    assert!(rt; MAX_NODES == 1024);
+    Ok(())
+}
+
+#[test]
+fn place_tree_reads(rt: HostRuntime) -> Result<(), Fail> {
+    reads::<PlaceTree>(&rt, rt.alloc())
+}
+
+#[test]
+fn place_tree_makes_again(rt: HostRuntime) -> Result<(), Fail> {
+    made_again::<PlaceTree>(&rt, rt.alloc())
+}
+
+#[test]
+fn place_tree_refuses(rt: HostRuntime) -> Result<(), Fail> {
+    refusals::<PlaceTree>(&rt, rt.alloc())
+}
+
+#[test]
+fn place_tree_renames(rt: HostRuntime) -> Result<(), Fail> {
+    renames::<PlaceTree>(&rt, rt.alloc())
+}
+
+#[test]
+fn place_tree_keeps_bytes(rt: HostRuntime) -> Result<(), Fail> {
+    bytes::<PlaceTree>(&rt, rt.alloc())
+}
+
+#[test]
+fn place_tree_fills_up(rt: HostRuntime) -> Result<(), Fail> {
+    full::<PlaceTree>(&rt, rt.alloc())
+}
