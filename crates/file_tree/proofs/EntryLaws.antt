@@ -1,5 +1,5 @@
 -- What an entry of the plain list says of its node.
-use Rattle.std.proofs.Common.{◌≡◌, ℕ, ◌<◌, ◌-◌, List, [], ◌∷◌, Bool, true, false, Vec, Global, Result, Ok, Err, slice_set, replicate, ◌++◌, length, take, get_or, ap, sym, ◌∙◌, refl, arith}
+use Rattle.std.proofs.Common.{◌≡◌, ℕ, ◌<◌, ◌-◌, List, [], ◌∷◌, true, Vec, Global, Result, Ok, Err, slice_set, replicate, ◌++◌, length, take, get_or, ap, sym, ◌∙◌, refl, arith}
 use Rattle.std.proofs.lemmas.List.{get_or-map, length-map, take-map, map-set}
 use Rattle.std.proofs.Math.Seq.{map-set_same}
 use Rattle.std.specs.Prelude.{vec_len, OnErr}

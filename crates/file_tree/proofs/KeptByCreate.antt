@@ -1,14 +1,13 @@
 -- A list that is a tree stays one when a node is made, removed or given another content. This is of the lists
 -- alone, so that each way to keep a tree rests on it.
-use Rattle.std.proofs.Common.{◌≡◌, ℕ, zero, suc, ◌<◌, ◌≤◌, ◌+◌, ◌-◌, ◌⊎◌, inl, inr, List, [], ◌∷◌, ◌++◌, Bool, true, false, Option, Some, None, length, drop, ap, sym, ◌∙◌, refl, arith, cond, length-append, subst}
-use Rattle.std.specs.Prelude.{◌≢◌}
+use Rattle.std.proofs.Common.{◌≡◌, ℕ, zero, suc, ◌<◌, ◌+◌, ◌⊎◌, inl, inr, List, [], ◌∷◌, ◌++◌, Bool, true, false, None, length, drop, ap, sym, ◌∙◌, refl, arith, length-append}
 use Rattle.std.specs.List.{list_all}
 use Rattle.std.specs.Cmp.Derive.{both_true}
 use Rattle.std.proofs.lemmas.List.{get_or_append_left}
 use Rattle.std.proofs.lemmas.Bool.{and_parts, both_ways, ltb-true, not-false}
 use Rattle.file_tree.specs.Places.{is_name, at_name, above}
 use Rattle.file_tree.specs.Nodes.{Kind, Dir, Node, node, nowhere, node_at, stands_at}
-use Rattle.file_tree.specs.Changes.{Fault, most_nodes, created, create_fault}
+use Rattle.file_tree.specs.Changes.{most_nodes, created, create_fault}
 use Rattle.file_tree.specs.WellFormed.{IsTree, is_held, is_within_limits, is_content, is_byte}
 use Rattle.file_tree.proofs.PlaceLaws.{above_at_name}
 use Rattle.file_tree.proofs.NodeLaws.{linked_there, stands_from, node_at_none, Directory, held_above, held_from, more_cases, passed, passed_last, none_from}

@@ -1,15 +1,15 @@
 -- A list that is a tree stays one when a file gets another content. This is of the lists alone.
-use Rattle.std.proofs.Common.{◌≡◌, ℕ, zero, suc, ◌<◌, ◌≤◌, ◌+◌, ◌-◌, ◌⊎◌, inl, inr, List, [], ◌∷◌, ◌++◌, Bool, true, false, Option, None, length, take, drop, replicate, slice_set, ap, sym, ◌∙◌, refl, arith, length-set, length-append, length-take, length-drop}
+use Rattle.std.proofs.Common.{◌≡◌, ℕ, zero, suc, ◌<◌, ◌≤◌, ◌+◌, ◌-◌, inl, inr, List, [], ◌∷◌, Bool, true, None, length, take, drop, replicate, ap, sym, ◌∙◌, refl, arith, length-append, length-take, length-drop}
 use Rattle.std.specs.List.{list_all}
 use Rattle.std.specs.Cmp.Derive.{both_true}
 use Rattle.std.proofs.lemmas.Bool.{and_parts, ltb-true, leb-true, le-leb, lt-ltb, ltb-false}
 use Rattle.std.proofs.lemmas.List.{length-replicate}
-use Rattle.file_tree.specs.Nodes.{Kind, File, Node, node}
+use Rattle.file_tree.specs.Nodes.{File, Node, node}
 use Rattle.file_tree.specs.Changes.{most_bytes, filled, written, resized, put_byte_fault, truncate_fault}
-use Rattle.file_tree.specs.WellFormed.{IsTree, is_held, is_within_limits, is_content, is_byte}
+use Rattle.file_tree.specs.WellFormed.{IsTree, is_within_limits, is_byte}
 use Rattle.file_tree.proofs.NodeLaws.{Directory, held_above, held_from, set_cases, passed, passed_last}
 use Rattle.file_tree.proofs.TreeLaws.{filled_length}
-use Rattle.file_tree.proofs.KeptByCreate.{Limits, limits_of, limits_from, all_of_both, all_after}
+use Rattle.file_tree.proofs.KeptByCreate.{limits_of, limits_from, all_of_both, all_after}
 
 -- one node has the kind, the place and the link of another
 record SameFrame (m k : Node) : Type 0 where

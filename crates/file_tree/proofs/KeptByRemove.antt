@@ -1,15 +1,15 @@
 -- A list that is a tree stays one when a node is removed. This is of the lists alone.
-use Rattle.std.proofs.Common.{◌≡◌, ℕ, ◌<◌, ◌≤◌, ◌+◌, ◌-◌, ◌⊎◌, inl, inr, List, [], ◌∷◌, Bool, true, false, Option, Some, None, length, slice_set, ap, sym, ◌∙◌, refl, arith, length-set, subst}
-use Rattle.std.specs.Prelude.{◌≢◌, ◌||◌, not}
+use Rattle.std.proofs.Common.{◌≡◌, ℕ, ◌<◌, inl, inr, List, [], Bool, true, false, None, length, slice_set, ap, sym, ◌∙◌, refl, arith, length-set}
+use Rattle.std.specs.Prelude.{◌≢◌, ◌||◌}
 use Rattle.std.specs.Cmp.Derive.{both_true}
-use Rattle.std.proofs.lemmas.Bool.{and_parts, both_ways, not-false, cases_Bool}
+use Rattle.std.proofs.lemmas.Bool.{both_ways, not-false}
 use Rattle.file_tree.specs.Places.{same_place, begins, above}
-use Rattle.file_tree.specs.Nodes.{Kind, Dir, Node, node, lies_below, has_below}
+use Rattle.file_tree.specs.Nodes.{Node, node, lies_below, has_below}
 use Rattle.file_tree.specs.Changes.{unlinked, removed, remove_fault, is_root}
 use Rattle.file_tree.specs.WellFormed.{IsTree, is_held, is_within_limits}
 use Rattle.file_tree.proofs.PlaceLaws.{same_place_from, begins_above, above_length, longer_place}
 use Rattle.file_tree.proofs.NodeLaws.{linked_there, none_at, Directory, held_above, held_from, set_cases, passed}
-use Rattle.file_tree.proofs.KeptByCreate.{Limits, limits_of, limits_from, same_directory}
+use Rattle.file_tree.proofs.KeptByCreate.{limits_of, limits_from, same_directory}
 
 -- what may be removed: a linked node but the root with nothing below it
 pub record MayRemove (t : List Node) (n : ℕ) : Type 0 where

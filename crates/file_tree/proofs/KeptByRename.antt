@@ -1,6 +1,6 @@
 -- A list that is a tree stays one when a node is renamed. This is of the lists alone.
-use Rattle.std.proofs.Common.{◌≡◌, ℕ, ◌<◌, ◌≤◌, ◌+◌, ◌-◌, ◌⊎◌, inl, inr, List, [], ◌∷◌, ◌++◌, Bool, true, false, Option, Some, None, length, drop, map, ap, sym, ◌∙◌, refl, arith, cond, length-drop, subst, append-nil}
-use Rattle.std.specs.Prelude.{◌≢◌, not, ◌&&◌}
+use Rattle.std.proofs.Common.{◌≡◌, ℕ, ◌<◌, ◌⊎◌, inl, inr, List, [], ◌∷◌, ◌++◌, Bool, true, false, Option, Some, None, length, drop, map, ap, sym, ◌∙◌, refl, arith, cond, length-drop, subst, append-nil}
+use Rattle.std.specs.Prelude.{not, ◌&&◌}
 use Rattle.std.specs.List.{list_all}
 use Rattle.std.specs.Cmp.Derive.{both_true}
 use Rattle.std.proofs.lemmas.List.{length-map}
@@ -8,11 +8,11 @@ use Rattle.std.proofs.Math.ListN.{get_or-map}
 use Rattle.std.proofs.Math.Seq.{drop-append_seam, drop-length}
 use Rattle.std.proofs.lemmas.Bool.{and_parts, both_ways, not-false, cases_Bool, cond_both, false_from_ne_true}
 use Rattle.file_tree.specs.Places.{is_name, same_place, begins, at_name, above}
-use Rattle.file_tree.specs.Nodes.{Kind, Dir, Node, node, nowhere, stands_at, lies_below, has_below}
+use Rattle.file_tree.specs.Nodes.{Dir, Node, node, nowhere, stands_at, lies_below, has_below}
 use Rattle.file_tree.specs.Changes.{Fault, NotEmpty, IntoItself, Gone, unlinked, moved, replaced_at, renamed, rename_fault}
 use Rattle.file_tree.specs.WellFormed.{IsTree, is_held, is_within_limits}
-use Rattle.file_tree.proofs.PlaceLaws.{same_place_is, same_place_from, begins_is, begins_from, begins_refl, begins_trans, begins_above, begins_above_other, begins_append, begins_longer, rest_same, above_append, above_at_name, at_name_length}
-use Rattle.file_tree.proofs.NodeLaws.{linked_there, stands_from, none_at, Directory, held_above, held_from, passed}
+use Rattle.file_tree.proofs.PlaceLaws.{same_place_is, begins_is, begins_from, begins_trans, begins_above, begins_above_other, begins_append, begins_longer, rest_same, above_append, above_at_name, at_name_length}
+use Rattle.file_tree.proofs.NodeLaws.{none_at, Directory, held_above, held_from, passed}
 use Rattle.file_tree.proofs.KeptByCreate.{Limits, limits_of, limits_from, same_directory, all_of_both, all_after, names_kept}
 
 -- what may be renamed: a linked node into a linked directory, to its own place, or to one that isn't below it

@@ -1,6 +1,6 @@
 -- Laws of the nodes of a list and of what stands at a place.
-use Rattle.std.proofs.Common.{◌≡◌, ℕ, zero, suc, ◌<◌, ◌≤◌, ◌+◌, ◌-◌, ◌⊎◌, inl, inr, List, [], ◌∷◌, ◌++◌, Bool, true, false, Option, Some, None, length, get_or, slice_set, map, ap, sym, ◌∙◌, refl, arith, cond}
-use Rattle.std.specs.Prelude.{◌≢◌, ◌||◌, is_some}
+use Rattle.std.proofs.Common.{◌≡◌, ℕ, zero, suc, ◌<◌, ◌≤◌, ◌+◌, ◌-◌, ◌⊎◌, inl, inr, List, [], ◌∷◌, ◌++◌, Bool, true, false, Option, Some, None, length, slice_set, ap, sym, ◌∙◌, refl, arith, cond}
+use Rattle.std.specs.Prelude.{◌≢◌, is_some}
 use Rattle.std.specs.List.{list_any}
 use Rattle.std.proofs.lemmas.Bool.{and_parts, cases_Bool}
 use Rattle.std.proofs.lemmas.Bool.Decides.{eqb_tells}

@@ -1,5 +1,5 @@
 -- How a path is read byte by byte.
-use Rattle.std.proofs.Common.{◌≡◌, ℕ, suc, ◌<◌, ◌≤◌, ◌-◌, ◌+◌, List, [], ◌∷◌, ◌++◌, Bool, true, false, length, take, drop, get_or, ap, sym, ◌∙◌, refl, arith, nat_eq, get_or-drop, length-drop}
+use Rattle.std.proofs.Common.{◌≡◌, ℕ, ◌<◌, ◌≤◌, ◌-◌, ◌+◌, List, [], ◌∷◌, ◌++◌, Bool, false, length, take, drop, get_or, ap, sym, ◌∙◌, refl, arith, nat_eq, get_or-drop, length-drop}
 use Rattle.std.specs.Prelude.{◌≢◌, ◌&&◌, nat_le}
 use Rattle.std.proofs.lemmas.Bool.{eq-eqb, ne_eqb, lt-leb, cond_both}
 use Rattle.std.proofs.lemmas.List.{drop_more, take_more}

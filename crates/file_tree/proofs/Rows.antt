@@ -1,8 +1,8 @@
 -- Rows of the definitions: the values of worked examples, which the definitions compute.
-use Rattle.std.specs.Prelude.{◌≡◌, ℕ, ◌+◌, Bool, true, false, List, [], ◌∷◌, ◌++◌, Option, Some, None, codes, replicate, length, refl}
+use Rattle.std.specs.Prelude.{◌≡◌, true, false, List, [], ◌∷◌, ◌++◌, Some, None, codes, replicate, length, refl}
 use Rattle.file_tree.specs.Places.{begins, place_text, path_components, is_name, is_target}
-use Rattle.file_tree.specs.Nodes.{Kind, File, Dir, Link, Node, node, nowhere, node_at, child_of, parent_of, target_of, byte_of}
-use Rattle.file_tree.specs.Changes.{Fault, Exists, NotEmpty, Full, IntoItself, Gone, new_tree, created, create_fault, removed, remove_fault, renamed, rename_fault, written, resized, filled, put_byte_fault, truncate_fault}
+use Rattle.file_tree.specs.Nodes.{File, Dir, Link, Node, node, nowhere, node_at, child_of, parent_of, target_of, byte_of}
+use Rattle.file_tree.specs.Changes.{Exists, NotEmpty, Full, IntoItself, Gone, new_tree, created, create_fault, removed, remove_fault, renamed, rename_fault, written, resized, put_byte_fault, truncate_fault}
 
 -- Directories `/work` with `in`, `out` and three links, `/workshop` with `x`, `/log`, and `/etc` with
 -- `passwd`: eleven nodes after the root.

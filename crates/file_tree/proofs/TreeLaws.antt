@@ -1,13 +1,13 @@
 -- What holds of a list of nodes that is a tree, and after a change, node by node: what callers need of the
 -- definitions, which do not unfold by themselves.
-use Rattle.std.proofs.Common.{◌≡◌, ℕ, ◌<◌, ◌≤◌, ◌+◌, ◌-◌, ◌⊎◌, inl, inr, List, [], ◌∷◌, ◌++◌, Bool, true, false, Option, Some, None, length, slice_set, map, ap, sym, ◌∙◌, refl, arith, cond, length-append, length-set}
+use Rattle.std.proofs.Common.{◌≡◌, ℕ, ◌<◌, ◌+◌, ◌⊎◌, inl, inr, List, [], ◌∷◌, true, false, Option, Some, None, length, ap, sym, ◌∙◌, refl, length-append, length-set}
 use Rattle.std.specs.Prelude.{◌≢◌}
 use Rattle.std.proofs.lemmas.Bool.{both_ways, cases_Bool}
 use Rattle.std.proofs.lemmas.List.{get_or-set_same, get_or-set_other, length-map}
 use Rattle.std.proofs.Math.Seq.{get_or-append_seam}
 use Rattle.std.proofs.Math.ListN.{get_or-map}
 use Rattle.file_tree.specs.Places.{same_place, at_name, above}
-use Rattle.file_tree.specs.Nodes.{Kind, Dir, Node, node, nowhere, stands_at, node_at, child_of, parent_of, holder_at}
+use Rattle.file_tree.specs.Nodes.{Kind, Node, node, nowhere, node_at, child_of, parent_of, holder_at}
 use Rattle.file_tree.specs.Changes.{created, removed, filled, renamed, moved, replaced_at, unlinked}
 use Rattle.file_tree.specs.WellFormed.{IsTree}
 use Rattle.file_tree.proofs.NodeLaws.{linked_there, stands_is, stands_from, node_at_found, node_at_none}

@@ -1,6 +1,5 @@
 -- What the values of the code stand for.
 use Rattle.std.specs.Prelude.{◌≡◌, ◌≢◌, ℕ, Bool, true, List, [], map, Option, Some, None, Vec}
-use Rattle.std.specs.Borrow.{Bor}
 use Rattle.file_tree.specs.declared.nodes.Kind.{Kind as KindCode}
 use Rattle.file_tree.specs.declared.nodes.Kind.TheVariants as kind
 use Rattle.file_tree.specs.declared.nodes.New.{New}

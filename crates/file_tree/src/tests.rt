@@ -4,8 +4,7 @@
 ghost use Rattle.std.specs.Prelude.{◌≡◌, ◌<◌, ◌≤◌, length, IfOk, OnOk};
 
 use crate::{
-    Kind, MAX_BYTES, MAX_NODES, New, NodeId, PlaceTree, Tree, TreeFault, is_valid_name,
-    is_valid_target,
+    Kind, MAX_BYTES, New, NodeId, PlaceTree, Tree, TreeFault, is_valid_name, is_valid_target,
 };
 use std::alloc::Global;
 use std::process::Abort;
@@ -138,38 +137,48 @@ fn base<T: Tree>(rt: &impl Abort, alloc: Global) -> Result<T, TreeFault> {
     Ok(tree)
 }
 
-/// What the calls that change nothing say of the base tree.
-fn reads<T: Tree>(rt: &impl Abort, alloc: Global) -> Result<(), Fail> {
+/// Whether a node's place is that text.
+fn stands<T: Tree>(alloc: Global, tree: &T, n: NodeId, text: &[u8]) -> Result<bool, TreeFault>
+    requires { n < length (T.nodes tree.now) }
+{
+    Ok(place(alloc, tree, n)?.as_slice() == text)
+}
+
+/// What a directory, a file and a link of the base tree are.
+fn kinds<T: Tree>(rt: &impl Abort, alloc: Global) -> Result<(), Fail> {
     let tree = base::<T>(rt, alloc)?;
     let root = top(&tree);
     let work = inside(rt, &tree, root, b"work");
     let letters = inside(rt, &tree, work, b"in");
     let same = inside(rt, &tree, work, b"same");
-    assert_eq!(rt; tree.kind(work), Kind::Dir);
-    assert_eq!(rt; tree.kind(letters), Kind::File);
-    assert_eq!(rt; tree.kind(same), Kind::Link);
+    assert!(rt; tree.kind(work) == Kind::Dir);
+    assert!(rt; tree.kind(letters) == Kind::File);
+    assert!(rt; tree.kind(same) == Kind::Link);
+    assert!(rt; tree.target(letters).is_none());
+    assert!(rt; tree.target(same).expect(rt, "a target") == b"out/../in".as_slice());
+    assert!(rt; tree.len(letters) == 2);
+    assert!(rt; tree.byte_at(letters, 1) == Some(b'B'));
+    assert!(rt; tree.byte_at(letters, 2).is_none());
+    Ok(())
+}
+
+/// Where they stand.
+fn places<T: Tree>(rt: &impl Abort, alloc: Global) -> Result<(), Fail> {
+    let tree = base::<T>(rt, alloc)?;
+    let root = top(&tree);
+    let work = inside(rt, &tree, root, b"work");
+    let letters = inside(rt, &tree, work, b"in");
     assert!(rt; tree.is_linked(root));
     assert!(rt; tree.parent(root).is_none());
     assert!(rt; tree.parent(letters) == Some(work));
     assert!(rt; tree.child(work, b"nope").is_none());
     assert!(rt; tree.child(work, b"..").is_none());
-    assert!(rt; tree.target(letters).is_none());
-    assert_eq!(rt;
-        tree.target(same).expect(rt, "a target"),
-        b"out/../in".as_slice()
-    );
-    assert_eq!(rt; tree.len(letters), 2);
-    assert_eq!(rt; tree.byte_at(letters, 1), Some(b'B'));
-    assert_eq!(rt; tree.byte_at(letters, 2), None);
-    assert_eq!(rt; place(alloc, &tree, root)?.as_slice(), b"/".as_slice());
-    assert_eq!(rt;
-        place(alloc, &tree, letters)?.as_slice(),
-        b"/work/in".as_slice()
-    );
+    assert!(rt; stands(alloc, &tree, root, b"/")?);
+    assert!(rt; stands(alloc, &tree, letters, b"/work/in")?);
     Ok(())
 }
 
-/// A removed node keeps its place and is gone, though its name is taken again.
+/// A removed node keeps its place, though its name is taken again.
 fn made_again<T: Tree>(rt: &impl Abort, alloc: Global) -> Result<(), Fail> {
     let mut tree = base::<T>(rt, alloc)?;
     let root = top(&tree);
@@ -179,22 +188,27 @@ fn made_again<T: Tree>(rt: &impl Abort, alloc: Global) -> Result<(), Fail> {
     assert!(rt; tree.child(work, b"out").is_none());
     let again = make(rt, &mut tree, work, b"out", New::Dir)?;
     let inner = make(rt, &mut tree, again, b"f", New::File)?;
-    assert_eq!(rt;
-        place(alloc, &tree, first)?.as_slice(),
-        b"/work/out".as_slice()
-    );
-    assert_eq!(rt;
-        place(alloc, &tree, inner)?.as_slice(),
-        b"/work/out/f".as_slice()
-    );
+    assert!(rt; stands(alloc, &tree, first, b"/work/out")?);
+    assert!(rt; stands(alloc, &tree, inner, b"/work/out/f")?);
     assert!(rt; !tree.is_linked(first));
     assert!(rt; tree.parent(first).is_none());
     assert!(rt; tree.child(first, b"f").is_none());
     assert!(rt; tree.child(work, b"out") == Some(again));
-    assert!(rt; make(rt, &mut tree, first, b"g", New::File) == Err(TreeFault::Gone));
-    assert!(rt; take_away(&mut tree, first) == Err(TreeFault::Gone));
-    assert!(rt; move_to(rt, &mut tree, first, root, b"g") == Err(TreeFault::Gone));
-    assert!(rt; move_to(rt, &mut tree, inner, first, b"g") == Err(TreeFault::Gone));
+    Ok(())
+}
+
+/// Nothing is done in, to or into a removed directory.
+fn gone<T: Tree>(rt: &impl Abort, alloc: Global) -> Result<(), Fail> {
+    let mut tree = base::<T>(rt, alloc)?;
+    let root = top(&tree);
+    let work = inside(rt, &tree, root, b"work");
+    let letters = inside(rt, &tree, work, b"in");
+    let out = inside(rt, &tree, work, b"out");
+    take_away(&mut tree, out)?;
+    assert!(rt; make(rt, &mut tree, out, b"g", New::File) == Err(TreeFault::Gone));
+    assert!(rt; take_away(&mut tree, out) == Err(TreeFault::Gone));
+    assert!(rt; move_to(rt, &mut tree, out, root, b"g") == Err(TreeFault::Gone));
+    assert!(rt; move_to(rt, &mut tree, letters, out, b"g") == Err(TreeFault::Gone));
     Ok(())
 }
 
@@ -214,120 +228,130 @@ fn refusals<T: Tree>(rt: &impl Abort, alloc: Global) -> Result<(), Fail> {
     Ok(())
 }
 
-/// A rename moves what is below, by names, and nothing else.
-fn renames<T: Tree>(rt: &impl Abort, alloc: Global) -> Result<(), Fail> {
+/// A rename moves what is below, by names, and no removed node.
+fn moves_below<T: Tree>(rt: &impl Abort, alloc: Global) -> Result<(), Fail> {
     let mut tree = base::<T>(rt, alloc)?;
     let root = top(&tree);
     let work = inside(rt, &tree, root, b"work");
     let letters = inside(rt, &tree, work, b"in");
-    let out = inside(rt, &tree, work, b"out");
-    let log = inside(rt, &tree, root, b"log");
     let workshop = inside(rt, &tree, root, b"workshop");
     let x = inside(rt, &tree, workshop, b"x");
-    assert!(rt; !tree.place_begins(x, b"/work"));
-    assert!(rt; tree.place_begins(letters, b"/work"));
-    assert!(rt; tree.place_begins(letters, b"/"));
-    let removed = make(rt, &mut tree, work, b"old", New::File)?;
-    take_away(&mut tree, removed)?;
+    let out = inside(rt, &tree, work, b"out");
+    take_away(&mut tree, out)?;
     move_to(rt, &mut tree, work, root, b"w2")?;
-    assert_eq!(rt;
-        place(alloc, &tree, x)?.as_slice(),
-        b"/workshop/x".as_slice()
-    );
-    assert_eq!(rt;
-        place(alloc, &tree, letters)?.as_slice(),
-        b"/w2/in".as_slice()
-    );
-    assert_eq!(rt;
-        place(alloc, &tree, removed)?.as_slice(),
-        b"/work/old".as_slice()
-    );
+    assert!(rt; stands(alloc, &tree, x, b"/workshop/x")?);
+    assert!(rt; stands(alloc, &tree, letters, b"/w2/in")?);
+    assert!(rt; stands(alloc, &tree, out, b"/work/out")?);
     assert!(rt; tree.place_begins(letters, b"/w2"));
     assert!(rt; !tree.place_begins(letters, b"/work"));
-    move_to(rt, &mut tree, log, work, b"out")?;
-    assert_eq!(rt; place(alloc, &tree, log)?.as_slice(), b"/w2/out".as_slice());
-    assert!(rt; !tree.is_linked(out));
-    assert!(rt; tree.child(work, b"out") == Some(log));
-    move_to(rt, &mut tree, log, work, b"out")?;
-    assert!(rt; tree.is_linked(log));
     Ok(())
 }
 
-/// A file's bytes, up to its limit.
-fn bytes<T: Tree>(rt: &impl Abort, alloc: Global) -> Result<(), Fail> {
+/// Fronts go by names.
+fn fronts<T: Tree>(rt: &impl Abort, alloc: Global) -> Result<(), Fail> {
+    let tree = base::<T>(rt, alloc)?;
+    let root = top(&tree);
+    let work = inside(rt, &tree, root, b"work");
+    let letters = inside(rt, &tree, work, b"in");
+    let workshop = inside(rt, &tree, root, b"workshop");
+    assert!(rt; !tree.place_begins(workshop, b"/work"));
+    assert!(rt; tree.place_begins(letters, b"/work"));
+    assert!(rt; tree.place_begins(letters, b"/"));
+    assert!(rt; !tree.place_begins(work, b"/work/in"));
+    Ok(())
+}
+
+/// A rename over an empty directory removes it, and one to its own place changes nothing.
+fn moves_over<T: Tree>(rt: &impl Abort, alloc: Global) -> Result<(), Fail> {
+    let mut tree = base::<T>(rt, alloc)?;
+    let root = top(&tree);
+    let work = inside(rt, &tree, root, b"work");
+    let out = inside(rt, &tree, work, b"out");
+    let log = inside(rt, &tree, root, b"log");
+    move_to(rt, &mut tree, log, work, b"out")?;
+    move_to(rt, &mut tree, log, work, b"out")?;
+    assert!(rt; stands(alloc, &tree, log, b"/work/out")?);
+    assert!(rt; !tree.is_linked(out));
+    assert!(rt; tree.is_linked(log));
+    assert!(rt; tree.child(work, b"out") == Some(log));
+    Ok(())
+}
+
+/// A gap before a byte, and what a file is filled up with, are zeros.
+fn zeros<T: Tree>(rt: &impl Abort, alloc: Global) -> Result<(), Fail> {
     let mut tree = base::<T>(rt, alloc)?;
     let root = top(&tree);
     let work = inside(rt, &tree, root, b"work");
     let letters = inside(rt, &tree, work, b"in");
     write(rt, &mut tree, letters, 4, b'C')?;
-    assert_eq!(rt; tree.len(letters), 5);
-    assert_eq!(rt; tree.byte_at(letters, 1), Some(b'B'));
-    assert_eq!(rt; tree.byte_at(letters, 3), Some(0));
-    assert_eq!(rt; tree.byte_at(letters, 4), Some(b'C'));
+    assert!(rt; tree.len(letters) == 5);
+    assert!(rt; tree.byte_at(letters, 1) == Some(b'B'));
+    assert!(rt; tree.byte_at(letters, 3) == Some(0));
+    assert!(rt; tree.byte_at(letters, 4) == Some(b'C'));
     set_len(rt, &mut tree, letters, 1)?;
     set_len(rt, &mut tree, letters, 3)?;
-    assert_eq!(rt; tree.len(letters), 3);
-    assert_eq!(rt; tree.byte_at(letters, 0), Some(b'A'));
-    assert_eq!(rt; tree.byte_at(letters, 1), Some(0));
-    write(rt, &mut tree, letters, MAX_BYTES - 1, b'Z')?;
-    assert_eq!(rt; tree.byte_at(letters, MAX_BYTES - 1), Some(b'Z'));
-    assert!(rt; write(rt, &mut tree, letters, MAX_BYTES, 0) == Err(TreeFault::Full));
-    assert!(rt; set_len(rt, &mut tree, letters, MAX_BYTES + 1) == Err(TreeFault::Full));
-    assert_eq!(rt; tree.len(letters), MAX_BYTES);
+    assert!(rt; tree.len(letters) == 3);
+    assert!(rt; tree.byte_at(letters, 1) == Some(0));
     Ok(())
 }
 
-/// Twelve nodes are in the base tree, and 1012 more may be made, removed ones counted.
+/// A file's last byte, and the one past it.
+fn last_byte<T: Tree>(rt: &impl Abort, alloc: Global) -> Result<(), Fail> {
+    let mut tree = base::<T>(rt, alloc)?;
+    let root = top(&tree);
+    let work = inside(rt, &tree, root, b"work");
+    let letters = inside(rt, &tree, work, b"in");
+    write(rt, &mut tree, letters, MAX_BYTES - 1, b'Z')?;
+    assert!(rt; tree.byte_at(letters, MAX_BYTES - 1) == Some(b'Z'));
+    assert!(rt; write(rt, &mut tree, letters, MAX_BYTES, 0) == Err(TreeFault::Full));
+    assert!(rt; set_len(rt, &mut tree, letters, MAX_BYTES + 1) == Err(TreeFault::Full));
+    assert!(rt; tree.len(letters) == MAX_BYTES);
+    Ok(())
+}
+
+/// A name of four digits.
+fn digits(i: u16) -> [u8; 4] {
+    [
+        b'0' + (i / 1000 % 10) as u8,
+        b'0' + (i / 100 % 10) as u8,
+        b'0' + (i / 10 % 10) as u8,
+        b'0' + (i % 10) as u8,
+    ]
+}
+
+/// Twelve nodes are in the base tree, and 1012 more may be made.
 fn full<T: Tree>(rt: &impl Abort, alloc: Global) -> Result<(), Fail> {
     let mut tree = base::<T>(rt, alloc)?;
     for i in 0u16..1012 {
-        let digits = [
-            b'0' + (i / 1000) as u8,
-            b'0' + (i / 100 % 10) as u8,
-            b'0' + (i / 10 % 10) as u8,
-            b'0' + (i % 10) as u8,
-        ];
         let root = top(&tree);
         let log = inside(rt, &tree, root, b"log");
-        let n = make(rt, &mut tree, log, digits.as_slice(), New::File)?;
+        let n = make(rt, &mut tree, log, digits(i).as_slice(), New::File)?;
         if i == 500 {
             take_away(&mut tree, n)?;
         }
-        assert_eq!(rt; n.number(), 12 + i as usize);
     }
     let root = top(&tree);
     let log = inside(rt, &tree, root, b"log");
     assert!(rt; make(rt, &mut tree, log, b"one", New::File) == Err(TreeFault::Full));
-    assert!(rt; MAX_NODES == 1024);
     Ok(())
 }
 
-#[test]
-fn place_tree_reads(rt: HostRuntime) -> Result<(), Fail> {
-    reads::<PlaceTree>(&rt, rt.alloc())
+/// All rows, on one way to keep a tree.
+fn rows<T: Tree>(rt: &impl Abort, alloc: Global) -> Result<(), Fail> {
+    kinds::<T>(rt, alloc)?;
+    places::<T>(rt, alloc)?;
+    made_again::<T>(rt, alloc)?;
+    gone::<T>(rt, alloc)?;
+    refusals::<T>(rt, alloc)?;
+    moves_below::<T>(rt, alloc)?;
+    fronts::<T>(rt, alloc)?;
+    moves_over::<T>(rt, alloc)?;
+    zeros::<T>(rt, alloc)?;
+    last_byte::<T>(rt, alloc)?;
+    full::<T>(rt, alloc)
 }
 
 #[test]
-fn place_tree_makes_again(rt: HostRuntime) -> Result<(), Fail> {
-    made_again::<PlaceTree>(&rt, rt.alloc())
-}
-
-#[test]
-fn place_tree_refuses(rt: HostRuntime) -> Result<(), Fail> {
-    refusals::<PlaceTree>(&rt, rt.alloc())
-}
-
-#[test]
-fn place_tree_renames(rt: HostRuntime) -> Result<(), Fail> {
-    renames::<PlaceTree>(&rt, rt.alloc())
-}
-
-#[test]
-fn place_tree_keeps_bytes(rt: HostRuntime) -> Result<(), Fail> {
-    bytes::<PlaceTree>(&rt, rt.alloc())
-}
-
-#[test]
-fn place_tree_fills_up(rt: HostRuntime) -> Result<(), Fail> {
-    full::<PlaceTree>(&rt, rt.alloc())
+fn place_tree_has_the_rows(rt: HostRuntime) -> Result<(), Fail> {
+    rows::<PlaceTree>(&rt, rt.alloc())
 }

@@ -1,4 +1,4 @@
-use Rattle.std.proofs.Common.{◌≡◌, ◌++◌, sym, ◌∙◌, ap, length, drop}
+use Rattle.std.proofs.Common.{◌++◌, sym, ap, length}
 use Rattle.std.proofs.lemmas.List.{take_rest, drop-map, length-map}
 use Rattle.file_tree.specs.Views.{names_of}
 use Rattle.file_tree.proofs.changes.moved_place.Goals as goal

@@ -1,4 +1,4 @@
-use Rattle.std.proofs.Common.{◌≡◌, sym, ◌∙◌, ap}
+use Rattle.std.proofs.Common.{sym, ◌∙◌, ap}
 use Rattle.file_tree.specs.Nodes.{Node}
 use Rattle.file_tree.specs.Changes.{written}
 use Rattle.file_tree.proofs.EntryLaws.{entry_kept, entry_filled, entry_node, in_items, on_err, same_content}

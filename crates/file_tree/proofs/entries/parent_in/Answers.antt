@@ -1,4 +1,4 @@
-use Rattle.std.proofs.Common.{◌≡◌, ◌<◌, length, arith, sym, ◌∙◌}
+use Rattle.std.proofs.Common.{◌<◌, length, arith, sym, ◌∙◌}
 use Rattle.std.proofs.lemmas.Bool.{eqb-false}
 use Rattle.file_tree.proofs.EntryLaws.{parent_in_entries}
 use Rattle.file_tree.proofs.entries.parent_in.Goals as goal

@@ -1,4 +1,4 @@
-use Rattle.std.proofs.Common.{◌≡◌, ◌≤◌, sym, ◌∙◌, arith}
+use Rattle.std.proofs.Common.{◌≤◌, sym, ◌∙◌, arith}
 use Rattle.file_tree.proofs.PathLaws.{long_at}
 use Rattle.file_tree.proofs.names.has_short_names.Goals as goal
 

@@ -1,4 +1,4 @@
-use Rattle.std.proofs.Common.{ap, sym, ◌∙◌, arith, ◌+◌}
+use Rattle.std.proofs.Common.{arith}
 use Rattle.file_tree.specs.Views.{names_of}
 use Rattle.file_tree.proofs.PathLaws.{after_slash, after_byte}
 use Rattle.file_tree.proofs.places.begins_with_path.Goals as goal
