@@ -1,10 +1,11 @@
 -- What an entry of the plain list says of its node.
-use Rattle.std.proofs.Common.{◌≡◌, ℕ, ◌<◌, ◌-◌, List, [], ◌∷◌, true, Vec, Global, Result, Ok, Err, slice_set, replicate, ◌++◌, length, take, get_or, ap, sym, ◌∙◌, refl, arith}
+use Rattle.std.proofs.Common.{◌≡◌, ℕ, ◌<◌, ◌-◌, List, true, Vec, Global, Result, Ok, Err, slice_set, replicate, ◌++◌, length, take, get_or, ap, sym, ◌∙◌, arith}
 use Rattle.std.proofs.lemmas.List.{get_or-map, length-map, take-map, map-set}
 use Rattle.std.proofs.Math.Seq.{map-set_same}
 use Rattle.std.specs.Prelude.{vec_len, OnErr}
 use Rattle.file_tree.specs.Places.{above}
-use Rattle.file_tree.specs.Nodes.{Node, node, nowhere, node_at, holder_at, parent_of}
+use Rattle.file_tree.specs.Nodes.{Node, node, nowhere, node_at, parent_of}
+use Rattle.file_tree.proofs.TreeLaws.{parent_above}
 use Rattle.file_tree.specs.Changes.{unlinked, removed, filled, resized}
 use Rattle.file_tree.specs.Views.{names_of, node_of, nodes_of}
 use Rattle.file_tree.specs.declared.entries.Entry.{Entry}
@@ -12,16 +13,7 @@ use Rattle.file_tree.specs.declared.entries.Entry.{Entry}
 pub entry_node : (es : List Entry) (n : ℕ) (e : Entry) → n < length es → e ≡ get_or es n e → node (nodes_of es) n ≡ node_of e
 entry_node es n e there is = get_or-map node_of es n e nowhere there ∙ ap node_of (sym is)
 
-holder_above : (t : List Node) (p : List (List ℕ)) → 0 < length p → holder_at t p ≡ node_at t (above p)
-holder_above t [] h = absurd (omega arith)
-holder_above t (name ∷ p) h = refl
-
--- a linked node that isn't the root is held by what stands above its place
-pub parent_above : (t : List Node) (n : ℕ) → (node t n).linked ≡ true → 0 < length (node t n).place → parent_of t n ≡ node_at t (above (node t n).place)
-unfolding parent_of
-parent_above t n linked low = rw linked (holder_above t (node t n).place low)
-
--- the same, of an entry
+-- what holds the node of an entry
 pub parent_in_entries : (es : List Entry) (n : ℕ) (e : Entry) → n < length es → e ≡ get_or es n e → e.linked ≡ true → 0 < length e.place.items → parent_of (nodes_of es) n ≡ node_at (nodes_of es) (names_of (take (length e.place.items - 1) e.place.items))
 parent_in_entries es n e there is linked low =
     let at = entry_node es n e there is in

@@ -1,16 +1,17 @@
 -- What holds of a list of nodes that is a tree, and after a change, node by node: what callers need of the
 -- definitions, which do not unfold by themselves.
-use Rattle.std.proofs.Common.{◌≡◌, ℕ, ◌<◌, ◌+◌, ◌⊎◌, inl, inr, List, [], ◌∷◌, true, false, Option, Some, None, length, ap, sym, ◌∙◌, refl, length-append, length-set}
+use Rattle.std.proofs.Common.{◌≡◌, ℕ, ◌<◌, ◌+◌, ◌⊎◌, inl, inr, List, [], ◌∷◌, true, false, Option, Some, None, length, ap, sym, ◌∙◌, refl, length-append, length-set, arith}
 use Rattle.std.specs.Prelude.{◌≢◌}
 use Rattle.std.proofs.lemmas.Bool.{both_ways, cases_Bool}
 use Rattle.std.proofs.lemmas.List.{get_or-set_same, get_or-set_other, length-map}
 use Rattle.std.proofs.Math.Seq.{get_or-append_seam}
 use Rattle.std.proofs.Math.ListN.{get_or-map}
 use Rattle.file_tree.specs.Places.{same_place, at_name, above}
-use Rattle.file_tree.specs.Nodes.{Kind, Node, node, nowhere, node_at, child_of, parent_of, holder_at}
+use Rattle.file_tree.specs.Nodes.{Kind, Dir, Node, node, nowhere, node_at, child_of, parent_of, holder_at}
 use Rattle.file_tree.specs.Changes.{created, removed, filled, renamed, moved, replaced_at, unlinked}
 use Rattle.file_tree.specs.WellFormed.{IsTree}
-use Rattle.file_tree.proofs.NodeLaws.{linked_there, stands_is, stands_from, node_at_found, node_at_none}
+use Rattle.file_tree.proofs.NodeLaws.{linked_there, stands_is, stands_from, node_at_found, node_at_none, held_above}
+use Rattle.file_tree.proofs.PlaceLaws.{at_name_length, above_at_name}
 use Rattle.file_tree.proofs.KeptByCreate.{old_node}
 
 -- the root is there
@@ -65,18 +66,64 @@ pub no_child : (t : List Node) (d : ℕ) (name : List ℕ) → (node t d).linked
 unfolding child_of
 no_child t d name gone = rw gone refl
 
--- what holds a node: it is linked, at the place above
-pub parent_is : (t : List Node) (n d : ℕ) → parent_of t n ≡ Some d → ((node t n).linked ≡ true) × Found t (above (node t n).place) d
+-- What holds a node: the node is linked and isn't the root, and what holds it is linked, at the place above.
+pub record Parent (t : List Node) (n d : ℕ) : Type 0 where
+  pub linked : (node t n).linked ≡ true
+  pub low : 0 < length (node t n).place
+  pub holder : Found t (above (node t n).place) d
+
+pub parent_is : (t : List Node) (n d : ℕ) → parent_of t n ≡ Some d → Parent t n d
 unfolding parent_of
 parent_is t n d h = by_link (cases_Bool (node t n).linked)
   where
-    holder : (p : List (List ℕ)) → holder_at t p ≡ Some d → Found t (above p) d
+    holder : (p : List (List ℕ)) → holder_at t p ≡ Some d → (0 < length p) × Found t (above p) d
     holder [] g = cc
-    holder (name ∷ p) g = at_place t (above (name ∷ p)) d g
+    holder (name ∷ p) g = (omega arith, at_place t (above (name ∷ p)) d g)
 
-    by_link : ((node t n).linked ≡ true) ⊎ ((node t n).linked ≡ false) → ((node t n).linked ≡ true) × Found t (above (node t n).place) d
-    by_link (inl linked) = (linked, holder (node t n).place (rw linked at h))
+    by_link : ((node t n).linked ≡ true) ⊎ ((node t n).linked ≡ false) → Parent t n d
+    by_link (inl linked) =
+        let found = holder (node t n).place (rw linked at h) in
+        record { linked = linked; low = found.0; holder = found.1 }
     by_link (inr gone) = let none : None ≡ Some d = rw gone at h in cc
+
+holder_above : (t : List Node) (p : List (List ℕ)) → 0 < length p → holder_at t p ≡ node_at t (above p)
+holder_above t [] h = absurd (omega arith)
+holder_above t (name ∷ p) h = refl
+
+-- a linked node that isn't the root is held by what stands above its place
+pub parent_above : (t : List Node) (n : ℕ) → (node t n).linked ≡ true → 0 < length (node t n).place → parent_of t n ≡ node_at t (above (node t n).place)
+unfolding parent_of
+parent_above t n linked low = rw linked (holder_above t (node t n).place low)
+
+-- in a tree what stands above a node is a directory
+above_is_directory : (t : List Node) (n d : ℕ) → IsTree t → (node t n).linked ≡ true → 0 < length (node t n).place → (node t d).linked ≡ true → (node t d).place ≡ above (node t n).place → (node t d).kind ≡ Dir
+above_is_directory t n d tree linked low holder place =
+    let at = held_above t (node t n).place (tree.held n linked) low in
+    let same : at.number ≡ d = tree.apart at.number d at.linked holder (at.place ∙ sym place) in
+    sym (ap (λ k. (node t k).kind) same) ∙ at.kind
+
+pub parent_is_directory : (t : List Node) (n d : ℕ) → IsTree t → parent_of t n ≡ Some d → (node t d).kind ≡ Dir
+parent_is_directory t n d tree h =
+    let parent = parent_is t n d h in
+    above_is_directory t n d tree parent.linked parent.low parent.holder.linked parent.holder.place
+
+-- what has a child is a directory, and the child's parent
+child_low : (t : List Node) (d : ℕ) (name : List ℕ) (n : ℕ) → Child t d name n → (0 < length (node t n).place) × ((node t d).place ≡ above (node t n).place)
+child_low t d name n child =
+    let count : length (node t n).place ≡ length (node t d).place + 1 = ap length child.place ∙ at_name_length (node t d).place name in
+    (omega arith, sym (ap above child.place ∙ above_at_name (node t d).place name))
+
+pub child_holder : (t : List Node) (d : ℕ) (name : List ℕ) (n : ℕ) → IsTree t → child_of t d name ≡ Some n → (node t d).kind ≡ Dir
+child_holder t d name n tree h =
+    let child = child_is t d name n h in
+    let low = child_low t d name n child in
+    above_is_directory t n d tree child.linked low.0 child.holder low.1
+
+pub child_parent : (t : List Node) (d : ℕ) (name : List ℕ) (n : ℕ) → IsTree t → child_of t d name ≡ Some n → parent_of t n ≡ Some d
+child_parent t d name n tree h =
+    let child = child_is t d name n h in
+    let low = child_low t d name n child in
+    parent_above t n child.linked low.0 ∙ ap (node_at t) (sym low.1) ∙ node_at_its_place t d tree child.holder
 
 -- a node that is made stands behind the others, which stay
 pub created_length : (t : List Node) (d : ℕ) (name : List ℕ) (kind : Kind) (content : List ℕ) → length (created t d name kind content) ≡ length t + 1
