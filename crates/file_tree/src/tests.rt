@@ -351,7 +351,50 @@ fn rows<T: Tree>(rt: &impl Abort, alloc: Global) -> Result<(), Fail> {
     full::<T>(rt, alloc)
 }
 
+/// Each call that may take memory, in turn. Where a growth is refused, the tree is as it was, and the test
+/// ends: so it passes whichever allocation fails.
+fn growths<T: Tree>(rt: &impl Abort, alloc: Global) {
+    let Ok(mut tree) = T::new(alloc) else {
+        return;
+    };
+    let root = top(&tree);
+    let Ok(d) = make(rt, &mut tree, root, b"d", New::Dir) else {
+        assert!(rt; tree.child(root, b"d").is_none());
+        return;
+    };
+    let Ok(f) = make(rt, &mut tree, d, b"f", New::File) else {
+        assert!(rt; tree.child(d, b"f").is_none());
+        return;
+    };
+    if write(rt, &mut tree, f, 5, b'Z').is_err() {
+        assert!(rt; tree.len(f) == 0);
+        return;
+    }
+    if set_len(rt, &mut tree, f, MAX_BYTES).is_err() {
+        assert!(rt; tree.len(f) == 6);
+        return;
+    }
+    if move_to(rt, &mut tree, f, root, b"g").is_err() {
+        assert!(rt; tree.child(d, b"f") == Some(f));
+        return;
+    }
+    let mut text = Vec::new(alloc);
+    if tree.place_text(f, &mut text).is_err() {
+        assert!(rt; text.is_empty());
+        return;
+    }
+    assert!(rt; text.as_slice() == b"/g".as_slice());
+    if take_away(&mut tree, f).is_err() {
+        assert!(rt; tree.is_linked(f));
+    }
+}
+
 #[test]
 fn place_tree_has_the_rows(rt: HostRuntime) -> Result<(), Fail> {
     rows::<PlaceTree>(&rt, rt.alloc())
+}
+
+#[test]
+fn place_tree_meets_refused_growths(rt: HostRuntime) {
+    growths::<PlaceTree>(&rt, rt.alloc())
 }
