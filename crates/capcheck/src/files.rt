@@ -75,7 +75,7 @@ pub fn close_all(entries: &mut [Option<Descriptor>], process: u8)
 }
 
 /// Sixteen tables without an entry.
-pub fn no_entries(alloc: Global) -> Result<Vec<Option<Descriptor>>, AllocError>
+fn no_entries(alloc: Global) -> Result<Vec<Option<Descriptor>>, AllocError>
     ensures { IfOk result (λ entries. entries.items ≡ replicate 256 None) }
 {
     let mut entries = Vec::with_capacity(alloc, ENTRIES)?;
