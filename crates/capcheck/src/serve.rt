@@ -113,16 +113,23 @@ fn text_of_fault(alloc: Global, fault: Fault<'_>) -> Result<String, AllocError> 
     }
 }
 
-/// Tells a fault. A fault of this writer changes nothing, and without memory for its line another
-/// fault is told as want of memory.
-fn tell<V: Out>(alloc: Global, fault: Fault<'_>, err: &mut V)
+/// Tells a fault, and gives its status. A fault of this writer changes nothing. Without memory for its
+/// line another fault is told as want of memory, with that status.
+fn tell<V: Out>(alloc: Global, fault: Fault<'_>, err: &mut V) -> u8
     requires { V.faults err.old < 2 ^ 64 - 1 }
+    ensures failed { 0 < result }
+    ensures known { result ≤ 3 }
 {
-    let told = match text_of_fault(alloc, fault) {
-        Ok(text) => write_all(err, text.as_bytes()),
-        Err(_) => write_all(err, b"capcheck: memory\n"),
-    };
-    let _ = told;
+    match text_of_fault(alloc, fault) {
+        Ok(text) => {
+            let _ = write_all(err, text.as_bytes());
+            status_of(fault)
+        }
+        Err(_) => {
+            let _ = write_all(err, b"capcheck: memory\n");
+            STOPPED
+        }
+    }
 }
 
 fn fetch<'a, S: Source>(files: &mut S, name: &'a str) -> Result<Vec<u8>, Fault<'a>> {
@@ -216,9 +223,6 @@ pub fn serve<S: Source, W: Out, V: Out>(
 {
     match perform(alloc, words, files, out) {
         Ok(()) => DONE,
-        Err(fault) => {
-            tell(alloc, fault, err);
-            status_of(fault)
-        }
+        Err(fault) => tell(alloc, fault, err),
     }
 }
