@@ -1,16 +1,22 @@
 -- What the program has written when it says that it is done.
-use Rattle.std.specs.Prelude.{◌≡◌, ℕ, false, List, [], ◌∷◌, codes, Option, Some}
+use Rattle.std.specs.Prelude.{◌≡◌, ℕ, zero, suc, false, List, [], ◌∷◌, codes, Option, Some}
 use Rattle.capcheck.specs.Answers.{Event}
 use Rattle.capcheck.specs.Named.{first_plan, plan_named}
 use Rattle.capcheck.specs.Plans.{Plan}
 use Rattle.capcheck.specs.Simulations.{WritesTrace}
 
-abbrev pub example_event : Event
-example_event = record { process = 0; input = 0; refuse = false }
+-- so many events of process 0
+abbrev pub events_of_first : ℕ → List Event
+events_of_first zero = []
+events_of_first (suc n) = record { process = 0; input = 0; refuse = false } ∷ events_of_first n
+
+-- an event of a process that none of the named tasks makes
+abbrev pub absent_event : Event
+absent_event = record { process = 5; input = 0; refuse = false }
 
 -- what runs without words
 abbrev pub example_events : List Event
-example_events = example_event ∷ example_event ∷ []
+example_events = events_of_first 2
 
 -- the trace of the task of this name over the events of a schedule
 pub record RunsNamed (task : List ℕ) (before after : Option (List ℕ)) : Type 0 where

@@ -24,7 +24,9 @@ impl<W: Write + Drop> Console<W> {
     }
 
     /// Hands on what a buffer still holds, and says whether that went well.
-    pub fn flush(&mut self) -> bool {
+    pub fn flush(&mut self) -> bool
+        ensures { self.new.failures ≡ self.old.failures }
+    {
         self.stream.flush().is_ok()
     }
 }
