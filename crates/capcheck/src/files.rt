@@ -1,8 +1,7 @@
 //! Descriptors and open descriptions of all processes.
 
-ghost use Rattle.std.specs.Prelude.{◌≡◌, ◌+◌, ◌<◌, ◌*◌, ◌∷◌, ◌++◌, [], ℕ, Some, None, length, option_map, slice_set, replicate, IfOk, OnOk, OnErr};
+ghost use Rattle.std.specs.Prelude.{◌≡◌, ◌+◌, ◌<◌, ◌*◌, Some, None, length, option_map, replicate, IfOk, OnOk};
 ghost use Rattle.rights.specs.Maps.{put, put2};
-ghost use Rattle.capcheck.specs.Descriptions.{Descriptor as DescriptorSeen};
 ghost use Rattle.capcheck.specs.Kept.{entry};
 ghost use Rattle.capcheck.specs.Views.{descriptor_of, entries_of};
 

@@ -1,7 +1,7 @@
 //! Laws of the model: what holds of every task and every step, whatever the code does. Each is the
 //! contract of a function that does nothing.
 
-ghost use Rattle.std.specs.Prelude.{◌≡◌, ◌∷◌, true, codes, List, ℕ};
+ghost use Rattle.std.specs.Prelude.{◌≡◌, ◌∷◌, true, codes, List};
 ghost use Rattle.std.specs.List.{list_all};
 ghost use Rattle.capcheck.specs.Answers.{Event};
 ghost use Rattle.capcheck.specs.Named.{bare_plan, first_plan, loop_plan};

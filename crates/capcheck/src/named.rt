@@ -2,9 +2,9 @@
 //! `/work/in` open for reading as descriptor 2, and the grant `work` to look and read beneath `/work`.
 
 ghost use Rattle.std.specs.Prelude.{◌≡◌, ◌∷◌, [], codes, map, true, IfOk};
-ghost use Rattle.capcheck.specs.Named.{enter_and_read, plan_named, plan_of, read_on, small_tree, start_with, work_grant};
+ghost use Rattle.capcheck.specs.Named.{plan_named, plan_of, small_tree, start_with, work_grant};
 ghost use Rattle.capcheck.specs.Plans.{is_plan};
-ghost use Rattle.capcheck.specs.Views.{grants_of, instruction_of, nodes_of, place_of, programs_of, starts_of};
+ghost use Rattle.capcheck.specs.Views.{grants_of, instruction_of, nodes_of, place_of, starts_of};
 
 use crate::files::{Access, FirstDescriptor};
 use crate::nodes::{Kind, Node};

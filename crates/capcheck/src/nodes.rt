@@ -1,6 +1,6 @@
 //! The file tree as a plain list of nodes with their places. Nothing changes it yet.
 
-ghost use Rattle.std.specs.Prelude.{◌≡◌, ◌++◌, IfOk};
+ghost use Rattle.std.specs.Prelude.{◌≡◌, IfOk};
 ghost use Rattle.capcheck.specs.Tree.{is_dir, names_text, place_text};
 ghost use Rattle.capcheck.specs.Views.{kind_of, place_of};
 

@@ -1,7 +1,7 @@
 //! Schedules: who runs, step by step.
 
-ghost use Rattle.std.specs.Prelude.{◌≡◌, ◌<◌, ◌≤◌, ◌==◌, ◌&&◌, ◌∷◌, [], ℕ, List, not, length, map, option_map, IfSome, None, Some};
-ghost use Rattle.capcheck.specs.Schedules.{at_most, event_of_line, is_number, number_from, number_of, parts, schedule_of};
+ghost use Rattle.std.specs.Prelude.{◌≡◌, ◌<◌, ◌≤◌, ◌==◌, [], length, option_map, IfSome, None, Some};
+ghost use Rattle.capcheck.specs.Schedules.{at_most, event_of_line, is_number, number_of, parts, schedule_of};
 ghost use Rattle.capcheck.specs.ScheduleViews.{Begins, Reads, fault_number};
 ghost use Rattle.capcheck.specs.StepViews.{event_of};
 ghost use Rattle.capcheck.specs.declared.schedule.ScheduleFault.TheVariants as fault;

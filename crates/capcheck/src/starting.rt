@@ -1,10 +1,10 @@
 //! The first world of a task: point 0, registers 0, offsets 0, and the descriptors of the task.
 
-ghost use Rattle.std.specs.Prelude.{◌≡◌, ◌+◌, ◌<◌, ◌≤◌, nat_lt, true, map, length, IfOk, OnOk};
+ghost use Rattle.std.specs.Prelude.{◌≡◌, ◌<◌, ◌≤◌, nat_lt, true, map, length, IfOk, OnOk};
 ghost use Rattle.std.specs.List.{list_all};
 ghost use Rattle.capcheck.specs.Kept.{world_of};
 ghost use Rattle.capcheck.specs.Plans.{FirstDescriptor as FirstSeen, first_process, have_numbers, nothing_open, with_descriptors, with_starts, world_with};
-ghost use Rattle.capcheck.specs.Views.{first_descriptor_of, kept_of, node_of, nodes_of, opening_of, place_of, program_of, programs_of, start_of, starts_of};
+ghost use Rattle.capcheck.specs.Views.{first_descriptor_of, kept_of, node_of, nodes_of, opening_of, place_of, program_of, programs_of, starts_of};
 
 use crate::files::{Files, FirstDescriptor};
 use crate::nodes::Node;

@@ -1,12 +1,10 @@
 //! What an instruction does to the world.
 
-ghost use Rattle.std.specs.Prelude.{◌≡◌, ◌<◌, ◌+◌, ◌||◌, ◌≤◌, IfOk, OnOk, length, Some, map, slice_get, slice_set, false};
-ghost use Rattle.process.specs.State.{ProcessState};
+ghost use Rattle.std.specs.Prelude.{◌≡◌, ◌<◌, ◌+◌, ◌||◌, IfOk, OnOk, length, Some, map, slice_set, false};
 ghost use Rattle.rights.specs.Views.{errno_of};
-ghost use Rattle.capcheck.specs.Answers.{Answer as AnswerSeen, Event as EventSeen, changed};
+ghost use Rattle.capcheck.specs.Answers.{Answer as AnswerSeen, changed};
 ghost use Rattle.capcheck.specs.AnswerViews.{IsBelow, MovesBelow, Shows, change_of};
 ghost use Rattle.capcheck.specs.Kept.{IsReadable, SameSizes, world_of};
-ghost use Rattle.capcheck.specs.Programs.{is_instruction, is_last};
 ghost use Rattle.capcheck.specs.Steps.{answered, executed, failed, given, halted, jumped, plain};
 ghost use Rattle.capcheck.specs.StepViews.{CanRun, ExecutedAs, event_of};
 ghost use Rattle.capcheck.specs.Views.{instruction_of, kept_of, object_of, state_at, state_of};

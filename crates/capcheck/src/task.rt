@@ -36,7 +36,7 @@ pub struct Task {
 }
 
 impl Model for Task {
-    ghost use Rattle.std.specs.Prelude.{◌≡◌, true, map};
+    ghost use Rattle.std.specs.Prelude.{◌≡◌, true};
     ghost use Rattle.capcheck.specs.Plans.{Plan, is_plan};
 
     ghost Value = { Plan };

@@ -1,6 +1,6 @@
 //! The plain list of nodes: how it is changed.
 
-ghost use Rattle.std.specs.Prelude.{◌≡◌, ◌<◌, ◌≤◌, ◌++◌, Option, Some, None, true, drop, length, map, vec_len, IfOk, IfErr, OnOk, OnErr};
+ghost use Rattle.std.specs.Prelude.{◌≡◌, ◌<◌, ◌≤◌, ◌++◌, None, true, drop, length, map, vec_len, IfOk, IfErr, OnOk, OnErr};
 ghost use Rattle.std.specs.List.{list_all};
 ghost use Rattle.file_tree.specs.Nodes.{node};
 ghost use Rattle.file_tree.specs.Changes.{create_fault, created, filled, moved, put_byte_fault, remove_fault, removed, rename_fault, renamed, replaced_at, resized, truncate_fault, written};

@@ -1,7 +1,5 @@
 //! A tree as a plain list of nodes with their whole places.
 
-ghost use Rattle.std.specs.Prelude.{◌≡◌};
-
 use crate::changes::{create_in, put_in, remove_in, rename_in, truncate_in};
 use crate::entries::{Entry, child_in, parent_in, target_in};
 use crate::faults::TreeFault;

@@ -1,7 +1,7 @@
 //! What no clause says: that the definitions mean what the worked examples say, and that calls succeed
 //! where memory is there. Each test goes over any tree, through the bound.
 
-ghost use Rattle.std.specs.Prelude.{◌≡◌, ◌<◌, ◌≤◌, length, IfOk, OnOk};
+ghost use Rattle.std.specs.Prelude.{◌≡◌, ◌<◌, ◌≤◌, length, IfOk};
 
 use crate::{
     Kind, MAX_BYTES, New, NodeId, PlaceTree, Tree, TreeFault, is_valid_name, is_valid_target,

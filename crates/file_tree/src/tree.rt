@@ -1,6 +1,6 @@
 //! What every tree does, however it is kept.
 
-ghost use Rattle.std.specs.Prelude.{◌≡◌, ◌<◌, ◌++◌, ℕ, List, Option, Some, None, length, IsTrue, IfOk, IfErr, OnOk, OnErr};
+ghost use Rattle.std.specs.Prelude.{◌≡◌, ◌<◌, ◌++◌, List, Option, None, length, IsTrue, IfOk, IfErr, OnOk, OnErr};
 ghost use Rattle.std.specs.Option.{option_copied};
 ghost use Rattle.file_tree.specs.Places.{begins, is_name, path_components, place_text};
 ghost use Rattle.file_tree.specs.Nodes.{Dir, File, Node, byte_of, child_of, node, parent_of, target_of};

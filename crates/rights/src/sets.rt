@@ -1,8 +1,7 @@
 //! Sets of rights and of fcntl commands.
 
-ghost use Rattle.std.specs.Prelude.{⊤, ◌≡◌, ◌↔◌, ℕ, IsTrue, bit_and, bit_or, option_map};
-ghost use Rattle.bitflags.specs.Sets.{find_name};
-ghost use Rattle.rights.specs.Sets.{IsIn, IsWithin, all_commands, all_rights, command_names, is_within, right_names};
+ghost use Rattle.std.specs.Prelude.{⊤, ◌≡◌, ◌↔◌, IsTrue, bit_and, bit_or};
+ghost use Rattle.rights.specs.Sets.{IsWithin, all_commands, all_rights, command_names, is_within, right_names};
 
 use bitflags::{Flag, Flags};
 
