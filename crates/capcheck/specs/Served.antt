@@ -1,5 +1,5 @@
 -- What the program has written when it says that it is done.
-use Rattle.std.specs.Prelude.{◌≡◌, ℕ, zero, suc, false, List, [], ◌∷◌, codes, Option, Some}
+use Rattle.std.specs.Prelude.{◌≡◌, ◌==◌, ◌||◌, ℕ, zero, suc, Bool, false, List, [], ◌∷◌, codes, Option, Some}
 use Rattle.capcheck.specs.Answers.{Event}
 use Rattle.capcheck.specs.Named.{first_plan, plan_named}
 use Rattle.capcheck.specs.Plans.{Plan}
@@ -32,3 +32,11 @@ Serves (command ∷ []) before after = ⊥
 Serves (command ∷ task ∷ []) before after = ⊥
 Serves (command ∷ task ∷ schedule ∷ []) before after = (command ≡ codes "run") × RunsNamed task before after
 Serves (command ∷ task ∷ schedule ∷ more ∷ words) before after = ⊥
+
+-- The status of a fault: 2 of one in words or files, 3 of want of memory and of a failed output. That of
+-- a program that is done is 0.
+abbrev pub is_fault_status : ℕ → Bool
+is_fault_status status = (status == 2) || (status == 3)
+
+abbrev pub is_status : ℕ → Bool
+is_status status = (status == 0) || is_fault_status status

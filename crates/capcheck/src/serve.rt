@@ -1,8 +1,8 @@
 //! The program's words, the files that they name, and what it tells of faults.
 
-ghost use Rattle.std.specs.Prelude.{◌≡◌, ◌<◌, ◌≤◌, ◌-◌, ◌^◌, IfOk, OnOk, Some, map, string_bytes};
+ghost use Rattle.std.specs.Prelude.{◌≡◌, ◌<◌, ◌≤◌, ◌-◌, ◌^◌, IfOk, IsTrue, OnOk, Some, map, string_bytes};
 ghost use Rattle.capcheck.specs.Named.{first_plan, plan_named};
-ghost use Rattle.capcheck.specs.Served.{RunsNamed, Serves, example_events};
+ghost use Rattle.capcheck.specs.Served.{RunsNamed, Serves, example_events, is_fault_status, is_status};
 ghost use Rattle.capcheck.specs.Simulations.{WritesTrace};
 
 use crate::events::Event;
@@ -90,8 +90,7 @@ const EXAMPLE: [Event; 2] = [
 
 /// The status of a fault.
 fn status_of(fault: Fault<'_>) -> u8
-    ensures failed { 0 < result }
-    ensures known { result ≤ 3 }
+    ensures { IsTrue (is_fault_status result) }
 {
     match fault {
         Fault::Words | Fault::File(_) | Fault::Schedule(_) => REFUSED,
@@ -117,8 +116,7 @@ fn text_of_fault(alloc: Global, fault: Fault<'_>) -> Result<String, AllocError> 
 /// line another fault is told as want of memory, with that status.
 fn tell<V: Out>(alloc: Global, fault: Fault<'_>, err: &mut V) -> u8
     requires { V.faults err.old < 2 ^ 64 - 1 }
-    ensures failed { 0 < result }
-    ensures known { result ≤ 3 }
+    ensures { IsTrue (is_fault_status result) }
 {
     match text_of_fault(alloc, fault) {
         Ok(text) => {
@@ -219,7 +217,7 @@ pub fn serve<S: Source, W: Out, V: Out>(
     requires err { V.faults err.old < 2 ^ 64 - 1 }
     ensures done { result
         ≡ 0 → Serves (map string_bytes words.now) (W.taken out.old) (W.taken out.new) }
-    ensures known { result ≤ 3 }
+    ensures known { IsTrue (is_status result) }
 {
     match perform(alloc, words, files, out) {
         Ok(()) => DONE,
