@@ -1,19 +1,19 @@
 -- The worked rows, by computation.
 use Rattle.std.proofs.Common.{◌≡◌, ℕ, List, [], ◌∷◌, ◌++◌, codes, refl, ap, sym, ◌∙◌, subst}
-use Rattle.std.specs.Prelude.{true, false}
+use Rattle.std.specs.Prelude.{true}
 use Rattle.std.proofs.Math.Decide.{ℕ_discrete}
 use Rattle.std.specs.Fmt.{digits}
-use Rattle.capcheck.specs.Programs.{Program}
-use Rattle.capcheck.specs.World.{World, Choice}
-use Rattle.capcheck.specs.Answers.{Event, unless, held, through, at_object, read_byte, read_node, read_empty, read_end, answer}
-use Rattle.capcheck.specs.Steps.{Line, Stepped, answered, jumped, executed, stepped_at, stepped_by, stepped, step}
-use Rattle.capcheck.specs.Plans.{Plan, is_plan, first_world}
+use Rattle.simulator.specs.Programs.{Program}
+use Rattle.simulator.specs.World.{World, Choice}
+use Rattle.simulator.specs.Answers.{Event, unless, held, through, at_object, read_byte, read_node, read_empty, read_end, answer}
+use Rattle.simulator.specs.Steps.{Line, Stepped, answered, jumped, executed, stepped_at, stepped_by, stepped, step}
+use Rattle.simulator.specs.Plans.{Plan, is_plan, first_world}
 use Rattle.capcheck.specs.Named.{first_plan, bare_plan, loop_plan}
-use Rattle.capcheck.specs.Runs.{Runs}
+use Rattle.simulator.specs.Runs.{Runs}
 use Rattle.capcheck.specs.Served.{absent_event, events_of_first, example_events}
-use Rattle.capcheck.specs.Simulations.{IsRun}
-use Rattle.capcheck.specs.Traces.{line_text, trace_text}
-use Rattle.capcheck.proofs.Determined.{same-step}
+use Rattle.simulator.specs.Simulations.{IsRun}
+use Rattle.simulator.specs.Traces.{line_text, trace_text}
+use Rattle.simulator.proofs.Determined.{same-step}
 
 -- numbers that nobody names
 some_choice : Choice

@@ -5,9 +5,9 @@ use Rattle.std.specs.Prelude.{ℕ, true, false, List, [], ◌∷◌, codes, Opti
 use Rattle.std.specs.Str.{bytes_eq}
 use Rattle.rights.specs.Sets.{all_rights, all_commands, seek_right}
 use Rattle.rights.specs.Operations.{Look, Read as Reads}
-use Rattle.capcheck.specs.Tree.{Node, File, Dir}
-use Rattle.capcheck.specs.Programs.{Instruction, Jeq, Halt, Invoke, Cap_enter, Read}
-use Rattle.capcheck.specs.Plans.{Plan, Grant, Start}
+use Rattle.simulator.specs.Tree.{Node, File, Dir}
+use Rattle.simulator.specs.Programs.{Instruction, Jeq, Halt, Invoke, Cap_enter, Read}
+use Rattle.simulator.specs.Plans.{Plan, Grant, Start}
 
 -- the root, `/work`, and the file `/work/in` with the bytes `AB`
 abbrev pub small_tree : List Node

@@ -1,9 +1,9 @@
 -- What the program has written when it says that it is done.
 use Rattle.std.specs.Prelude.{◌≡◌, ◌==◌, ◌||◌, ℕ, zero, suc, Bool, false, List, [], ◌∷◌, codes, Option, Some}
-use Rattle.capcheck.specs.Answers.{Event}
+use Rattle.simulator.specs.Answers.{Event}
 use Rattle.capcheck.specs.Named.{first_plan, plan_named}
-use Rattle.capcheck.specs.Plans.{Plan}
-use Rattle.capcheck.specs.Simulations.{WritesTrace}
+use Rattle.simulator.specs.Plans.{Plan}
+use Rattle.simulator.specs.Simulations.{WritesTrace}
 
 -- so many events of process 0
 abbrev pub events_of_first : ℕ → List Event

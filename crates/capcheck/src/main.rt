@@ -2,26 +2,12 @@
 //! of a task that it knows by name over the events of a file.
 #![tactic(auto)]
 
-mod answers;
 mod console;
-mod events;
-mod files;
 mod laws;
-mod lines;
-mod machine;
 mod named;
-mod nodes;
-mod programs;
-mod schedule;
 mod serve;
-mod simulator;
-mod starting;
-mod steps;
-mod task;
 #[cfg(test)]
 mod tests;
-mod trace;
-mod world;
 
 use crate::console::Console;
 use crate::serve::{Source, Unread, serve};

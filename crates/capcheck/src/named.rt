@@ -3,14 +3,13 @@
 
 ghost use Rattle.std.specs.Prelude.{◌≡◌, ◌∷◌, [], codes, map, true, IfOk};
 ghost use Rattle.capcheck.specs.Named.{plan_named, plan_of, small_tree, start_with, work_grant};
-ghost use Rattle.capcheck.specs.Plans.{is_plan};
-ghost use Rattle.capcheck.specs.Views.{grants_of, instruction_of, nodes_of, place_of, starts_of};
+ghost use Rattle.simulator.specs.Plans.{is_plan};
+ghost use Rattle.simulator.specs.Views.{grants_of, instruction_of, nodes_of, place_of, starts_of};
 
-use crate::files::{Access, FirstDescriptor};
-use crate::nodes::{Kind, Node};
-use crate::programs::{Instruction, Program, Syscall};
-use crate::task::{Grant, Start, Task};
 use rights::{Fcntls, Op, Rights};
+use simulator::{
+    Access, FirstDescriptor, Grant, Instruction, Kind, Node, Program, Start, Syscall, Task,
+};
 use std::alloc::{AllocError, Global};
 
 /// `/work`.

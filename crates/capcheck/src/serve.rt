@@ -3,14 +3,11 @@
 ghost use Rattle.std.specs.Prelude.{◌≡◌, ◌<◌, ◌≤◌, ◌-◌, ◌^◌, IfOk, IsTrue, OnOk, Some, map, string_bytes};
 ghost use Rattle.capcheck.specs.Named.{first_plan, plan_named};
 ghost use Rattle.capcheck.specs.Served.{RunsNamed, Serves, example_events, is_fault_status, is_status};
-ghost use Rattle.capcheck.specs.Simulations.{WritesTrace};
+ghost use Rattle.simulator.specs.Simulations.{WritesTrace};
 
-use crate::events::Event;
 use crate::named::task_named;
-use crate::schedule::{ScheduleFault, read_schedule};
-use crate::simulator::simulate;
-use crate::task::Task;
 use rights::{Out, Stop, write_all};
+use simulator::{Event, ScheduleFault, Task, read_schedule, simulate};
 use std::alloc::{AllocError, Global};
 
 /// Why a file isn't read.

@@ -1,5 +1,0 @@
-use Rattle.capcheck.proofs.SteppedAlike.{steps_alike}
-use Rattle.capcheck.proofs.laws.numbers_do_not_matter.Goals as goal
-
-pub returns : goal.returns
-returns c = steps_alike

@@ -1,8 +1,0 @@
-use Rattle.std.proofs.Common.{◌≡◌, ◌++◌, drop, map}
-use Rattle.capcheck.specs.Plans.{first_process}
-use Rattle.capcheck.specs.Views.{starts_of}
-use Rattle.capcheck.proofs.starting.first_processes.Given as goal
-
--- what is copied, and then what is left
-abbrev pub invariant-loop-start : goal.invariant-loop-start
-invariant-loop-start l = l.processes.items ++ map first_process (starts_of (drop l.start-index l.starts)) ≡ map first_process (starts_of l.starts)

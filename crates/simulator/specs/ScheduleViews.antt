@@ -1,0 +1,27 @@
+-- What the code's reading of a schedule comes to.
+use Rattle.std.specs.Prelude.{◌≡◌, ℕ, List, [], ◌∷◌, map, Option, Some, None, Result, Ok, Err}
+use Rattle.std.specs.declared.vec.Vec.{Vec}
+use Rattle.std.specs.declared.alloc.Global.{Global}
+use Rattle.simulator.specs.declared.events.Event.{Event as EventCode}
+use Rattle.simulator.specs.declared.schedule.ScheduleFault.{ScheduleFault}
+use Rattle.simulator.specs.declared.schedule.ScheduleFault.TheVariants.{Line, Limit, Memory}
+use Rattle.simulator.specs.Answers.{Event}
+use Rattle.simulator.specs.Schedules.{Fault, Faulty, Too_many, parts}
+use Rattle.simulator.specs.StepViews.{event_of}
+
+-- The parts are the first one, and those of the rest where there is any.
+abbrev pub Begins : List (List ℕ) → ℕ → List ℕ → Option (List ℕ) → Type 0
+Begins all separator first None = all ≡ first ∷ []
+Begins all separator first (Some rest) = all ≡ first ∷ parts separator rest
+
+abbrev pub fault_number : ScheduleFault → ℕ
+fault_number (Line n) = 1
+fault_number Limit = 2
+fault_number Memory = 3
+
+-- What is read is what the text stands for, or its fault, want of memory aside.
+abbrev pub Reads : Result (Vec EventCode Global) ScheduleFault → Result (List Event) Fault → Type 0
+Reads (Ok events) schedule = schedule ≡ Ok (map event_of events.items)
+Reads (Err (Line n)) schedule = schedule ≡ Err (Faulty n)
+Reads (Err Limit) schedule = schedule ≡ Err Too_many
+Reads (Err Memory) schedule = Unit {0}

@@ -1,0 +1,87 @@
+-- The text of a schedule: lines `PROCESS BYTE` or `PROCESS BYTE refuse`, in decimal without leading
+-- zeros, each ended by a line feed. (own)
+use Rattle.std.specs.Prelude.{◌+◌, ◌*◌, ◌-◌, ◌==◌, ℕ, Bool, true, false, ◌&&◌, not, nat_le, List, [], ◌∷◌, ◌++◌, codes, length, Option, Some, None, Result, Ok, Err, if◌then◌else◌}
+use Rattle.std.specs.Char.{is_ascii_digit}
+use Rattle.std.specs.Str.{bytes_eq}
+use Rattle.simulator.specs.Answers.{Event}
+
+-- the first faulty line, counted from 1, or more than 65536 events
+pub data Fault : Type 0 where
+  Faulty : (line : ℕ) → Fault
+  Too_many : Fault
+
+-- The parts of a text between the bytes that separate them, behind what has begun already.
+abbrev pub parts_from : ℕ → List ℕ → List ℕ → List (List ℕ)
+parts_from separator [] begun = begun ∷ []
+parts_from separator (b ∷ text) begun =
+    if b == separator then begun ∷ parts_from separator text [] else parts_from separator text (begun ++ b ∷ [])
+
+abbrev pub parts : ℕ → List ℕ → List (List ℕ)
+parts separator text = parts_from separator text []
+
+-- A number in decimal digits, without a leading zero.
+abbrev pub number_from : ℕ → List ℕ → Option ℕ
+number_from n [] = Some n
+number_from n (b ∷ digits) = if is_ascii_digit b then number_from (n * 10 + (b - 48)) digits else None
+
+abbrev pub is_long : List ℕ → Bool
+is_long [] = false
+is_long (b ∷ digits) = not (length digits == 0)
+
+abbrev pub starts_with_zero : List ℕ → Bool
+starts_with_zero [] = false
+starts_with_zero (b ∷ digits) = b == 48
+
+abbrev pub is_number : List ℕ → Bool
+is_number word = not (length word == 0) && not (starts_with_zero word && is_long word)
+
+abbrev pub number_of : List ℕ → Option ℕ
+number_of word = if is_number word then number_from 0 word else None
+
+abbrev pub at_most : ℕ → Option ℕ → Option ℕ
+at_most limit None = None
+at_most limit (Some n) = if nat_le n limit then Some n else None
+
+abbrev pub event_with : Bool → Option ℕ → Option ℕ → Option Event
+event_with refuse None input = None
+event_with refuse (Some process) None = None
+event_with refuse (Some process) (Some input) = Some (record { process = process; input = input; refuse = refuse })
+
+-- a process from 0 to 15, and a byte
+abbrev pub event_from : Bool → List ℕ → List ℕ → Option Event
+event_from refuse process input = event_with refuse (at_most 15 (number_of process)) (at_most 255 (number_of input))
+
+-- the event that a line stands for, by its words
+abbrev pub event_of_words : List (List ℕ) → Option Event
+event_of_words [] = None
+event_of_words (process ∷ []) = None
+event_of_words (process ∷ input ∷ []) = event_from false process input
+event_of_words (process ∷ input ∷ word ∷ []) = if bytes_eq word (codes "refuse") then event_from true process input else None
+event_of_words (process ∷ input ∷ word ∷ more ∷ words) = None
+
+abbrev pub event_of_line : List ℕ → Option Event
+event_of_line line = event_of_words (parts 32 line)
+
+-- The events of the parts between line feeds, or the number of the first faulty one. The last part is
+-- what stands behind the last line feed: nothing.
+abbrev pub with_event : ℕ → Option Event → Result (List Event) ℕ → Result (List Event) ℕ
+with_event n None rest = Err n
+with_event n (Some e) (Err line) = Err line
+with_event n (Some e) (Ok events) = Ok (e ∷ events)
+
+abbrev pub unended : ℕ → List ℕ → Result (List Event) ℕ
+unended n [] = Ok []
+unended n (b ∷ text) = Err n
+
+abbrev pub events_from : ℕ → List (List ℕ) → Result (List Event) ℕ
+events_from n [] = Ok []
+events_from n (last ∷ []) = unended n last
+events_from n (line ∷ next ∷ lines) = with_event n (event_of_line line) (events_from (n + 1) (next ∷ lines))
+
+-- The first faulty line is told before the limit.
+abbrev pub limited : Result (List Event) ℕ → Result (List Event) Fault
+limited (Err line) = Err (Faulty line)
+limited (Ok events) = if nat_le (length events) 65536 then Ok events else Err Too_many
+
+abbrev pub schedule_of : List ℕ → Result (List Event) Fault
+schedule_of text = limited (events_from 1 (parts 10 text))

@@ -1,0 +1,153 @@
+//! Schedules: who runs, step by step.
+
+ghost use Rattle.std.specs.Prelude.{◌≡◌, ◌<◌, ◌≤◌, ◌==◌, [], length, option_map, IfSome, None, Some};
+ghost use Rattle.simulator.specs.Schedules.{at_most, event_of_line, is_number, number_of, parts, schedule_of};
+ghost use Rattle.simulator.specs.ScheduleViews.{Begins, Reads, fault_number};
+ghost use Rattle.simulator.specs.StepViews.{event_of};
+ghost use Rattle.simulator.specs.declared.schedule.ScheduleFault.TheVariants as fault;
+
+use crate::events::Event;
+use std::alloc::{AllocFailed, Global};
+use thiserror::Error;
+
+/// Why a schedule isn't read.
+#[derive(Clone, Copy, Debug, PartialEq, Eq, Error)]
+pub enum ScheduleFault {
+    /// The first faulty line, counted from 1.
+    #[error("line {0} is no event")]
+    Line(usize),
+    /// There are more than 65536 events.
+    #[error("too many events")]
+    Limit,
+    /// A growth was refused.
+    #[error("no memory")]
+    Memory,
+}
+
+/// How many events a schedule has at most.
+const MOST: usize = 65_536;
+
+impl ScheduleFault {
+    /// The fault's number.
+    pub fn number(self) -> u8
+        ensures { result ≡ fault_number self }
+    {
+        match self {
+            ScheduleFault::Line(_) => 1,
+            ScheduleFault::Limit => 2,
+            ScheduleFault::Memory => 3,
+        }
+    }
+}
+
+impl<T: Drop> From<AllocFailed<T>> for ScheduleFault {
+    ghost from_gives = { λ _ given. given ≡ fault.Memory };
+
+    fn from(_failed: AllocFailed<T>) -> ScheduleFault {
+        ScheduleFault::Memory
+    }
+}
+
+/// The first part of a text before a byte that separates, and the text behind that byte if it is there.
+fn first_part(text: &[u8], separator: u8) -> (&[u8], Option<&[u8]>)
+    ensures parts { Begins (parts separator text.now) separator result.0.now
+        (option_map (λ rest. rest.now) result.1) }
+    ensures within { length result.0.now ≤ length text.now }
+    ensures shorter { IfSome result.1 (λ rest. length rest.now < length text.now) }
+{
+    for (at, byte) in text.iter().enumerate() {
+        if *byte == separator {
+            return (&text[..at], Some(&text[at + 1..]));
+        }
+    }
+    (text, None)
+}
+
+/// Whether the word can be a number: it isn't empty, and has no leading zero.
+fn is_number(word: &[u8]) -> bool
+    ensures { result ≡ is_number word.now }
+{
+    match word {
+        [] => false,
+        [b'0', _, ..] => false,
+        [_, ..] => true,
+    }
+}
+
+/// The number in decimal digits, without leading zeros, if it is at most the limit.
+fn number_up_to(word: &[u8], limit: u8) -> Option<u8>
+    ensures { result ≡ at_most limit (number_of word.now) }
+{
+    if !is_number(word) {
+        return None;
+    }
+    let mut number: u32 = 0;
+    for byte in word {
+        if !byte.is_ascii_digit() {
+            return None;
+        }
+        number = number * 10 + u32::from(*byte - b'0');
+        if number > u32::from(limit) {
+            return None;
+        }
+    }
+    Some(number as u8)
+}
+
+/// The event that a line stands for.
+fn read_event(line: &[u8]) -> Option<Event>
+    ensures { option_map event_of result ≡ event_of_line line.now }
+{
+    let (process, rest) = first_part(line, b' ');
+    let (input, rest) = first_part(rest?, b' ');
+    let refuse = match rest {
+        None => false,
+        Some(rest) => {
+            let (word, rest) = first_part(rest, b' ');
+            if rest.is_some() {
+                return None;
+            }
+            if word != b"refuse".as_slice() {
+                return None;
+            }
+            true
+        }
+    };
+    let process = number_up_to(process, 15)?;
+    let input = number_up_to(input, 255)?;
+    Some(Event {
+        process,
+        input,
+        refuse,
+    })
+}
+
+/// Reads a schedule: the events that the text stands for, or its first faulty line, or, where no line
+/// is faulty, that there are too many.
+pub fn read_schedule(alloc: Global, bytes: &[u8]) -> Result<Vec<Event>, ScheduleFault>
+    ensures { Reads result (schedule_of bytes.now) }
+{
+    let mut events = Vec::new(alloc);
+    let mut count: usize = 0;
+    let mut rest = bytes;
+    loop {
+        let (line, behind) = first_part(rest, b'\n');
+        let Some(behind) = behind else {
+            if !line.is_empty() {
+                return Err(ScheduleFault::Line(count + 1));
+            }
+            if count > MOST {
+                return Err(ScheduleFault::Limit);
+            }
+            return Ok(events);
+        };
+        let Some(event) = read_event(line) else {
+            return Err(ScheduleFault::Line(count + 1));
+        };
+        if count < MOST {
+            events.push(event)?;
+        }
+        count += 1;
+        rest = behind;
+    }
+}

@@ -1,0 +1,43 @@
+//! Runs of a task, as text.
+
+ghost use Rattle.std.specs.Prelude.{◌≡◌, ◌<◌, ◌-◌, ◌^◌, IsErrOf, OnErr, OnOk, map};
+ghost use Rattle.simulator.specs.Plans.{first_world};
+ghost use Rattle.simulator.specs.Simulations.{NeverGains, WritesFront, WritesTrace};
+ghost use Rattle.simulator.specs.StepViews.{event_of};
+
+use crate::events::Event;
+use crate::machine::Machine;
+use crate::task::Task;
+use crate::trace::text_of_line;
+use rights::{Out, Stop, write_all};
+use std::alloc::Global;
+
+/// Runs the task over the events, and writes a line for each. `Device` is answered only after a
+/// failure of the writer, and `Memory` after a refused growth; what was written then is a beginning
+/// of the trace.
+pub fn simulate<W: Out>(
+    alloc: Global,
+    task: &Task,
+    events: &[Event],
+    out: &mut W,
+) -> Result<(), Stop>
+    requires { W.faults out.old < 2 ^ 64 - 1 }
+    ensures ok { OnOk result
+        (WritesTrace task.now (map event_of events.now) (W.taken out.old) (W.taken out.new)) }
+    ensures err { OnErr result
+        (WritesFront task.now (map event_of events.now) (W.taken out.old) (W.taken out.new)) }
+    ensures steady { OnOk result (W.faults out.new ≡ W.faults out.old) }
+    ensures device { IsErrOf result Stop.Device → W.faults out.old < W.faults out.new }
+    ensures not_spent { IsErrOf result Stop.Spent → ⊥ }
+
+    // In every run of these events no process leaves capability mode, and no descriptor gains a right.
+    ensures gains { NeverGains task.now.programs (first_world task.now) (map event_of events.now) }
+{
+    let mut machine = Machine::start(alloc, task)?;
+    for event in events {
+        let line = machine.step(*event)?;
+        let text = text_of_line(alloc, &line)?;
+        write_all(out, &text)?;
+    }
+    Ok(())
+}

@@ -1,0 +1,92 @@
+//! The text of a trace.
+
+ghost use Rattle.std.specs.Prelude.{◌≡◌, ◌++◌, IfOk, OnOk, Some};
+ghost use Rattle.std.specs.Fmt.{decimal};
+ghost use Rattle.std.specs.List.{flat_map};
+ghost use Rattle.simulator.specs.AnswerViews.{effect_of, effects_of};
+ghost use Rattle.simulator.specs.StepViews.{acted_of, line_of, result_of};
+ghost use Rattle.simulator.specs.Traces.{acted_text, effect_text, line_text, result_text};
+
+use crate::answers::Effect;
+use crate::lines::{Acted, Line};
+use crate::steps::LineResult;
+use std::alloc::{AllocError, Global};
+
+/// Appends a number in decimal.
+fn push_number(text: &mut Vec<u8>, alloc: Global, number: u32) -> Result<(), AllocError>
+    ensures { OnOk result (text.new.items ≡ text.old.items ++ decimal number) }
+{
+    let digits = number.to_string(alloc)?;
+    text.extend_from_slice(digits.as_bytes())
+}
+
+/// Appends what a step came to.
+fn push_result(text: &mut Vec<u8>, alloc: Global, outcome: LineResult) -> Result<(), AllocError>
+    ensures { OnOk result (text.new.items ≡ text.old.items ++ result_text (result_of outcome)) }
+{
+    match outcome {
+        LineResult::Done => text.extend_from_slice(b"ok"),
+        LineResult::Halted => text.extend_from_slice(b"halt"),
+        LineResult::Value(value) => {
+            text.extend_from_slice(b"= ")?;
+            push_number(text, alloc, value)
+        }
+        LineResult::Failed(errno, cause) => {
+            text.extend_from_slice(b"! ")?;
+            text.extend_from_slice(errno.name().as_bytes())?;
+            text.extend_from_slice(b" ")?;
+            text.extend_from_slice(cause.name().as_bytes())
+        }
+        LineResult::Waiting => text.extend_from_slice(b"wait"),
+        LineResult::Ended => text.extend_from_slice(b"ended"),
+    }
+}
+
+/// Appends an effect, as ` read /work/in`.
+fn push_effect(text: &mut Vec<u8>, effect: &Effect) -> Result<(), AllocError>
+    ensures { OnOk result (text.new.items ≡ text.old.items ++ effect_text (effect_of effect.now)) }
+{
+    text.extend_from_slice(b" ")?;
+    text.extend_from_slice(effect.op.name().as_bytes())?;
+    text.extend_from_slice(b" ")?;
+    text.extend_from_slice(&effect.place)
+}
+
+/// Appends the effects, one after another.
+fn push_effects(text: &mut Vec<u8>, effects: &[Effect]) -> Result<(), AllocError>
+    ensures { OnOk result (text.new.items
+        ≡ text.old.items ++ flat_map effect_text (effects_of effects.now)) }
+{
+    for effect in effects {
+        push_effect(text, effect)?;
+    }
+    Ok(())
+}
+
+/// Appends what a process that was made did.
+fn push_acted(text: &mut Vec<u8>, alloc: Global, acted: &Acted) -> Result<(), AllocError>
+    ensures { OnOk result (text.new.items
+        ≡ text.old.items ++ acted_text (Some (acted_of acted.now))) }
+{
+    text.extend_from_slice(b" ")?;
+    text.extend_from_slice(acted.program.as_bytes())?;
+    text.extend_from_slice(b":")?;
+    push_number(text, alloc, u32::from(acted.point))?;
+    text.extend_from_slice(b" ")?;
+    push_result(text, alloc, acted.outcome)?;
+    push_effects(text, &acted.effects)
+}
+
+/// The text of a line, with its line feed.
+pub fn text_of_line(alloc: Global, line: &Line) -> Result<Vec<u8>, AllocError>
+    ensures { IfOk result (λ text. text.items ≡ line_text (line_of line.now)) }
+{
+    let mut text = Vec::new(alloc);
+    push_number(&mut text, alloc, u32::from(line.process))?;
+    match &line.acted {
+        None => text.extend_from_slice(b" - none")?,
+        Some(acted) => push_acted(&mut text, alloc, acted)?,
+    }
+    text.extend_from_slice(b"\n")?;
+    Ok(text)
+}
