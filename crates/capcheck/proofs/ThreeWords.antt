@@ -7,15 +7,6 @@ use Rattle.std.proofs.lemmas.Bool.{eqb-true}
 use Rattle.rights.proofs.Tests.{both_left, both_right}
 use Rattle.capcheck.specs.Served.{RunsNamed, Serves}
 
-pub same_bytes : (xs ys : List ℕ) → bytes_eq xs ys ≡ true → xs ≡ ys
-same_bytes [] [] is = refl
-same_bytes [] (y ∷ ys) is = absurd cc
-same_bytes (x ∷ xs) [] is = absurd cc
-same_bytes (x ∷ xs) (y ∷ ys) is =
-    let first : x ≡ y = eqb-true x y (both_left _ (bytes_eq xs ys) is) in
-    let rest : xs ≡ ys = same_bytes xs ys (both_right _ (bytes_eq xs ys) is) in
-    cc
-
 -- a list of three
 pub three : {A : Type 0} (xs : List A) (a b c : A) → 3 ≤ length xs → length xs < 4 → a ≡ slice_index_or xs 0 a → b ≡ slice_index_or xs 1 b → c ≡ slice_index_or xs 2 c → xs ≡ a ∷ b ∷ c ∷ []
 three [] a b c least most is_a is_b is_c = absurd (omega arith)

@@ -5,3 +5,4 @@ pub mod Lists
 pub mod Tests
 pub mod Numbers
 pub mod NeedTable
+pub mod Words

@@ -8,3 +8,4 @@ pub mod Views
 pub mod Stops
 pub mod Opens
 pub mod Needs
+pub mod Classes

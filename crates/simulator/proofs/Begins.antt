@@ -11,21 +11,22 @@ use Rattle.rights.specs.Maps.{put}
 use Rattle.rights.proofs.Changes.{put-cases, put2-cases, put-same, put-other}
 use Rattle.rights.proofs.Tests.{both_left, both_right, not_true}
 use Rattle.simulator.specs.Tree.{Node, node, is_dir, is_link, is_tree}
-use Rattle.simulator.specs.Descriptions.{Initial, Object, At_node, State, Descriptor}
+use Rattle.rights.specs.Classes.{Initial}
+use Rattle.simulator.specs.Descriptions.{Object, At_node, State, Descriptor}
 use Rattle.simulator.specs.Programs.{Program, Instruction, is_program, is_instruction, ends_well, instruction_at}
 use Rattle.simulator.specs.Plans.{Plan, is_word, FirstDescriptor, Start, Opening, are_programs, are_grants, is_descriptor, are_descriptors, is_start, is_plan, have_numbers, nothing_open, first_state, with_descriptor, with_descriptors, with_starts, first_process, first_world}
 use Rattle.simulator.specs.WellFormed.{Pairs, HasNone, IsObject, IsEntry, FitsRegister, IsMade, IsPoint, IsWorld, IsWellFormed}
 use Rattle.simulator.specs.Kept.{Kept, IsKept, world_of}
 
-abbrev no_pairs : Pairs
+abbrev pub no_pairs : Pairs
 no_pairs = record { count = 0; holder = λ pair side. 0; class = λ pair. Initial 0 }
 
 -- The descriptors so far are as they must be, and no process from `made` on has any.
-record IsOpened (tree : List Node) (made : ℕ) (o : Opening) : Type 0 where
-  entries : (p n : ℕ) → IsEntry tree no_pairs o.next o.objects (o.table p n)
-  numbers : (p n : ℕ) → 16 ≤ n → o.table p n ≡ None
-  unmade : (p n : ℕ) → made ≤ p → o.table p n ≡ None
-  offsets : (n : ℕ) → (o.states n).offset ≤ 4096
+pub record IsOpened (tree : List Node) (made : ℕ) (o : Opening) : Type 0 where
+  pub entries : (p n : ℕ) → IsEntry tree no_pairs o.next o.objects (o.table p n)
+  pub numbers : (p n : ℕ) → 16 ≤ n → o.table p n ≡ None
+  pub unmade : (p n : ℕ) → made ≤ p → o.table p n ≡ None
+  pub offsets : (n : ℕ) → (o.states n).offset ≤ 4096
 
 -- one description more
 object_more : (tree : List Node) (bound number : ℕ) (objects : ℕ → Object) (x : Object) → number < bound → IsObject tree no_pairs number (objects number) → IsObject tree no_pairs number (put objects bound x number)
@@ -64,7 +65,7 @@ tested tree d good =
       fcntls = both_right (nat_lt d.number 16 && not (is_link (node tree d.node).kind) && (d.access.readable || d.access.writable) && not (is_dir (node tree d.node).kind && d.access.writable) && is_within d.rights all_rights) _ good;
     }
 
-opened-descriptor : (tree : List Node) (made p : ℕ) (o : Opening) (d : FirstDescriptor) → p < made → IsOpened tree made o → is_descriptor tree d ≡ true → IsOpened tree made (with_descriptor o p d)
+pub opened-descriptor : (tree : List Node) (made p : ℕ) (o : Opening) (d : FirstDescriptor) → p < made → IsOpened tree made o → is_descriptor tree d ≡ true → IsOpened tree made (with_descriptor o p d)
 opened-descriptor tree made p o d below good test =
     let facts = tested tree d test in
     let object = At_node d.node d.access in
@@ -91,7 +92,7 @@ opened-descriptor tree made p o d below good test =
       offsets = λ n. put-cases (λ (s : State). s.offset ≤ 4096) o.states o.next first_state n (λ _. omega arith) (λ _. good.offsets n);
     }
 
-opened-descriptors : (tree : List Node) (made p : ℕ) (o : Opening) (descriptors : List FirstDescriptor) → p < made → IsOpened tree made o → are_descriptors tree descriptors ≡ true → IsOpened tree made (with_descriptors o p descriptors)
+pub opened-descriptors : (tree : List Node) (made p : ℕ) (o : Opening) (descriptors : List FirstDescriptor) → p < made → IsOpened tree made o → are_descriptors tree descriptors ≡ true → IsOpened tree made (with_descriptors o p descriptors)
 opened-descriptors tree made p o [] below good test = good
 opened-descriptors tree made p o (d ∷ descriptors) below good test =
     let front = both_left _ (are_descriptors tree descriptors) test in
@@ -99,7 +100,7 @@ opened-descriptors tree made p o (d ∷ descriptors) below good test =
     (opened-descriptor tree made p o d below good (both_left _ (list_all (λ (e : FirstDescriptor). not (d.number == e.number)) descriptors) front))
     (both_right (is_descriptor tree d && list_all (λ (e : FirstDescriptor). not (d.number == e.number)) descriptors) _ test)
 
-unmade_more : (tree : List Node) (made : ℕ) (o : Opening) → IsOpened tree made o → IsOpened tree (made + 1) o
+pub unmade_more : (tree : List Node) (made : ℕ) (o : Opening) → IsOpened tree made o → IsOpened tree (made + 1) o
 unmade_more tree made o good = record {
   entries = good.entries;
   numbers = good.numbers;
@@ -115,7 +116,7 @@ opened-starts tree programs p o (s ∷ starts) good test =
     let rest = opened-starts tree programs (p + 1) (with_descriptors o p s.descriptors) starts here (both_right (is_start tree programs s) _ test) in
     subst (λ made. IsOpened tree made (with_starts (with_descriptors o p s.descriptors) (p + 1) starts)) (omega arith) rest
 
-opened-nothing : (tree : List Node) → IsOpened tree 0 nothing_open
+pub opened-nothing : (tree : List Node) → IsOpened tree 0 nothing_open
 opened-nothing tree = record {
   entries = λ p n. tt;
   numbers = λ p n far. refl;

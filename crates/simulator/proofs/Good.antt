@@ -24,7 +24,7 @@ IsGood Waits = Unit {0}
 IsGood (Gives value change effects) = (value < 2 ^ 32) × IsGoodState change.state
 
 -- a node that is no link has a content that fits its kind
-content_of_node : (tree : List Node) (n : ℕ) → is_tree tree ≡ true → is_link (node tree n).kind ≡ false → is_content (node tree n).kind (node tree n).content ≡ true
+pub content_of_node : (tree : List Node) (n : ℕ) → is_tree tree ≡ true → is_link (node tree n).kind ≡ false → is_content (node tree n).kind (node tree n).content ≡ true
 content_of_node tree n good no_link =
     elim (list_all-slice_index_or (is_node tree) tree n nowhere (both_right (nat_le (length tree) 1024 && has_root tree) _ good)) [
       | inl out ↦ (let P : Node → Type 0 = λ m. is_link m.kind ≡ false in absurd (link_is_none (subst P out no_link)))
@@ -35,7 +35,7 @@ content_of_node tree n good no_link =
     link_is_none h = cc
 
 -- a file's bytes are bytes, and there are at most 4096
-file_byte : (kind : Kind) (content : List ℕ) (offset byte : ℕ) → is_link kind ≡ false → is_dir kind ≡ false → is_content kind content ≡ true → slice_get content offset ≡ Some byte → (byte < 256) × (offset < 4096)
+pub file_byte : (kind : Kind) (content : List ℕ) (offset byte : ℕ) → is_link kind ≡ false → is_dir kind ≡ false → is_content kind content ≡ true → slice_get content offset ≡ Some byte → (byte < 256) × (offset < 4096)
 file_byte File content offset byte no_link no_dir good here =
     let short : nat_le (length content) 4096 ≡ true = both_left _ (list_all (λ b. nat_lt b 256) content) good in
     let all : list_all (λ b. nat_lt b 256) content ≡ true = both_right (nat_le (length content) 4096) _ good in

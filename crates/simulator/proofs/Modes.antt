@@ -43,7 +43,7 @@ process_kept w p s t made stays = record {
   queues = λ pair side. ([], refl);
 }
 
-queue_kept : (queue : ℕ → ℕ → List Message) (change : QueueChange) (q s : ℕ) → (gone : List Message) × (queue q s ≡ gone ++ queue_after queue change q s)
+pub queue_kept : (queue : ℕ → ℕ → List Message) (change : QueueChange) (q s : ℕ) → (gone : List Message) × (queue q s ≡ gone ++ queue_after queue change q s)
 queue_kept queue Same_queue q s = ([], refl)
 queue_kept queue (Pop pair side) q s =
     put-cases (λ (row : ℕ → List Message). (gone : List Message) × (queue q s ≡ gone ++ row s)) queue pair (put (queue pair) side (drop 1 (queue pair side))) q

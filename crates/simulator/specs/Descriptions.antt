@@ -1,16 +1,12 @@
 -- Open descriptions, descriptors and messages. (open(2), rights(4), cap_fcntls_limit(2); the parts
 -- are own)
-use Rattle.std.specs.Prelude.{ℕ, zero, suc, Bool, List, Option}
+use Rattle.std.specs.Prelude.{ℕ, zero, suc, Bool, Option}
+use Rattle.rights.specs.Classes.{Class}
 
 -- what a file or directory was opened for
 pub record Access : Type 0 where
   pub readable : Bool
   pub writable : Bool
-
--- where a socket pair was made: an initial pair by its number, or a point of a program
-pub data Class : Type 0 where
-  Initial : ℕ → Class
-  Made_at : List ℕ → ℕ → Class
 
 -- What a description is of, for as long as it is open: a node, or an end of a pair, which is side 0
 -- (a) or side 1 (b).

@@ -16,3 +16,5 @@ pub mod StepViews
 pub mod Simulations
 pub mod ScheduleViews
 pub mod Renamings
+pub mod Policies
+pub mod Sandboxed

@@ -4,7 +4,8 @@ use Rattle.std.specs.List.{slice_get}
 use Rattle.rights.specs.Sets.{is_within, all_rights, all_commands}
 use Rattle.process.specs.State.{ProcessState}
 use Rattle.simulator.specs.Tree.{Node, node, is_link, is_tree}
-use Rattle.simulator.specs.Descriptions.{Class, Object, At_node, At_end, Descriptor, Message}
+use Rattle.rights.specs.Classes.{Class}
+use Rattle.simulator.specs.Descriptions.{Object, At_node, At_end, Descriptor, Message}
 use Rattle.simulator.specs.Programs.{Program, Instruction, instruction_at}
 use Rattle.simulator.specs.World.{World}
 

@@ -3,8 +3,9 @@ use Rattle.std.specs.Prelude.{codes}
 use Rattle.std.specs.String.{string_bytes}
 use Rattle.std.proofs.lemmas.Result.{on_ok_weaker}
 use Rattle.rights.proofs.Tests.{not_false}
+use Rattle.rights.proofs.Words.{same_bytes}
 use Rattle.capcheck.specs.Served.{RunsNamed}
-use Rattle.capcheck.proofs.ThreeWords.{same_bytes, serves_run, three}
+use Rattle.capcheck.proofs.ThreeWords.{serves_run, three}
 use Rattle.capcheck.proofs.serve.perform.Goals as goal
 
 pub returns-else-ne : goal.returns-else-ne

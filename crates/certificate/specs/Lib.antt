@@ -1,0 +1,4 @@
+pub mod Bounds
+pub mod Order
+pub mod Describes
+pub mod Views

@@ -1,0 +1,57 @@
+-- What the values of the code stand for.
+use Rattle.std.specs.Prelude.{ℕ, List, [], map, take}
+use Rattle.certificate.specs.declared.names.Name.{Name as NameCode}
+use Rattle.certificate.specs.declared.bounds.ModeBound.{ModeBound as ModeBoundCode}
+use Rattle.certificate.specs.declared.bounds.ModeBound.TheVariants as mode
+use Rattle.certificate.specs.declared.bounds.Interval.{Interval as IntervalCode}
+use Rattle.certificate.specs.declared.bounds.Target.{Target as TargetCode}
+use Rattle.certificate.specs.declared.bounds.Target.TheVariants as target
+use Rattle.certificate.specs.declared.bounds.Held.{Held as HeldCode}
+use Rattle.certificate.specs.declared.bounds.Slot.{Slot as SlotCode}
+use Rattle.certificate.specs.declared.bounds.Slot.TheVariants as slots
+use Rattle.certificate.specs.declared.bounds.Bound.{Bound as BoundCode}
+use Rattle.certificate.specs.declared.bounds.Point.{Point as PointCode}
+use Rattle.certificate.specs.declared.bounds.Cert.{Cert as CertCode}
+use Rattle.certificate.specs.Bounds.{ModeBound, Off, On, Either, Interval, Target, In_grant, Any_node, Unknown, Held, Slot, Closed, Open, Maybe, Bound, PointBound, Certificate}
+
+abbrev pub name_of : NameCode → List ℕ
+name_of n = take n.length n.bytes
+
+abbrev pub mode_of : ModeBoundCode → ModeBound
+mode_of mode.Off = Off
+mode_of mode.On = On
+mode_of mode.Either = Either
+
+abbrev pub interval_of : IntervalCode → Interval
+interval_of i = record { low = i.low; high = i.high }
+
+abbrev pub target_of : TargetCode → Target
+target_of (target.InGrant name) = In_grant (name_of name)
+target_of target.AnyNode = Any_node
+target_of target.Unknown = Unknown
+
+abbrev pub held_of : HeldCode → Held
+held_of h = record {
+  target = target_of h.target;
+  least = h.rights.least.0;
+  greatest = h.rights.greatest.0;
+  least_fcntls = h.fcntls.least.0;
+  greatest_fcntls = h.fcntls.greatest.0;
+}
+
+abbrev pub slot_of : SlotCode → Slot
+slot_of slots.Closed = Closed
+slot_of (slots.Open held) = Open (held_of held)
+slot_of (slots.Maybe held) = Maybe (held_of held)
+
+abbrev pub bound_of : BoundCode → Bound
+bound_of b = record { mode = mode_of b.mode; registers = map interval_of b.registers; slots = map slot_of b.slots }
+
+abbrev pub point_of : PointCode → PointBound
+point_of p = record { program = name_of p.program; point = p.point; bound = bound_of p.bound }
+
+abbrev pub points_of : List PointCode → List PointBound
+points_of points = map point_of points
+
+abbrev pub certificate_of : CertCode → Certificate
+certificate_of c = record { points = points_of c.points.items; channels = [] }

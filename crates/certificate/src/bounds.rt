@@ -1,0 +1,171 @@
+//! What a certificate says.
+
+ghost use Rattle.std.specs.Prelude.{◌≡◌, option_map};
+ghost use Rattle.certificate.specs.Bounds.{bound_at, bound_in, held_in, interval, slot, with_interval};
+ghost use Rattle.certificate.specs.Views.{bound_of, certificate_of, held_of, interval_of, points_of, slot_of};
+
+use crate::names::Name;
+use rights::{Fcntls, Rights};
+
+/// Whether a process is in capability mode.
+#[derive(Clone, Copy, PartialEq, Eq, Debug)]
+pub enum ModeBound {
+    Off,
+    On,
+    /// Off or on.
+    Either,
+}
+
+/// The numbers from `low` to `high`, both of them too.
+#[derive(Clone, Copy, PartialEq, Eq, Debug)]
+pub struct Interval {
+    pub low: u32,
+    pub high: u32,
+}
+
+/// What a descriptor is of.
+#[derive(Clone, Copy)]
+pub enum Target {
+    /// A node at or beneath the grant of this name.
+    InGrant(Name),
+    /// Any file or directory.
+    AnyNode,
+    /// Anything.
+    Unknown,
+}
+
+/// The sets of rights that have at least those of `least` and at most those of `greatest`.
+#[derive(Clone, Copy)]
+pub struct RightsRange {
+    pub least: Rights,
+    pub greatest: Rights,
+}
+
+/// The sets of fcntl commands that have at least those of `least` and at most those of `greatest`.
+#[derive(Clone, Copy)]
+pub struct FcntlsRange {
+    pub least: Fcntls,
+    pub greatest: Fcntls,
+}
+
+/// A descriptor's bound.
+#[derive(Clone, Copy)]
+pub struct Held {
+    pub target: Target,
+    pub rights: RightsRange,
+    pub fcntls: FcntlsRange,
+}
+
+/// What a number of a process's table may be.
+#[derive(Clone, Copy)]
+pub enum Slot {
+    /// No descriptor has it.
+    Closed,
+    /// Such a descriptor has it.
+    Open(Held),
+    /// No descriptor has it, or such a one.
+    Maybe(Held),
+}
+
+/// A bound on a process at a point: its mode, its registers, and its table.
+#[derive(Clone, Copy)]
+pub struct Bound {
+    pub mode: ModeBound,
+    pub registers: [Interval; 8],
+    pub slots: [Slot; 16],
+}
+
+/// The bound of a point of the program of a name.
+#[derive(Clone, Copy)]
+pub struct Point {
+    pub program: Name,
+    pub point: u8,
+    pub bound: Bound,
+}
+
+/// A certificate. A point that is not listed is claimed not to be reached; of a point that is listed
+/// twice the first bound counts.
+#[derive(Drop)]
+pub struct Cert {
+    pub points: Vec<Point>,
+}
+
+impl Interval {
+    /// All values of a register.
+    pub const FULL: Interval = Interval {
+        low: 0,
+        high: 4_294_967_295,
+    };
+}
+
+impl Slot {
+    /// What it holds where it may be open.
+    pub fn held(&self) -> Option<Held>
+        ensures { option_map held_of result ≡ held_in (slot_of self.now) }
+    {
+        match self {
+            Slot::Closed => None,
+            Slot::Open(held) | Slot::Maybe(held) => Some(*held),
+        }
+    }
+}
+
+impl Bound {
+    /// The interval of a register; all values of one that isn't there.
+    pub fn interval(&self, register: u8) -> Interval
+        ensures { interval_of result ≡ interval (bound_of self.now).registers register }
+    {
+        match self.registers.get(register as usize) {
+            Some(interval) => *interval,
+            None => Interval::FULL,
+        }
+    }
+
+    /// What a number of the table may be; one past the last is closed.
+    pub fn slot(&self, number: u32) -> Slot
+        ensures { slot_of result ≡ slot (bound_of self.now).slots number }
+    {
+        match self.slots.get(number as usize) {
+            Some(slot) => *slot,
+            None => Slot::Closed,
+        }
+    }
+
+    /// The same bound with a register in another interval.
+    pub fn with_interval(&self, register: u8, interval: Interval) -> Bound
+        ensures { bound_of result
+            ≡ with_interval (bound_of self.now) register (interval_of interval) }
+    {
+        let mut next = *self;
+        let register = register as usize;
+        if register < next.registers.len() {
+            next.registers[register] = interval;
+        }
+        next
+    }
+}
+
+/// The bound of a point among some.
+#[tactic(auto, unfolding(crate::specs::Bounds::bound_in))]
+fn bound_in<'a>(points: &'a [Point], program: &[u8], point: u8) -> Option<&'a Bound>
+    ensures { option_map (λ b. bound_of b.now) result ≡ bound_in (points_of points.now) program.now point }
+{
+    match points {
+        [] => None,
+        [first, rest @ ..] => {
+            if first.program.as_bytes() == program && first.point == point {
+                return Some(&first.bound);
+            }
+            bound_in(rest, program, point)
+        }
+    }
+}
+
+impl Cert {
+    /// The bound of a point of the program of this name, if it has one.
+    pub fn bound_at(&self, program: &[u8], point: u8) -> Option<&Bound>
+        ensures { option_map (λ b. bound_of b.now) result ≡ bound_at (certificate_of self.now) program.now point }
+    {
+        bound_in(&self.points, program, point)
+    }
+}

@@ -1,0 +1,39 @@
+//! Names of programs and grants, kept without memory of their own.
+
+ghost use Rattle.std.specs.Prelude.{◌≡◌, length, nat_le, option_map, Some, None, if◌then◌else◌};
+ghost use Rattle.certificate.specs.Views.{name_of};
+
+/// The most bytes of a name.
+pub const MAX_NAME: usize = 16;
+
+/// A name of at most 16 bytes. (own)
+#[derive(Clone, Copy)]
+pub struct Name {
+    length: usize,
+    bytes: [u8; MAX_NAME],
+}
+
+impl Name {
+    /// The name of these bytes; none if they are more than 16.
+    pub fn new(text: &[u8]) -> Option<Name>
+        ensures { option_map name_of result ≡ (if nat_le (length text.now) 16 then Some text.now else None) }
+    {
+        if text.len() > MAX_NAME {
+            return None;
+        }
+        let mut bytes = [0; MAX_NAME];
+        bytes[..text.len()].copy_from_slice(text);
+        Some(Name {
+            length: text.len(),
+            bytes,
+        })
+    }
+
+    /// Its bytes.
+    pub fn as_bytes(&self) -> &[u8]
+        ensures { result.now ≡ name_of self.now }
+    {
+        let length = self.length.min(MAX_NAME);
+        &self.bytes[..length]
+    }
+}

@@ -1,0 +1,103 @@
+-- What it says that no rule is broken at a point.
+use Rattle.std.proofs.Common.{◌≡◌, ℕ, Bool, true, false, List, [], ◌∷◌, ◌++◌, refl, ap, sym, ◌∙◌, subst}
+use Rattle.std.specs.Prelude.{◌&&◌, ◌==◌, not, Option, Some, None, cond}
+use Rattle.std.specs.List.{list_all}
+use Rattle.std.specs.Cmp.Derive.{both_true}
+use Rattle.rights.proofs.Tests.{both_left, both_right, not_true}
+use Rattle.certificate.specs.Bounds.{Bound, Certificate, bound_at}
+use Rattle.certificate.specs.Order.{bound_within}
+use Rattle.simulator.specs.Programs.{Instruction, instruction_at, name_at}
+use Rattle.simulator.specs.Plans.{Plan}
+use Rattle.checker.specs.Outcomes.{Outcome, outcomes, error_outcomes, outcome_to}
+use Rattle.checker.specs.Rules.{Test, starts_within, within_if_there, all_within, is_there, all_there, keeps_rights, keeps_known, keeps_policy, is_started, tests, tests_with, tests_without, tests_at, least_broken, broken_at}
+
+-- every test is kept
+abbrev pub AreKept : List Test → Type 0
+AreKept [] = Unit {0}
+AreKept (t ∷ ts) = (t.kept ≡ true) × AreKept ts
+
+pub none_broken : (ts : List Test) → least_broken ts ≡ None → AreKept ts
+none_broken [] none = tt
+none_broken (t ∷ ts) none = go t.kept refl none (none_broken ts)
+  where
+    go : (b : Bool) → t.kept ≡ b → cond b (least_broken ts) (Some t.rule) ≡ None → (least_broken ts ≡ None → AreKept ts) → AreKept (t ∷ ts)
+    go true kept is rest = (kept, rest is)
+    go false kept is rest = absurd cc
+
+-- the rules at a point with an instruction and a bound
+pub record Asked (plan : Plan) (certificate : Certificate) (program point : ℕ) (i : Instruction) (b : Bound) : Type 0 where
+  pub starts : starts_within plan program point b ≡ true
+  pub successes : all_within certificate (name_at plan.programs program) (outcomes point b i) ≡ true
+  pub errors : all_within certificate (name_at plan.programs program) (error_outcomes b i) ≡ true
+  pub rights : keeps_rights b i ≡ true
+  pub known : keeps_known b i ≡ true
+  pub policy : keeps_policy plan b i ≡ true
+  pub successes_there : all_there certificate (name_at plan.programs program) (outcomes point b i) ≡ true
+  pub errors_there : all_there certificate (name_at plan.programs program) (error_outcomes b i) ≡ true
+
+asked_of : (plan : Plan) (certificate : Certificate) (program point : ℕ) (i : Instruction) (b : Bound) → least_broken (tests plan certificate program point i b) ≡ None → Asked plan certificate program point i b
+unfolding tests
+asked_of plan certificate program point i b none =
+    let all = none_broken (tests plan certificate program point i b) none in
+    let there = all.1.1.1.1.1.1.0 in
+    record {
+      starts = all.0;
+      successes = all.1.0;
+      errors = all.1.1.0;
+      rights = all.1.1.1.0;
+      known = all.1.1.1.1.0;
+      policy = all.1.1.1.1.1.0;
+      successes_there = both_left _ (all_there certificate (name_at plan.programs program) (error_outcomes b i)) there;
+      errors_there = both_right (all_there certificate (name_at plan.programs program) (outcomes point b i)) _ there;
+    }
+
+pub asked : (plan : Plan) (certificate : Certificate) (program point : ℕ) (i : Instruction) (b : Bound) → instruction_at plan.programs program point ≡ Some i → bound_at certificate (name_at plan.programs program) point ≡ Some b → broken_at plan certificate program point ≡ None → Asked plan certificate program point i b
+unfolding tests_at tests_with
+asked plan certificate program point i b here bounded none =
+    asked_of plan certificate program point i b
+    (subst (λ o. least_broken (tests_with plan certificate program point (Some i) o) ≡ None) bounded
+    (subst (λ o. least_broken (tests_with plan certificate program point o (bound_at certificate (name_at plan.programs program) point)) ≡ None) here none))
+
+-- a program that a process starts has a bound at point 0
+pub started : (plan : Plan) (certificate : Certificate) (program : ℕ) (i : Instruction) → instruction_at plan.programs program 0 ≡ Some i → is_started plan program ≡ true → broken_at plan certificate program 0 ≡ None → (b : Bound) × (bound_at certificate (name_at plan.programs program) 0 ≡ Some b)
+unfolding tests_at tests_with tests_without
+started plan certificate program i here is none = go (bound_at certificate (name_at plan.programs program) 0) refl
+  where
+    at : least_broken (tests_with plan certificate program 0 (Some i) (bound_at certificate (name_at plan.programs program) 0)) ≡ None
+    at = subst (λ o. least_broken (tests_with plan certificate program 0 o (bound_at certificate (name_at plan.programs program) 0)) ≡ None) here none
+
+    no_bound : is_started plan program ≡ false → ⊥
+    no_bound none_starts = let wrong : true ≡ false = sym is ∙ none_starts in cc
+
+    go : (o : Option Bound) → bound_at certificate (name_at plan.programs program) 0 ≡ o → (b : Bound) × (bound_at certificate (name_at plan.programs program) 0 ≡ Some b)
+    go (Some b) bounded = (b, bounded)
+    go None bounded =
+        let without : least_broken (tests_without plan program 0) ≡ None = subst (λ o. least_broken (tests_with plan certificate program 0 (Some i) o) ≡ None) bounded at in
+        let kept : not (is_started plan program) ≡ true = (none_broken (tests_without plan program 0) without).0 in
+        absurd (no_bound (not_true (is_started plan program) kept))
+
+-- Where an outcome leads there is a bound, and the outcome's is within it.
+pub record Leads (certificate : Certificate) (name : List ℕ) (o : Outcome) : Type 0 where
+  pub bound : Bound
+  pub at : bound_at certificate name o.point ≡ Some bound
+  pub within : bound_within o.bound bound ≡ true
+
+leads_to : (certificate : Certificate) (name : List ℕ) (o : Outcome) → within_if_there o.bound (bound_at certificate name o.point) ≡ true → is_there (bound_at certificate name o.point) ≡ true → Leads certificate name o
+leads_to certificate name o within there = go (bound_at certificate name o.point) refl within there
+  where
+    go : (x : Option Bound) → bound_at certificate name o.point ≡ x → within_if_there o.bound x ≡ true → is_there x ≡ true → Leads certificate name o
+    go None at is some = absurd cc
+    go (Some b) at is some = record { bound = b; at = at; within = is }
+
+-- the only outcome, and the first and the second of two lists
+pub leads : (certificate : Certificate) (name : List ℕ) (o : Outcome) → all_within certificate name (o ∷ []) ≡ true → all_there certificate name (o ∷ []) ≡ true → Leads certificate name o
+leads certificate name o within there = leads_to certificate name o (both_left _ true within) (both_left _ true there)
+
+pub all_left : {A : Type 0} (test : A → Bool) (xs ys : List A) → list_all test (xs ++ ys) ≡ true → list_all test xs ≡ true
+all_left test [] ys all = refl
+all_left test (x ∷ xs) ys all =
+    both_true (both_left _ (list_all test (xs ++ ys)) all) (all_left test xs ys (both_right (test x) _ all))
+
+pub all_right : {A : Type 0} (test : A → Bool) (xs ys : List A) → list_all test (xs ++ ys) ≡ true → list_all test ys ≡ true
+all_right test [] ys all = all
+all_right test (x ∷ xs) ys all = all_right test xs ys (both_right (test x) _ all)

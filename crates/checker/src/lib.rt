@@ -1,0 +1,2 @@
+//! The checker.
+#![tactic(auto)]
