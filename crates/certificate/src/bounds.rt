@@ -147,13 +147,13 @@ impl Bound {
 
 /// The bound of a point among some.
 #[tactic(auto, unfolding(crate::specs::Bounds::bound_in))]
-fn bound_in<'a>(points: &'a [Point], program: &[u8], point: u8) -> Option<&'a Bound>
+fn bound_in<'a>(points: &'a [Point], program: &[u8], point: usize) -> Option<&'a Bound>
     ensures { option_map (λ b. bound_of b.now) result ≡ bound_in (points_of points.now) program.now point }
 {
     match points {
         [] => None,
         [first, rest @ ..] => {
-            if first.program.as_bytes() == program && first.point == point {
+            if first.program.as_bytes() == program && first.point as usize == point {
                 return Some(&first.bound);
             }
             bound_in(rest, program, point)
@@ -163,7 +163,7 @@ fn bound_in<'a>(points: &'a [Point], program: &[u8], point: u8) -> Option<&'a Bo
 
 impl Cert {
     /// The bound of a point of the program of this name, if it has one.
-    pub fn bound_at(&self, program: &[u8], point: u8) -> Option<&Bound>
+    pub fn bound_at(&self, program: &[u8], point: usize) -> Option<&Bound>
         ensures { option_map (λ b. bound_of b.now) result ≡ bound_at (certificate_of self.now) program.now point }
     {
         bound_in(&self.points, program, point)

@@ -21,7 +21,8 @@ use Rattle.simulator.specs.Descriptions.{Access, Object, At_node, At_end, State,
 use Rattle.simulator.specs.Programs.{Cap_enter, Read, Instruction, Invoke, name_at}
 use Rattle.simulator.specs.World.{World, is_open}
 use Rattle.simulator.specs.Answers.{Event, Effect, Answer, unless, held, through, at_object, read_byte, read_node, read_empty, read_end, answer}
-use Rattle.simulator.specs.Plans.{Grant, Plan, begins}
+use Rattle.file_tree.specs.Places.{begins}
+use Rattle.simulator.specs.Plans.{Grant, Plan}
 use Rattle.simulator.specs.Policies.{allows, is_allowed, grant_named, is_in, grant_holds, lists_in, grant_lists}
 use Rattle.simulator.specs.Sandboxed.{AreAllowed}
 use Rattle.simulator.specs.WellFormed.{Pairs, IsObject, IsEntry, IsDescriptor, AreMessages, IsWorld}

@@ -12,7 +12,8 @@ use Rattle.certificate.proofs.Smaller.{Between, between, from_between}
 use Rattle.simulator.specs.Tree.{Node, node}
 use Rattle.simulator.specs.Descriptions.{Object, At_node, At_end, Descriptor, Message}
 use Rattle.simulator.specs.Programs.{name_at}
-use Rattle.simulator.specs.Plans.{Grant, Plan, begins}
+use Rattle.file_tree.specs.Places.{begins}
+use Rattle.simulator.specs.Plans.{Grant, Plan}
 use Rattle.simulator.specs.Policies.{grant_holds}
 use Rattle.simulator.specs.WellFormed.{Pairs, IsWorld}
 use Rattle.simulator.specs.World.{World}

@@ -6,3 +6,4 @@ pub mod Changes
 pub mod Stepping
 pub mod Calls
 pub mod Sound
+pub mod PastEnds

@@ -91,13 +91,15 @@ Fine plan certificate w e next = IsSafe plan.grants w e next × Invariant plan c
 
 module _ (plan : Plan) (certificate : Certificate) (w : World) (e : Event) (choice : Choice) (valid : list_all is_program plan.programs ≡ true) (meets : MeetsRules plan certificate) (inv : Invariant plan certificate w) where
   fine : (s : ProcessState) → slice_get w.processes e.process ≡ Some s → (x : Executed) (line : Line) → IsUnrefusedLine line.acted → Owed plan certificate w e.process s x → GainsNothing w x.world → IsWorld plan.programs inv.pairs inv.numbers x.world → Fine plan certificate w e (record { world = x.world; line = line; effects = x.effects })
-  fine s made x line unrefused owed gained good =
-      (record {
-        allowed = λ on. owed.allowed (subst IsInMode made on);
-        unrefused = unrefused;
-        tables = λ p n. sourced (w.table p n) (x.world.table p n) (gained.entries p n);
-        queues = gained.queues;
-      }, next plan w x.world e.process owed.keeps certificate inv good owed.lies)
+  fine s made x line unrefused owed gained good = (
+    record {
+      allowed = λ on. owed.allowed (subst IsInMode made on);
+      unrefused = unrefused;
+      tables = λ p n. sourced (w.table p n) (x.world.table p n) (gained.entries p n);
+      queues = gained.queues;
+    },
+    next plan w x.world e.process owed.keeps certificate inv good owed.lies,
+  )
 
   at_fine : (s : ProcessState) → slice_get w.processes e.process ≡ Some s → s.alive ≡ true → (o : Option Instruction) → instruction_at plan.programs s.program s.point ≡ o → GainsNothing w (stepped_at plan.programs w e choice s o).world → IsWorld plan.programs inv.pairs inv.numbers (stepped_at plan.programs w e choice s o).world → Fine plan certificate w e (stepped_at plan.programs w e choice s o)
   unfolding stepped_at
@@ -117,13 +119,15 @@ module _ (plan : Plan) (certificate : Certificate) (w : World) (e : Event) (choi
 
   step_fine : (o : Option ProcessState) → slice_get w.processes e.process ≡ o → GainsNothing w (stepped plan.programs w e choice o).world → IsWorld plan.programs inv.pairs inv.numbers (stepped plan.programs w e choice o).world → Fine plan certificate w e (stepped plan.programs w e choice o)
   unfolding stepped
-  step_fine None made gained good =
-      (record {
-        allowed = λ on. absurd (subst IsInMode made on);
-        unrefused = tt;
-        tables = λ p n. sourced (w.table p n) (w.table p n) (gained.entries p n);
-        queues = gained.queues;
-      }, inv)
+  step_fine None made gained good = (
+    record {
+      allowed = λ on. absurd (subst IsInMode made on);
+      unrefused = tt;
+      tables = λ p n. sourced (w.table p n) (w.table p n) (gained.entries p n);
+      queues = gained.queues;
+    },
+    inv,
+  )
   step_fine (Some s) made gained good = by_fine s made s.alive refl gained good
 
   -- One step: it is safe, and the invariant goes on.

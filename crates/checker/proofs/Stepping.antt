@@ -1,11 +1,11 @@
 -- One step of a process that lies in the bound of its point: it is safe, and the process lies in the
 -- bound of the point that it comes to.
 use Rattle.std.proofs.Common.{◌≡◌, ◌≢◌, ℕ, ◌+◌, ◌<◌, ◌≤◌, Bool, true, false, List, [], ◌∷◌, refl, arith, ap, sym, ◌∙◌, subst}
-use Rattle.std.specs.Prelude.{◌==◌, ◌&&◌, ◌||◌, ◌-◌, ◌++◌, not, nat_le, slice_set, Option, Some, None, cond, if◌then◌else◌}
+use Rattle.std.specs.Prelude.{◌==◌, ◌&&◌, ◌||◌, ◌-◌, ◌++◌, not, nat_le, nat_lt, slice_set, Option, Some, None, cond, if◌then◌else◌}
 use Rattle.std.specs.List.{slice_get, slice_index_or, list_any}
 use Rattle.std.specs.Option.{option_map}
 use Rattle.std.specs.Cmp.Derive.{both_true}
-use Rattle.std.proofs.lemmas.Bool.{eqb-true, eq-eqb, leb-true, le-leb}
+use Rattle.std.proofs.lemmas.Bool.{eqb-true, eq-eqb, leb-true, le-leb, ltb-false}
 use Rattle.rights.specs.Sets.{is_within, read_right}
 use Rattle.rights.specs.Errors.{Errno, errno_number, Cause, Refused}
 use Rattle.rights.specs.Operations.{Operation, lists}
@@ -23,12 +23,13 @@ use Rattle.simulator.specs.Programs.{Program, Syscall, Cap_enter, Read, Instruct
 use Rattle.simulator.specs.World.{World, Choice, is_open}
 use Rattle.simulator.specs.Answers.{Event, Effect, Answer, Fails, Waits, Gives, unless, held, through, at_object, read_byte, read_node, read_empty, read_end, answer, changed}
 use Rattle.simulator.specs.Steps.{Executed, Halted, register, with_register, moved_to, with_process, plain, given, failed, answered, jumped, halted, executed}
-use Rattle.simulator.specs.Plans.{Grant, Plan, begins}
+use Rattle.file_tree.specs.Places.{begins}
+use Rattle.simulator.specs.Plans.{Grant, Plan}
 use Rattle.simulator.specs.Policies.{allows, is_allowed, grant_named, is_in, grant_holds, lists_in, grant_lists}
 use Rattle.simulator.specs.Sandboxed.{AreAllowed, IsOtherCause, IsUnrefused}
 use Rattle.simulator.specs.WellFormed.{Pairs, IsObject, AreMessages, IsWorld}
 use Rattle.simulator.proofs.Good.{content_of_node, file_byte}
-use Rattle.checker.specs.Outcomes.{Outcome, only, is_among, trimmed, jump_outcomes, stay_outcomes, outcome_to, read_interval, error_interval, outcomes, error_outcomes}
+use Rattle.checker.specs.Outcomes.{Outcome, only, is_among, has_other, trimmed, jump_outcomes, stay_outcomes, outcome_to, read_interval, error_interval, outcomes, error_outcomes}
 use Rattle.checker.specs.Rules.{all_within, all_there, may_be_on, has_need, is_known, goes_known, target_lists, goes_listed, keeps_known, keeps_policy}
 use Rattle.checker.proofs.Describing.{Described, described, from_described, register_at, register_set, interval_set, slot_at, error_fits}
 use Rattle.checker.proofs.Asked.{Asked, Leads, leads, all_left, all_right}
@@ -155,16 +156,17 @@ module _ (plan : Plan) (certificate : Certificate) (w : World) (p : ℕ) (s : Pr
           both_true (le-leb n.low k low) (le-leb k (n.high - 1) below)
       go false false is also = fits
 
-  not_only : (n : Interval) (v k : ℕ) → interval_describes n k ≡ true → k ≢ v → (n.low == v && (n.high == v)) ≡ false
-  not_only n v k fits other = go (n.low == v && (n.high == v)) refl
+  another : (n : Interval) (v k : ℕ) → interval_describes n k ≡ true → k ≢ v → has_other n v ≡ true
+  another n v k fits other = go (nat_lt n.low v) (nat_lt v n.high) refl refl
     where
-      go : (a : Bool) → (n.low == v && (n.high == v)) ≡ a → a ≡ false
-      go false is = refl
-      go true is =
+      go : (a b : Bool) → nat_lt n.low v ≡ a → nat_lt v n.high ≡ b → (a || b) ≡ true
+      go true b below is = refl
+      go false true is above = refl
+      go false false is also =
           let low : n.low ≤ k = leb-true _ _ (both_left _ (nat_le k n.high) fits) in
           let high : k ≤ n.high = leb-true _ _ (both_right (nat_le n.low k) _ fits) in
-          let first : n.low ≡ v = eqb-true _ _ (both_left _ (n.high == v) is) in
-          let last : n.high ≡ v = eqb-true _ _ (both_right (n.low == v) _ is) in
+          let first : v ≤ n.low = ltb-false n.low v is in
+          let last : n.high ≤ v = ltb-false v n.high also in
           absurd (other (omega (arith, low, high, first, last)))
 
   pub owed_stay : (r v target : ℕ) → i ≡ Jeq r v target → register s r ≢ v → Owed plan certificate w p s (plain w p (moved_to s (s.point + 1)))
@@ -176,7 +178,7 @@ module _ (plan : Plan) (certificate : Certificate) (w : World) (p : ℕ) (s : Pr
       let within : all_within certificate name (jump_outcomes b r v target ++ stay_outcomes s.point b r v) ≡ true = subst (λ k. all_within certificate name (outcomes s.point b k) ≡ true) is known.asked.successes in
       let there : all_there certificate name (jump_outcomes b r v target ++ stay_outcomes s.point b r v) ≡ true = subst (λ k. all_there certificate name (outcomes s.point b k) ≡ true) is known.asked.successes_there in
       let fits : interval_describes n (register s r) ≡ true = register_at b.registers s.registers known.lies.registers r in
-      let only_one : stay_outcomes s.point b r v ≡ outcome_to (s.point + 1) (with_interval b r (trimmed n v)) = ap (λ c. if c then [] else outcome_to (s.point + 1) (with_interval b r (trimmed n v))) (not_only n v (register s r) fits other) in
+      let only_one : stay_outcomes s.point b r v ≡ outcome_to (s.point + 1) (with_interval b r (trimmed n v)) = ap (λ c. if c then outcome_to (s.point + 1) (with_interval b r (trimmed n v)) else []) (another n v (register s r) fits other) in
       comes (s.point + 1) r (trimmed n v) s.registers
       (leads certificate name (record { point = s.point + 1; bound = with_interval b r (trimmed n v) })
       (subst (λ os. all_within certificate name os ≡ true) only_one (all_right _ (jump_outcomes b r v target) (stay_outcomes s.point b r v) within))

@@ -1,5 +1,5 @@
 -- Where an instruction may lead from a point with a bound, and the bound that it has there. (own)
-use Rattle.std.specs.Prelude.{◌+◌, ◌-◌, ◌==◌, ◌&&◌, ◌++◌, ℕ, Bool, nat_le, List, [], ◌∷◌, Option, Some, None, if◌then◌else◌}
+use Rattle.std.specs.Prelude.{◌+◌, ◌-◌, ◌==◌, ◌&&◌, ◌++◌, ℕ, Bool, ◌||◌, nat_le, nat_lt, List, [], ◌∷◌, Option, Some, None, if◌then◌else◌}
 use Rattle.certificate.specs.Bounds.{ModeBound, On, Interval, interval, with_interval, slot, held_in, Held, Bound}
 use Rattle.simulator.specs.Programs.{Syscall, Cap_enter, Read, Instruction, Set, Jeq, Halt, Invoke}
 
@@ -19,6 +19,9 @@ outcome_to point b = record { point = point; bound = b } ∷ []
 abbrev pub is_among : Interval → ℕ → Bool
 is_among i value = nat_le i.low value && nat_le value i.high
 
+abbrev pub has_other : Interval → ℕ → Bool
+has_other i value = nat_lt i.low value || nat_lt value i.high
+
 abbrev pub trimmed : Interval → ℕ → Interval
 trimmed i value =
     if i.low == value then record { low = i.low + 1; high = i.high }
@@ -30,8 +33,8 @@ jump_outcomes b r value target =
 
 abbrev pub stay_outcomes : ℕ → Bound → ℕ → ℕ → List Outcome
 stay_outcomes point b r value =
-    if (interval b.registers r).low == value && ((interval b.registers r).high == value) then []
-    else outcome_to (point + 1) (with_interval b r (trimmed (interval b.registers r) value))
+    if has_other (interval b.registers r) value
+    then outcome_to (point + 1) (with_interval b r (trimmed (interval b.registers r) value)) else []
 
 -- what `read` gives: a byte, or 256 at the end
 abbrev pub read_interval : Interval

@@ -34,13 +34,19 @@ abbrev pub start_within : Plan → Bound → Start → Bool
 start_within plan b s = describes (grant_holds plan.grants) b s.mode (replicate 8 0) (first_table plan.nodes s)
 
 -- some process starts this program
+abbrev pub starts_program : List Start → ℕ → Bool
+starts_program starts program = list_any (λ (s : Start). s.program == program) starts
+
 abbrev pub is_started : Plan → ℕ → Bool
-is_started plan program = list_any (λ (s : Start). s.program == program) plan.starts
+is_started plan program = starts_program plan.starts program
 
 -- K1: at point 0, the first state of each process of the program is one that the bound describes.
+abbrev pub all_starts_within : Plan → ℕ → Bound → List Start → Bool
+all_starts_within plan program b starts =
+    list_all (λ (s : Start). not (s.program == program) || start_within plan b s) starts
+
 abbrev pub starts_within : Plan → ℕ → ℕ → Bound → Bool
-starts_within plan program point b =
-    not (point == 0) || list_all (λ (s : Start). not (s.program == program) || start_within plan b s) plan.starts
+starts_within plan program point b = not (point == 0) || all_starts_within plan program b plan.starts
 
 -- K2 and K3: an outcome is within the bound of the point that it goes to, if that has one.
 abbrev pub within_if_there : Bound → Option Bound → Bool
@@ -117,11 +123,11 @@ tests plan certificate program point i b =
     ∷ record { rule = 10; kept = keeps_known b i }
     ∷ record { rule = 11; kept = keeps_policy plan b i }
     ∷ record {
-        rule = 16;
-        kept =
-            all_there certificate (name_at plan.programs program) (outcomes point b i)
-            && all_there certificate (name_at plan.programs program) (error_outcomes b i);
-      }
+      rule = 16;
+      kept =
+          all_there certificate (name_at plan.programs program) (outcomes point b i)
+          && all_there certificate (name_at plan.programs program) (error_outcomes b i);
+    }
     ∷ []
 
 -- A point without a bound isn't looked at: it is claimed not to be reached. But point 0 of a program that

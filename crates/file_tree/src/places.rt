@@ -27,8 +27,8 @@ pub(crate) fn is_same(left: &[Vec<u8>], right: &[Vec<u8>]) -> bool
     }
 }
 
-/// Whether the second place begins with the first.
-pub(crate) fn is_front(front: &[Vec<u8>], place: &[Vec<u8>]) -> bool
+/// Whether the second place begins with the first, name by name. (own)
+pub fn is_front(front: &[Vec<u8>], place: &[Vec<u8>]) -> bool
     ensures { result ≡ begins (names_of front.now) (names_of place.now) }
 {
     match front {

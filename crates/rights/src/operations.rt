@@ -1,7 +1,7 @@
 //! The operations that a policy speaks of.
 
-ghost use Rattle.std.specs.Prelude.{◌≡◌};
-ghost use Rattle.rights.specs.Operations.{operation_name};
+ghost use Rattle.std.specs.Prelude.{◌≡◌, map};
+ghost use Rattle.rights.specs.Operations.{lists, operation_name, same_operation};
 ghost use Rattle.rights.specs.Views.{operation_of};
 
 /// What a call does to a place of the tree, and what a grant lists.
@@ -32,6 +32,30 @@ impl Op {
             Op::Remove => "remove",
         }
     }
+
+    /// Whether this is the other.
+    fn is_same(self, other: Op) -> bool
+        ensures { result ≡ same_operation (operation_of self) (operation_of other) }
+    {
+        matches!(
+            (self, other),
+            (Op::Look, Op::Look)
+                | (Op::Read, Op::Read)
+                | (Op::Write, Op::Write)
+                | (Op::Create, Op::Create)
+                | (Op::Remove, Op::Remove)
+        )
+    }
+
+    /// Whether a list of operations, as a grant has it, has this one.
+    pub fn is_listed(self, operations: &[Op]) -> bool
+        ensures { result ≡ lists (map operation_of operations.now) (operation_of self) }
+    {
+        match operations {
+            [] => false,
+            [first, rest @ ..] => self.is_same(*first) || self.is_listed(rest),
+        }
+    }
 }
 
 #[cfg(test)]
@@ -49,5 +73,12 @@ mod tests {
         ] {
             assert_eq!(rt; operation.name(), name);
         }
+    }
+
+    #[test]
+    fn a_list_of_operations(rt: HostRuntime) {
+        let operations = [Op::Look, Op::Remove];
+        assert!(rt; Op::Remove.is_listed(&operations));
+        assert!(rt; !Op::Create.is_listed(&operations));
     }
 }

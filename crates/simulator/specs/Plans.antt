@@ -5,6 +5,7 @@ use Rattle.std.specs.Str.{bytes_eq}
 use Rattle.rights.specs.Sets.{is_within, all_rights, all_commands}
 use Rattle.rights.specs.Operations.{Operation}
 use Rattle.rights.specs.Maps.{put, put2}
+use Rattle.file_tree.specs.Places.{begins}
 use Rattle.process.specs.State.{ProcessState, new_process}
 use Rattle.simulator.specs.Tree.{Node, node, is_dir, is_link, is_tree, is_dir_at}
 use Rattle.simulator.specs.Descriptions.{Access, Object, At_node, State, Descriptor}
@@ -50,12 +51,6 @@ is_word_byte b = is_letter b || (nat_le 48 b && nat_le b 57) || (b == 95)
 abbrev pub is_word : List ℕ → Bool
 is_word [] = false
 is_word (b ∷ bytes) = is_letter b && nat_le (length bytes) 15 && list_all is_word_byte bytes
-
--- the first place is a front of the second, name by name
-abbrev pub begins : List (List ℕ) → List (List ℕ) → Bool
-begins [] place = true
-begins (name ∷ names) [] = false
-begins (name ∷ names) (n ∷ place) = bytes_eq name n && begins names place
 
 -- grants on directories, none of which is a front of another
 abbrev pub are_apart : Grant → Grant → Bool

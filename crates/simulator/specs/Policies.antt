@@ -3,7 +3,8 @@ use Rattle.std.specs.Prelude.{◌&&◌, ℕ, Bool, false, List, [], ◌∷◌, O
 use Rattle.std.specs.List.{list_any}
 use Rattle.std.specs.Str.{bytes_eq}
 use Rattle.rights.specs.Operations.{Operation, lists}
-use Rattle.simulator.specs.Plans.{Grant, begins}
+use Rattle.file_tree.specs.Places.{begins}
+use Rattle.simulator.specs.Plans.{Grant}
 
 -- A grant allows its operations at its directory and at everything beneath it, name by name.
 abbrev pub allows : Grant → Operation → List (List ℕ) → Bool

@@ -5,7 +5,7 @@ ghost use Rattle.std.specs.List.{list_all};
 ghost use Rattle.simulator.specs.AnswerViews.{effects_of};
 ghost use Rattle.simulator.specs.Kept.{IsKept, SameSizes, world_of};
 ghost use Rattle.simulator.specs.Plans.{first_world};
-ghost use Rattle.simulator.specs.Programs.{instruction_at, is_program, name_at};
+ghost use Rattle.simulator.specs.Programs.{is_program, name_at};
 ghost use Rattle.simulator.specs.Steps.{Ended, Steps, step, stepped};
 ghost use Rattle.simulator.specs.StepViews.{SteppedAs, event_of, line_of, result_of};
 ghost use Rattle.simulator.specs.Views.{instruction_of, kept_of, programs_of};
@@ -14,7 +14,7 @@ ghost use Rattle.simulator.specs.World.{Choice};
 
 use crate::events::Event;
 use crate::lines::{Acted, Line};
-use crate::programs::{Instruction, Program};
+use crate::programs::{Program, instruction_at};
 use crate::starting::{copy_programs, first_world};
 use crate::steps::{Executed, LineResult, execute};
 use crate::task::Task;
@@ -31,19 +31,8 @@ fn process_at(processes: &[Process], number: u8) -> Option<Process>
     processes.get(number as usize).copied()
 }
 
-/// The instruction at a point of a program, if both are there.
-fn instruction_at(programs: &[Program], program: u8, point: u8) -> Option<Instruction>
-    ensures { option_map instruction_of result
-        ≡ instruction_at (programs_of programs.now) program point }
-{
-    match programs.get(program as usize) {
-        None => None,
-        Some(program) => program.code.get(point as usize).copied(),
-    }
-}
-
 /// A program's name, or nothing for a program that isn't there.
-fn name_at(alloc: Global, programs: &[Program], program: u8) -> Result<String, AllocError>
+fn copied_name(alloc: Global, programs: &[Program], program: u8) -> Result<String, AllocError>
     ensures { IfOk result (λ name. string_bytes name ≡ name_at (programs_of programs.now) program) }
 {
     match programs.get(program as usize) {
@@ -96,7 +85,7 @@ fn step_process(
         (stepped (programs_of programs.now) (world_of (kept_of world.old)) (event_of event) choice (Some process))) }
     ensures sizes { OnOk result (SameSizes (kept_of world.old) (kept_of world.new)) }
 {
-    let name = name_at(alloc, programs, process.program)?;
+    let name = copied_name(alloc, programs, process.program)?;
     if !process.alive {
         return Ok(line_of_process(event, process, name, ended(alloc)));
     }

@@ -100,7 +100,8 @@ impl Task {
 
     /// The programs, by their place in the task.
     pub fn programs(&self) -> &[Program]
-        ensures { programs_of result.now ≡ self.now.programs }
+        ensures programs { programs_of result.now ≡ self.now.programs }
+        ensures valid { is_plan self.now ≡ true }
     {
         &self.programs
     }

@@ -16,7 +16,7 @@ first_world-requires-clause-numbers c =
     (starts_fit plan.nodes (length plan.programs) plan.starts (checked plan c.nodes.ensures.valid).starts)
 
 same_programs : (c : goal.In_ok-world) → programs_of c.in_ok-programs.programs.items ≡ c.args.task.now.programs
-same_programs c = c.in_ok-programs.ensures ∙ c.programs.ensures
+same_programs c = c.in_ok-programs.ensures ∙ c.programs.ensures.programs
 
 same_world : (c : goal.In_ok-world) → world_of (kept_of c.in_ok-world.world) ≡ first_world c.args.task.now
 unfolding first_world

@@ -1,0 +1,187 @@
+//! Whether a bound describes the first states of a program's processes.
+
+ghost use Rattle.std.specs.Prelude.{◌≡◌, ◌+◌, ◌≤◌, length, map, option_map, true};
+ghost use Rattle.certificate.specs.Describes.{held_describes, interval_describes, mode_describes, registers_describe, slot_describes, slots_describe, target_describes, Node_at};
+ghost use Rattle.certificate.specs.Views.{bound_of, held_of, interval_of, mode_of, slot_of, target_of};
+ghost use Rattle.checker.specs.Rules.{all_starts_within, descriptor_numbered, first_seen, first_table, is_started, start_within, starts_program, starts_within};
+ghost use Rattle.simulator.specs.Policies.{grant_holds};
+ghost use Rattle.simulator.specs.Tree.{node};
+ghost use Rattle.simulator.specs.Views.{first_descriptor_of, grants_of, nodes_of, place_of, start_of, starts_of};
+
+use certificate::{Bound, Held, Interval, ModeBound, Slot, Target};
+use rights::Rights;
+use simulator::{FirstDescriptor, Grant, Node, Start, Task, grant_holds};
+
+/// Whether a process may be in this mode.
+fn mode_describes(bound: ModeBound, mode: bool) -> bool
+    ensures { result ≡ mode_describes (mode_of bound) mode }
+{
+    match bound {
+        ModeBound::Off => !mode,
+        ModeBound::On => mode,
+        ModeBound::Either => true,
+    }
+}
+
+/// Whether each value is in its interval.
+fn registers_describe(intervals: &[Interval], values: &[u32]) -> bool
+    ensures { result ≡ registers_describe (map interval_of intervals.now) values.now }
+{
+    match intervals {
+        [] => values.is_empty(),
+        [first, rest @ ..] => match values {
+            [] => false,
+            [value, others @ ..] => {
+                first.low <= *value && *value <= first.high && registers_describe(rest, others)
+            }
+        },
+    }
+}
+
+/// The place of a node; the root's for one that isn't there.
+fn place_of(nodes: &[Node], number: u16) -> &[Vec<u8>]
+    ensures { place_of result.now ≡ (node (nodes_of nodes.now) number).place }
+{
+    match nodes.get(number as usize) {
+        Some(node) => &node.place,
+        None => &[],
+    }
+}
+
+/// Whether a descriptor of a node may be of this target.
+fn target_describes(grants: &[Grant], target: &Target, place: &[Vec<u8>]) -> bool
+    ensures { result
+        ≡ target_describes (grant_holds (grants_of grants.now)) (target_of target.now) (Node_at (place_of place.now)) }
+{
+    match target {
+        Target::InGrant(name) => grant_holds(grants, name.as_bytes(), place),
+        Target::AnyNode | Target::Unknown => true,
+    }
+}
+
+/// Whether a first descriptor is one that the bound describes.
+fn held_describes(
+    grants: &[Grant],
+    nodes: &[Node],
+    held: &Held,
+    descriptor: FirstDescriptor,
+) -> bool
+    ensures { result ≡ held_describes (grant_holds (grants_of grants.now)) (held_of held.now)
+        (first_seen (nodes_of nodes.now) (first_descriptor_of descriptor)) }
+{
+    target_describes(grants, &held.target, place_of(nodes, descriptor.node))
+        && descriptor.rights.contains(held.rights.least)
+        && held.rights.greatest.contains(descriptor.rights)
+        && descriptor.fcntls.contains(held.fcntls.least)
+        && held.fcntls.greatest.contains(descriptor.fcntls)
+}
+
+/// The descriptor of this number, if there is one.
+fn descriptor_numbered(descriptors: &[FirstDescriptor], number: usize) -> Option<FirstDescriptor>
+    ensures { option_map first_descriptor_of result
+        ≡ descriptor_numbered (map first_descriptor_of descriptors.now) number }
+{
+    match descriptors {
+        [] => None,
+        [first, rest @ ..] => {
+            if first.number as usize == number {
+                return Some(*first);
+            }
+            descriptor_numbered(rest, number)
+        }
+    }
+}
+
+/// Whether a number of a table is as its slot says.
+fn slot_describes(
+    grants: &[Grant],
+    nodes: &[Node],
+    slot: &Slot,
+    descriptor: Option<FirstDescriptor>,
+) -> bool
+    ensures { result ≡ slot_describes (grant_holds (grants_of grants.now)) (slot_of slot.now)
+        (option_map (first_seen (nodes_of nodes.now)) (option_map first_descriptor_of descriptor)) }
+{
+    match slot {
+        Slot::Closed => descriptor.is_none(),
+        Slot::Open(held) => match descriptor {
+            None => false,
+            Some(descriptor) => held_describes(grants, nodes, held, descriptor),
+        },
+        Slot::Maybe(held) => match descriptor {
+            None => true,
+            Some(descriptor) => held_describes(grants, nodes, held, descriptor),
+        },
+    }
+}
+
+/// Whether each number from one on, up to sixteen, is as its slot says.
+fn slots_describe(
+    grants: &[Grant],
+    nodes: &[Node],
+    number: usize,
+    slots: &[Slot],
+    start: &Start,
+) -> bool
+    requires { number + length slots.now ≤ 16 }
+    ensures { result ≡ slots_describe (grant_holds (grants_of grants.now)) number (map slot_of slots.now)
+        (first_table (nodes_of nodes.now) (start_of start.now)) }
+{
+    match slots {
+        [] => number == 16,
+        [first, rest @ ..] => {
+            slot_describes(
+                grants,
+                nodes,
+                first,
+                descriptor_numbered(&start.descriptors, number),
+            ) && slots_describe(grants, nodes, number + 1, rest, start)
+        }
+    }
+}
+
+/// Whether the bound describes a process at its start.
+fn start_within(task: &Task, bound: &Bound, start: &Start) -> bool
+    ensures { result ≡ start_within task.now (bound_of bound.now) (start_of start.now) }
+{
+    mode_describes(bound.mode, start.mode)
+        && registers_describe(&bound.registers, &[0; 8])
+        && slots_describe(task.grants(), task.nodes(), 0, &bound.slots, start)
+}
+
+/// Whether it does each of these that starts the program.
+fn all_starts_within(task: &Task, program: u8, bound: &Bound, starts: &[Start]) -> bool
+    ensures { result ≡ all_starts_within task.now program (bound_of bound.now) (starts_of starts.now) }
+{
+    match starts {
+        [] => true,
+        [first, rest @ ..] => {
+            (first.program != program || start_within(task, bound, first))
+                && all_starts_within(task, program, bound, rest)
+        }
+    }
+}
+
+/// At point 0, whether the bound describes each process of the program at its start. (own)
+pub(crate) fn starts_within(task: &Task, program: u8, point: u8, bound: &Bound) -> bool
+    ensures { result ≡ starts_within task.now program point (bound_of bound.now) }
+{
+    point != 0 || all_starts_within(task, program, bound, task.starts())
+}
+
+/// Whether one of these starts the program.
+fn starts_program(starts: &[Start], program: u8) -> bool
+    ensures { result ≡ starts_program (starts_of starts.now) program }
+{
+    match starts {
+        [] => false,
+        [first, rest @ ..] => first.program == program || starts_program(rest, program),
+    }
+}
+
+/// Whether some process starts the program.
+pub(crate) fn is_started(task: &Task, program: u8) -> bool
+    ensures { result ≡ is_started task.now program }
+{
+    starts_program(task.starts(), program)
+}
