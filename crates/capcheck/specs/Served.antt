@@ -1,8 +1,15 @@
 -- What the program has written when it says that it is done.
-use Rattle.std.specs.Prelude.{◌≡◌, ◌==◌, ◌||◌, ℕ, zero, suc, Bool, false, List, [], ◌∷◌, codes, Option, Some}
+use Rattle.std.specs.Prelude.{◌≡◌, ◌==◌, ◌||◌, ◌⊎◌, ◌++◌, ℕ, zero, suc, Bool, false, List, [], ◌∷◌, codes, Option, Some}
+use Rattle.std.specs.Fmt.{decimal}
+use Rattle.rights.specs.Output.{Took}
+use Rattle.certificate.specs.Bounds.{Certificate}
+use Rattle.checker.specs.Rules.{Verdict, Yes, No, IsVerdict}
 use Rattle.simulator.specs.Answers.{Event}
 use Rattle.capcheck.specs.Named.{first_plan, plan_named}
+use Rattle.capcheck.specs.NamedCertificates.{certificate_named}
 use Rattle.simulator.specs.Plans.{Plan}
+use Rattle.simulator.specs.Programs.{name_at}
+use Rattle.simulator.specs.Sandboxed.{IsSandboxed}
 use Rattle.simulator.specs.Simulations.{WritesTrace}
 
 -- so many events of process 0
@@ -25,18 +32,50 @@ pub record RunsNamed (task : List ℕ) (before after : Option (List ℕ)) : Type
   pub events : List Event
   pub writes : WritesTrace plan events before after
 
--- without words the example, and with `run TASK SCHEDULE` a trace of the task
-abbrev pub Serves : List (List ℕ) → Option (List ℕ) → Option (List ℕ) → Type 0
-Serves [] before after = WritesTrace first_plan example_events before after
-Serves (command ∷ []) before after = ⊥
-Serves (command ∷ task ∷ []) before after = ⊥
-Serves (command ∷ task ∷ schedule ∷ []) before after = (command ≡ codes "run") × RunsNamed task before after
-Serves (command ∷ task ∷ schedule ∷ more ∷ words) before after = ⊥
+-- `yes`, or the program's name, the point and the rule, as `no main:4 K7`
+abbrev pub verdict_text : Plan → Verdict → List ℕ
+verdict_text plan Yes = codes "yes\n"
+verdict_text plan (No program point rule) =
+    codes "no " ++ name_at plan.programs program ++ codes ":" ++ decimal point ++ codes " K" ++ decimal rule ++ codes "\n"
+
+abbrev pub verdict_status : Verdict → ℕ
+verdict_status Yes = 0
+verdict_status (No program point rule) = 1
+
+-- the verdict on the task of this name with the certificate of this name
+pub record ChecksNamed (task certificate : List ℕ) (status : ℕ) (before after : Option (List ℕ)) : Type 0 where
+  pub plan : Plan
+  pub named : plan_named task ≡ Some plan
+  pub bounds : Certificate
+  pub known : certificate_named certificate ≡ Some bounds
+  pub verdict : Verdict
+  pub is : IsVerdict plan bounds verdict
+  pub status_is : status ≡ verdict_status verdict
+  pub sound : verdict ≡ Yes → IsSandboxed plan
+  pub writes : Took before after (verdict_text plan verdict)
+
+-- the commands with two words, with status 0 or 1
+abbrev pub ServesTwo : List ℕ → List ℕ → List ℕ → ℕ → Option (List ℕ) → Option (List ℕ) → Type 0
+ServesTwo command task other status before after =
+    ((command ≡ codes "run") × (status ≡ 0) × RunsNamed task before after)
+    ⊎ ((command ≡ codes "check") × ChecksNamed task other status before after)
+
+-- Without words the example; with `run TASK SCHEDULE` a trace of the task; and with `check TASK CERT` the
+-- verdict.
+abbrev pub Serves : List (List ℕ) → ℕ → Option (List ℕ) → Option (List ℕ) → Type 0
+Serves [] status before after = (status ≡ 0) × WritesTrace first_plan example_events before after
+Serves (command ∷ []) status before after = ⊥
+Serves (command ∷ task ∷ []) status before after = ⊥
+Serves (command ∷ task ∷ other ∷ []) status before after = ServesTwo command task other status before after
+Serves (command ∷ task ∷ other ∷ more ∷ words) status before after = ⊥
 
 -- The status of a fault: 2 of one in words or files, 3 of want of memory and of a failed output. That of
--- a program that is done is 0.
+-- a program that is done is 0, or 1 where it answers no.
 abbrev pub is_fault_status : ℕ → Bool
 is_fault_status status = (status == 2) || (status == 3)
 
+abbrev pub is_done_status : ℕ → Bool
+is_done_status status = (status == 0) || (status == 1)
+
 abbrev pub is_status : ℕ → Bool
-is_status status = (status == 0) || is_fault_status status
+is_status status = is_done_status status || is_fault_status status

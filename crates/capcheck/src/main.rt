@@ -1,7 +1,9 @@
-//! Capcheck, the program: without words the trace of an example, and with `run TASK SCHEDULE` the trace
-//! of a task that it knows by name over the events of a file.
+//! Capcheck, the program: without words the trace of an example; with `run TASK SCHEDULE` the trace of a
+//! task that it knows by name over the events of a file; with `check TASK CERT` the verdict on a task with
+//! a certificate that it knows by name.
 #![tactic(auto)]
 
+mod certificates;
 mod console;
 mod laws;
 mod named;
@@ -76,7 +78,7 @@ fn run(rt: &HostRuntime) -> u8 {
     if out.flush() {
         return status;
     }
-    if status == 0 {
+    if status < 2 {
         let mut err = Console::new(rt.stderr());
         let _ = write_all(&mut err, b"capcheck: output\n");
     }

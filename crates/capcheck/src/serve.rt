@@ -2,12 +2,18 @@
 
 ghost use Rattle.std.specs.Prelude.{◌≡◌, ◌<◌, ◌≤◌, ◌-◌, ◌^◌, IfOk, IsTrue, OnOk, Some, map, string_bytes};
 ghost use Rattle.capcheck.specs.Named.{first_plan, plan_named};
-ghost use Rattle.capcheck.specs.Served.{RunsNamed, Serves, example_events, is_fault_status, is_status};
+ghost use Rattle.capcheck.specs.NamedCertificates.{certificate_named};
+ghost use Rattle.capcheck.specs.Served.{ChecksNamed, RunsNamed, Serves, ServesTwo, example_events, is_done_status, is_fault_status, is_status, verdict_status, verdict_text};
+ghost use Rattle.certificate.specs.Views.{certificate_of};
+ghost use Rattle.checker.specs.Views.{verdict_of};
 ghost use Rattle.simulator.specs.Simulations.{WritesTrace};
 
+use crate::certificates::certificate_named;
 use crate::named::task_named;
+use certificate::Cert;
+use checker::{Verdict, check};
 use rights::{Out, Stop, write_all};
-use simulator::{Event, ScheduleFault, Task, read_schedule, simulate};
+use simulator::{Event, ScheduleFault, Task, name_at, read_schedule, simulate};
 use std::alloc::{AllocError, Global};
 
 /// Why a file isn't read.
@@ -64,6 +70,9 @@ impl<'a> From<ScheduleFault> for Fault<'a> {
 
 /// The status of a program that did what its words say.
 const DONE: u8 = 0;
+
+/// The status of a program that answers no.
+const BROKEN: u8 = 1;
 
 /// The status of faults in words and files.
 const REFUSED: u8 = 2;
@@ -162,6 +171,66 @@ fn run<'a, S: Source, W: Out>(
     Ok(())
 }
 
+fn certificate(alloc: Global, name: &str) -> Result<Cert, Fault<'_>>
+    ensures { IfOk result (λ cert. certificate_named name.now ≡ Some (certificate_of cert)) }
+{
+    match certificate_named(alloc, name)? {
+        Some(cert) => Ok(cert),
+        None => Err(Fault::File(name)),
+    }
+}
+
+/// The status of a verdict.
+fn status_of_verdict(verdict: Verdict) -> u8
+    ensures { result ≡ verdict_status (verdict_of verdict) }
+{
+    match verdict {
+        Verdict::Yes => DONE,
+        Verdict::No { .. } => BROKEN,
+    }
+}
+
+/// The line of a verdict: `yes`, or the program's name, the point and the rule.
+fn text_of_verdict(alloc: Global, task: &Task, verdict: Verdict) -> Result<Vec<u8>, AllocError>
+    ensures { IfOk result (λ text. text.items ≡ verdict_text task.now (verdict_of verdict)) }
+{
+    match verdict {
+        Verdict::Yes => Vec::from_slice(alloc, b"yes\n"),
+        Verdict::No {
+            program,
+            point,
+            rule,
+        } => {
+            let mut text = Vec::from_slice(alloc, b"no ")?;
+            text.extend_from_slice(name_at(task.programs(), program))?;
+            text.extend_from_slice(b":")?;
+            text.extend_from_slice(point.to_string(alloc)?.as_bytes())?;
+            text.extend_from_slice(b" K")?;
+            text.extend_from_slice(rule.to_string(alloc)?.as_bytes())?;
+            text.extend_from_slice(b"\n")?;
+            Ok(text)
+        }
+    }
+}
+
+/// Checks a certificate against a task, and gives the status of the verdict.
+fn check_certificate<'a, W: Out>(
+    alloc: Global,
+    task: &'a str,
+    cert: &'a str,
+    out: &mut W,
+) -> Result<u8, Fault<'a>>
+    requires { W.faults out.old < 2 ^ 64 - 1 }
+    ensures { IfOk result (λ status. ChecksNamed task.now cert.now status (W.taken out.old) (W.taken out.new)) }
+{
+    let task = named(alloc, task)?;
+    let cert = certificate(alloc, cert)?;
+    let verdict = check(&task, &cert);
+    let text = text_of_verdict(alloc, &task, verdict)?;
+    write_all(out, &text)?;
+    Ok(status_of_verdict(verdict))
+}
+
 /// The trace of the task `first` on two events.
 fn example<'a, W: Out>(alloc: Global, out: &mut W) -> Result<(), Fault<'a>>
     requires { W.faults out.old < 2 ^ 64 - 1 }
@@ -173,16 +242,37 @@ fn example<'a, W: Out>(alloc: Global, out: &mut W) -> Result<(), Fault<'a>>
     Ok(())
 }
 
-/// Does what the words say.
+/// Does what three words say, and gives the status.
+fn perform_two<'a, S: Source, W: Out>(
+    alloc: Global,
+    command: &'a str,
+    task: &'a str,
+    other: &'a str,
+    files: &mut S,
+    out: &mut W,
+) -> Result<u8, Fault<'a>>
+    requires { W.faults out.old < 2 ^ 64 - 1 }
+    ensures { IfOk result (λ status. ServesTwo command.now task.now other.now status (W.taken out.old) (W.taken out.new)) }
+{
+    match command {
+        "run" => {
+            run(alloc, task, other, files, out)?;
+            Ok(DONE)
+        }
+        "check" => check_certificate(alloc, task, other, out),
+        _ => Err(Fault::Words),
+    }
+}
+
+/// Does what the words say, and gives the status.
 fn perform<'a, S: Source, W: Out>(
     alloc: Global,
     words: &'a [String],
     files: &mut S,
     out: &mut W,
-) -> Result<(), Fault<'a>>
+) -> Result<u8, Fault<'a>>
     requires { W.faults out.old < 2 ^ 64 - 1 }
-    ensures { OnOk result
-        (Serves (map string_bytes words.now) (W.taken out.old) (W.taken out.new)) }
+    ensures { IfOk result (λ status. Serves (map string_bytes words.now) status (W.taken out.old) (W.taken out.new)) }
 {
     for word in words {
         if word.as_bytes().first() == Some(&b'-') {
@@ -190,19 +280,24 @@ fn perform<'a, S: Source, W: Out>(
         }
     }
     match words {
-        [] => example(alloc, out),
-        [command, task, schedule] => {
-            if command.as_str() != "run" {
-                return Err(Fault::Words);
-            }
-            run(alloc, task.as_str(), schedule.as_str(), files, out)
+        [] => {
+            example(alloc, out)?;
+            Ok(DONE)
         }
+        [command, task, other] => perform_two(
+            alloc,
+            command.as_str(),
+            task.as_str(),
+            other.as_str(),
+            files,
+            out,
+        ),
         _ => Err(Fault::Words),
     }
 }
 
-/// The program: does what its words say, tells a fault on the error stream, and gives the status: 0,
-/// or 2 for a fault in words or files, or 3 for want of memory or a failed output.
+/// The program: does what its words say, tells a fault on the error stream, and gives the status: 0, or
+/// 1 where it answers no, or 2 for a fault in words or files, or 3 for want of memory or a failed output.
 pub fn serve<S: Source, W: Out, V: Out>(
     alloc: Global,
     words: &[String],
@@ -212,12 +307,11 @@ pub fn serve<S: Source, W: Out, V: Out>(
 ) -> u8
     requires out { W.faults out.old < 2 ^ 64 - 1 }
     requires err { V.faults err.old < 2 ^ 64 - 1 }
-    ensures done { result
-        ≡ 0 → Serves (map string_bytes words.now) (W.taken out.old) (W.taken out.new) }
+    ensures done { IsTrue (is_done_status result) → Serves (map string_bytes words.now) result (W.taken out.old) (W.taken out.new) }
     ensures known { IsTrue (is_status result) }
 {
     match perform(alloc, words, files, out) {
-        Ok(()) => DONE,
+        Ok(status) => status,
         Err(fault) => tell(alloc, fault, err),
     }
 }

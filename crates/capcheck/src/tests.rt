@@ -164,7 +164,7 @@ fn runs_an_example_without_words(rt: HostRuntime) -> Result<(), Fail> {
 
 #[test]
 fn tells_faults(rt: HostRuntime) -> Result<(), Fail> {
-    let rows: [(&[&str], &[u8], &[u8]); 10] = [
+    let rows: [(&[&str], &[u8], &[u8]); 12] = [
         (
             &["run", "first", "schedule"],
             b"0 0\n0",
@@ -185,7 +185,9 @@ fn tells_faults(rt: HostRuntime) -> Result<(), Fail> {
             b"capcheck: words\n",
         ),
         (&["run", "-", "schedule"], b"", b"capcheck: words\n"),
-        (&["check", "first", "good"], b"", b"capcheck: words\n"),
+        (&["check", "nope", "none"], b"", b"capcheck: file nope\n"),
+        (&["check", "first", "none"], b"", b"capcheck: file none\n"),
+        (&["check", "first"], b"", b"capcheck: words\n"),
         (&["walk", "first", "schedule"], b"", b"capcheck: words\n"),
     ];
     for (words, schedule, line) in rows {
@@ -194,6 +196,34 @@ fn tells_faults(rt: HostRuntime) -> Result<(), Fail> {
         assert!(rt; said.out.is_empty());
         assert_eq!(rt; said.err.as_slice(), line);
     }
+    Ok(())
+}
+
+#[test]
+fn checks_the_named_certificates(rt: HostRuntime) -> Result<(), Fail> {
+    let rows: [(&str, &str, u8, &[u8]); 6] = [
+        ("first", "good", 0, b"yes\n"),
+        ("first", "thin", 1, b"no main:1 K7\n"),
+        ("first", "anyw", 1, b"no main:1 K10\n"),
+        ("first", "wrong", 1, b"no main:0 K2\n"),
+        ("first", "short", 1, b"no main:1 K16\n"),
+        ("bare", "good", 1, b"no main:0 K1\n"),
+    ];
+    for (task, cert, status, line) in rows {
+        let said = program_says(rt.alloc(), &["check", task, cert], b"", 1000, 0, true)?;
+        assert_eq!(rt; said.status, status);
+        assert_eq!(rt; said.out.as_slice(), line);
+        assert!(rt; said.err.is_empty());
+    }
+    Ok(())
+}
+
+#[test]
+fn tells_a_failed_verdict(rt: HostRuntime) -> Result<(), Fail> {
+    let said = program_says(rt.alloc(), &["check", "first", "good"], b"", 1, 2, false)?;
+    assert_eq!(rt; said.status, 3);
+    assert_eq!(rt; said.out.as_slice(), b"y".as_slice());
+    assert_eq!(rt; said.err.as_slice(), b"capcheck: output\n".as_slice());
     Ok(())
 }
 

@@ -1,6 +1,6 @@
 //! Names of programs and grants, kept without memory of their own.
 
-ghost use Rattle.std.specs.Prelude.{◌≡◌, length, nat_le, option_map, Some, None, if◌then◌else◌};
+ghost use Rattle.std.specs.Prelude.{◌≡◌, ◌≤◌, length};
 ghost use Rattle.certificate.specs.Views.{name_of};
 
 /// The most bytes of a name.
@@ -14,19 +14,17 @@ pub struct Name {
 }
 
 impl Name {
-    /// The name of these bytes; none if they are more than 16.
-    pub fn new(text: &[u8]) -> Option<Name>
-        ensures { option_map name_of result ≡ (if nat_le (length text.now) 16 then Some text.now else None) }
+    /// The name of these bytes, of which there are at most 16.
+    pub fn new(text: &[u8]) -> Name
+        requires { length text.now ≤ 16 }
+        ensures { name_of result ≡ text.now }
     {
-        if text.len() > MAX_NAME {
-            return None;
-        }
         let mut bytes = [0; MAX_NAME];
         bytes[..text.len()].copy_from_slice(text);
-        Some(Name {
+        Name {
             length: text.len(),
             bytes,
-        })
+        }
     }
 
     /// Its bytes.

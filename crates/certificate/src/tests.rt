@@ -4,12 +4,10 @@ use crate::bounds::{Interval, ModeBound};
 use crate::names::Name;
 
 #[test]
-fn names_of_at_most_16_bytes(rt: HostRuntime) {
-    assert!(rt; Name::new(b"seventeen_letters").is_none());
-    match Name::new(b"sixteen_letters_") {
-        Some(name) => assert_eq!(rt; name.as_bytes(), b"sixteen_letters_".as_slice()),
-        None => assert!(rt; false),
-    }
+fn names_of_up_to_16_bytes(rt: HostRuntime) {
+    let name = Name::new(b"sixteen_letters_");
+    assert_eq!(rt; name.as_bytes(), b"sixteen_letters_".as_slice());
+    assert!(rt; Name::new(b"").as_bytes().is_empty());
 }
 
 #[test]
