@@ -35,12 +35,7 @@ pub fn is_front(front: &[Vec<u8>], place: &[Vec<u8>]) -> bool
         [] => true,
         [x, fronts @ ..] => match place {
             [] => false,
-            [y, places @ ..] => {
-                if x.as_slice() != y.as_slice() {
-                    return false;
-                }
-                is_front(fronts, places)
-            }
+            [y, places @ ..] => x.as_slice() == y.as_slice() && is_front(fronts, places),
         },
     }
 }
