@@ -1,0 +1,7 @@
+pub mod Answers
+pub mod Paths
+pub mod Steps
+pub mod ByPlaces
+pub mod ByNodes
+pub mod Looks
+pub mod Views
