@@ -5,7 +5,13 @@
 #![tactic(auto)]
 
 pub mod faults;
+pub mod lookups;
+pub mod paths;
+mod walk;
 pub mod ways;
 
 pub use faults::PathFault;
+pub use lookups::find;
+pub use paths::{MAX_PATH, last_name};
+pub use walk::MAX_LINKS;
 pub use ways::{Found, Last, Way};

@@ -1,0 +1,62 @@
+//! A whole lookup on an unchanged tree.
+
+ghost use Rattle.std.specs.Prelude.{◌≡◌, ◌<◌, false, length, IfSome};
+ghost use Rattle.file_tree.specs.Nodes.{is_link, node};
+ghost use Rattle.file_tree.specs.WellFormed.{IsTree};
+ghost use Rattle.lookup.specs.Answers.{Answer};
+ghost use Rattle.lookup.specs.Looks.{Looks, find_of, walk_of};
+ghost use Rattle.lookup.specs.Views.{answer_of, last_of, way_of};
+
+use crate::faults::PathFault;
+use crate::walk::{Progress, Walk};
+use crate::ways::{Found, Last, Way};
+use file_tree::{NodeId, Tree};
+use std::alloc::Global;
+
+/// What a walk from the start comes to.
+fn walked<T: Tree>(
+    alloc: Global,
+    tree: &T,
+    start: NodeId,
+    path: &[u8],
+    way: Way,
+    last: Last,
+) -> Result<Found, PathFault>
+    requires { start < length (T.nodes tree.now) }
+    ensures tree { IsTree (T.nodes tree.now) }
+    ensures exact { IfSome (answer_of result) (λ answer. answer ≡ walk_of (T.nodes tree.now) start path.now (way_of way) (last_of last)) }
+{
+    let mut walk = Walk::begin(alloc, tree, start, path, way, last)?;
+    loop {
+        match walk.step(tree)? {
+            Progress::More => {}
+            Progress::Done(found) => return Ok(found),
+        }
+    }
+}
+
+/// What a path leads to. The checks on its text come first, in this order: it is longer than 1023 bytes, or
+/// a name in it longer than 255 (`TooLong`); it is empty (`NoEntry`); it begins with `/`, though it is to
+/// stay beneath the start (`Escape`); its last name can't be kept (`BadLast`). A start that was removed
+/// leads to nothing beneath it (`NoEntry`). Then name after name: `.` stays, `..` goes back, a link's target
+/// is looked up before the names that are left. The tree is left as it is. `Memory` may come in place of any
+/// other answer, and only where a growth was refused. (open(2), capsicum(4); `specs/ByPlaces` marks what is
+/// own)
+pub fn find<T: Tree>(
+    alloc: Global,
+    tree: &T,
+    start: NodeId,
+    path: &[u8],
+    way: Way,
+    last: Last,
+) -> Result<Found, PathFault>
+    requires there { start < length (T.nodes tree.now) }
+    requires opened { is_link (node (T.nodes tree.now) start).kind ≡ false }
+
+    // What it answers, the path leads to; and what the path leads to, it answers.
+    ensures exact { IfSome (answer_of result) (λ answer. answer ≡ find_of (T.nodes tree.now) start path.now (way_of way) (last_of last)) }
+    ensures related { IfSome (answer_of result) (Looks (T.nodes tree.now) start path.now (way_of way) (last_of last)) }
+    ensures only { (answer : Answer) → Looks (T.nodes tree.now) start path.now (way_of way) (last_of last) answer → IfSome (answer_of result) (λ given. given ≡ answer) }
+{
+    walked(alloc, tree, start, path, way, last)
+}
