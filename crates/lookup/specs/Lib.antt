@@ -4,4 +4,5 @@ pub mod Steps
 pub mod ByPlaces
 pub mod ByNodes
 pub mod Looks
+pub mod Promises
 pub mod Views

@@ -1,11 +1,12 @@
 //! A whole lookup on an unchanged tree.
 
-ghost use Rattle.std.specs.Prelude.{◌≡◌, ◌<◌, false, length, IfSome};
+ghost use Rattle.std.specs.Prelude.{◌≡◌, ◌<◌, ℕ, None, false, length, IfOk, IfSome};
 ghost use Rattle.file_tree.specs.Nodes.{is_link, node};
 ghost use Rattle.file_tree.specs.WellFormed.{IsTree};
-ghost use Rattle.lookup.specs.Answers.{Answer};
-ghost use Rattle.lookup.specs.Looks.{Looks, find_of, walk_of};
-ghost use Rattle.lookup.specs.Views.{answer_of, last_of, way_of};
+ghost use Rattle.lookup.specs.Answers.{Answer, Found_node};
+ghost use Rattle.lookup.specs.Looks.{Looks, find_of, lookup_fault, start_place, walk_of};
+ghost use Rattle.lookup.specs.Promises.{IsBelow, IsBeneath, IsFollowed, IsFreeName, IsThere, IsUnderName, MayBeMade, Spells};
+ghost use Rattle.lookup.specs.Views.{answer_of, found_of, last_of, way_of};
 
 use crate::faults::PathFault;
 use crate::walk::{Progress, Walk};
@@ -57,6 +58,22 @@ pub fn find<T: Tree>(
     ensures exact { IfSome (answer_of result) (λ answer. answer ≡ find_of (T.nodes tree.now) start path.now (way_of way) (last_of last)) }
     ensures related { IfSome (answer_of result) (Looks (T.nodes tree.now) start path.now (way_of way) (last_of last)) }
     ensures only { (answer : Answer) → Looks (T.nodes tree.now) start path.now (way_of way) (last_of last) answer → IfSome (answer_of result) (λ given. given ≡ answer) }
+
+    // What is found wasn't removed. Beneath, its place begins with the start's; a kept one's is longer.
+    ensures there { IfOk result (λ found. IsThere (T.nodes tree.now) (found_of found)) }
+    ensures beneath { IfOk result (λ found. IsBeneath (T.nodes tree.now) (start_place (T.nodes tree.now) start (way_of way)) (found_of found)) }
+    ensures below { last ≡ Last.Keep → IfOk result (λ found. IsBelow (T.nodes tree.now) (start_place (T.nodes tree.now) start (way_of way)) path.now (found_of found)) }
+
+    // A kept name is that of the node in its parent, or is free in a directory and may be that of a node.
+    ensures named { last ≡ Last.Keep → IfOk result (λ found. IsUnderName (T.nodes tree.now) path.now (found_of found)) }
+    ensures free { last ≡ Last.Keep → IfOk result (λ found. IsFreeName (T.nodes tree.now) path.now (found_of found)) }
+    ensures may_be_made { last ≡ Last.Keep → IfOk result (λ found. MayBeMade path.now (found_of found)) }
+
+    // A followed name is no link's.
+    ensures followed { last ≡ Last.Follow → IfOk result (λ found. IsFollowed (T.nodes tree.now) (found_of found)) }
+
+    // A path along directories leads to the node that it spells.
+    ensures along { (n : ℕ) → lookup_fault (T.nodes tree.now) start path.now (way_of way) (last_of last) ≡ None → Spells (T.nodes tree.now) (start_place (T.nodes tree.now) start (way_of way)) path.now n → IfSome (answer_of result) (λ answer. answer ≡ Found_node n) }
 {
     walked(alloc, tree, start, path, way, last)
 }
