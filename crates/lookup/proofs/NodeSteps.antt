@@ -17,7 +17,7 @@ link_by File content h = refl
 link_by Dir content h = refl
 link_by Link content h = cc
 
-no_link : (t : List Node) (n : ℕ) → target_of t n ≡ None → is_link (node t n).kind ≡ false
+pub no_link : (t : List Node) (n : ℕ) → target_of t n ≡ None → is_link (node t n).kind ≡ false
 unfolding target_of
 no_link t n h = link_by (node t n).kind (node t n).content h
 

@@ -15,3 +15,6 @@ pub use lookups::find;
 pub use paths::{MAX_PATH, last_name};
 pub use walk::MAX_LINKS;
 pub use ways::{Found, Last, Way};
+
+#[cfg(test)]
+mod tests;
