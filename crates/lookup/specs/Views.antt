@@ -14,7 +14,7 @@ use Rattle.lookup.specs.declared.walk.Walk.{Walk}
 use Rattle.lookup.specs.declared.walk.Progress.{Progress}
 use Rattle.lookup.specs.declared.walk.Progress.TheVariants as progress
 use Rattle.file_tree.specs.Nodes.{Node}
-use Rattle.lookup.specs.Steps.{Rules, Stand, Next, Goes, Ends}
+use Rattle.lookup.specs.Steps.{Move, Rules, Stand, Next, Goes, Ends, onward}
 use Rattle.lookup.specs.ByNodes.{Walked, by_nodes}
 use Rattle.lookup.specs.Answers.{Way, Beneath, Global, Last, Follow, Keep, Fault, Escape, No_entry, Not_dir, Loop, Too_long, Bad_last, Answer, Found_node, Found_free, Lost}
 
@@ -77,6 +77,10 @@ stand_of walk = record {
 
 abbrev pub rules_of : List Node → Walk → Rules Walked
 rules_of t walk = by_nodes t (way_of walk.way) (last_of walk.last)
+
+-- what is next, by where a name leads
+abbrev pub after_move : Rules Walked → Walk → Move Walked → Next Walked
+after_move rules walk move = onward rules (stand_of walk).spot (stand_of walk).left walk.followed move
 
 abbrev pub SameRules : Walk → Walk → Type 0
 SameRules old new = (new.way ≡ old.way) × (new.last ≡ old.last)

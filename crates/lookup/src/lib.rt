@@ -12,8 +12,7 @@ pub mod ways;
 
 pub use faults::PathFault;
 pub use lookups::find;
-pub use paths::{MAX_PATH, last_name};
-pub use walk::MAX_LINKS;
+pub use paths::last_name;
 pub use ways::{Found, Last, Way};
 
 #[cfg(test)]

@@ -36,13 +36,21 @@ fn walked<T: Tree>(
     }
 }
 
-/// What a path leads to. The checks on its text come first, in this order: it is longer than 1023 bytes, or
-/// a name in it longer than 255 (`TooLong`); it is empty (`NoEntry`); it begins with `/`, though it is to
-/// stay beneath the start (`Escape`); its last name can't be kept (`BadLast`). A start that was removed
-/// leads to nothing beneath it (`NoEntry`). Then name after name: `.` stays, `..` goes back, a link's target
-/// is looked up before the names that are left. The tree is left as it is. `Memory` may come in place of any
-/// other answer, and only where a growth was refused. (open(2), capsicum(4); `specs/ByPlaces` marks what is
-/// own)
+/// What a path leads to from a start that is a file or a directory of the tree. The tree is left as it is.
+///
+/// First the path's text is asked, in this order: it has more than 1023 bytes, or a name in it more than
+/// 255 (`TooLong`); it is empty (`NoEntry`); it begins with `/`, though it is to stay beneath the start
+/// (`Escape`); its last name can't be kept (`BadLast`). Then, beneath, whether the start was removed
+/// (`NoEntry`); else the lookup starts at the root.
+///
+/// Then it goes name by name. A name in what is no directory is `NotDir`. `.` stays. `..` goes back to the
+/// directory walked before; at the start it is `Escape` beneath, and else stays. An absent name is
+/// `NoEntry`, or free if it is the last one and kept. A link that isn't kept as the last name is followed:
+/// its target's names come before those left. A 33rd one is `Loop`; an absolute target is `Escape` beneath,
+/// and else starts again at the root.
+///
+/// `Memory` may come in place of any other answer, and only where a growth was refused. (open(2),
+/// capsicum(4); the definitions mark what is own)
 pub fn find<T: Tree>(
     alloc: Global,
     tree: &T,

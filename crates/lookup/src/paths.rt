@@ -12,9 +12,6 @@ use crate::ways::{Last, Way};
 use file_tree::is_valid_target;
 use std::alloc::{AllocError, Global};
 
-/// How many bytes a path may have. (own; open(2), ENAMETOOLONG)
-pub const MAX_PATH: usize = 1023;
-
 /// The later one of two names, of which an empty one is none.
 fn later<'a>(last: &'a [u8], name: &'a [u8]) -> &'a [u8]
     ensures { (names : List (List ℕ)) → last_or last.now (with_name name.now names) ≡ last_or result.now names }
@@ -81,7 +78,7 @@ pub(crate) fn check_text(path: &[u8], way: Way, last: Last) -> Result<(), PathFa
     if path.is_empty() {
         return Err(PathFault::NoEntry);
     }
-    // What a link's target may be, a path may be.
+    // The limits of a path are those of a link's target.
     if !is_valid_target(path) {
         return Err(PathFault::TooLong);
     }

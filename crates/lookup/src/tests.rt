@@ -3,10 +3,8 @@
 
 ghost use Rattle.std.specs.Prelude.{◌≡◌, ◌<◌, ◌≤◌, length, IfOk};
 
-use crate::{Found, Last, MAX_LINKS, MAX_PATH, PathFault, Way, find, last_name};
-use file_tree::{
-    Kind, MAX_NAME, New, NodeId, PlaceTree, Tree, TreeFault, is_valid_name, is_valid_target,
-};
+use crate::{Found, Last, PathFault, Way, find, last_name};
+use file_tree::{Kind, New, NodeId, PlaceTree, Tree, TreeFault, is_valid_name, is_valid_target};
 use std::alloc::Global;
 use std::process::Abort;
 use std::test::Fail;
@@ -252,7 +250,7 @@ fn chain<T: Tree>(rt: &impl Abort, alloc: Global) -> Result<(), Fail> {
     let work = inside(rt, &tree, root, b"work");
     let letters = inside(rt, &tree, work, b"in");
     make(rt, &mut tree, work, b"l00", New::Link(b"in"))?;
-    for i in 0..MAX_LINKS {
+    for i in 0..32 {
         let root = top(&tree);
         let work = inside(rt, &tree, root, b"work");
         let target = digits(i);
@@ -278,7 +276,7 @@ fn lengths<T: Tree>(rt: &impl Abort, alloc: Global) -> Result<(), Fail> {
     let tree = base::<T>(rt, alloc)?;
     let root = top(&tree);
     let work = inside(rt, &tree, root, b"work");
-    let name = [b'a'; MAX_NAME + 1];
+    let name = [b'a'; 256];
     follows(
         rt,
         alloc,
@@ -292,10 +290,10 @@ fn lengths<T: Tree>(rt: &impl Abort, alloc: Global) -> Result<(), Fail> {
         alloc,
         &tree,
         work,
-        &name.as_slice()[..MAX_NAME],
+        &name.as_slice()[..255],
         Err(PathFault::NoEntry),
     );
-    let long = [b'a'; MAX_PATH + 1];
+    let long = [b'a'; 1024];
     follows(
         rt,
         alloc,
@@ -304,7 +302,7 @@ fn lengths<T: Tree>(rt: &impl Abort, alloc: Global) -> Result<(), Fail> {
         long.as_slice(),
         Err(PathFault::TooLong),
     );
-    let path = [b'/'; MAX_PATH + 1];
+    let path = [b'/'; 1024];
     leads(
         rt,
         alloc,
@@ -318,7 +316,7 @@ fn lengths<T: Tree>(rt: &impl Abort, alloc: Global) -> Result<(), Fail> {
         alloc,
         &tree,
         work,
-        &path.as_slice()[..MAX_PATH],
+        &path.as_slice()[..1023],
         Ok(Found::Node(root)),
     );
     Ok(())

@@ -1,15 +1,14 @@
 //! A lookup under way, one component at a time.
 
-ghost use Rattle.std.specs.Prelude.{◌≡◌, ◌<◌, ◌≤◌, ◌+◌, List, ◌∷◌, Some, None, length, IfOk, IfErr, OnOk};
-ghost use Rattle.file_tree.specs.Places.{path_components};
-ghost use Rattle.file_tree.specs.Nodes.{Dir, Node, node};
+ghost use Rattle.std.specs.Prelude.{◌≡◌, ◌<◌, ◌≤◌, List, ◌∷◌, Some, None, length, IfOk, IfErr, OnOk};
+ghost use Rattle.file_tree.specs.Nodes.{Node};
 ghost use Rattle.file_tree.specs.WellFormed.{IsTree};
 ghost use Rattle.lookup.specs.Answers.{is_kept};
-ghost use Rattle.lookup.specs.Steps.{Rules, Moves, Meets, Stops, next, onward};
+ghost use Rattle.lookup.specs.Steps.{Rules, Moves, Meets, Stops, next};
 ghost use Rattle.lookup.specs.ByPlaces.{absent};
 ghost use Rattle.lookup.specs.ByNodes.{Walked, back, by_nodes, from_node, in_node, into};
 ghost use Rattle.lookup.specs.Looks.{first_stand, lookup_fault, start_node};
-ghost use Rattle.lookup.specs.Views.{Steps, IsInTree, SameRules, Told, last_of, names_left, rules_of, stand_of, way_of, work};
+ghost use Rattle.lookup.specs.Views.{Steps, after_move, IsInTree, SameRules, Told, last_of, names_left, rules_of, stand_of, way_of, work};
 
 use crate::faults::PathFault;
 use crate::paths::{check_text, is_absolute, is_dot, is_dot_dot, put_before};
@@ -18,7 +17,7 @@ use file_tree::{Kind, NodeId, Tree};
 use std::alloc::Global;
 
 /// How many links one lookup follows. (own; open(2), ELOOP)
-pub const MAX_LINKS: u8 = 32;
+pub(crate) const MAX_LINKS: u8 = 32;
 
 /// Whether a lookup goes on.
 #[derive(Clone, Copy)]
@@ -31,13 +30,13 @@ pub(crate) enum Progress {
 /// the names left, the next one last, and how many links it followed.
 #[derive(Drop)]
 pub(crate) struct Walk {
-    pub(crate) alloc: Global,
-    pub(crate) way: Way,
-    pub(crate) last: Last,
-    pub(crate) current: NodeId,
-    pub(crate) before: Vec<NodeId>,
-    pub(crate) left: Vec<Vec<u8>>,
-    pub(crate) followed: u8,
+    alloc: Global,
+    way: Way,
+    last: Last,
+    current: NodeId,
+    before: Vec<NodeId>,
+    left: Vec<Vec<u8>>,
+    followed: u8,
 }
 
 impl Walk {
@@ -62,14 +61,14 @@ impl Walk {
         let root = tree.root();
         check_text(path, way, last)?;
         let current = match way {
-            Way::Beneath => start,
+            Way::Beneath => {
+                if !tree.is_linked(start) {
+                    return Err(PathFault::NoEntry);
+                }
+                start
+            }
             Way::Global => root,
         };
-        if way == Way::Beneath {
-            if !tree.is_linked(start) {
-                return Err(PathFault::NoEntry);
-            }
-        }
         let mut left = Vec::new(alloc);
         put_before(alloc, &mut left, path)?;
         Ok(Walk {
@@ -85,7 +84,7 @@ impl Walk {
 
     /// Goes back to the directory that was walked before.
     fn go_back(&mut self) -> Result<Progress, PathFault>
-        ensures steps { (rules : Rules Walked) → let s = stand_of self.old in Steps result (onward rules s.spot s.left s.followed (back (way_of self.old.way) s.spot.current s.spot.before)) (stand_of self.new) }
+        ensures steps { (rules : Rules Walked) → Steps result (after_move rules self.old (back (way_of self.old.way) self.old.current (stand_of self.old).spot.before)) (stand_of self.new) }
         ensures rules { SameRules self.old self.new }
         ensures in_tree { (t : List Node) → IsInTree t self.old → IsInTree t self.new }
         ensures work { work self.new ≤ work self.old }
@@ -104,7 +103,7 @@ impl Walk {
 
     /// Goes on to a node in the directory where the walk stands.
     fn go_down(&mut self, next: NodeId) -> Result<Progress, PathFault>
-        ensures steps { (rules : Rules Walked) → let s = stand_of self.old in Steps result (onward rules s.spot s.left s.followed (Moves (record { current = next; before = s.spot.current ∷ s.spot.before }))) (stand_of self.new) }
+        ensures steps { (rules : Rules Walked) → Steps result (after_move rules self.old (Moves (record { current = next; before = self.old.current ∷ (stand_of self.old).spot.before }))) (stand_of self.new) }
         ensures rules { SameRules self.old self.new }
         ensures in_tree { (t : List Node) → next < length t → IsInTree t self.old → OnOk result (IsInTree t self.new) }
         ensures work { work self.new ≤ work self.old }
@@ -125,9 +124,8 @@ impl Walk {
     }
 
     /// Ends where a name is absent.
-    fn end_at_absent(&mut self) -> Result<Progress, PathFault>
-        ensures steps { (rules : Rules Walked) → let s = stand_of self.old in Steps result (onward rules s.spot s.left s.followed (Stops (absent (last_of self.old.last) s.left s.spot.current))) (stand_of self.new) }
-        ensures same { self.new ≡ self.old }
+    fn end_at_absent(&self) -> Result<Progress, PathFault>
+        ensures { (rules : Rules Walked) → Steps result (after_move rules self.now (Stops (absent (last_of self.now.last) (names_left self.now.left.items) self.now.current))) (stand_of self.now) }
     {
         if self.keeps() {
             return Ok(Progress::Done(Found::Free(self.current)));
@@ -139,7 +137,7 @@ impl Walk {
     #[tactic(auto, unfolding(crate::specs::ByNodes::by_nodes))]
     fn follow(&mut self, root: NodeId, target: &[u8]) -> Result<Progress, PathFault>
         requires { root ≡ 0 }
-        ensures steps { (t : List Node) → let s = stand_of self.old in Steps result (onward (rules_of t self.old) s.spot s.left s.followed (Meets target.now)) (stand_of self.new) }
+        ensures steps { (t : List Node) → Steps result (after_move (rules_of t self.old) self.old (Meets target.now)) (stand_of self.new) }
         ensures rules { SameRules self.old self.new }
         ensures in_tree { (t : List Node) → IsInTree t self.old → OnOk result (IsInTree t self.new) }
         ensures work { OnOk result (work self.new ≤ work self.old) }
@@ -166,7 +164,7 @@ impl Walk {
     fn go_to<T: Tree>(&mut self, tree: &T, next: NodeId) -> Result<Progress, PathFault>
         requires there { next < length (T.nodes tree.now) }
         requires in_tree { IsInTree (T.nodes tree.now) self.old }
-        ensures steps { let s = stand_of self.old in Steps result (onward (rules_of (T.nodes tree.now) self.old) s.spot s.left s.followed (into (T.nodes tree.now) (last_of self.old.last) s.spot.current s.spot.before s.left (Some next))) (stand_of self.new) }
+        ensures steps { let s = stand_of self.old in Steps result (after_move (rules_of (T.nodes tree.now) self.old) self.old (into (T.nodes tree.now) (last_of self.old.last) self.old.current s.spot.before s.left (Some next))) (stand_of self.new) }
         ensures rules { SameRules self.old self.new }
         ensures in_tree { OnOk result (IsInTree (T.nodes tree.now) self.new) }
         ensures work { OnOk result (work self.new ≤ work self.old) }
@@ -186,7 +184,7 @@ impl Walk {
     #[tactic(auto, using(file_tree::proofs::TreeLaws::child_there))]
     fn enter<T: Tree>(&mut self, tree: &T, name: &[u8]) -> Result<Progress, PathFault>
         requires { IsInTree (T.nodes tree.now) self.old }
-        ensures steps { let s = stand_of self.old in Steps result (onward (rules_of (T.nodes tree.now) self.old) s.spot s.left s.followed (in_node (T.nodes tree.now) (way_of self.old.way) (last_of self.old.last) s.spot.current s.spot.before name.now s.left)) (stand_of self.new) }
+        ensures steps { let s = stand_of self.old in Steps result (after_move (rules_of (T.nodes tree.now) self.old) self.old (in_node (T.nodes tree.now) (way_of self.old.way) (last_of self.old.last) self.old.current s.spot.before name.now s.left)) (stand_of self.new) }
         ensures rules { SameRules self.old self.new }
         ensures in_tree { OnOk result (IsInTree (T.nodes tree.now) self.new) }
         ensures work { OnOk result (work self.new ≤ work self.old) }
