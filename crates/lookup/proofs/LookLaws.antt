@@ -30,3 +30,7 @@ module _ (t : List Node) (start : ℕ) (path : List ℕ) (way : Way) (last : Las
       by_fault : (o : Option Fault) → Led o answer → answer ≡ unless_lost o (looked (by_places t way last (start_place t start way)) most_links (path_components path) [])
       by_fault None led = leads_only (by_places t way last (start_place t start way)) (first_stand [] path) answer led
       by_fault (Some fault) led = led
+
+  -- so what the function gives, the path leads to
+  pub find_led : (answer : Answer) → find_of t start path way last ≡ answer → Looks t start path way last answer
+  find_led answer same = rw same at find_looks

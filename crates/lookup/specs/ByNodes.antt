@@ -24,12 +24,14 @@ abbrev pub back : Way → ℕ → List ℕ → Move Walked
 back way n [] = back_at_start way n
 back way n (d ∷ before) = Moves (record { current = d; before = before })
 
+-- a node has the name there, or none: a link is met unless it is kept, and all else is gone to
 abbrev pub into : List Node → Last → ℕ → List ℕ → List (List ℕ) → Option ℕ → Move Walked
 into t last d before left None = Stops (absent last left d)
 into t last d before left (Some n) =
     if is_link (node t n).kind && not (is_kept last left) then Meets (node t n).content
     else Moves (record { current = n; before = d ∷ before })
 
+-- A name in the node where the lookup stands, which has to be a directory.
 abbrev pub in_node : List Node → Way → Last → ℕ → List ℕ → List ℕ → List (List ℕ) → Move Walked
 in_node t way last d before name left =
     if not (is_dir (node t d).kind) then Stops (Lost Not_dir)
@@ -41,6 +43,7 @@ abbrev pub restart_node : Way → Option Walked
 restart_node Beneath = None
 restart_node Global = Some (from_node 0)
 
+-- The rules of a lookup that begins at some node.
 unfoldable pub by_nodes : List Node → Way → Last → Rules Walked
 by_nodes t way last = record {
   arrived = λ walked. Found_node walked.current;

@@ -32,7 +32,8 @@ downwards t last below name left d None = Stops (absent last left d)
 downwards t last below name left d (Some n) =
     if is_link (node t n).kind && not (is_kept last left) then Meets (node t n).content else Moves (name ∷ below)
 
--- A name in what stands where the lookup stands, which has to be a directory.
+-- A name in what stands where the lookup stands, which has to be a directory; where nothing stands, there is
+-- no entry.
 abbrev pub in_place : List Node → Way → Last → List (List ℕ) → List (List ℕ) → List ℕ → List (List ℕ) → Option ℕ → Move (List (List ℕ))
 in_place t way last start below name left None = Stops (Lost No_entry)
 in_place t way last start below name left (Some d) =
@@ -51,6 +52,7 @@ abbrev pub restart_below : Way → Option (List (List ℕ))
 restart_below Beneath = None
 restart_below Global = Some []
 
+-- The rules of a lookup beneath a start's place, or from the root.
 unfoldable pub by_places : List Node → Way → Last → List (List ℕ) → Rules (List (List ℕ))
 by_places t way last start = record {
   arrived = λ below. standing (node_at t (place_below start below));

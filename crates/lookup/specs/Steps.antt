@@ -41,6 +41,7 @@ abbrev pub followed_from : {Spot : Type 0} → List (List ℕ) → ℕ → Optio
 followed_from left followed None = Ends (Lost Escape)
 followed_from left followed (Some spot) = Goes (record { spot = spot; left = left; followed = followed })
 
+-- what is next after a name, by where it leads; a 33rd link is not followed, whatever its target is
 abbrev pub onward : {Spot : Type 0} → Rules Spot → Spot → List (List ℕ) → ℕ → Move Spot → Next Spot
 onward rules spot left followed (Moves to) = Goes (record { spot = to; left = left; followed = followed })
 onward rules spot left followed (Meets target) =
@@ -62,6 +63,8 @@ pub data Leads {Spot : Type 0} (rules : Rules Spot) : Stand Spot → Answer → 
   there : {stand : Stand Spot} {after : Stand Spot} {answer : Answer} → next rules stand ≡ Goes after → Leads rules after answer → Leads rules stand answer
 
 -- The same, computed: by recursion on the links that may still be followed, and in it on the names left.
+-- `along` goes over names, and is told what becomes of a link that is met; `looked` says that it takes one
+-- link from those that may be followed.
 abbrev pub taken : {Spot : Type 0} → (Spot → Answer) → (List ℕ → Answer) → Move Spot → Answer
 taken go follow (Moves to) = go to
 taken go follow (Meets target) = follow target
