@@ -15,7 +15,7 @@ use Rattle.lookup.specs.declared.walk.Progress.{Progress}
 use Rattle.lookup.specs.declared.walk.Progress.TheVariants as progress
 use Rattle.file_tree.specs.Nodes.{Node}
 use Rattle.lookup.specs.Steps.{Move, Rules, Stand, Next, Goes, Ends, onward}
-use Rattle.lookup.specs.ByNodes.{Walked, by_nodes}
+use Rattle.lookup.specs.ByNodes.{Walked, by_nodes, in_node, into}
 use Rattle.lookup.specs.Answers.{Way, Beneath, Global, Last, Follow, Keep, Fault, Escape, No_entry, Not_dir, Loop, Too_long, Bad_last, Answer, Found_node, Found_free, Lost}
 
 abbrev pub way_of : WayCode → Way
@@ -81,6 +81,15 @@ rules_of t walk = by_nodes t (way_of walk.way) (last_of walk.last)
 -- what is next, by where a name leads
 abbrev pub after_move : Rules Walked → Walk → Move Walked → Next Walked
 after_move rules walk move = onward rules (stand_of walk).spot (stand_of walk).left walk.followed move
+
+-- what is next after a name, and after a node that has the name
+abbrev pub after_name : List Node → Walk → List ℕ → Next Walked
+after_name t walk name =
+    after_move (rules_of t walk) walk (in_node t (way_of walk.way) (last_of walk.last) walk.current (stand_of walk).spot.before name (stand_of walk).left)
+
+abbrev pub after_node : List Node → Walk → ℕ → Next Walked
+after_node t walk n =
+    after_move (rules_of t walk) walk (into t (last_of walk.last) walk.current (stand_of walk).spot.before (stand_of walk).left (Some n))
 
 abbrev pub SameRules : Walk → Walk → Type 0
 SameRules old new = (new.way ≡ old.way) × (new.last ≡ old.last)

@@ -1,14 +1,14 @@
 //! A lookup under way, one component at a time.
 
-ghost use Rattle.std.specs.Prelude.{◌≡◌, ◌<◌, ◌≤◌, List, ◌∷◌, Some, None, length, IfOk, IfErr, OnOk};
+ghost use Rattle.std.specs.Prelude.{◌≡◌, ◌<◌, ◌≤◌, List, ◌∷◌, None, length, IfOk, IfErr, OnOk};
 ghost use Rattle.file_tree.specs.Nodes.{Node};
 ghost use Rattle.file_tree.specs.WellFormed.{IsTree};
 ghost use Rattle.lookup.specs.Answers.{is_kept};
 ghost use Rattle.lookup.specs.Steps.{Rules, Moves, Meets, Stops, next};
 ghost use Rattle.lookup.specs.ByPlaces.{absent};
-ghost use Rattle.lookup.specs.ByNodes.{Walked, back, by_nodes, from_node, in_node, into};
+ghost use Rattle.lookup.specs.ByNodes.{Walked, back, from_node};
 ghost use Rattle.lookup.specs.Looks.{first_stand, lookup_fault, start_node};
-ghost use Rattle.lookup.specs.Views.{Steps, after_move, IsInTree, SameRules, Told, last_of, names_left, rules_of, stand_of, way_of, work};
+ghost use Rattle.lookup.specs.Views.{Steps, after_move, after_name, after_node, IsInTree, SameRules, Told, last_of, names_left, rules_of, stand_of, way_of, work};
 
 use crate::faults::PathFault;
 use crate::paths::{check_text, is_absolute, is_dot, is_dot_dot, put_before};
@@ -164,7 +164,7 @@ impl Walk {
     fn go_to<T: Tree>(&mut self, tree: &T, next: NodeId) -> Result<Progress, PathFault>
         requires there { next < length (T.nodes tree.now) }
         requires in_tree { IsInTree (T.nodes tree.now) self.old }
-        ensures steps { let s = stand_of self.old in Steps result (after_move (rules_of (T.nodes tree.now) self.old) self.old (into (T.nodes tree.now) (last_of self.old.last) self.old.current s.spot.before s.left (Some next))) (stand_of self.new) }
+        ensures steps { Steps result (after_node (T.nodes tree.now) self.old next) (stand_of self.new) }
         ensures rules { SameRules self.old self.new }
         ensures in_tree { OnOk result (IsInTree (T.nodes tree.now) self.new) }
         ensures work { OnOk result (work self.new ≤ work self.old) }
@@ -184,7 +184,7 @@ impl Walk {
     #[tactic(auto, using(file_tree::proofs::TreeLaws::child_there))]
     fn enter<T: Tree>(&mut self, tree: &T, name: &[u8]) -> Result<Progress, PathFault>
         requires { IsInTree (T.nodes tree.now) self.old }
-        ensures steps { let s = stand_of self.old in Steps result (after_move (rules_of (T.nodes tree.now) self.old) self.old (in_node (T.nodes tree.now) (way_of self.old.way) (last_of self.old.last) self.old.current s.spot.before name.now s.left)) (stand_of self.new) }
+        ensures steps { Steps result (after_name (T.nodes tree.now) self.old name.now) (stand_of self.new) }
         ensures rules { SameRules self.old self.new }
         ensures in_tree { OnOk result (IsInTree (T.nodes tree.now) self.new) }
         ensures work { OnOk result (work self.new ≤ work self.old) }
