@@ -1,0 +1,228 @@
+-- Rows of the definitions: the values of worked examples, which the definitions compute.
+use Rattle.std.specs.Prelude.{◌≡◌, ℕ, zero, suc, ◌+◌, List, [], ◌∷◌, ◌++◌, codes, replicate, refl}
+use Rattle.file_tree.specs.Places.{path_components}
+use Rattle.file_tree.specs.Nodes.{File, Dir, Link, Node, node_at, child_of}
+use Rattle.file_tree.specs.Changes.{new_tree, created, removed}
+use Rattle.lookup.specs.Answers.{Way, Beneath, Global, Last, Follow, Keep, Escape, No_entry, Not_dir, Loop, Too_long, Bad_last, Answer, Found_node, Found_free, Lost}
+use Rattle.lookup.specs.Paths.{last_component, path_fault}
+use Rattle.lookup.specs.Steps.{looked}
+use Rattle.lookup.specs.ByPlaces.{by_places}
+use Rattle.lookup.specs.ByNodes.{by_nodes}
+use Rattle.lookup.specs.Looks.{lookup_fault, find_of, walk_of}
+
+-- Directories `/work` with `in`, `out` and three links, `/workshop` with `x`, `/log`, and `/etc` with
+-- `passwd`: eleven nodes after the root.
+base : List Node
+base =
+    let a = created new_tree 0 (codes "work") Dir [] in
+    let b = created a 1 (codes "in") File (codes "AB") in
+    let c = created b 1 (codes "out") Dir [] in
+    let d = created c 1 (codes "same") Link (codes "out/../in") in
+    let e = created d 1 (codes "up") Link (codes "../etc/passwd") in
+    let f = created e 1 (codes "abs") Link (codes "/etc/passwd") in
+    let g = created f 0 (codes "workshop") Dir [] in
+    let h = created g 7 (codes "x") File (codes "w") in
+    let i = created h 0 (codes "log") Dir [] in
+    let j = created i 0 (codes "etc") Dir [] in
+    created j 10 (codes "passwd") File (codes "x")
+
+-- A row: by places and by nodes alike, from `/work`.
+abbrev Leads_to : List Node → List ℕ → Way → Last → Answer → Type 0
+Leads_to t path way last answer = (find_of t 1 path way last ≡ answer) × (walk_of t 1 path way last ≡ answer)
+
+-- beneath `/work`, the last name followed
+same_followed : Leads_to base (codes "same") Beneath Follow (Found_node 2)
+unfolding base created find_of walk_of lookup_fault path_fault path_components last_component looked by_places by_nodes node_at child_of
+same_followed = (refl, refl)
+
+out_and_back : Leads_to base (codes "out/..") Beneath Follow (Found_node 1)
+unfolding base created find_of walk_of lookup_fault path_fault path_components last_component looked by_places by_nodes node_at child_of
+out_and_back = (refl, refl)
+
+dot_alone : Leads_to base (codes ".") Beneath Follow (Found_node 1)
+unfolding base created find_of walk_of lookup_fault path_fault path_components last_component looked by_places by_nodes node_at child_of
+dot_alone = (refl, refl)
+
+dots_above : Leads_to base (codes "..") Beneath Follow (Lost Escape)
+unfolding base created find_of walk_of lookup_fault path_fault path_components last_component looked by_places by_nodes node_at child_of
+dots_above = (refl, refl)
+
+dots_after_out : Leads_to base (codes "out/../..") Beneath Follow (Lost Escape)
+unfolding base created find_of walk_of lookup_fault path_fault path_components last_component looked by_places by_nodes node_at child_of
+dots_after_out = (refl, refl)
+
+dots_in_target : Leads_to base (codes "up") Beneath Follow (Lost Escape)
+unfolding base created find_of walk_of lookup_fault path_fault path_components last_component looked by_places by_nodes node_at child_of
+dots_in_target = (refl, refl)
+
+absolute_target : Leads_to base (codes "abs") Beneath Follow (Lost Escape)
+unfolding base created find_of walk_of lookup_fault path_fault path_components last_component looked by_places by_nodes node_at child_of
+absolute_target = (refl, refl)
+
+absolute_path : Leads_to base (codes "/work/in") Beneath Follow (Lost Escape)
+unfolding base created find_of walk_of lookup_fault path_fault path_components last_component looked by_places by_nodes node_at child_of
+absolute_path = (refl, refl)
+
+name_in_file : Leads_to base (codes "in/x") Beneath Follow (Lost Not_dir)
+unfolding base created find_of walk_of lookup_fault path_fault path_components last_component looked by_places by_nodes node_at child_of
+name_in_file = (refl, refl)
+
+dots_in_file : Leads_to base (codes "in/..") Beneath Follow (Lost Not_dir)
+unfolding base created find_of walk_of lookup_fault path_fault path_components last_component looked by_places by_nodes node_at child_of
+dots_in_file = (refl, refl)
+
+name_behind_link : Leads_to base (codes "same/x") Beneath Follow (Lost Not_dir)
+unfolding base created find_of walk_of lookup_fault path_fault path_components last_component looked by_places by_nodes node_at child_of
+name_behind_link = (refl, refl)
+
+absent_name : Leads_to base (codes "nope") Beneath Follow (Lost No_entry)
+unfolding base created find_of walk_of lookup_fault path_fault path_components last_component looked by_places by_nodes node_at child_of
+absent_name = (refl, refl)
+
+absent_directory : Leads_to base (codes "nope/x") Beneath Follow (Lost No_entry)
+unfolding base created find_of walk_of lookup_fault path_fault path_components last_component looked by_places by_nodes node_at child_of
+absent_directory = (refl, refl)
+
+empty_path : Leads_to base [] Beneath Follow (Lost No_entry)
+unfolding base created find_of walk_of lookup_fault path_fault path_components last_component looked by_places by_nodes node_at child_of
+empty_path = (refl, refl)
+
+-- beneath `/work`, the last name kept
+same_kept : Leads_to base (codes "same/") Beneath Keep (Found_node 4)
+unfolding base created find_of walk_of lookup_fault path_fault path_components last_component looked by_places by_nodes node_at child_of
+same_kept = (refl, refl)
+
+abs_kept : Leads_to base (codes "abs") Beneath Keep (Found_node 6)
+unfolding base created find_of walk_of lookup_fault path_fault path_components last_component looked by_places by_nodes node_at child_of
+abs_kept = (refl, refl)
+
+in_kept : Leads_to base (codes "out/../in") Beneath Keep (Found_node 2)
+unfolding base created find_of walk_of lookup_fault path_fault path_components last_component looked by_places by_nodes node_at child_of
+in_kept = (refl, refl)
+
+free_in_work : Leads_to base (codes "nope") Beneath Keep (Found_free 1)
+unfolding base created find_of walk_of lookup_fault path_fault path_components last_component looked by_places by_nodes node_at child_of
+free_in_work = (refl, refl)
+
+free_in_out : Leads_to base (codes "out/new") Beneath Keep (Found_free 3)
+unfolding base created find_of walk_of lookup_fault path_fault path_components last_component looked by_places by_nodes node_at child_of
+free_in_out = (refl, refl)
+
+absent_directory_kept : Leads_to base (codes "nope/x") Beneath Keep (Lost No_entry)
+unfolding base created find_of walk_of lookup_fault path_fault path_components last_component looked by_places by_nodes node_at child_of
+absent_directory_kept = (refl, refl)
+
+dot_kept : Leads_to base (codes ".") Beneath Keep (Lost Bad_last)
+unfolding base created find_of walk_of lookup_fault path_fault path_components last_component looked by_places by_nodes node_at child_of
+dot_kept = (refl, refl)
+
+dots_kept : Leads_to base (codes "out/..") Beneath Keep (Lost Bad_last)
+unfolding base created find_of walk_of lookup_fault path_fault path_components last_component looked by_places by_nodes node_at child_of
+dots_kept = (refl, refl)
+
+empty_kept : Leads_to base [] Beneath Keep (Lost No_entry)
+unfolding base created find_of walk_of lookup_fault path_fault path_components last_component looked by_places by_nodes node_at child_of
+empty_kept = (refl, refl)
+
+up_then_kept : Leads_to base (codes "up/x") Beneath Keep (Lost Escape)
+unfolding base created find_of walk_of lookup_fault path_fault path_components last_component looked by_places by_nodes node_at child_of
+up_then_kept = (refl, refl)
+
+-- in all of the tree
+dots_above_root : Leads_to base (codes "/../work/up") Global Follow (Found_node 11)
+unfolding base created find_of walk_of lookup_fault path_fault path_components last_component looked by_places by_nodes node_at child_of
+dots_above_root = (refl, refl)
+
+absolute_target_global : Leads_to base (codes "work/abs") Global Follow (Found_node 11)
+unfolding base created find_of walk_of lookup_fault path_fault path_components last_component looked by_places by_nodes node_at child_of
+absolute_target_global = (refl, refl)
+
+root_path : Leads_to base (codes "/") Global Follow (Found_node 0)
+unfolding base created find_of walk_of lookup_fault path_fault path_components last_component looked by_places by_nodes node_at child_of
+root_path = (refl, refl)
+
+root_kept : Leads_to base (codes "/") Global Keep (Lost Bad_last)
+unfolding base created find_of walk_of lookup_fault path_fault path_components last_component looked by_places by_nodes node_at child_of
+root_kept = (refl, refl)
+
+free_globally : Leads_to base (codes "work/nope") Global Keep (Found_free 1)
+unfolding base created find_of walk_of lookup_fault path_fault path_components last_component looked by_places by_nodes node_at child_of
+free_globally = (refl, refl)
+
+-- a removed start: the text is asked first, and nothing of it is asked of a lookup from the root
+gone : List Node
+gone = removed base 1
+
+removed_start : Leads_to gone (codes "in") Beneath Follow (Lost No_entry)
+unfolding base created find_of walk_of lookup_fault path_fault path_components last_component looked by_places by_nodes node_at child_of gone removed
+removed_start = (refl, refl)
+
+removed_start_absolute : Leads_to gone (codes "/x") Beneath Follow (Lost Escape)
+unfolding base created find_of walk_of lookup_fault path_fault path_components last_component looked by_places by_nodes node_at child_of gone removed
+removed_start_absolute = (refl, refl)
+
+removed_start_kept : Leads_to gone (codes ".") Beneath Keep (Lost Bad_last)
+unfolding base created find_of walk_of lookup_fault path_fault path_components last_component looked by_places by_nodes node_at child_of gone removed
+removed_start_kept = (refl, refl)
+
+removed_start_global : Leads_to gone (codes "log") Global Follow (Found_node 9)
+unfolding base created find_of walk_of lookup_fault path_fault path_components last_component looked by_places by_nodes node_at child_of gone removed
+removed_start_global = (refl, refl)
+
+-- a directory that was removed and made again: beneath the first nothing is found
+again : List Node
+again = created (created (removed base 3) 1 (codes "out") Dir []) 12 (codes "f") File []
+
+removed_directory : find_of again 3 (codes "f") Beneath Follow ≡ Lost No_entry
+unfolding base created find_of walk_of lookup_fault path_fault path_components last_component looked by_places by_nodes node_at child_of again removed
+removed_directory = refl
+
+made_again : Leads_to again (codes "out/f") Beneath Follow (Found_node 13)
+unfolding base created find_of walk_of lookup_fault path_fault path_components last_component looked by_places by_nodes node_at child_of again removed
+made_again = (refl, refl)
+
+-- a link to the link before, and so on down to `/work/end`
+link_name : ℕ → List ℕ
+link_name zero = codes "end"
+link_name (suc k) = 108 ∷ (48 + k) ∷ []
+
+chained : ℕ → List Node
+chained zero = created (created new_tree 0 (codes "work") Dir []) 1 (codes "end") File []
+chained (suc k) = created (chained k) 1 (link_name (suc k)) Link (link_name k)
+
+links_32 : Leads_to (chained 33) (link_name 32) Beneath Follow (Found_node 2)
+unfolding base created find_of walk_of lookup_fault path_fault path_components last_component looked by_places by_nodes node_at child_of chained link_name
+links_32 = (refl, refl)
+
+links_33 : Leads_to (chained 33) (link_name 33) Beneath Follow (Lost Loop)
+unfolding base created find_of walk_of lookup_fault path_fault path_components last_component looked by_places by_nodes node_at child_of chained link_name
+links_33 = (refl, refl)
+
+links_33_kept : Leads_to (chained 33) (link_name 33) Beneath Keep (Found_node 35)
+unfolding base created find_of walk_of lookup_fault path_fault path_components last_component looked by_places by_nodes node_at child_of chained link_name
+links_33_kept = (refl, refl)
+
+links_33_behind : Leads_to (chained 33) (link_name 33 ++ codes "/x") Beneath Keep (Lost Loop)
+unfolding base created find_of walk_of lookup_fault path_fault path_components last_component looked by_places by_nodes node_at child_of chained link_name
+links_33_behind = (refl, refl)
+
+-- lengths of names and paths
+long_path : Leads_to base (replicate 1024 97) Beneath Follow (Lost Too_long)
+unfolding base created find_of walk_of lookup_fault path_fault path_components last_component looked by_places by_nodes node_at child_of
+long_path = (refl, refl)
+
+long_name : Leads_to base (replicate 256 97) Beneath Follow (Lost Too_long)
+unfolding base created find_of walk_of lookup_fault path_fault path_components last_component looked by_places by_nodes node_at child_of
+long_name = (refl, refl)
+
+greatest_name : Leads_to base (replicate 255 97) Beneath Follow (Lost No_entry)
+unfolding base created find_of walk_of lookup_fault path_fault path_components last_component looked by_places by_nodes node_at child_of
+greatest_name = (refl, refl)
+
+greatest_path : Leads_to base (codes "in" ++ replicate 1021 47) Beneath Follow (Found_node 2)
+unfolding base created find_of walk_of lookup_fault path_fault path_components last_component looked by_places by_nodes node_at child_of
+greatest_path = (refl, refl)
+
+long_absolute : Leads_to base (replicate 1024 47) Beneath Keep (Lost Too_long)
+unfolding base created find_of walk_of lookup_fault path_fault path_components last_component looked by_places by_nodes node_at child_of
+long_absolute = (refl, refl)

@@ -1,0 +1,35 @@
+-- What a lookup is asked for, and what it gives.
+use Rattle.std.specs.Prelude.{ℕ, Bool, true, false, List, [], ◌∷◌}
+
+-- Beneath the directory of a descriptor (capsicum(4); open(2), O_RESOLVE_BENEATH), or in all of the tree.
+pub data Way : Type 0 where
+  Beneath : Way
+  Global : Way
+
+-- Whether a link at the last name is followed, or the last name is kept as it is, a link or a name that no
+-- node has yet. (open(2), O_NOFOLLOW; own)
+pub data Last : Type 0 where
+  Follow : Last
+  Keep : Last
+
+-- whether a name is kept, by the names that follow it
+abbrev pub is_kept : Last → List (List ℕ) → Bool
+is_kept Follow left = false
+is_kept Keep [] = true
+is_kept Keep (name ∷ left) = false
+
+-- Why a path leads to nothing: ENOTCAPABLE, ENOENT, ENOTDIR, ELOOP, ENAMETOOLONG (open(2)), and EINVAL
+-- for a last name that can't be kept (own).
+pub data Fault : Type 0 where
+  Escape : Fault
+  No_entry : Fault
+  Not_dir : Fault
+  Loop : Fault
+  Too_long : Fault
+  Bad_last : Fault
+
+-- A node, the directory in which the last name is free, or a fault.
+pub data Answer : Type 0 where
+  Found_node : ℕ → Answer
+  Found_free : ℕ → Answer
+  Lost : Fault → Answer

@@ -1,0 +1,109 @@
+-- What the values of the code stand for.
+use Rattle.std.specs.Prelude.{◌≡◌, ◌<◌, ◌+◌, ◌-◌, ◌*◌, ◌^◌, ℕ, List, length, reverse, Option, Some, None, IfSome, Result, Ok, Err, Vec, vec_len}
+use Rattle.std.specs.List.{All}
+use Rattle.lookup.specs.declared.ways.Way.{Way as WayCode}
+use Rattle.lookup.specs.declared.ways.Way.TheVariants as way
+use Rattle.lookup.specs.declared.ways.Last.{Last as LastCode}
+use Rattle.lookup.specs.declared.ways.Last.TheVariants as last
+use Rattle.lookup.specs.declared.ways.Found.{Found}
+use Rattle.lookup.specs.declared.ways.Found.TheVariants as found
+use Rattle.lookup.specs.declared.faults.PathFault.{PathFault}
+use Rattle.lookup.specs.declared.faults.PathFault.TheVariants as fault
+use Rattle.file_tree.specs.Views.{names_of}
+use Rattle.lookup.specs.declared.walk.Walk.{Walk}
+use Rattle.lookup.specs.declared.walk.Progress.{Progress}
+use Rattle.lookup.specs.declared.walk.Progress.TheVariants as progress
+use Rattle.file_tree.specs.Nodes.{Node}
+use Rattle.lookup.specs.Steps.{Move, Rules, Stand, Next, Goes, Ends, onward}
+use Rattle.lookup.specs.ByNodes.{Walked, by_nodes, in_node, into}
+use Rattle.lookup.specs.Answers.{Way, Beneath, Global, Last, Follow, Keep, Fault, Escape, No_entry, Not_dir, Loop, Too_long, Bad_last, Answer, Found_node, Found_free, Lost}
+
+abbrev pub way_of : WayCode → Way
+way_of way.Beneath = Beneath
+way_of way.Global = Global
+
+abbrev pub last_of : LastCode → Last
+last_of last.Follow = Follow
+last_of last.Keep = Keep
+
+abbrev pub found_of : Found → Answer
+found_of (found.Node n) = Found_node n
+found_of (found.Free d) = Found_free d
+
+-- the fault; want of memory is none of a path's
+abbrev pub fault_of : PathFault → Option Fault
+fault_of fault.Escape = Some Escape
+fault_of fault.NoEntry = Some No_entry
+fault_of fault.NotDir = Some Not_dir
+fault_of fault.Loop = Some Loop
+fault_of fault.TooLong = Some Too_long
+fault_of fault.BadLast = Some Bad_last
+fault_of fault.Memory = None
+
+-- what a call of `find` answers; want of memory is no answer, and may come in place of any
+abbrev pub lost : Option Fault → Option Answer
+lost None = None
+lost (Some fault) = Some (Lost fault)
+
+abbrev pub answer_of : Result Found PathFault → Option Answer
+answer_of (Ok found) = Some (found_of found)
+answer_of (Err error) = lost (fault_of error)
+
+-- the numbers of the faults
+abbrev pub path_fault_number : PathFault → ℕ
+path_fault_number fault.Escape = 1
+path_fault_number fault.NoEntry = 2
+path_fault_number fault.NotDir = 3
+path_fault_number fault.Loop = 4
+path_fault_number fault.TooLong = 5
+path_fault_number fault.BadLast = 6
+path_fault_number fault.Memory = 7
+
+-- The error tells the fault; want of memory tells nothing, and may come in place of any other answer.
+abbrev pub Told : Option Fault → PathFault → Type 0
+Told fault error = fault ≡ fault_of error
+
+-- the names left, of which the code keeps the next one last
+abbrev pub names_left : {A : Type 0} → List (Vec ℕ A) → List (List ℕ)
+names_left names = reverse (names_of names)
+
+-- where a walk stands, and by which rules it goes on in a tree
+abbrev pub stand_of : Walk → Stand Walked
+stand_of walk = record {
+  spot = record { current = walk.current; before = reverse walk.before.items };
+  left = names_left walk.left.items;
+  followed = walk.followed;
+}
+
+abbrev pub rules_of : List Node → Walk → Rules Walked
+rules_of t walk = by_nodes t (way_of walk.way) (last_of walk.last)
+
+-- what is next, by where a name leads
+abbrev pub after_move : Rules Walked → Walk → Move Walked → Next Walked
+after_move rules walk move = onward rules (stand_of walk).spot (stand_of walk).left walk.followed move
+
+-- what is next after a name, and after a node that has the name
+abbrev pub after_name : List Node → Walk → List ℕ → Next Walked
+after_name t walk name =
+    after_move (rules_of t walk) walk (in_node t (way_of walk.way) (last_of walk.last) walk.current (stand_of walk).spot.before name (stand_of walk).left)
+
+abbrev pub after_node : List Node → Walk → ℕ → Next Walked
+after_node t walk n =
+    after_move (rules_of t walk) walk (into t (last_of walk.last) walk.current (stand_of walk).spot.before (stand_of walk).left (Some n))
+
+abbrev pub SameRules : Walk → Walk → Type 0
+SameRules old new = (new.way ≡ old.way) × (new.last ≡ old.last)
+
+-- The walk did what was next, unless it met want of memory.
+abbrev pub Steps : Result Progress PathFault → Next Walked → Stand Walked → Type 0
+Steps (Ok progress.More) next stand = next ≡ Goes stand
+Steps (Ok (progress.Done found)) next stand = next ≡ Ends (found_of found)
+Steps (Err error) next stand = IfSome (fault_of error) (λ fault. next ≡ Ends (Lost fault))
+
+-- whether the nodes of a walk are of the tree
+abbrev pub IsInTree : List Node → Walk → Type 0
+IsInTree t walk = (walk.current < length t) × All (λ d. d < length t) walk.before.items
+
+-- what a walk has left to do: links that it may follow, and names
+abbrev pub work : Walk → ℕ
+work walk = (33 - walk.followed) * 2 ^ 64 + vec_len walk.left
