@@ -1,0 +1,6 @@
+pub mod Programs
+pub mod Lines
+pub mod Fields
+pub mod Forms
+pub mod Assembly
+pub mod Views
