@@ -1,1 +1,4 @@
 mod Rows
+pub mod WordsRead
+pub mod Numerals
+pub mod Ends

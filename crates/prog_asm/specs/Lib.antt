@@ -4,3 +4,5 @@ pub mod Fields
 pub mod Forms
 pub mod Assembly
 pub mod Views
+pub mod Readings
+pub mod FormViews

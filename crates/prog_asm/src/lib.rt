@@ -1,7 +1,13 @@
 //! Programs over the system calls of a Capsicum sandbox.
 #![tactic(auto)]
 
+mod fields;
+mod forms;
 pub mod instructions;
+mod lines;
+mod lists;
+mod mistakes;
+mod mnemonics;
 pub mod operands;
 pub mod programs;
 
