@@ -2,3 +2,5 @@ mod Rows
 pub mod WordsRead
 pub mod Numerals
 pub mod Ends
+pub mod DraftLaws
+pub mod LinesRead

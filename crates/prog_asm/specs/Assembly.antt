@@ -91,7 +91,7 @@ steps_of lines = steps_from 1 lines
 
 abbrev pub is_label : List ℕ → Option (List ℕ) → Bool
 is_label name None = false
-is_label name (Some label) = bytes_eq name label
+is_label name (Some label) = bytes_eq label name
 
 abbrev pub has_label : List ℕ → List Line → Bool
 has_label name [] = false
@@ -102,15 +102,15 @@ abbrev pub is_twice : List Line → Option (List ℕ) → Bool
 is_twice before None = false
 is_twice before (Some name) = has_label name before
 
-abbrev pub is_one_too_many : List Line → Option Written → Bool
-is_one_too_many before None = false
-is_one_too_many before (Some written) = nat_le 256 (length (steps_of before))
+abbrev pub is_one_too_many : ℕ → Option Written → Bool
+is_one_too_many count None = false
+is_one_too_many count (Some written) = nat_le 256 count
 
 abbrev pub line_behind : List Line → Result Line Mistake → Result Line Mistake
 line_behind before (Err mistake) = Err mistake
 line_behind before (Ok line) =
     if is_twice before line.label then Err TwiceLabel
-    else if is_one_too_many before line.instruction then Err TooMany
+    else if is_one_too_many (length (steps_of before)) line.instruction then Err TooMany
     else Ok line
 
 infixl 10 ◌>>=◌
@@ -146,19 +146,19 @@ abbrev pub point_of : List Line → List ℕ → Option ℕ
 point_of lines name = point_from 0 name lines
 
 -- The instructions with points in the place of labels, or the first line that names a missing one.
-abbrev pub placed : List Line → Written → Option Instruction
-placed lines (Alone instruction) = Some instruction
-placed lines (Leading jump name) = option_map (led jump) (point_of lines name)
+abbrev pub placed : (List ℕ → Option ℕ) → Written → Option Instruction
+placed points (Alone instruction) = Some instruction
+placed points (Leading jump name) = option_map (led jump) (points name)
 
 abbrev pub placed_at : ℕ → Option Instruction → Result Instruction Fault
 placed_at n None = Err (fault NoLabel n)
 placed_at n (Some instruction) = Ok instruction
 
-abbrev pub code_from : List Line → List Step → Result (List Instruction) Fault
-code_from lines [] = Ok []
-code_from lines (step ∷ steps) = do
-  instruction ← placed_at step.line (placed lines step.written)
-  code ← code_from lines steps
+abbrev pub code_from : (List ℕ → Option ℕ) → List Step → Result (List Instruction) Fault
+code_from points [] = Ok []
+code_from points (step ∷ steps) = do
+  instruction ← placed_at step.line (placed points step.written)
+  code ← code_from points steps
   Ok (instruction ∷ code)
 
 -- the line of the last instruction, or 1
@@ -173,7 +173,7 @@ complete steps code = if ends_well code then Ok code else Err (fault FallsOff (l
 
 abbrev pub program_of : List Line → Result (List Instruction) Fault
 program_of lines = do
-  code ← code_from lines (steps_of lines)
+  code ← code_from (point_of lines) (steps_of lines)
   complete (steps_of lines) code
 
 -- What a text stands for.

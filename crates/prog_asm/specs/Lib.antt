@@ -6,3 +6,6 @@ pub mod Assembly
 pub mod Views
 pub mod Readings
 pub mod FormViews
+pub mod LineViews
+pub mod Drafts
+pub mod Faults

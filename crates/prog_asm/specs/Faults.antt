@@ -1,0 +1,25 @@
+-- The numbers of the faults.
+use Rattle.std.specs.Prelude.{ℕ}
+use Rattle.prog_asm.specs.declared.faults.AsmFault.{AsmFault}
+use Rattle.prog_asm.specs.declared.faults.AsmFault.TheVariants as asm
+use Rattle.prog_asm.specs.declared.mistakes.Mistake.{Mistake}
+use Rattle.prog_asm.specs.declared.mistakes.Mistake.TheVariants as mistake
+use Rattle.prog_asm.specs.Assembly.{mistake_number}
+use Rattle.prog_asm.specs.Assembly as assembly
+
+abbrev pub fault_number : AsmFault → ℕ
+fault_number (asm.Word line) = mistake_number assembly.Word
+fault_number (asm.Operand line) = mistake_number assembly.Operand
+fault_number (asm.NoLabel line) = mistake_number assembly.NoLabel
+fault_number (asm.TwiceLabel line) = mistake_number assembly.TwiceLabel
+fault_number (asm.TooMany line) = mistake_number assembly.TooMany
+fault_number (asm.FallsOff line) = mistake_number assembly.FallsOff
+fault_number asm.Memory = 7
+
+-- the fault of a line with the mistake
+abbrev pub fault_at : Mistake → ℕ → AsmFault
+fault_at mistake.Word line = asm.Word line
+fault_at mistake.Operand line = asm.Operand line
+fault_at mistake.TwiceLabel line = asm.TwiceLabel line
+fault_at mistake.TooMany line = asm.TooMany line
+fault_at mistake.Memory line = asm.Memory
