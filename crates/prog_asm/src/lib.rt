@@ -1,6 +1,7 @@
 //! Programs over the system calls of a Capsicum sandbox.
 #![tactic(auto)]
 
+mod assembler;
 mod drafts;
 pub mod faults;
 mod fields;
@@ -15,6 +16,7 @@ pub mod operands;
 pub mod programs;
 mod statements;
 
+pub use assembler::assemble;
 pub use faults::AsmFault;
 pub use instructions::{Instruction, Syscall};
 pub use operands::{Operand, Path, Register};
