@@ -2,7 +2,7 @@
 use Rattle.std.proofs.Common.{◌≡◌, ℕ, zero, suc, List, [], ◌∷◌, ◌++◌, codes, refl}
 use Rattle.std.specs.Prelude.{true, false, Ok, Err}
 use Rattle.rights.specs.Opens.{OpenRequest, open_request}
-use Rattle.prog_asm.specs.Programs.{Mov, Add, In, Jmp, Jeq, Jlt, Halt, Invoke, Open, Stat, Unlinkat, Renameat, Close, Cap_rights_limit, Cap_fcntls_limit, Number, Register}
+use Rattle.prog_asm.specs.Programs.{Mov, Add, In, Jmp, Jeq, Jlt, Halt, Invoke, Open, Openat, Read, Cap_enter, Stat, Unlinkat, Renameat, Close, Cap_rights_limit, Cap_fcntls_limit, Number, Register}
 use Rattle.prog_asm.specs.Forms.{written_at, syscall_at, register_at, number_at, operand_at, path_at, flags_at, rights_at, commands_at, label_at, directory_at, else_at}
 use Rattle.prog_asm.specs.Assembly.{assembly_of, line_of, fault, Word, Operand, NoLabel, TwiceLabel, TooMany, FallsOff}
 
@@ -236,3 +236,8 @@ most_instructions = refl
 twice_before_too_many : assembly_of (codes "a: halt\n" ++ lines 255 (codes "halt\n") ++ codes "a: halt\n") ≡ Err (fault TwiceLabel 257)
 unfolding assembly_of line_of written_at syscall_at register_at number_at operand_at path_at flags_at rights_at commands_at label_at directory_at else_at
 twice_before_too_many = refl
+
+-- the example of docs/ASSEMBLY.md
+example_of_the_page : assembly_of (codes "; enters the mode\nstart: cap_enter else end\nopenat 0 \"in\" read else end ; a number\nmov r1 r0\nnext: read r1 else end\njlt r0 256 next\nend: halt\n") ≡ Ok (Invoke Cap_enter 5 ∷ Invoke (Openat (Number 0) (codes "in") read_only) 5 ∷ Mov 1 0 ∷ Invoke (Read (Register 1)) 5 ∷ Jlt 0 256 3 ∷ Halt ∷ [])
+unfolding assembly_of line_of written_at syscall_at register_at number_at operand_at path_at flags_at rights_at commands_at label_at directory_at else_at
+example_of_the_page = refl

@@ -1,5 +1,5 @@
--- The numbers of the faults.
-use Rattle.std.specs.Prelude.{ℕ}
+-- The numbers, names and lines of the faults.
+use Rattle.std.specs.Prelude.{ℕ, List, codes, Option, Some, None}
 use Rattle.prog_asm.specs.declared.faults.AsmFault.{AsmFault}
 use Rattle.prog_asm.specs.declared.faults.AsmFault.TheVariants as asm
 use Rattle.prog_asm.specs.declared.mistakes.Mistake.{Mistake}
@@ -15,6 +15,24 @@ fault_number (asm.TwiceLabel line) = mistake_number assembly.TwiceLabel
 fault_number (asm.TooMany line) = mistake_number assembly.TooMany
 fault_number (asm.FallsOff line) = mistake_number assembly.FallsOff
 fault_number asm.Memory = 7
+
+abbrev pub fault_name : AsmFault → List ℕ
+fault_name (asm.Word line) = codes "Word"
+fault_name (asm.Operand line) = codes "Operand"
+fault_name (asm.NoLabel line) = codes "NoLabel"
+fault_name (asm.TwiceLabel line) = codes "TwiceLabel"
+fault_name (asm.TooMany line) = codes "TooMany"
+fault_name (asm.FallsOff line) = codes "FallsOff"
+fault_name asm.Memory = codes "Memory"
+
+abbrev pub fault_line : AsmFault → Option ℕ
+fault_line (asm.Word line) = Some line
+fault_line (asm.Operand line) = Some line
+fault_line (asm.NoLabel line) = Some line
+fault_line (asm.TwiceLabel line) = Some line
+fault_line (asm.TooMany line) = Some line
+fault_line (asm.FallsOff line) = Some line
+fault_line asm.Memory = None
 
 -- the fault of a line with the mistake
 abbrev pub fault_at : Mistake → ℕ → AsmFault

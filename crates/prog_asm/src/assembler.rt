@@ -49,7 +49,9 @@ fn place_all(
     steps: VecDeque<Step<'_>>,
 ) -> Result<Vec<Instruction>, AsmFault>
     requires { length steps.items ≤ 256 }
-    ensures { Gives (λ code. code_of code.items) result (code_from (λ name. below (length steps.entry.items) (point_in labels.now name)) (map step_from steps.entry.items)) }
+    ensures { Gives (λ code. code_of code.items) result
+        (code_from (λ name. below (length steps.entry.items) (point_in labels.now name))
+        (map step_from steps.entry.items)) }
 {
     let points = steps.len();
     let mut steps = steps;
@@ -66,7 +68,8 @@ fn place_all(
 /// The instructions of a draft, or the fault of one whose lines are good.
 fn finish(alloc: Global, draft: Draft<'_>) -> Result<Vec<Instruction>, AsmFault>
     requires { length draft.steps.items ≤ 256 }
-    ensures { (lines : List Line) → Drafts lines draft.entry → Gives (λ code. code_of code.items) result (program_of lines) }
+    ensures { (lines : List Line) → Drafts lines draft.entry
+        → Gives (λ code. code_of code.items) result (program_of lines) }
 {
     let Draft { labels, steps } = draft;
     let last = last_line(&steps);

@@ -42,7 +42,8 @@ fn add_step<'t>(
     line: usize,
     instruction: Option<Written<'t>>,
 ) -> Result<(), Mistake>
-    ensures { StepAdded result (map step_from steps.old.items) (map step_from steps.new.items) line (option_map written_from instruction.entry) }
+    ensures { StepAdded result (map step_from steps.old.items) (map step_from steps.new.items) line
+        (option_map written_from instruction.entry) }
 {
     let Some(written) = instruction else {
         return Ok(())
@@ -112,7 +113,8 @@ pub(crate) fn place(
     written: Written<'_>,
 ) -> Option<Instruction>
     requires { points ≤ 256 }
-    ensures { option_map instruction_of result ≡ placed (λ name. below points (point_in labels.now name)) (written_from written.entry) }
+    ensures { option_map instruction_of result
+        ≡ placed (λ name. below points (point_in labels.now name)) (written_from written.entry) }
 {
     match written {
         Written::Alone(instruction) => Some(instruction),

@@ -1,7 +1,7 @@
 //! Why a text is no program.
 
 ghost use Rattle.std.specs.Prelude.{◌≡◌};
-ghost use Rattle.prog_asm.specs.Faults.{fault_at, fault_number};
+ghost use Rattle.prog_asm.specs.Faults.{fault_at, fault_line, fault_name, fault_number};
 ghost use Rattle.prog_asm.specs.declared.faults.AsmFault.TheVariants as asm;
 
 use crate::mistakes::Mistake;
@@ -48,6 +48,36 @@ impl AsmFault {
             AsmFault::TooMany(_) => 5,
             AsmFault::FallsOff(_) => 6,
             AsmFault::Memory => 7,
+        }
+    }
+
+    /// The fault's name, as `NoLabel`.
+    pub fn name(self) -> &'static str
+        ensures { result.now ≡ fault_name self }
+    {
+        match self {
+            AsmFault::Word(_) => "Word",
+            AsmFault::Operand(_) => "Operand",
+            AsmFault::NoLabel(_) => "NoLabel",
+            AsmFault::TwiceLabel(_) => "TwiceLabel",
+            AsmFault::TooMany(_) => "TooMany",
+            AsmFault::FallsOff(_) => "FallsOff",
+            AsmFault::Memory => "Memory",
+        }
+    }
+
+    /// The line, counted from 1. Want of memory has none.
+    pub fn line(self) -> Option<usize>
+        ensures { result ≡ fault_line self }
+    {
+        match self {
+            AsmFault::Word(line)
+            | AsmFault::Operand(line)
+            | AsmFault::NoLabel(line)
+            | AsmFault::TwiceLabel(line)
+            | AsmFault::TooMany(line)
+            | AsmFault::FallsOff(line) => Some(line),
+            AsmFault::Memory => None,
         }
     }
 }

@@ -338,7 +338,8 @@ pub(crate) fn read_written<'t>(
     mnemonic: Mnemonic,
     operands: &[&'t [u8]],
 ) -> Result<Written<'t>, Mistake>
-    ensures { ReadsField written_from result (written_of (mnemonic_from mnemonic) (map (λ word. word.now) operands.now)) }
+    ensures { ReadsField written_from result
+        (written_of (mnemonic_from mnemonic) (map (λ word. word.now) operands.now)) }
 {
     let mut words = Words::new(alloc, operands);
     let written = words.written(mnemonic)?;

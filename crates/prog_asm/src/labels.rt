@@ -12,7 +12,8 @@ pub(crate) fn add_label<'t>(
     label: Option<&'t [u8]>,
     point: usize,
 ) -> Result<(), Mistake>
-    ensures { LabelAdded result labels.old labels.new (option_map (λ name. name.now) label.entry) point }
+    ensures { LabelAdded result labels.old labels.new (option_map (λ name. name.now) label.entry)
+        point }
 {
     let Some(name) = label else { return Ok(()) };
     if labels.contains_key(&name) {

@@ -27,7 +27,8 @@ fn is_among(word: &[u8], list: &[u8]) -> bool
 
 /// The flag of this name.
 fn named<F: Flags + Copy>(rows: &[Flag<F>], word: &[u8]) -> Option<F>
-    ensures { option_map F.set_of result ≡ named (map (λ row. (row.name.now, F.set_of row.value)) rows.now) word.now }
+    ensures { option_map F.set_of result
+        ≡ named (map (λ row. (row.name.now, F.set_of row.value)) rows.now) word.now }
 {
     for row in rows {
         if word == row.name.as_bytes() {

@@ -77,7 +77,8 @@ impl Mnemonic {
 
 /// The first of these that the word is.
 fn mnemonic_among(mnemonics: &[Mnemonic], word: &[u8]) -> Option<Mnemonic>
-    ensures { option_map mnemonic_from result ≡ mnemonic_among (map mnemonic_from mnemonics.now) word.now }
+    ensures { option_map mnemonic_from result
+        ≡ mnemonic_among (map mnemonic_from mnemonics.now) word.now }
 {
     for mnemonic in mnemonics {
         if word == mnemonic.name().as_bytes() {

@@ -22,7 +22,8 @@ pub(crate) struct Line<'t> {
 
 /// The instruction that words stand for, if there are any.
 fn instruction_in<'t>(alloc: Global, words: &[&'t [u8]]) -> Result<Option<Written<'t>>, Mistake>
-    ensures { Reads (λ instruction. option_map written_from instruction) result (instruction_in (map (λ word. word.now) words.now)) }
+    ensures { Reads (λ instruction. option_map written_from instruction) result
+        (instruction_in (map (λ word. word.now) words.now)) }
 {
     match words {
         [] => Ok(None),
