@@ -1,9 +1,9 @@
-//! How long texts of 32, 64, 128 and 256 instructions take to assemble.
+//! How much processor time it takes to assemble texts of 32, 64, 128 and 256 instructions.
 #![tactic(auto)]
 
 use prog_asm::assemble;
 use std::alloc::{AllocError, Global};
-use std::time::Instant;
+use std::time::{CpuClock, Duration};
 
 /// How often each text is assembled.
 const ROUNDS: u32 = 2_000;
@@ -21,19 +21,17 @@ fn text_of(alloc: Global, instructions: u32) -> Result<String, AllocError> {
 }
 
 fn main(rt: HostRuntime) -> anyhow::Result<()> {
-    println!(rt; "instructions  bytes  nanoseconds each")?;
+    println!(rt; "instructions bytes nanoseconds")?;
     for instructions in [32, 64, 128, 256] {
         let text = text_of(rt.alloc(), instructions)?;
-        let start = Instant::now(&rt)?;
-        let mut good: u32 = 0;
+        let start = rt.thread_cpu_time()?;
         for _ in 0..ROUNDS {
-            if assemble(rt.alloc(), text.as_str()).is_ok() {
-                good += 1;
-            }
+            let _program = assemble(rt.alloc(), text.as_str())?;
         }
-        let each = start.elapsed(&rt)?.as_nanos() / u128::from(ROUNDS);
+        let spent = rt.thread_cpu_time()?.checked_sub(start).unwrap_or(Duration::ZERO);
+        let each = spent.as_nanos() / u128::from(ROUNDS);
         let bytes = text.len();
-        println!(rt; "{instructions} {bytes} {each} ({good} assembled)")?;
+        println!(rt; "{instructions} {bytes} {each}")?;
     }
     Ok(())
 }
