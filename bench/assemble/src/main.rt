@@ -13,7 +13,9 @@ const ROUNDS: u32 = 2_000;
 fn text_of(alloc: Global, instructions: u32) -> Result<String, AllocError> {
     let mut text = String::new(alloc);
     for number in 1..instructions {
-        let line = format!(in alloc; "l{number}: cap_rights_limit {number} LOOKUP,READ,FSTAT else l{number} ; line {number}\n")?;
+        let line = format!(in alloc;
+            "l{number}: cap_rights_limit {number} LOOKUP,READ,FSTAT else l{number} ; line {number}\n"
+        )?;
         text.push_str(line.as_str())?;
     }
     text.push_str("halt\n")?;
@@ -28,7 +30,10 @@ fn main(rt: HostRuntime) -> anyhow::Result<()> {
         for _ in 0..ROUNDS {
             let _program = assemble(rt.alloc(), text.as_str())?;
         }
-        let spent = rt.thread_cpu_time()?.checked_sub(start).unwrap_or(Duration::ZERO);
+        let spent = rt
+            .thread_cpu_time()?
+            .checked_sub(start)
+            .unwrap_or(Duration::ZERO);
         let each = spent.as_nanos() / u128::from(ROUNDS);
         let bytes = text.len();
         println!(rt; "{instructions} {bytes} {each}")?;

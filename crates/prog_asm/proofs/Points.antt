@@ -10,7 +10,8 @@ use Rattle.prog_asm.specs.Programs.{Instruction, ends_well}
 use Rattle.prog_asm.specs.Forms.{Written, Alone, Leading, led}
 use Rattle.prog_asm.specs.Assembly.{FallsOff, Fault, Line, Step, code_from, complete, fault, is_label, last_line, next_point, placed, placed_at, point_from, point_of, program_of, steps_of, steps_on, ◌>>=◌}
 use Rattle.prog_asm.specs.LineViews.{point_in}
-use Rattle.prog_asm.specs.Drafts.{Drafts, FaultIs, below, labelled_from, step_from}
+use Rattle.prog_asm.specs.Drafts.{Drafts, below, labelled_from, step_from}
+use Rattle.prog_asm.specs.Faults.{FaultIs}
 use Rattle.prog_asm.proofs.DraftLaws.{length-steps_of}
 
 -- an instruction follows where the point is one of all

@@ -3,12 +3,11 @@ use Rattle.std.specs.Prelude.{◌≡◌, ◌+◌, ℕ, true, false, List, [], �
 use Rattle.prog_asm.specs.declared.mistakes.Mistake.{Mistake as MistakeCode}
 use Rattle.prog_asm.specs.declared.mistakes.Mistake.TheVariants as mistake
 use Rattle.prog_asm.specs.declared.faults.AsmFault.{AsmFault}
-use Rattle.prog_asm.specs.declared.faults.AsmFault.TheVariants as asm
 use Rattle.prog_asm.specs.declared.drafts.Step.{Step as StepCode}
 use Rattle.prog_asm.specs.declared.drafts.Draft.{Draft}
-use Rattle.prog_asm.specs.Assembly.{Mistake, Line, Step, Fault, fault, is_label, is_one_too_many, line_behind, steps_on, steps_of}
-use Rattle.prog_asm.specs.Assembly as assembly
+use Rattle.prog_asm.specs.Assembly.{Mistake, Line, Step, Fault, is_label, is_one_too_many, line_behind, steps_on, steps_of}
 use Rattle.prog_asm.specs.Forms.{Written}
+use Rattle.prog_asm.specs.Faults.{FaultIs}
 use Rattle.prog_asm.specs.FormViews.{written_from}
 use Rattle.prog_asm.specs.LineViews.{point_in}
 use Rattle.prog_asm.specs.Readings.{Fails}
@@ -45,21 +44,6 @@ StepAdded (Err mistake.Memory) before after number instruction = Unit {0}
 abbrev pub AddsLine : Result (Unit {0}) MistakeCode → List Line → Result Line Mistake → Draft → Type 0
 AddsLine (Ok done) before line after = (added : Line) × (line_behind before line ≡ Ok added) × Drafts (before ++ added ∷ []) after
 AddsLine (Err mistake) before line after = Fails mistake (line_behind before line)
-
--- the fault, want of memory aside
-abbrev pub FaultIs : {X : Type 0} → AsmFault → Result X Fault → Type 0
-FaultIs (asm.Word line) read = read ≡ Err (fault assembly.Word line)
-FaultIs (asm.Operand line) read = read ≡ Err (fault assembly.Operand line)
-FaultIs (asm.NoLabel line) read = read ≡ Err (fault assembly.NoLabel line)
-FaultIs (asm.TwiceLabel line) read = read ≡ Err (fault assembly.TwiceLabel line)
-FaultIs (asm.TooMany line) read = read ≡ Err (fault assembly.TooMany line)
-FaultIs (asm.FallsOff line) read = read ≡ Err (fault assembly.FallsOff line)
-FaultIs asm.Memory read = Unit {0}
-
--- What is read is what the definition gives, or its fault.
-abbrev pub Gives : {X Y : Type 0} → (X → Y) → Result X AsmFault → Result Y Fault → Type 0
-Gives view (Ok x) read = read ≡ Ok (view x)
-Gives view (Err error) read = FaultIs error read
 
 -- The draft is that of the lines, or their fault is told.
 abbrev pub DraftsLines : Result Draft AsmFault → Result (List Line) Fault → Type 0

@@ -1,10 +1,10 @@
--- The numbers, names and lines of the faults.
-use Rattle.std.specs.Prelude.{ℕ, List, codes, Option, Some, None}
+-- The faults: their numbers, names and lines, and when a call that reads a text has one.
+use Rattle.std.specs.Prelude.{◌≡◌, ℕ, List, codes, Option, Some, None, Result, Ok, Err}
 use Rattle.prog_asm.specs.declared.faults.AsmFault.{AsmFault}
 use Rattle.prog_asm.specs.declared.faults.AsmFault.TheVariants as asm
 use Rattle.prog_asm.specs.declared.mistakes.Mistake.{Mistake}
 use Rattle.prog_asm.specs.declared.mistakes.Mistake.TheVariants as mistake
-use Rattle.prog_asm.specs.Assembly.{mistake_number}
+use Rattle.prog_asm.specs.Assembly.{Fault, fault, mistake_number}
 use Rattle.prog_asm.specs.Assembly as assembly
 
 abbrev pub fault_number : AsmFault → ℕ
@@ -41,3 +41,18 @@ fault_at mistake.Operand line = asm.Operand line
 fault_at mistake.TwiceLabel line = asm.TwiceLabel line
 fault_at mistake.TooMany line = asm.TooMany line
 fault_at mistake.Memory line = asm.Memory
+
+-- the fault, want of memory aside
+abbrev pub FaultIs : {X : Type 0} → AsmFault → Result X Fault → Type 0
+FaultIs (asm.Word line) read = read ≡ Err (fault assembly.Word line)
+FaultIs (asm.Operand line) read = read ≡ Err (fault assembly.Operand line)
+FaultIs (asm.NoLabel line) read = read ≡ Err (fault assembly.NoLabel line)
+FaultIs (asm.TwiceLabel line) read = read ≡ Err (fault assembly.TwiceLabel line)
+FaultIs (asm.TooMany line) read = read ≡ Err (fault assembly.TooMany line)
+FaultIs (asm.FallsOff line) read = read ≡ Err (fault assembly.FallsOff line)
+FaultIs asm.Memory read = Unit {0}
+
+-- What is read is what the definition gives, or its fault.
+abbrev pub Gives : {X Y : Type 0} → (X → Y) → Result X AsmFault → Result Y Fault → Type 0
+Gives view (Ok x) read = read ≡ Ok (view x)
+Gives view (Err error) read = FaultIs error read

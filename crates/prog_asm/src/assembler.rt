@@ -2,7 +2,8 @@
 
 ghost use Rattle.std.specs.Prelude.{◌≡◌, ◌≤◌, List, length, map, option_map};
 ghost use Rattle.prog_asm.specs.Assembly.{Line, assembly_of, code_from, last_line, program_of};
-ghost use Rattle.prog_asm.specs.Drafts.{Drafts, Gives, below, step_from};
+ghost use Rattle.prog_asm.specs.Drafts.{Drafts, below, step_from};
+ghost use Rattle.prog_asm.specs.Faults.{Gives};
 ghost use Rattle.prog_asm.specs.LineViews.{point_in};
 ghost use Rattle.prog_asm.specs.Programs.{ends_well, is_last};
 ghost use Rattle.prog_asm.specs.Views.{code_of, instruction_of};

@@ -3,7 +3,7 @@ use Rattle.std.specs.Prelude.{Ok}
 use Rattle.std.proofs.lemmas.Result.{err_from_is_err_and}
 use Rattle.prog_asm.specs.Lines.{lines_of}
 use Rattle.prog_asm.specs.Assembly.{assembly_of, lines_behind}
-use Rattle.prog_asm.specs.Drafts.{FaultIs}
+use Rattle.prog_asm.specs.Faults.{FaultIs}
 use Rattle.prog_asm.specs.Views.{code_of}
 use Rattle.prog_asm.proofs.GoodPrograms.{assembly-fault, assembly-good, assembly-lines, draft-few}
 use Rattle.prog_asm.proofs.assembler.assemble.Goals as goal

@@ -1,7 +1,7 @@
 use Rattle.std.proofs.Common.{ap, sym, ◌∙◌, subst}
 use Rattle.std.proofs.lemmas.Result.{err_from_is_err_and}
 use Rattle.prog_asm.specs.Assembly.{code_from, complete, last_line, point_of, steps_of}
-use Rattle.prog_asm.specs.Drafts.{FaultIs}
+use Rattle.prog_asm.specs.Faults.{FaultIs}
 use Rattle.prog_asm.specs.Programs.{ends_well}
 use Rattle.prog_asm.specs.Views.{code_of}
 use Rattle.prog_asm.proofs.Points.{code_from-drafts, fault-passes, program-ends, program-falls}
