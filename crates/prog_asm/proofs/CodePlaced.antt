@@ -1,0 +1,10 @@
+-- The instructions that are placed, one after another.
+use Rattle.std.proofs.Common.{List, ◌++◌}
+use Rattle.std.specs.Prelude.{Result, Ok, Err}
+use Rattle.prog_asm.specs.Programs.{Instruction}
+use Rattle.prog_asm.specs.Assembly.{Fault}
+
+-- instructions, and then what comes of the rest
+abbrev pub behind : List Instruction → Result (List Instruction) Fault → Result (List Instruction) Fault
+behind code (Ok more) = Ok (code ++ more)
+behind code (Err error) = Err error

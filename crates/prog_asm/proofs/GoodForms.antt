@@ -1,0 +1,209 @@
+-- What the grammar's fields and forms give is valid.
+use Rattle.std.proofs.Common.{◌≡◌, ◌-◌, ◌<◌, ◌≤◌, ℕ, Bool, true, false, List, [], ◌∷◌, refl, ap, ◌∙◌, subst, arith}
+use Rattle.std.specs.Prelude.{◌&&◌, Option, Some, None, cond, nat_lt, nat_le, option_map, option_and_then, ◌==◌}
+use Rattle.std.proofs.lemmas.Bool.{ltb-true, lt-ltb, leb-true}
+use Rattle.rights.proofs.Tests.{both_left, both_right}
+use Rattle.rights.specs.Calls.{Call}
+use Rattle.rights.specs.Calls as calls
+use Rattle.rights.specs.Opens.{OpenRequest, is_valid}
+use Rattle.prog_asm.specs.Programs.{Instruction, Operand, Register, Number, Syscall, is_instruction, is_operand, is_path, is_register, is_syscall, is_value}
+use Rattle.prog_asm.specs.Programs as programs
+use Rattle.prog_asm.specs.Fields.{at_most, before_last, begins_well, digits_from, flags_of, number_of, operand_from, operand_of, path_in, path_of, register_of, request_of, set_of, flag_names, valid_request}
+use Rattle.prog_asm.specs.Forms.{Field, Always, If_equal, If_less, After_error, Mnemonic, Set, Mov, Add, In, Jmp, Jeq, Jlt, Halt, Make, Written, Alone, Leading, commands_at, directory_at, else_at, flags_at, four, label_at, led, nothing, number_at, one, operand_at, path_at, register_at, rights_at, syscall_at, three, two, whole, word_at, written_at, written_of, ◌>>=◌}
+
+-- what is read fulfils this
+abbrev pub Gives : {A : Type 0} → Field A → (A → Type 0) → Type 0
+Gives field Good = (words : List (List ℕ)) (a : _) → field words ≡ Some a → Good a.0
+
+-- the test that passed
+chosen : {A : Type 0} (b : Bool) (x y : A) → cond b (Some x) None ≡ Some y → (b ≡ true) × (x ≡ y)
+chosen true x y h = (refl, cc)
+chosen false x y h = absurd cc
+
+bound : {A B : Type 0} (o : Option A) (f : A → Option B) (b : B) → (o >>= f) ≡ Some b → (a : A) × (o ≡ Some a) × (f a ≡ Some b)
+bound None f b h = absurd cc
+bound (Some a) f b h = (a, refl, h)
+
+mapped : {A B : Type 0} (f : A → B) (o : Option A) (b : B) → option_map f o ≡ Some b → (a : A) × (o ≡ Some a) × (f a ≡ b)
+mapped f None b h = absurd cc
+mapped f (Some a) b h = (a, refl, cc)
+
+-- a field of one word
+word-good : {A : Type 0} (read : List ℕ → Option A) (Good : A → Type 0) → ((word : List ℕ) (a : A) → read word ≡ Some a → Good a) → Gives (word_at read) Good
+word-good read Good good [] a h = absurd cc
+word-good read Good good (word ∷ words) a h =
+    let read_as = mapped (λ a. (a, words)) (read word) a h in
+    subst (λ a. Good a.0) read_as.2 (good word read_as.0 read_as.1)
+
+register-good : (word : List ℕ) (r : ℕ) → register_of word ≡ Some r → is_register r ≡ true
+register-good [] r h = absurd cc
+register-good (a ∷ []) r h = absurd cc
+register-good (a ∷ digit ∷ []) r h =
+    let found = chosen ((a == 114) && nat_le 48 digit && nat_lt digit 56) (digit - 48) r h in
+    let high : digit < 56 = ltb-true digit 56 (both_right ((a == 114) && nat_le 48 digit) (nat_lt digit 56) found.0) in
+    let low : 48 ≤ digit = leb-true 48 digit (both_right (a == 114) (nat_le 48 digit) (both_left ((a == 114) && nat_le 48 digit) (nat_lt digit 56) found.0)) in
+    lt-ltb r 8 (omega (arith, found.1))
+register-good (a ∷ b ∷ c ∷ word) r h = absurd cc
+
+at_most-good : (o : Option ℕ) (n : ℕ) → at_most 4294967295 o ≡ Some n → is_value n ≡ true
+at_most-good None n h = absurd cc
+at_most-good (Some m) n h =
+    let found = chosen (nat_le m 4294967295) m n h in
+    let low : m ≤ 4294967295 = leb-true m 4294967295 found.0 in
+    lt-ltb n 4294967296 (omega (arith, found.1))
+
+number-good : (word : List ℕ) (n : ℕ) → number_of word ≡ Some n → is_value n ≡ true
+number-good word n h = go (begins_well word) h
+  where
+    go : (well : Bool) → cond well (at_most 4294967295 (digits_from 0 word)) None ≡ Some n → is_value n ≡ true
+    go true h = at_most-good (digits_from 0 word) n h
+    go false h = absurd cc
+
+operand-good : (word : List ℕ) (o : Operand) → operand_of word ≡ Some o → is_operand o ≡ true
+operand-good word o h = go (register_of word) refl h
+  where
+    go : (r : Option ℕ) → register_of word ≡ r → operand_from r (number_of word) ≡ Some o → is_operand o ≡ true
+    go (Some r) is h = let same : Register r ≡ o = cc in subst (λ o. is_operand o ≡ true) same (register-good word r is)
+    go None is h =
+        let found = mapped Number (number_of word) o h in
+        subst (λ o. is_operand o ≡ true) found.2 (number-good word found.0 found.1)
+
+path_in-good : (o : Option (List ℕ)) (p : List ℕ) → path_in o ≡ Some p → is_path p ≡ true
+path_in-good None p h = absurd cc
+path_in-good (Some path) p h = let found = chosen (is_path path) path p h in subst (λ p. is_path p ≡ true) found.1 found.0
+
+path-good : (word : List ℕ) (p : List ℕ) → path_of word ≡ Some p → is_path p ≡ true
+path-good [] p h = absurd cc
+path-good (b ∷ word) p h = go (b == 34) h
+  where
+    go : (is : Bool) → cond is (path_in (before_last 34 word)) None ≡ Some p → is_path p ≡ true
+    go true h = path_in-good (before_last 34 word) p h
+    go false h = absurd cc
+
+flags-good : (word : List ℕ) (f : OpenRequest) → flags_of word ≡ Some f → is_valid f ≡ true
+flags-good word f h = go (set_of flag_names word) h
+  where
+    go : (o : Option ℕ) → option_and_then (λ flags. valid_request (request_of flags)) o ≡ Some f → is_valid f ≡ true
+    go None h = absurd cc
+    go (Some flags) h = let found = chosen (is_valid (request_of flags)) (request_of flags) f h in subst (λ f. is_valid f ≡ true) found.1 found.0
+
+register_at-good : Gives register_at (λ r. is_register r ≡ true)
+unfolding register_at
+register_at-good = word-good register_of (λ r. is_register r ≡ true) register-good
+
+number_at-good : Gives number_at (λ n. is_value n ≡ true)
+unfolding number_at
+number_at-good = word-good number_of (λ n. is_value n ≡ true) number-good
+
+operand_at-good : Gives operand_at (λ o. is_operand o ≡ true)
+unfolding operand_at
+operand_at-good = word-good operand_of (λ o. is_operand o ≡ true) operand-good
+
+path_at-good : Gives path_at (λ p. is_path p ≡ true)
+unfolding path_at
+path_at-good = word-good path_of (λ p. is_path p ≡ true) path-good
+
+flags_at-good : Gives flags_at (λ f. is_valid f ≡ true)
+unfolding flags_at
+flags_at-good = word-good flags_of (λ f. is_valid f ≡ true) flags-good
+
+-- a field that may be anything
+any_field : {A : Type 0} (field : Field A) → Gives field (λ _. Unit {0})
+any_field field words a h = tt
+
+-- what is made of good fields
+nothing-good : {S : Type 0} (made : S) (Good : S → Type 0) → Good made → Gives (nothing made) Good
+nothing-good made Good good words s h = let same : (made, words) ≡ s = cc in subst (λ s. Good s.0) same good
+
+one-good : {A S : Type 0} (first : Field A) (make : A → S) (P : A → Type 0) (Good : S → Type 0) → Gives first P → ((a : A) → P a → Good (make a)) → Gives (one first make) Good
+one-good first make P Good firsts made words s h =
+    let a = bound (first words) (λ a. Some (make a.0, a.1)) s h in
+    let same : (make a.0.0, a.0.1) ≡ s = let k = a.2 in cc in
+    subst (λ s. Good s.0) same (made a.0.0 (firsts words a.0 a.1))
+
+two-good : {A B S : Type 0} (first : Field A) (second : Field B) (make : A → B → S) (P : A → Type 0) (Q : B → Type 0) (Good : S → Type 0) → Gives first P → Gives second Q → ((a : A) (b : B) → P a → Q b → Good (make a b)) → Gives (two first second make) Good
+two-good first second make P Q Good firsts seconds made words s h =
+    let a = bound (first words) (λ a. second a.1 >>= λ b. Some (make a.0 b.0, b.1)) s h in
+    one-good second (make a.0.0) Q Good seconds (λ b q. made a.0.0 b (firsts words a.0 a.1) q) a.0.1 s a.2
+
+three-good : {A B C S : Type 0} (first : Field A) (second : Field B) (third : Field C) (make : A → B → C → S) (P : A → Type 0) (Q : B → Type 0) (R : C → Type 0) (Good : S → Type 0) → Gives first P → Gives second Q → Gives third R → ((a : A) (b : B) (c : C) → P a → Q b → R c → Good (make a b c)) → Gives (three first second third make) Good
+three-good first second third make P Q R Good firsts seconds thirds made words s h =
+    let a = bound (first words) (λ a. second a.1 >>= λ b. third b.1 >>= λ c. Some (make a.0 b.0 c.0, c.1)) s h in
+    two-good second third (make a.0.0) Q R Good seconds thirds (λ b c q r. made a.0.0 b c (firsts words a.0 a.1) q r) a.0.1 s a.2
+
+four-good : {A B C D S : Type 0} (first : Field A) (second : Field B) (third : Field C) (fourth : Field D) (make : A → B → C → D → S) (P : A → Type 0) (Q : B → Type 0) (R : C → Type 0) (O : D → Type 0) (Good : S → Type 0) → Gives first P → Gives second Q → Gives third R → Gives fourth O → ((a : A) (b : B) (c : C) (d : D) → P a → Q b → R c → O d → Good (make a b c d)) → Gives (four first second third fourth make) Good
+four-good first second third fourth make P Q R O Good firsts seconds thirds fourths made words s h =
+    let a = bound (first words) (λ a. second a.1 >>= λ b. third b.1 >>= λ c. fourth c.1 >>= λ d. Some (make a.0 b.0 c.0 d.0, d.1)) s h in
+    three-good second third fourth (make a.0.0) Q R O Good seconds thirds fourths (λ b c d q r o. made a.0.0 b c d (firsts words a.0 a.1) q r o) a.0.1 s a.2
+
+both : (a b : Bool) → a ≡ true → b ≡ true → (a && b) ≡ true
+both a b p q = ap (λ a. a && b) p ∙ q
+
+-- the calls' operands
+abbrev GoodCall : Syscall → Type 0
+GoodCall call = is_syscall call ≡ true
+
+D : (make : Operand → Syscall) → ((o : Operand) → is_operand o ≡ true → GoodCall (make o)) → Gives (one operand_at make) GoodCall
+D make good = one-good operand_at make (λ o. is_operand o ≡ true) GoodCall operand_at-good good
+
+DV : (make : Operand → Operand → Syscall) → ((o v : Operand) → is_operand o ≡ true → is_operand v ≡ true → GoodCall (make o v)) → Gives (two operand_at operand_at make) GoodCall
+DV make good = two-good operand_at operand_at make (λ o. is_operand o ≡ true) (λ o. is_operand o ≡ true) GoodCall operand_at-good operand_at-good good
+
+DP : (make : Operand → List ℕ → Syscall) → ((o : Operand) (p : List ℕ) → is_operand o ≡ true → is_path p ≡ true → GoodCall (make o p)) → Gives (two operand_at path_at make) GoodCall
+DP make good = two-good operand_at path_at make (λ o. is_operand o ≡ true) (λ p. is_path p ≡ true) GoodCall operand_at-good path_at-good good
+
+syscall-good : (call : Call) → Gives (syscall_at call) GoodCall
+unfolding syscall_at
+syscall-good calls.Open = two-good path_at flags_at programs.Open (λ p. is_path p ≡ true) (λ f. is_valid f ≡ true) GoodCall path_at-good flags_at-good (λ p f a b. both _ _ a b)
+syscall-good calls.Openat = three-good operand_at path_at flags_at programs.Openat (λ o. is_operand o ≡ true) (λ p. is_path p ≡ true) (λ f. is_valid f ≡ true) GoodCall operand_at-good path_at-good flags_at-good (λ o p f a b c. both _ _ (both _ _ a b) c)
+syscall-good calls.Read = D programs.Read (λ o a. a)
+syscall-good calls.Write = DV programs.Write (λ o v a b. both _ _ a b)
+syscall-good calls.Sendfd = three-good operand_at operand_at operand_at programs.Sendfd (λ o. is_operand o ≡ true) (λ o. is_operand o ≡ true) (λ o. is_operand o ≡ true) GoodCall operand_at-good operand_at-good operand_at-good (λ o e v a b c. both _ _ (both _ _ a b) c)
+syscall-good calls.Recvfd = D programs.Recvfd (λ o a. a)
+syscall-good calls.Lseek = DV programs.Lseek (λ o v a b. both _ _ a b)
+syscall-good calls.Ftruncate = DV programs.Ftruncate (λ o v a b. both _ _ a b)
+syscall-good calls.Fsync = D programs.Fsync (λ o a. a)
+syscall-good calls.Fstat = D programs.Fstat (λ o a. a)
+syscall-good calls.Fcntl_getfl = D programs.Fcntl_getfl (λ o a. a)
+syscall-good calls.Fcntl_setfl = DV programs.Fcntl_setfl (λ o v a b. both _ _ a b)
+syscall-good calls.Fstatat = DP programs.Fstatat (λ o p a b. both _ _ a b)
+syscall-good calls.Stat = one-good path_at programs.Stat (λ p. is_path p ≡ true) GoodCall path_at-good (λ p a. a)
+syscall-good calls.Mkdirat = DP programs.Mkdirat (λ o p a b. both _ _ a b)
+syscall-good calls.Mkdir = one-good path_at programs.Mkdir (λ p. is_path p ≡ true) GoodCall path_at-good (λ p a. a)
+syscall-good calls.Unlinkat = three-good operand_at path_at directory_at programs.Unlinkat (λ o. is_operand o ≡ true) (λ p. is_path p ≡ true) (λ _. Unit {0}) GoodCall operand_at-good path_at-good (any_field directory_at) (λ o p d a b c. both _ _ a b)
+syscall-good calls.Unlink = two-good path_at directory_at programs.Unlink (λ p. is_path p ≡ true) (λ _. Unit {0}) GoodCall path_at-good (any_field directory_at) (λ p d a b. a)
+syscall-good calls.Renameat = four-good operand_at path_at operand_at path_at programs.Renameat (λ o. is_operand o ≡ true) (λ p. is_path p ≡ true) (λ o. is_operand o ≡ true) (λ p. is_path p ≡ true) GoodCall operand_at-good path_at-good operand_at-good path_at-good (λ o p t q a b c d. both _ _ (both _ _ (both _ _ a b) c) d)
+syscall-good calls.Dup = D programs.Dup (λ o a. a)
+syscall-good calls.Close = D programs.Close (λ o a. a)
+syscall-good calls.Cap_rights_limit = two-good operand_at rights_at programs.Cap_rights_limit (λ o. is_operand o ≡ true) (λ _. Unit {0}) GoodCall operand_at-good (any_field rights_at) (λ o r a b. a)
+syscall-good calls.Cap_fcntls_limit = two-good operand_at commands_at programs.Cap_fcntls_limit (λ o. is_operand o ≡ true) (λ _. Unit {0}) GoodCall operand_at-good (any_field commands_at) (λ o r a b. a)
+syscall-good calls.Cap_enter = nothing-good programs.Cap_enter GoodCall refl
+syscall-good calls.Cap_getmode = nothing-good programs.Cap_getmode GoodCall refl
+syscall-good calls.Socketpair = nothing-good programs.Socketpair GoodCall refl
+syscall-good calls.Fork = nothing-good programs.Fork GoodCall refl
+
+-- An instruction is valid at any target that is one.
+abbrev pub GoodWritten : Written → Type 0
+GoodWritten (Alone instruction) = (points : ℕ) → is_instruction points instruction ≡ true
+GoodWritten (Leading jump name) = (points target : ℕ) → nat_lt target points ≡ true → is_instruction points (led jump target) ≡ true
+
+written_at-good : (mnemonic : Mnemonic) → Gives (written_at mnemonic) GoodWritten
+unfolding written_at
+written_at-good Set = two-good register_at number_at (λ r n. Alone (programs.Set r n)) (λ r. is_register r ≡ true) (λ n. is_value n ≡ true) GoodWritten register_at-good number_at-good (λ r n a b points. both _ _ a b)
+written_at-good Mov = two-good register_at register_at (λ r s. Alone (programs.Mov r s)) (λ r. is_register r ≡ true) (λ r. is_register r ≡ true) GoodWritten register_at-good register_at-good (λ r n a b points. both _ _ a b)
+written_at-good Add = two-good register_at register_at (λ r s. Alone (programs.Add r s)) (λ r. is_register r ≡ true) (λ r. is_register r ≡ true) GoodWritten register_at-good register_at-good (λ r n a b points. both _ _ a b)
+written_at-good In = one-good register_at (λ r. Alone (programs.In r)) (λ r. is_register r ≡ true) GoodWritten register_at-good (λ r a points. a)
+written_at-good Jmp = one-good label_at (λ name. Leading Always name) (λ _. Unit {0}) GoodWritten (any_field label_at) (λ name a points target below. below)
+written_at-good Jeq = three-good register_at number_at label_at (λ r n name. Leading (If_equal r n) name) (λ r. is_register r ≡ true) (λ n. is_value n ≡ true) (λ _. Unit {0}) GoodWritten register_at-good number_at-good (any_field label_at) (λ r n name a b c points target below. both _ _ (both _ _ a b) below)
+written_at-good Jlt = three-good register_at number_at label_at (λ r n name. Leading (If_less r n) name) (λ r. is_register r ≡ true) (λ n. is_value n ≡ true) (λ _. Unit {0}) GoodWritten register_at-good number_at-good (any_field label_at) (λ r n name a b c points target below. both _ _ (both _ _ a b) below)
+written_at-good Halt = nothing-good (Alone programs.Halt) GoodWritten (λ points. refl)
+written_at-good (Make call) = two-good (syscall_at call) else_at (λ call name. Leading (After_error call) name) GoodCall (λ _. Unit {0}) GoodWritten (syscall-good call) (any_field else_at) (λ s name a b points target below. both _ _ a below)
+
+whole-is : {A : Type 0} (a b : A) (words : List (List ℕ)) → whole a words ≡ Some b → a ≡ b
+whole-is a b [] h = cc
+whole-is a b (word ∷ words) h = absurd cc
+
+pub written-good : (mnemonic : Mnemonic) (words : List (List ℕ)) (w : Written) → written_of mnemonic words ≡ Some w → GoodWritten w
+written-good mnemonic words w h =
+    let read = bound (written_at mnemonic words) (λ read. whole read.0 read.1) w h in
+    subst GoodWritten (whole-is read.0.0 w read.0.1 read.2) (written_at-good mnemonic words read.0 read.1)

@@ -1,0 +1,108 @@
+-- What a word of a line can stand for. (own)
+use Rattle.std.specs.Prelude.{◌==◌, ◌+◌, ◌*◌, ◌-◌, ◌^◌, ℕ, Bool, true, false, ◌&&◌, ◌||◌, nat_le, nat_lt, List, [], ◌∷◌, codes, length, Option, Some, None, option_map, option_and_then, bit_or, if◌then◌else◌}
+use Rattle.std.specs.List.{list_all}
+use Rattle.std.specs.Str.{bytes_eq}
+use Rattle.std.proofs.Math.Bool.{not}
+use Rattle.rights.specs.Opens.{OpenRequest, is_valid, open_request}
+use Rattle.rights.specs.Sets.{is_within, right_names, command_names}
+use Rattle.prog_asm.specs.Lines.{parts, is_lower, is_digit}
+use Rattle.prog_asm.specs.Programs.{Operand, Register, Number, is_path}
+
+-- A name: a letter from a to z, and up to 15 of a to z, 0 to 9 and `_`.
+abbrev pub is_name_byte : ℕ → Bool
+is_name_byte byte = is_lower byte || is_digit byte || (byte == 95)
+
+abbrev pub is_name : List ℕ → Bool
+is_name [] = false
+is_name (b ∷ name) = is_lower b && nat_le (length name) 15 && list_all is_name_byte name
+
+abbrev pub name_of : List ℕ → Option (List ℕ)
+name_of word = if is_name word then Some word else None
+
+-- A number in decimal digits, without a leading zero, that a register can hold.
+abbrev pub digits_from : ℕ → List ℕ → Option ℕ
+digits_from n [] = Some n
+digits_from n (b ∷ digits) = if is_digit b then digits_from (n * 10 + (b - 48)) digits else None
+
+-- it isn't empty, and a zero is not followed by more
+abbrev pub begins_well : List ℕ → Bool
+begins_well [] = false
+begins_well (b ∷ []) = true
+begins_well (b ∷ c ∷ digits) = not (b == 48)
+
+abbrev pub at_most : ℕ → Option ℕ → Option ℕ
+at_most limit None = None
+at_most limit (Some n) = if nat_le n limit then Some n else None
+
+abbrev pub number_of : List ℕ → Option ℕ
+number_of word = if begins_well word then at_most (2 ^ 32 - 1) (digits_from 0 word) else None
+
+-- r0 to r7
+abbrev pub register_of : List ℕ → Option ℕ
+register_of (r ∷ digit ∷ []) = if (r == 114) && nat_le 48 digit && nat_lt digit 56 then Some (digit - 48) else None
+register_of _ = None
+
+-- a register or a number
+abbrev pub operand_from : Option ℕ → Option ℕ → Option Operand
+operand_from (Some register) number = Some (Register register)
+operand_from None number = option_map Number number
+
+abbrev pub operand_of : List ℕ → Option Operand
+operand_of word = operand_from (register_of word) (number_of word)
+
+-- The word without its last byte, where that is this one.
+abbrev pub before_last : ℕ → List ℕ → Option (List ℕ)
+before_last byte [] = None
+before_last byte (b ∷ []) = if b == byte then Some [] else None
+before_last byte (b ∷ c ∷ word) = option_map (λ front. b ∷ front) (before_last byte (c ∷ word))
+
+-- A path in double quotes.
+abbrev pub path_in : Option (List ℕ) → Option (List ℕ)
+path_in None = None
+path_in (Some path) = if is_path path then Some path else None
+
+abbrev pub path_of : List ℕ → Option (List ℕ)
+path_of [] = None
+path_of (b ∷ word) = if b == 34 then path_in (before_last 34 word) else None
+
+-- Lists are joined by commas, each word once, in any order. What a word stands for is a set, and the
+-- list stands for the union; `none` is the empty list.
+abbrev pub is_among : List ℕ → List (List ℕ) → Bool
+is_among word [] = false
+is_among word (w ∷ words) = bytes_eq word w || is_among word words
+
+abbrev pub named : List (List ℕ × ℕ) → List ℕ → Option ℕ
+named [] word = None
+named (row ∷ rows) word = if bytes_eq word row.0 then Some row.1 else named rows word
+
+abbrev pub union_from : List (List ℕ × ℕ) → ℕ → List (List ℕ) → Option ℕ
+union_from names set [] = Some set
+union_from names set (word ∷ words) =
+    if is_among word words then None
+    else option_and_then (λ more. union_from names (bit_or set more) words) (named names word)
+
+abbrev pub set_of : List (List ℕ × ℕ) → List ℕ → Option ℕ
+set_of names word = if bytes_eq word (codes "none") then Some 0 else union_from names 0 (parts 44 word)
+
+abbrev pub rights_of : List ℕ → Option ℕ
+rights_of word = set_of right_names word
+
+abbrev pub commands_of : List ℕ → Option ℕ
+commands_of word = set_of command_names word
+
+-- The flags of an open are a list too. (open(2))
+abbrev pub flag_names : List (List ℕ × ℕ)
+flag_names =
+    (codes "read", 2 ^ 0) ∷ (codes "write", 2 ^ 1) ∷ (codes "append", 2 ^ 2) ∷ (codes "create", 2 ^ 3)
+    ∷ (codes "trunc", 2 ^ 4) ∷ []
+
+abbrev pub request_of : ℕ → OpenRequest
+request_of flags =
+    open_request (is_within (2 ^ 0) flags) (is_within (2 ^ 1) flags) (is_within (2 ^ 2) flags) (is_within (2 ^ 3) flags)
+    (is_within (2 ^ 4) flags)
+
+abbrev pub valid_request : OpenRequest → Option OpenRequest
+valid_request request = if is_valid request then Some request else None
+
+abbrev pub flags_of : List ℕ → Option OpenRequest
+flags_of word = option_and_then (λ flags. valid_request (request_of flags)) (set_of flag_names word)

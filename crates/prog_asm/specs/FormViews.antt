@@ -1,0 +1,50 @@
+-- What the code's words and forms stand for.
+use Rattle.std.specs.Prelude.{◌≡◌, ℕ, List, [], ◌∷◌, Option, Some, Result, Ok, Err}
+use Rattle.std.specs.Borrow.{Bor}
+use Rattle.rights.specs.Views.{call_of}
+use Rattle.prog_asm.specs.declared.forms.Jump.{Jump as JumpCode}
+use Rattle.prog_asm.specs.declared.forms.Jump.TheVariants as jump
+use Rattle.prog_asm.specs.declared.forms.Written.{Written as WrittenCode}
+use Rattle.prog_asm.specs.declared.forms.Written.TheVariants as written
+use Rattle.prog_asm.specs.declared.mistakes.Mistake.{Mistake as MistakeCode}
+use Rattle.prog_asm.specs.declared.mistakes.Mistake.TheVariants as mistake
+use Rattle.prog_asm.specs.declared.mnemonics.Mnemonic.{Mnemonic as MnemonicCode}
+use Rattle.prog_asm.specs.declared.mnemonics.Mnemonic.TheVariants as mnemonic
+use Rattle.prog_asm.specs.Forms.{Mnemonic, Set, Mov, Add, In, Jmp, Jeq, Jlt, Halt, Make, Jump, Always, If_equal, If_less, After_error, Written, Alone, Leading}
+use Rattle.prog_asm.specs.Readings.{FailsField}
+use Rattle.prog_asm.specs.Views.{instruction_of, syscall_of}
+
+abbrev pub mnemonic_from : MnemonicCode → Mnemonic
+mnemonic_from mnemonic.Set = Set
+mnemonic_from mnemonic.Mov = Mov
+mnemonic_from mnemonic.Add = Add
+mnemonic_from mnemonic.In = In
+mnemonic_from mnemonic.Jmp = Jmp
+mnemonic_from mnemonic.Jeq = Jeq
+mnemonic_from mnemonic.Jlt = Jlt
+mnemonic_from mnemonic.Halt = Halt
+mnemonic_from (mnemonic.Make call) = Make (call_of call)
+
+abbrev pub jump_of : JumpCode → Jump
+jump_of jump.Always = Always
+jump_of (jump.IfEqual register value) = If_equal register value
+jump_of (jump.IfLess register value) = If_less register value
+jump_of (jump.AfterError call) = After_error (syscall_of call)
+
+abbrev pub written_from : WrittenCode → Written
+written_from (written.Alone instruction) = Alone (instruction_of instruction)
+written_from (written.Leading jump name) = Leading (jump_of jump) name.now
+
+-- What is taken is what the field is read as, and these words are left.
+abbrev pub Takes : {X Y : Type 0} → (X → Y) → Result X MistakeCode → List (List ℕ) → Option (Y × List (List ℕ)) → Type 0
+Takes view (Ok x) after field = field ≡ Some (view x, after)
+Takes view (Err error) after field = FailsField error field
+
+-- The word is the first one, unless there is none.
+abbrev pub TakesWord : Result (Bor (List ℕ)) MistakeCode → List (List ℕ) → List (List ℕ) → Type 0
+TakesWord (Ok word) before after = before ≡ word.now ∷ after
+TakesWord (Err mistake.Word) before after = ⊥
+TakesWord (Err mistake.Operand) before after = before ≡ []
+TakesWord (Err mistake.TwiceLabel) before after = ⊥
+TakesWord (Err mistake.TooMany) before after = ⊥
+TakesWord (Err mistake.Memory) before after = ⊥

@@ -1,0 +1,11 @@
+pub mod Programs
+pub mod Lines
+pub mod Fields
+pub mod Forms
+pub mod Assembly
+pub mod Views
+pub mod Readings
+pub mod FormViews
+pub mod LineViews
+pub mod Drafts
+pub mod Faults

@@ -1,0 +1,69 @@
+-- A text's lines, and a line's words. (own)
+use Rattle.std.specs.Prelude.{◌==◌, ℕ, Bool, false, ◌&&◌, ◌||◌, nat_le, List, [], ◌∷◌, ◌++◌, if◌then◌else◌}
+use Rattle.std.proofs.Math.Bool.{not}
+
+-- The parts of a text between the bytes that separate them, behind what has begun already.
+abbrev pub parts_from : ℕ → List ℕ → List ℕ → List (List ℕ)
+parts_from separator [] begun = begun ∷ []
+parts_from separator (b ∷ text) begun =
+    if b == separator then begun ∷ parts_from separator text [] else parts_from separator text (begun ++ b ∷ [])
+
+abbrev pub parts : ℕ → List ℕ → List (List ℕ)
+parts separator text = parts_from separator text []
+
+-- Lines are parted by line feeds and by nothing else. What stands behind the last one is a line too.
+abbrev pub lines_of : List ℕ → List (List ℕ)
+lines_of text = parts 10 text
+
+-- A quote begins a quoted part, which the next one or the end of the line ends: whether the bytes
+-- behind this one are quoted, if it is itself.
+abbrev pub quoted_behind : Bool → ℕ → Bool
+quoted_behind quoted byte = if byte == 34 then not quoted else quoted
+
+-- A `;` outside quotes begins a comment: the line before it.
+abbrev pub uncommented_from : Bool → List ℕ → List ℕ
+uncommented_from quoted [] = []
+uncommented_from quoted (b ∷ line) =
+    if not quoted && (b == 59) then [] else b ∷ uncommented_from (quoted_behind quoted b) line
+
+abbrev pub uncommented : List ℕ → List ℕ
+uncommented line = uncommented_from false line
+
+-- spaces and tabs
+abbrev pub is_blank : ℕ → Bool
+is_blank byte = (byte == 32) || (byte == 9)
+
+abbrev pub is_lower : ℕ → Bool
+is_lower byte = nat_le 97 byte && nat_le byte 122
+
+abbrev pub is_upper : ℕ → Bool
+is_upper byte = nat_le 65 byte && nat_le byte 90
+
+abbrev pub is_digit : ℕ → Bool
+is_digit byte = nat_le 48 byte && nat_le byte 57
+
+-- Outside quotes words have letters, digits, and the bytes `_`, `:`, `,` and `"`.
+abbrev pub is_word_byte : ℕ → Bool
+is_word_byte byte = is_lower byte || is_upper byte || is_digit byte || (byte == 95) || (byte == 58) || (byte == 44) || (byte == 34)
+
+-- Some byte outside quotes is neither a blank nor one that words have.
+abbrev pub has_stray_from : Bool → List ℕ → Bool
+has_stray_from quoted [] = false
+has_stray_from quoted (b ∷ line) = not (quoted || is_blank b || is_word_byte b) || has_stray_from (quoted_behind quoted b) line
+
+abbrev pub has_stray : List ℕ → Bool
+has_stray line = has_stray_from false line
+
+-- Words are parted by blanks outside quotes.
+abbrev pub ended : List ℕ → List (List ℕ)
+ended [] = []
+ended (b ∷ begun) = (b ∷ begun) ∷ []
+
+abbrev pub words_from : Bool → List ℕ → List ℕ → List (List ℕ)
+words_from quoted [] begun = ended begun
+words_from quoted (b ∷ line) begun =
+    if not quoted && is_blank b then ended begun ++ words_from false line []
+    else words_from (quoted_behind quoted b) line (begun ++ b ∷ [])
+
+abbrev pub words_of : List ℕ → List (List ℕ)
+words_of line = words_from false line []

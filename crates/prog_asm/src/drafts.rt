@@ -1,0 +1,130 @@
+//! A text that is read line by line, before labels are points.
+
+ghost use Rattle.std.specs.Prelude.{◌≡◌, ◌+◌, Ok, ◌≤◌, [], List, length, map, option_map};
+ghost use Rattle.prog_asm.specs.Assembly.{Line as LineRead, line_of, lines_behind, placed};
+ghost use Rattle.prog_asm.specs.Drafts.{AddsLine, Drafts, DraftsLines, StepAdded, below, step_from};
+ghost use Rattle.prog_asm.specs.FormViews.{written_from};
+ghost use Rattle.prog_asm.specs.LineViews.{line_from, point_in};
+ghost use Rattle.prog_asm.specs.Lines.{lines_of};
+ghost use Rattle.prog_asm.specs.Views.{instruction_of};
+
+use crate::faults::{AsmFault, fault_at};
+use crate::forms::Written;
+use crate::instructions::Instruction;
+use crate::labels::{add_label, point_of};
+use crate::lines::first_part;
+use crate::mistakes::Mistake;
+use crate::statements::{Line, read_line};
+use indexmap::IndexMap;
+use std::alloc::Global;
+use std::collections::VecDeque;
+
+/// How many instructions a program has at most. (own)
+pub const MAX_INSTRUCTIONS: usize = 256;
+
+/// An instruction as it is written, with its line.
+#[derive(Drop)]
+pub(crate) struct Step<'t> {
+    pub(crate) line: usize,
+    pub(crate) written: Written<'t>,
+}
+
+/// The instructions of the lines so far, and for each label how many stand before it.
+#[derive(Drop)]
+pub(crate) struct Draft<'t> {
+    pub(crate) labels: IndexMap<&'t [u8], usize>,
+    pub(crate) steps: VecDeque<Step<'t>>,
+}
+
+/// Adds a line's instruction at the end.
+fn add_step<'t>(
+    steps: &mut VecDeque<Step<'t>>,
+    line: usize,
+    instruction: Option<Written<'t>>,
+) -> Result<(), Mistake>
+    ensures { StepAdded result (map step_from steps.old.items) (map step_from steps.new.items) line
+        (option_map written_from instruction.entry) }
+{
+    let Some(written) = instruction else {
+        return Ok(())
+    };
+    if steps.len() >= MAX_INSTRUCTIONS {
+        return Err(Mistake::TooMany);
+    }
+    steps.push_back(Step { line, written })?;
+    Ok(())
+}
+
+impl<'t> Draft<'t> {
+    /// The draft of no line.
+    fn new(alloc: Global) -> Draft<'t>
+        ensures { Drafts [] result }
+    {
+        Draft {
+            labels: IndexMap::new(alloc),
+            steps: VecDeque::new(alloc),
+        }
+    }
+
+    /// Adds what stands on the line of this number.
+    fn add(&mut self, number: usize, line: Line<'t>) -> Result<(), Mistake>
+        ensures { (before : List LineRead) → Drafts before self.old → number ≡ length before + 1
+            → AddsLine result before (Ok (line_from line.entry)) self.new }
+    {
+        let Line { label, instruction } = line;
+        add_label(&mut self.labels, label, self.steps.len())?;
+        add_step(&mut self.steps, number, instruction)
+    }
+
+    /// Reads the line of this number.
+    fn read(&mut self, alloc: Global, number: usize, text: &'t [u8]) -> Result<(), Mistake>
+        ensures { (before : List LineRead) → Drafts before self.old → number ≡ length before + 1
+            → AddsLine result before (line_of text.entry.now) self.new }
+    {
+        let line = read_line(alloc, text)?;
+        self.add(number, line)
+    }
+}
+
+/// Reads a text's lines.
+pub(crate) fn read_lines<'t>(alloc: Global, text: &'t [u8]) -> Result<Draft<'t>, AsmFault>
+    ensures { DraftsLines result (lines_behind [] (lines_of text.now)) }
+{
+    let mut draft = Draft::new(alloc);
+    let mut count: usize = 0;
+    let mut rest = text;
+    loop {
+        let (line, behind) = first_part(rest, b'\n');
+        if let Err(mistake) = draft.read(alloc, count + 1, line) {
+            return Err(fault_at(mistake, count + 1));
+        }
+        let Some(behind) = behind else {
+            return Ok(draft);
+        };
+        count += 1;
+        rest = behind;
+    }
+}
+
+/// The instruction with a point in the place of its label, if that is one of this many points.
+pub(crate) fn place(
+    labels: &IndexMap<&[u8], usize>,
+    points: usize,
+    written: Written<'_>,
+) -> Option<Instruction>
+    requires { points ≤ 256 }
+    ensures { option_map instruction_of result
+        ≡ placed (λ name. below points (point_in labels.now name)) (written_from written.entry) }
+{
+    match written {
+        Written::Alone(instruction) => Some(instruction),
+        Written::Leading(jump, name) => {
+            let point = point_of(labels, name)?;
+            if point < points {
+                Some(jump.to(point as u8))
+            } else {
+                None
+            }
+        }
+    }
+}

@@ -1,0 +1,112 @@
+//! Why a text is no program.
+
+ghost use Rattle.std.specs.Prelude.{◌≡◌};
+ghost use Rattle.prog_asm.specs.Faults.{fault_at, fault_line, fault_name, fault_number};
+ghost use Rattle.prog_asm.specs.declared.faults.AsmFault.TheVariants as asm;
+
+use crate::mistakes::Mistake;
+use std::alloc::{AllocError, AllocFailed};
+use thiserror::Error;
+
+/// Why a text isn't assembled: the first faulty line, counted from 1, and on it the first of these
+/// that applies; where no line is faulty, a missing label, and then falling off the end. (own)
+#[derive(Clone, Copy, Debug, PartialEq, Eq, Error)]
+pub enum AsmFault {
+    /// A byte that no word has, a bad name before a colon, or an unknown instruction.
+    #[error("line {0}: no such word")]
+    Word(usize),
+    /// A wrong operand, a wrong word in a list, or too few or too many operands.
+    #[error("line {0}: a wrong operand")]
+    Operand(usize),
+    /// A label that no line has, or that no instruction follows.
+    #[error("line {0}: a missing label")]
+    NoLabel(usize),
+    /// A label that a line before has already.
+    #[error("line {0}: a label for the second time")]
+    TwiceLabel(usize),
+    /// An instruction behind 256.
+    #[error("line {0}: too many instructions")]
+    TooMany(usize),
+    /// The last instruction goes on, or there is none (line 1).
+    #[error("line {0}: the program has no end")]
+    FallsOff(usize),
+    /// A growth was refused.
+    #[error("no memory")]
+    Memory,
+}
+
+impl AsmFault {
+    /// The fault's number, from 1 to 7.
+    pub fn number(self) -> u8
+        ensures { result ≡ fault_number self }
+    {
+        match self {
+            AsmFault::Word(_) => 1,
+            AsmFault::Operand(_) => 2,
+            AsmFault::NoLabel(_) => 3,
+            AsmFault::TwiceLabel(_) => 4,
+            AsmFault::TooMany(_) => 5,
+            AsmFault::FallsOff(_) => 6,
+            AsmFault::Memory => 7,
+        }
+    }
+
+    /// The fault's name, as `NoLabel`.
+    pub fn name(self) -> &'static str
+        ensures { result.now ≡ fault_name self }
+    {
+        match self {
+            AsmFault::Word(_) => "Word",
+            AsmFault::Operand(_) => "Operand",
+            AsmFault::NoLabel(_) => "NoLabel",
+            AsmFault::TwiceLabel(_) => "TwiceLabel",
+            AsmFault::TooMany(_) => "TooMany",
+            AsmFault::FallsOff(_) => "FallsOff",
+            AsmFault::Memory => "Memory",
+        }
+    }
+
+    /// The line, counted from 1. Want of memory has none.
+    pub fn line(self) -> Option<usize>
+        ensures { result ≡ fault_line self }
+    {
+        match self {
+            AsmFault::Word(line)
+            | AsmFault::Operand(line)
+            | AsmFault::NoLabel(line)
+            | AsmFault::TwiceLabel(line)
+            | AsmFault::TooMany(line)
+            | AsmFault::FallsOff(line) => Some(line),
+            AsmFault::Memory => None,
+        }
+    }
+}
+
+/// The fault of a line with this mistake.
+pub(crate) fn fault_at(mistake: Mistake, line: usize) -> AsmFault
+    ensures { result ≡ fault_at mistake line }
+{
+    match mistake {
+        Mistake::Word => AsmFault::Word(line),
+        Mistake::Operand => AsmFault::Operand(line),
+        Mistake::TwiceLabel => AsmFault::TwiceLabel(line),
+        Mistake::TooMany => AsmFault::TooMany(line),
+        Mistake::Memory => AsmFault::Memory,
+    }
+}
+
+impl From<AllocError> for AsmFault {
+    ghost from_gives = { λ _ given. given ≡ asm.Memory };
+
+    fn from(_error: AllocError) -> AsmFault {
+        AsmFault::Memory
+    }
+}
+
+impl<T: Drop> From<AllocFailed<T>> for AsmFault {
+    ghost from_gives = { λ _ given. given ≡ asm.Memory };
+
+    fn from(_failed: AllocFailed<T>) -> AsmFault {
+        AsmFault::Memory
+    }
+}

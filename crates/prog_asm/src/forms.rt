@@ -1,0 +1,351 @@
+//! What each instruction wants behind its word. A new instruction is a line of `MNEMONICS` and one of
+//! `Words::written` or `Words::syscall`.
+
+ghost use Rattle.std.specs.Prelude.{◌≡◌, map};
+ghost use Rattle.rights.specs.Views.{call_of};
+ghost use Rattle.prog_asm.specs.FormViews.{Takes, TakesWord, jump_of, mnemonic_from, written_from};
+ghost use Rattle.prog_asm.specs.Forms.{commands_at, directory_at, else_at, flags_at, label_at, led, number_at, operand_at, path_at, register_at, rights_at, syscall_at, written_at, written_of};
+ghost use Rattle.prog_asm.specs.Readings.{ReadsField};
+ghost use Rattle.prog_asm.specs.Views.{instruction_of, operand_of, syscall_of};
+
+use crate::instructions::{Instruction, Syscall};
+use crate::mistakes::Mistake;
+use crate::mnemonics::Mnemonic;
+use crate::operands::{Operand, Path, Register};
+use crate::{fields, lists};
+use rights::{Call, Fcntls, OpenFlags, Rights};
+use std::alloc::Global;
+use std::marker::Model;
+
+/// An instruction that leads to a label, but for the label.
+#[derive(Drop)]
+pub(crate) enum Jump {
+    Always,
+    IfEqual { register: Register, value: u32 },
+    IfLess { register: Register, value: u32 },
+    AfterError(Syscall),
+}
+
+impl Jump {
+    /// The instruction that leads to this point.
+    pub(crate) fn to(self, target: u8) -> Instruction
+        ensures { instruction_of result ≡ led (jump_of self) target }
+    {
+        match self {
+            Jump::Always => Instruction::Jmp { target },
+            Jump::IfEqual { register, value } => Instruction::Jeq {
+                register,
+                value,
+                target,
+            },
+            Jump::IfLess { register, value } => Instruction::Jlt {
+                register,
+                value,
+                target,
+            },
+            Jump::AfterError(call) => Instruction::Invoke {
+                call,
+                otherwise: target,
+            },
+        }
+    }
+}
+
+/// An instruction as it is written: alone, or leading to the label of a name.
+#[derive(Drop)]
+pub(crate) enum Written<'t> {
+    Alone(Instruction),
+    Leading(Jump, &'t [u8]),
+}
+
+/// The words of a line from some place on, which are read field by field. A clause sees the words.
+#[derive(Drop)]
+pub(crate) struct Words<'w, 't> {
+    alloc: Global,
+    rest: &'w [&'t [u8]],
+}
+
+impl<'w, 't> Model for Words<'w, 't> {
+    ghost use Rattle.std.specs.Prelude.{ℕ, List, map};
+
+    ghost Value = { List (List ℕ) };
+
+    ghost view = { λ w. map (λ word. word.now) w.rest.now };
+}
+
+impl<'w, 't> Words<'w, 't> {
+    /// These words.
+    fn new(alloc: Global, rest: &'w [&'t [u8]]) -> Words<'w, 't>
+        ensures { result ≡ map (λ word. word.now) rest.now }
+    {
+        Words { alloc, rest }
+    }
+
+    /// The first word.
+    fn word(&mut self) -> Result<&'t [u8], Mistake>
+        ensures { TakesWord result self.old self.new }
+    {
+        match self.rest {
+            [] => Err(Mistake::Operand),
+            [word, rest @ ..] => {
+                self.rest = rest;
+                Ok(word)
+            }
+        }
+    }
+
+    /// A register.
+    #[tactic(auto, unfolding(crate::specs::Forms::register_at))]
+    fn register(&mut self) -> Result<Register, Mistake>
+        ensures { Takes (λ register. register) result self.new (register_at self.old) }
+    {
+        fields::register(self.word()?).ok_or(Mistake::Operand)
+    }
+
+    /// A number.
+    #[tactic(auto, unfolding(crate::specs::Forms::number_at))]
+    fn number(&mut self) -> Result<u32, Mistake>
+        ensures { Takes (λ number. number) result self.new (number_at self.old) }
+    {
+        fields::number(self.word()?).ok_or(Mistake::Operand)
+    }
+
+    /// A register or a number.
+    #[tactic(auto, unfolding(crate::specs::Forms::operand_at))]
+    fn operand(&mut self) -> Result<Operand, Mistake>
+        ensures { Takes operand_of result self.new (operand_at self.old) }
+    {
+        fields::operand(self.word()?).ok_or(Mistake::Operand)
+    }
+
+    /// A path in double quotes.
+    #[tactic(auto, unfolding(crate::specs::Forms::path_at))]
+    fn path(&mut self) -> Result<Path, Mistake>
+        ensures { Takes (λ path. path) result self.new (path_at self.old) }
+    {
+        let alloc = self.alloc;
+        fields::path(alloc, self.word()?)
+    }
+
+    /// The flags of an open.
+    #[tactic(auto, unfolding(crate::specs::Forms::flags_at))]
+    fn flags(&mut self) -> Result<OpenFlags, Mistake>
+        ensures { Takes (λ flags. flags) result self.new (flags_at self.old) }
+    {
+        lists::flags(self.word()?).ok_or(Mistake::Operand)
+    }
+
+    /// A list of rights.
+    #[tactic(auto, unfolding(crate::specs::Forms::rights_at))]
+    fn rights(&mut self) -> Result<Rights, Mistake>
+        ensures { Takes (λ rights. rights.0) result self.new (rights_at self.old) }
+    {
+        lists::rights(self.word()?).ok_or(Mistake::Operand)
+    }
+
+    /// A list of fcntl commands.
+    #[tactic(auto, unfolding(crate::specs::Forms::commands_at))]
+    fn commands(&mut self) -> Result<Fcntls, Mistake>
+        ensures { Takes (λ commands. commands.0) result self.new (commands_at self.old) }
+    {
+        lists::commands(self.word()?).ok_or(Mistake::Operand)
+    }
+
+    /// The name of a label.
+    #[tactic(auto, unfolding(crate::specs::Forms::label_at))]
+    fn label(&mut self) -> Result<&'t [u8], Mistake>
+        ensures { Takes (λ name. name.now) result self.new (label_at self.old) }
+    {
+        let word = self.word()?;
+        if fields::is_name(word) {
+            Ok(word)
+        } else {
+            Err(Mistake::Operand)
+        }
+    }
+
+    /// The word `dir`, or nothing: whether it is there.
+    #[tactic(auto, unfolding(crate::specs::Forms::directory_at))]
+    fn directory(&mut self) -> Result<bool, Mistake>
+        ensures { Takes (λ directory. directory) result self.new (directory_at self.old) }
+    {
+        match self.rest {
+            [word, rest @ ..] if *word == b"dir".as_slice() => {
+                self.rest = rest;
+                Ok(true)
+            }
+            _ => Ok(false),
+        }
+    }
+
+    /// The word `else` and a label.
+    #[tactic(auto, unfolding(crate::specs::Forms::else_at))]
+    fn otherwise(&mut self) -> Result<&'t [u8], Mistake>
+        ensures { Takes (λ name. name.now) result self.new (else_at self.old) }
+    {
+        if self.word()? == b"else".as_slice() {
+            self.label()
+        } else {
+            Err(Mistake::Operand)
+        }
+    }
+
+    /// The operands of a call.
+    #[tactic(auto, unfolding(crate::specs::Forms::syscall_at))]
+    fn syscall(&mut self, call: Call) -> Result<Syscall, Mistake>
+        ensures { Takes syscall_of result self.new (syscall_at (call_of call) self.old) }
+    {
+        Ok(match call {
+            Call::Open => Syscall::Open {
+                path: self.path()?,
+                flags: self.flags()?,
+            },
+            Call::Openat => Syscall::Openat {
+                descriptor: self.operand()?,
+                path: self.path()?,
+                flags: self.flags()?,
+            },
+            Call::Read => Syscall::Read {
+                descriptor: self.operand()?,
+            },
+            Call::Write => Syscall::Write {
+                descriptor: self.operand()?,
+                value: self.operand()?,
+            },
+            Call::Sendfd => Syscall::Sendfd {
+                descriptor: self.operand()?,
+                sent: self.operand()?,
+                value: self.operand()?,
+            },
+            Call::Recvfd => Syscall::Recvfd {
+                descriptor: self.operand()?,
+            },
+            Call::Lseek => Syscall::Lseek {
+                descriptor: self.operand()?,
+                offset: self.operand()?,
+            },
+            Call::Ftruncate => Syscall::Ftruncate {
+                descriptor: self.operand()?,
+                len: self.operand()?,
+            },
+            Call::Fsync => Syscall::Fsync {
+                descriptor: self.operand()?,
+            },
+            Call::Fstat => Syscall::Fstat {
+                descriptor: self.operand()?,
+            },
+            Call::FcntlGetfl => Syscall::FcntlGetfl {
+                descriptor: self.operand()?,
+            },
+            Call::FcntlSetfl => Syscall::FcntlSetfl {
+                descriptor: self.operand()?,
+                flags: self.operand()?,
+            },
+            Call::Fstatat => Syscall::Fstatat {
+                descriptor: self.operand()?,
+                path: self.path()?,
+            },
+            Call::Stat => Syscall::Stat { path: self.path()? },
+            Call::Mkdirat => Syscall::Mkdirat {
+                descriptor: self.operand()?,
+                path: self.path()?,
+            },
+            Call::Mkdir => Syscall::Mkdir { path: self.path()? },
+            Call::Unlinkat => Syscall::Unlinkat {
+                descriptor: self.operand()?,
+                path: self.path()?,
+                directory: self.directory()?,
+            },
+            Call::Unlink => Syscall::Unlink {
+                path: self.path()?,
+                directory: self.directory()?,
+            },
+            Call::Renameat => Syscall::Renameat {
+                descriptor: self.operand()?,
+                path: self.path()?,
+                target: self.operand()?,
+                new_path: self.path()?,
+            },
+            Call::Dup => Syscall::Dup {
+                descriptor: self.operand()?,
+            },
+            Call::Close => Syscall::Close {
+                descriptor: self.operand()?,
+            },
+            Call::CapRightsLimit => Syscall::CapRightsLimit {
+                descriptor: self.operand()?,
+                rights: self.rights()?,
+            },
+            Call::CapFcntlsLimit => Syscall::CapFcntlsLimit {
+                descriptor: self.operand()?,
+                commands: self.commands()?,
+            },
+            Call::CapEnter => Syscall::CapEnter,
+            Call::CapGetmode => Syscall::CapGetmode,
+            Call::Socketpair => Syscall::Socketpair,
+            Call::Fork => Syscall::Fork,
+        })
+    }
+
+    /// The operands of an instruction.
+    #[tactic(auto, unfolding(crate::specs::Forms::written_at))]
+    fn written(&mut self, mnemonic: Mnemonic) -> Result<Written<'t>, Mistake>
+        ensures { Takes written_from result self.new (written_at (mnemonic_from mnemonic) self.old) }
+    {
+        Ok(match mnemonic {
+            Mnemonic::Set => Written::Alone(Instruction::Set {
+                register: self.register()?,
+                value: self.number()?,
+            }),
+            Mnemonic::Mov => Written::Alone(Instruction::Mov {
+                register: self.register()?,
+                source: self.register()?,
+            }),
+            Mnemonic::Add => Written::Alone(Instruction::Add {
+                register: self.register()?,
+                addend: self.register()?,
+            }),
+            Mnemonic::In => Written::Alone(Instruction::In {
+                register: self.register()?,
+            }),
+            Mnemonic::Jmp => Written::Leading(Jump::Always, self.label()?),
+            Mnemonic::Jeq => Written::Leading(
+                Jump::IfEqual {
+                    register: self.register()?,
+                    value: self.number()?,
+                },
+                self.label()?,
+            ),
+            Mnemonic::Jlt => Written::Leading(
+                Jump::IfLess {
+                    register: self.register()?,
+                    value: self.number()?,
+                },
+                self.label()?,
+            ),
+            Mnemonic::Halt => Written::Alone(Instruction::Halt),
+            Mnemonic::Make(call) => Written::Leading(
+                Jump::AfterError(self.syscall(call)?),
+                self.otherwise()?,
+            ),
+        })
+    }
+}
+
+/// The instruction that the words behind its own stand for, all of them.
+pub(crate) fn read_written<'t>(
+    alloc: Global,
+    mnemonic: Mnemonic,
+    operands: &[&'t [u8]],
+) -> Result<Written<'t>, Mistake>
+    ensures { ReadsField written_from result
+        (written_of (mnemonic_from mnemonic) (map (λ word. word.now) operands.now)) }
+{
+    let mut words = Words::new(alloc, operands);
+    let written = words.written(mnemonic)?;
+    if words.rest.is_empty() {
+        Ok(written)
+    } else {
+        Err(Mistake::Operand)
+    }
+}

@@ -1,0 +1,93 @@
+//! A text's lines, and a line's words.
+
+ghost use Rattle.std.specs.Prelude.{◌≡◌, ◌<◌, ◌≤◌, length, map, option_map, IfOk, IfSome};
+ghost use Rattle.prog_asm.specs.Lines.{has_stray, is_blank, is_word_byte, parts, quoted_behind, uncommented, words_of};
+ghost use Rattle.prog_asm.specs.Readings.{Begins};
+
+use std::alloc::{AllocFailed, Global};
+
+/// The first part of a text before a byte that separates, and the text behind that byte if it is there.
+pub(crate) fn first_part(text: &[u8], separator: u8) -> (&[u8], Option<&[u8]>)
+    ensures parts { Begins (parts separator text.now) separator result.0.now
+        (option_map (λ rest. rest.now) result.1) }
+    ensures shorter { IfSome result.1 (λ rest. length rest.now < length text.now) }
+{
+    for (at, byte) in text.iter().enumerate() {
+        if *byte == separator {
+            return (&text[..at], Some(&text[at + 1..]));
+        }
+    }
+    (text, None)
+}
+
+/// Whether the bytes behind this one are quoted, if it is itself.
+fn is_quoted_behind(quoted: bool, byte: u8) -> bool
+    ensures { result ≡ quoted_behind quoted byte }
+{
+    if byte == b'"' { !quoted } else { quoted }
+}
+
+/// The line before its comment, which a `;` outside quotes begins.
+pub(crate) fn before_comment(line: &[u8]) -> &[u8]
+    ensures { result.now ≡ uncommented line.now }
+{
+    let mut quoted = false;
+    for (at, byte) in line.iter().enumerate() {
+        if !quoted && *byte == b';' {
+            return &line[..at];
+        }
+        quoted = is_quoted_behind(quoted, *byte);
+    }
+    line
+}
+
+/// Whether the byte parts words.
+fn is_blank(byte: u8) -> bool
+    ensures { result ≡ is_blank byte }
+{
+    byte == b' ' || byte == b'\t'
+}
+
+/// Whether words have the byte outside quotes.
+fn may_stand_in_word(byte: u8) -> bool
+    ensures { result ≡ is_word_byte byte }
+{
+    byte.is_ascii_alphanumeric() || byte == b'_' || byte == b':' || byte == b',' || byte == b'"'
+}
+
+/// Whether some byte outside quotes is neither a blank nor one that words have.
+pub(crate) fn has_stray(line: &[u8]) -> bool
+    ensures { result ≡ has_stray line.now }
+{
+    let mut quoted = false;
+    for byte in line {
+        if !quoted && !is_blank(*byte) && !may_stand_in_word(*byte) {
+            return true;
+        }
+        quoted = is_quoted_behind(quoted, *byte);
+    }
+    false
+}
+
+/// The words of a line: what stands between blanks outside quotes.
+pub(crate) fn words(alloc: Global, line: &[u8]) -> Result<Vec<&[u8]>, AllocFailed<&[u8]>>
+    ensures { IfOk result (λ words. map (λ word. word.now) words.items ≡ words_of line.now) }
+{
+    let mut words = Vec::new(alloc);
+    let mut quoted = false;
+    let mut start = 0;
+    for (at, byte) in line.iter().enumerate() {
+        if !quoted && is_blank(*byte) {
+            if start < at {
+                words.push(&line[start..at])?;
+            }
+            start = at + 1;
+        } else {
+            quoted = is_quoted_behind(quoted, *byte);
+        }
+    }
+    if start < line.len() {
+        words.push(&line[start..])?;
+    }
+    Ok(words)
+}

@@ -1,0 +1,96 @@
+//! The words that instructions begin with.
+
+ghost use Rattle.std.specs.Prelude.{◌≡◌, map, option_map};
+ghost use Rattle.prog_asm.specs.FormViews.{mnemonic_from};
+ghost use Rattle.prog_asm.specs.Forms.{mnemonic_among, mnemonic_name, mnemonic_of};
+
+use rights::Call;
+
+/// The word that an instruction begins with.
+#[derive(Clone, Copy, PartialEq, Eq, Debug)]
+pub(crate) enum Mnemonic {
+    Set,
+    Mov,
+    Add,
+    In,
+    Jmp,
+    Jeq,
+    Jlt,
+    Halt,
+    /// A system call.
+    Make(Call),
+}
+
+/// The instructions that are read. No program has `fork`, `socketpair`, `sendfd` and `recvfd` yet.
+const MNEMONICS: [Mnemonic; 31] = [
+    Mnemonic::Set,
+    Mnemonic::Mov,
+    Mnemonic::Add,
+    Mnemonic::In,
+    Mnemonic::Jmp,
+    Mnemonic::Jeq,
+    Mnemonic::Jlt,
+    Mnemonic::Halt,
+    Mnemonic::Make(Call::Open),
+    Mnemonic::Make(Call::Openat),
+    Mnemonic::Make(Call::Read),
+    Mnemonic::Make(Call::Write),
+    Mnemonic::Make(Call::Lseek),
+    Mnemonic::Make(Call::Ftruncate),
+    Mnemonic::Make(Call::Fsync),
+    Mnemonic::Make(Call::Fstat),
+    Mnemonic::Make(Call::FcntlGetfl),
+    Mnemonic::Make(Call::FcntlSetfl),
+    Mnemonic::Make(Call::Fstatat),
+    Mnemonic::Make(Call::Stat),
+    Mnemonic::Make(Call::Mkdirat),
+    Mnemonic::Make(Call::Mkdir),
+    Mnemonic::Make(Call::Unlinkat),
+    Mnemonic::Make(Call::Unlink),
+    Mnemonic::Make(Call::Renameat),
+    Mnemonic::Make(Call::Dup),
+    Mnemonic::Make(Call::Close),
+    Mnemonic::Make(Call::CapRightsLimit),
+    Mnemonic::Make(Call::CapFcntlsLimit),
+    Mnemonic::Make(Call::CapEnter),
+    Mnemonic::Make(Call::CapGetmode),
+];
+
+impl Mnemonic {
+    /// The word.
+    fn name(self) -> &'static str
+        ensures { result.now ≡ mnemonic_name (mnemonic_from self) }
+    {
+        match self {
+            Mnemonic::Set => "set",
+            Mnemonic::Mov => "mov",
+            Mnemonic::Add => "add",
+            Mnemonic::In => "in",
+            Mnemonic::Jmp => "jmp",
+            Mnemonic::Jeq => "jeq",
+            Mnemonic::Jlt => "jlt",
+            Mnemonic::Halt => "halt",
+            Mnemonic::Make(call) => call.name(),
+        }
+    }
+}
+
+/// The first of these that the word is.
+fn mnemonic_among(mnemonics: &[Mnemonic], word: &[u8]) -> Option<Mnemonic>
+    ensures { option_map mnemonic_from result
+        ≡ mnemonic_among (map mnemonic_from mnemonics.now) word.now }
+{
+    for mnemonic in mnemonics {
+        if word == mnemonic.name().as_bytes() {
+            return Some(*mnemonic);
+        }
+    }
+    None
+}
+
+/// The instruction that is read at this word.
+pub(crate) fn mnemonic_of(word: &[u8]) -> Option<Mnemonic>
+    ensures { option_map mnemonic_from result ≡ mnemonic_of word.now }
+{
+    mnemonic_among(&MNEMONICS, word)
+}

@@ -1,0 +1,75 @@
+//! A line by itself: a label, an instruction, both or neither.
+
+ghost use Rattle.std.specs.Prelude.{◌≡◌, map, option_map};
+ghost use Rattle.prog_asm.specs.Assembly.{instruction_in, line_of, line_of_words};
+ghost use Rattle.prog_asm.specs.FormViews.{written_from};
+ghost use Rattle.prog_asm.specs.LineViews.{line_from};
+ghost use Rattle.prog_asm.specs.Readings.{Reads};
+
+use crate::fields::{before_last, is_name};
+use crate::forms::{Written, read_written};
+use crate::lines::{before_comment, has_stray, words};
+use crate::mistakes::Mistake;
+use crate::mnemonics::mnemonic_of;
+use std::alloc::Global;
+
+/// What stands on a line.
+#[derive(Drop)]
+pub(crate) struct Line<'t> {
+    pub(crate) label: Option<&'t [u8]>,
+    pub(crate) instruction: Option<Written<'t>>,
+}
+
+/// The instruction that words stand for, if there are any.
+fn instruction_in<'t>(alloc: Global, words: &[&'t [u8]]) -> Result<Option<Written<'t>>, Mistake>
+    ensures { Reads (λ instruction. option_map written_from instruction) result
+        (instruction_in (map (λ word. word.now) words.now)) }
+{
+    match words {
+        [] => Ok(None),
+        [word, operands @ ..] => {
+            let mnemonic = mnemonic_of(word).ok_or(Mistake::Word)?;
+            Ok(Some(read_written(alloc, mnemonic, operands)?))
+        }
+    }
+}
+
+/// The line that words stand for. A first word that ends with a colon is a label.
+fn line_of_words<'t>(alloc: Global, words: &[&'t [u8]]) -> Result<Line<'t>, Mistake>
+    ensures { Reads line_from result (line_of_words (map (λ word. word.now) words.now)) }
+{
+    match words {
+        [] => Ok(Line {
+            label: None,
+            instruction: None,
+        }),
+        [first, rest @ ..] => match before_last(first, b':') {
+            None => Ok(Line {
+                label: None,
+                instruction: instruction_in(alloc, words)?,
+            }),
+            Some(name) => {
+                if !is_name(name) {
+                    return Err(Mistake::Word);
+                }
+                Ok(Line {
+                    label: Some(name),
+                    instruction: instruction_in(alloc, rest)?,
+                })
+            }
+        },
+    }
+}
+
+/// The line that a text stands for.
+#[tactic(auto, unfolding(crate::specs::Assembly::line_of))]
+pub(crate) fn read_line<'t>(alloc: Global, text: &'t [u8]) -> Result<Line<'t>, Mistake>
+    ensures { Reads line_from result (line_of text.now) }
+{
+    let code = before_comment(text);
+    if has_stray(code) {
+        return Err(Mistake::Word);
+    }
+    let words = words(alloc, code)?;
+    line_of_words(alloc, &words)
+}
