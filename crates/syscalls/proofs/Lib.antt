@@ -1,0 +1,4 @@
+pub mod Samples
+pub mod Rows
+pub mod ProcessRows
+pub mod Rights
