@@ -1,6 +1,6 @@
 -- The verdicts on the named tasks with the named certificates, by computation.
 use Rattle.std.proofs.Common.{◌≡◌, ℕ, zero, suc, ◌<◌, List, [], ◌∷◌, codes, refl, arith}
-use Rattle.std.specs.Prelude.{true, Bool, Option, Some, None}
+use Rattle.std.specs.Prelude.{true, Some, None}
 use Rattle.std.specs.List.{list_all}
 use Rattle.certificate.specs.Bounds.{Certificate, bound_in}
 use Rattle.checker.specs.Outcomes.{outcomes, error_outcomes}

@@ -1,9 +1,9 @@
 -- The certificates that the program knows by name. Each bounds points of the program `main`, from 0 on,
 -- with the file as descriptor 2, open.
-use Rattle.std.specs.Prelude.{◌+◌, ℕ, List, [], ◌∷◌, ◌++◌, codes, replicate, Option, Some, None, if◌then◌else◌}
+use Rattle.std.specs.Prelude.{◌+◌, ℕ, List, [], ◌∷◌, codes, replicate, Option, Some, None, if◌then◌else◌}
 use Rattle.std.specs.Str.{bytes_eq}
 use Rattle.rights.specs.Sets.{all_rights, all_commands, seek_right}
-use Rattle.certificate.specs.Bounds.{ModeBound, Off, On, Target, In_grant, Any_node, Held, Slot, Closed, Open, Bound, PointBound, Certificate, full_interval}
+use Rattle.certificate.specs.Bounds.{ModeBound, Off, On, Target, In_grant, Any_node, Held, Closed, Open, Bound, PointBound, Certificate, full_interval}
 
 -- the file, with at least these rights
 abbrev pub file_held : Target → ℕ → Held

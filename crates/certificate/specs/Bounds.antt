@@ -1,6 +1,6 @@
 -- What a certificate says: at each point of a program that may be reached, a bound on the process
 -- there. (own)
-use Rattle.std.specs.Prelude.{◌==◌, ◌&&◌, ◌-◌, ◌^◌, ℕ, Bool, List, [], ◌∷◌, slice_set, Option, Some, None, if◌then◌else◌}
+use Rattle.std.specs.Prelude.{◌==◌, ◌&&◌, ◌-◌, ◌^◌, ℕ, List, [], ◌∷◌, slice_set, Option, Some, None, if◌then◌else◌}
 use Rattle.std.specs.List.{slice_index_or}
 use Rattle.std.specs.Str.{bytes_eq}
 use Rattle.rights.specs.Classes.{Class}

@@ -1,5 +1,5 @@
 -- When one bound is within another. (own)
-use Rattle.std.specs.Prelude.{◌==◌, ◌&&◌, ℕ, Bool, true, false, nat_le, List, [], ◌∷◌}
+use Rattle.std.specs.Prelude.{◌==◌, ◌&&◌, Bool, true, false, nat_le, List, [], ◌∷◌}
 use Rattle.std.specs.Str.{bytes_eq}
 use Rattle.rights.specs.Sets.{is_within}
 use Rattle.rights.specs.Classes.{Class, Initial, Made_at}

@@ -1,6 +1,6 @@
 -- What it says that no rule is broken at a point.
-use Rattle.std.proofs.Common.{◌≡◌, ℕ, Bool, true, false, List, [], ◌∷◌, ◌++◌, refl, ap, sym, ◌∙◌, subst}
-use Rattle.std.specs.Prelude.{◌&&◌, ◌==◌, not, Option, Some, None, cond}
+use Rattle.std.proofs.Common.{◌≡◌, ℕ, Bool, true, false, List, [], ◌∷◌, ◌++◌, refl, sym, ◌∙◌, subst}
+use Rattle.std.specs.Prelude.{not, Option, Some, None, cond}
 use Rattle.std.specs.List.{list_all}
 use Rattle.std.specs.Cmp.Derive.{both_true}
 use Rattle.rights.proofs.Tests.{both_left, both_right, not_true}
@@ -8,7 +8,7 @@ use Rattle.certificate.specs.Bounds.{Bound, Certificate, bound_at}
 use Rattle.certificate.specs.Order.{bound_within}
 use Rattle.simulator.specs.Programs.{Instruction, instruction_at, name_at}
 use Rattle.simulator.specs.Plans.{Plan}
-use Rattle.checker.specs.Outcomes.{Outcome, outcomes, error_outcomes, outcome_to}
+use Rattle.checker.specs.Outcomes.{Outcome, outcomes, error_outcomes}
 use Rattle.checker.specs.Rules.{Test, starts_within, within_if_there, all_within, is_there, all_there, keeps_rights, keeps_known, keeps_policy, is_started, tests, tests_with, tests_without, tests_at, least_broken, broken_at}
 
 -- every test is kept

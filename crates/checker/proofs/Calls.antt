@@ -1,36 +1,34 @@
 -- What each call owes, from the rules that are kept at its point.
-use Rattle.std.proofs.Common.{◌≡◌, ℕ, ◌+◌, ◌<◌, ◌≤◌, Bool, true, false, List, [], ◌∷◌, refl, arith, ap, sym, ◌∙◌, subst}
-use Rattle.std.specs.Prelude.{◌&&◌, ◌||◌, not, nat_le, slice_set, Option, Some, None, cond}
-use Rattle.std.specs.List.{slice_get, list_any}
+use Rattle.std.proofs.Common.{◌≡◌, ℕ, ◌+◌, ◌<◌, ◌≤◌, Bool, true, false, List, [], ◌∷◌, refl, arith, ap, sym, subst}
+use Rattle.std.specs.Prelude.{◌||◌, not, Option, Some, None, cond}
+use Rattle.std.specs.List.{slice_get}
 use Rattle.std.specs.Option.{option_map}
 use Rattle.std.specs.Str.{bytes_eq}
 use Rattle.std.specs.Cmp.Derive.{both_true}
 use Rattle.std.proofs.lemmas.Bool.{le-leb}
 use Rattle.rights.specs.Sets.{is_within, read_right}
-use Rattle.rights.specs.Errors.{Errno, Cause}
 use Rattle.rights.specs.Operations.{Operation, lists}
 use Rattle.rights.specs.Operations as operations
 use Rattle.rights.proofs.Subsets.{is_within-trans}
 use Rattle.rights.proofs.Tests.{not_true}
 use Rattle.process.specs.State.{ProcessState}
 use Rattle.certificate.specs.Bounds.{ModeBound, Off, On, Either, Target, In_grant, Any_node, Socket, Unknown, Held, Slot, Closed, Open, Maybe, with_interval, slot, held_in, Bound, Certificate}
-use Rattle.certificate.specs.Describes.{Subject, Node_at, Seen, target_describes, held_describes, slot_describes, mode_describes, interval_describes}
+use Rattle.certificate.specs.Describes.{Node_at, Seen, target_describes, held_describes, slot_describes, mode_describes}
 use Rattle.certificate.proofs.Smaller.{Between, between}
-use Rattle.simulator.specs.Tree.{Node, node, is_dir, is_link}
+use Rattle.simulator.specs.Tree.{node, is_dir}
 use Rattle.simulator.specs.Descriptions.{Access, Object, At_node, At_end, State, Descriptor, Message, other_side}
-use Rattle.simulator.specs.Programs.{Cap_enter, Read, Instruction, Invoke, name_at}
+use Rattle.simulator.specs.Programs.{Cap_enter, Read, Invoke, name_at}
 use Rattle.simulator.specs.World.{World, is_open}
-use Rattle.simulator.specs.Answers.{Event, Effect, Answer, unless, held, through, at_object, read_byte, read_node, read_empty, read_end, answer}
-use Rattle.file_tree.specs.Places.{begins}
+use Rattle.simulator.specs.Answers.{Event, Effect, Answer, held, through, at_object, read_byte, read_node, read_empty, read_end, answer}
 use Rattle.simulator.specs.Plans.{Grant, Plan}
 use Rattle.simulator.specs.Policies.{allows, is_allowed, grant_named, is_in, grant_holds, lists_in, grant_lists}
 use Rattle.simulator.specs.Sandboxed.{AreAllowed}
-use Rattle.simulator.specs.WellFormed.{Pairs, IsObject, IsEntry, IsDescriptor, AreMessages, IsWorld}
+use Rattle.simulator.specs.WellFormed.{IsObject, IsEntry, IsDescriptor, AreMessages}
 use Rattle.simulator.proofs.Good.{content_of_node, file_byte}
-use Rattle.checker.specs.Outcomes.{Outcome, only, outcome_to, read_interval, error_interval, read_outcomes, outcomes, error_outcomes}
-use Rattle.checker.specs.Rules.{all_within, all_there, may_be_on, has_need, is_known, goes_known, target_lists, goes_listed, keeps_rights, keeps_known, keeps_policy}
-use Rattle.checker.proofs.Describing.{Described, register_set, slot_at}
-use Rattle.checker.proofs.Asked.{Leads, leads}
+use Rattle.checker.specs.Outcomes.{only, read_interval, error_interval, read_outcomes, outcomes, error_outcomes}
+use Rattle.checker.specs.Rules.{all_within, all_there, may_be_on, has_need, is_known, goes_known, target_lists, goes_listed}
+use Rattle.checker.proofs.Describing.{register_set, slot_at}
+use Rattle.checker.proofs.Asked.{leads}
 use Rattle.checker.proofs.Invariant.{subject_of, seen_of, table_of}
 use Rattle.checker.proofs.Stepping.{Standing, Given, FailsTo, OwedBy, owed_unless, owed_passed}
 

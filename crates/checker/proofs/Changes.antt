@@ -1,15 +1,14 @@
 -- What each kind of change of a step leaves of everybody else.
-use Rattle.std.proofs.Common.{◌≡◌, ◌≢◌, ℕ, false, List, [], refl, sym, ap, ◌∙◌}
-use Rattle.std.specs.Prelude.{◌++◌, slice_set, Option, Some, None}
+use Rattle.std.proofs.Common.{◌≡◌, ◌≢◌, ℕ, false, List, [], refl, ap}
+use Rattle.std.specs.Prelude.{slice_set, Option, None}
 use Rattle.std.specs.List.{slice_get}
-use Rattle.rights.specs.Maps.{put}
 use Rattle.rights.proofs.Changes.{put-other}
 use Rattle.rights.proofs.Lists.{slice_get-set_cases}
 use Rattle.process.specs.State.{ProcessState}
-use Rattle.simulator.specs.Descriptions.{Descriptor, Message}
+use Rattle.simulator.specs.Descriptions.{Descriptor}
 use Rattle.simulator.specs.World.{World, Choice}
-use Rattle.simulator.specs.Answers.{Event, Change, changed}
-use Rattle.simulator.specs.Steps.{with_process, halted, given}
+use Rattle.simulator.specs.Answers.{Change, changed}
+use Rattle.simulator.specs.Steps.{with_process, halted}
 use Rattle.simulator.specs.Plans.{Plan}
 use Rattle.simulator.proofs.Modes.{queue_kept}
 use Rattle.checker.proofs.Invariant.{Keeps}

@@ -1,12 +1,12 @@
 -- What a bound that describes a process says of each register and each number of its table.
-use Rattle.std.proofs.Common.{◌≡◌, ℕ, zero, suc, ◌+◌, ◌<◌, ◌≤◌, Bool, true, false, List, [], ◌∷◌, refl, arith, ap, sym, subst, length}
-use Rattle.std.specs.Prelude.{◌==◌, ◌&&◌, slice_set, Option, Some, None}
+use Rattle.std.proofs.Common.{◌≡◌, ℕ, zero, suc, ◌+◌, ◌≤◌, Bool, true, List, [], ◌∷◌, refl, arith, sym, subst}
+use Rattle.std.specs.Prelude.{◌&&◌, slice_set, Option, None}
 use Rattle.std.specs.List.{slice_index_or}
 use Rattle.std.specs.Cmp.Derive.{both_true}
 use Rattle.std.proofs.lemmas.Bool.{eqb-true}
 use Rattle.rights.proofs.Tests.{both_left, both_right}
 use Rattle.rights.specs.Errors.{Errno, errno_number, EPERM, ENOENT, EBADF, EEXIST, ENOTDIR, EISDIR, EINVAL, ENFILE, EMFILE, EFBIG, ENOSPC, EPIPE, EAGAIN, ENOTSOCK, ELOOP, ENAMETOOLONG, ENOTEMPTY, ENOTCAPABLE, ECAPMODE}
-use Rattle.certificate.specs.Bounds.{ModeBound, Interval, interval, Slot, Closed, slot, Bound}
+use Rattle.certificate.specs.Bounds.{Interval, interval, Slot, Closed, slot, Bound}
 use Rattle.certificate.specs.Describes.{Seen, Holds, slot_describes, mode_describes, interval_describes, registers_describe, slots_describe, describes}
 use Rattle.checker.specs.Outcomes.{error_interval}
 

@@ -1,5 +1,5 @@
 -- The tables of a task's first world, number by number.
-use Rattle.std.proofs.Common.{◌≡◌, ◌≢◌, ℕ, zero, suc, ◌+◌, ◌<◌, ◌≤◌, Bool, true, false, List, [], ◌∷◌, refl, arith, ap, sym, ◌∙◌, subst, length}
+use Rattle.std.proofs.Common.{◌≡◌, ◌≢◌, ℕ, zero, suc, ◌+◌, ◌<◌, Bool, true, false, List, [], ◌∷◌, refl, arith, ap, sym, ◌∙◌}
 use Rattle.std.specs.Prelude.{◌==◌, ◌&&◌, not, nat_lt, Option, Some, None, cond}
 use Rattle.std.specs.List.{slice_get, list_all}
 use Rattle.std.specs.Option.{option_map}
@@ -8,7 +8,7 @@ use Rattle.rights.specs.Maps.{put, put2}
 use Rattle.rights.proofs.Changes.{put-cases, put-same, put-other}
 use Rattle.rights.proofs.Tests.{both_left, both_right, not_true}
 use Rattle.certificate.specs.Describes.{Seen}
-use Rattle.simulator.specs.Tree.{Node, node}
+use Rattle.simulator.specs.Tree.{Node}
 use Rattle.simulator.specs.Descriptions.{Object, At_node, Descriptor}
 use Rattle.simulator.specs.WellFormed.{IsEntry}
 use Rattle.simulator.specs.Plans.{FirstDescriptor, Start, Opening, is_descriptor, are_descriptors, is_start, nothing_open, with_descriptor, with_descriptors, with_starts}

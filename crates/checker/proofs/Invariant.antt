@@ -1,6 +1,6 @@
 -- What holds of each world of each run of a task whose certificate meets the rules.
-use Rattle.std.proofs.Common.{◌≡◌, ◌≢◌, ℕ, ◌<◌, Bool, true, List, [], ◌∷◌, refl, ap, sym, ◌∙◌, subst, length}
-use Rattle.std.specs.Prelude.{◌&&◌, ◌++◌, not, nat_lt, Option, Some, None}
+use Rattle.std.proofs.Common.{◌≡◌, ◌≢◌, ℕ, Bool, true, List, [], ◌∷◌, refl, sym, subst, length}
+use Rattle.std.specs.Prelude.{◌&&◌, ◌++◌, nat_lt, Option, Some, None}
 use Rattle.std.specs.List.{slice_get, list_any}
 use Rattle.std.specs.Option.{option_map}
 use Rattle.std.proofs.Math.Decide.{ℕ_discrete}
@@ -8,7 +8,7 @@ use Rattle.rights.specs.Classes.{Class}
 use Rattle.process.specs.State.{ProcessState}
 use Rattle.certificate.specs.Bounds.{Target, In_grant, Any_node, Socket, Unknown, Held, Slot, Closed, Open, Maybe, Bound, ChannelBound, Certificate, bound_at}
 use Rattle.certificate.specs.Describes.{Subject, Node_at, End_of, Seen, target_describes, held_describes, slot_describes, describes}
-use Rattle.certificate.proofs.Smaller.{Between, between, from_between}
+use Rattle.certificate.proofs.Smaller.{between, from_between}
 use Rattle.simulator.specs.Tree.{Node, node}
 use Rattle.simulator.specs.Descriptions.{Object, At_node, At_end, Descriptor, Message}
 use Rattle.simulator.specs.Programs.{name_at}
@@ -17,7 +17,7 @@ use Rattle.simulator.specs.Plans.{Grant, Plan}
 use Rattle.simulator.specs.Policies.{grant_holds}
 use Rattle.simulator.specs.WellFormed.{Pairs, IsWorld}
 use Rattle.simulator.specs.World.{World}
-use Rattle.checker.proofs.Describing.{Described, described, from_described, slots_go_on}
+use Rattle.checker.proofs.Describing.{described, from_described, slots_go_on}
 
 -- A descriptor of a world, as a bound sees it.
 abbrev pub subject_of : List Node → Object → Subject

@@ -1,6 +1,6 @@
 -- No rule is broken past the ends of the list of programs and of a program.
-use Rattle.std.proofs.Common.{◌≡◌, ℕ, zero, suc, ◌+◌, ◌<◌, ◌≤◌, true, List, [], ◌∷◌, ◌⊎◌, inl, inr, refl, arith, ap, sym, ◌∙◌, subst, length, map}
-use Rattle.std.specs.Prelude.{◌&&◌, nat_le, Option, Some, None, vec_len}
+use Rattle.std.proofs.Common.{◌≡◌, ℕ, ◌<◌, ◌≤◌, true, List, refl, arith, ap, sym, ◌∙◌, length}
+use Rattle.std.specs.Prelude.{Some, None, vec_len}
 use Rattle.std.specs.Option.{option_map}
 use Rattle.std.specs.List.{slice_get, slice_index_or, list_all}
 use Rattle.std.proofs.lemmas.Bool.{leb-true}
@@ -10,7 +10,7 @@ use Rattle.rights.proofs.Lists.{list_all-slice_get}
 use Rattle.rights.proofs.Tests.{both_left}
 use Rattle.certificate.specs.Bounds.{Certificate, bound_at}
 use Rattle.simulator.specs.declared.programs.Program.{Program as ProgramCode}
-use Rattle.simulator.specs.Programs.{Program, Instruction, is_program, is_instruction, ends_well, at_point, instruction_at, name_at}
+use Rattle.simulator.specs.Programs.{is_program, is_instruction, ends_well, at_point, instruction_at, name_at}
 use Rattle.simulator.specs.Plans.{Plan, is_plan}
 use Rattle.simulator.specs.Views.{instruction_of, program_of, programs_of}
 use Rattle.simulator.proofs.Begins.{checked}

@@ -1,5 +1,5 @@
 -- Soundness: where the rules are met, each run is sandboxed.
-use Rattle.std.proofs.Common.{◌≡◌, ℕ, zero, suc, ◌+◌, Bool, true, false, List, [], ◌∷◌, refl, arith, ap, sym, ◌∙◌, subst, map, replicate, length}
+use Rattle.std.proofs.Common.{◌≡◌, ℕ, zero, suc, Bool, true, false, List, [], ◌∷◌, refl, ap, sym, ◌∙◌, subst, map, replicate, length}
 use Rattle.std.specs.Prelude.{◌==◌, ◌||◌, not, Option, Some, None}
 use Rattle.std.specs.List.{slice_get, list_all, list_any}
 use Rattle.std.specs.Option.{option_map}
@@ -8,28 +8,27 @@ use Rattle.std.proofs.lemmas.Option.{slice_get-map}
 use Rattle.rights.specs.Sets.{is_within}
 use Rattle.rights.proofs.Lists.{list_all-slice_get}
 use Rattle.rights.proofs.Subsets.{is_within-refl}
-use Rattle.process.specs.State.{ProcessState, new_process}
-use Rattle.certificate.specs.Bounds.{Bound, Certificate, bound_at}
-use Rattle.certificate.specs.Describes.{Seen, slot_describes, describes}
-use Rattle.simulator.specs.Tree.{Node}
-use Rattle.simulator.specs.Descriptions.{Descriptor, Message}
-use Rattle.simulator.specs.Programs.{Program, Instruction, Set, Jeq, Halt, Invoke, Syscall, Cap_enter, Read, is_program, instruction_at, name_at}
-use Rattle.simulator.specs.World.{World, Choice, IsFresh}
+use Rattle.process.specs.State.{ProcessState}
+use Rattle.certificate.specs.Bounds.{Bound, Certificate}
+use Rattle.certificate.specs.Describes.{slot_describes, describes}
+use Rattle.simulator.specs.Descriptions.{Descriptor}
+use Rattle.simulator.specs.Programs.{Instruction, Set, Jeq, Halt, Invoke, Cap_enter, Read, is_program, instruction_at}
+use Rattle.simulator.specs.World.{World, Choice}
 use Rattle.simulator.specs.Answers.{Event, answer}
-use Rattle.simulator.specs.Steps.{LineResult, Line, Executed, Stepped, Ended, shown, line_of_process, register, plain, jumped, executed, answered, stepped_at, stepped_by, stepped, step}
-use Rattle.simulator.specs.Plans.{Plan, Start, is_plan, is_start, nothing_open, with_starts, first_process, first_world}
+use Rattle.simulator.specs.Steps.{Line, Executed, Stepped, Ended, shown, line_of_process, register, plain, jumped, executed, stepped_at, stepped_by, stepped, step}
+use Rattle.simulator.specs.Plans.{Plan, Start, is_plan, first_process, first_world}
 use Rattle.simulator.specs.Policies.{grant_holds}
-use Rattle.simulator.specs.Sandboxed.{IsInMode, AreAllowed, IsUnrefusedLine, IsSourced, IsSafe, Sandboxed, IsSandboxed}
+use Rattle.simulator.specs.Sandboxed.{IsInMode, IsUnrefusedLine, IsSourced, IsSafe, Sandboxed, IsSandboxed}
 use Rattle.simulator.specs.Simulations.{WasThere, GainsNothing}
-use Rattle.simulator.specs.WellFormed.{IsMade, IsPoint, IsProcess, IsWorld, IsWellFormed}
+use Rattle.simulator.specs.WellFormed.{IsMade, IsPoint, IsWorld}
 use Rattle.simulator.proofs.Begins.{checked, first_well_formed}
 use Rattle.simulator.proofs.Keeping.{kept}
 use Rattle.simulator.proofs.Modes.{gains_nothing}
 use Rattle.checker.specs.Rules.{MeetsRules, first_table, start_within, starts_within, is_started}
-use Rattle.checker.proofs.Describing.{Described, described, from_described, slots_go_on}
-use Rattle.checker.proofs.Asked.{Asked, asked, started, leads}
-use Rattle.checker.proofs.Invariant.{seen_of, table_of, Lies, LiesIfAlive, Keeps, Invariant, next}
-use Rattle.checker.proofs.FirstTables.{opened, first_opened}
+use Rattle.checker.proofs.Describing.{described, from_described, slots_go_on}
+use Rattle.checker.proofs.Asked.{asked, started}
+use Rattle.checker.proofs.Invariant.{table_of, Lies, LiesIfAlive, Invariant, next}
+use Rattle.checker.proofs.FirstTables.{first_opened}
 use Rattle.checker.proofs.Changes.{keeps_all}
 use Rattle.checker.proofs.Stepping.{Standing, Owed, owed_set, owed_jump, owed_stay, owed_halt, owed_answer}
 use Rattle.checker.proofs.Calls.{owed_cap_enter, owed_read}

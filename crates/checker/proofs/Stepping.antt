@@ -1,39 +1,30 @@
 -- One step of a process that lies in the bound of its point: it is safe, and the process lies in the
 -- bound of the point that it comes to.
-use Rattle.std.proofs.Common.{◌≡◌, ◌≢◌, ℕ, ◌+◌, ◌<◌, ◌≤◌, Bool, true, false, List, [], ◌∷◌, refl, arith, ap, sym, ◌∙◌, subst}
-use Rattle.std.specs.Prelude.{◌==◌, ◌&&◌, ◌||◌, ◌-◌, ◌++◌, not, nat_le, nat_lt, slice_set, Option, Some, None, cond, if◌then◌else◌}
-use Rattle.std.specs.List.{slice_get, slice_index_or, list_any}
-use Rattle.std.specs.Option.{option_map}
+use Rattle.std.proofs.Common.{◌≡◌, ◌≢◌, ℕ, ◌+◌, ◌≤◌, Bool, true, false, List, [], refl, arith, ap, sym, ◌∙◌, subst}
+use Rattle.std.specs.Prelude.{◌==◌, ◌||◌, ◌-◌, ◌++◌, nat_le, nat_lt, slice_set, Some, if◌then◌else◌}
+use Rattle.std.specs.List.{slice_get}
 use Rattle.std.specs.Cmp.Derive.{both_true}
-use Rattle.std.proofs.lemmas.Bool.{eqb-true, eq-eqb, leb-true, le-leb, ltb-false}
-use Rattle.rights.specs.Sets.{is_within, read_right}
-use Rattle.rights.specs.Errors.{Errno, errno_number, Cause, Refused}
-use Rattle.rights.specs.Operations.{Operation, lists}
-use Rattle.rights.specs.Operations as operations
+use Rattle.std.proofs.lemmas.Bool.{eqb-true, leb-true, le-leb, ltb-false}
+use Rattle.rights.specs.Errors.{Errno, errno_number, Cause}
 use Rattle.rights.proofs.Lists.{slice_get-set_same}
-use Rattle.rights.proofs.Subsets.{is_within-trans}
-use Rattle.rights.proofs.Tests.{both_left, both_right, not_true}
+use Rattle.rights.proofs.Tests.{both_left, both_right}
 use Rattle.process.specs.State.{ProcessState}
-use Rattle.certificate.specs.Bounds.{ModeBound, Off, On, Either, Interval, interval, Target, In_grant, Any_node, Socket, Unknown, Held, Slot, Closed, Open, Maybe, with_interval, slot, held_in, Bound, Certificate, bound_at}
-use Rattle.certificate.specs.Describes.{Node_at, Seen, held_describes, slot_describes, mode_describes, interval_describes, describes}
-use Rattle.certificate.proofs.Smaller.{describes_smaller, between}
-use Rattle.simulator.specs.Tree.{Node, node, is_dir, is_link}
-use Rattle.simulator.specs.Descriptions.{Access, Object, At_node, At_end, State, Descriptor, Message, other_side}
-use Rattle.simulator.specs.Programs.{Program, Syscall, Cap_enter, Read, Instruction, Set, Jeq, Halt, Invoke, instruction_at, name_at}
-use Rattle.simulator.specs.World.{World, Choice, is_open}
-use Rattle.simulator.specs.Answers.{Event, Effect, Answer, Fails, Waits, Gives, unless, held, through, at_object, read_byte, read_node, read_empty, read_end, answer, changed}
-use Rattle.simulator.specs.Steps.{Executed, Halted, register, with_register, moved_to, with_process, plain, given, failed, answered, jumped, halted, executed}
-use Rattle.file_tree.specs.Places.{begins}
-use Rattle.simulator.specs.Plans.{Grant, Plan}
-use Rattle.simulator.specs.Policies.{allows, is_allowed, grant_named, is_in, grant_holds, lists_in, grant_lists}
+use Rattle.certificate.specs.Bounds.{Interval, interval, with_interval, Bound, Certificate, bound_at}
+use Rattle.certificate.specs.Describes.{interval_describes}
+use Rattle.certificate.proofs.Smaller.{describes_smaller}
+use Rattle.simulator.specs.Programs.{Instruction, Set, Jeq, name_at}
+use Rattle.simulator.specs.World.{World, Choice}
+use Rattle.simulator.specs.Answers.{Effect, Answer, Fails, Waits, Gives, unless, changed}
+use Rattle.simulator.specs.Steps.{Executed, Halted, register, with_register, moved_to, with_process, plain, given, failed, answered, halted}
+use Rattle.simulator.specs.Plans.{Plan}
+use Rattle.simulator.specs.Policies.{grant_holds}
 use Rattle.simulator.specs.Sandboxed.{AreAllowed, IsOtherCause, IsUnrefused}
-use Rattle.simulator.specs.WellFormed.{Pairs, IsObject, AreMessages, IsWorld}
-use Rattle.simulator.proofs.Good.{content_of_node, file_byte}
-use Rattle.checker.specs.Outcomes.{Outcome, only, is_among, has_other, trimmed, jump_outcomes, stay_outcomes, outcome_to, read_interval, error_interval, outcomes, error_outcomes}
-use Rattle.checker.specs.Rules.{all_within, all_there, may_be_on, has_need, is_known, goes_known, target_lists, goes_listed, keeps_known, keeps_policy}
-use Rattle.checker.proofs.Describing.{Described, described, from_described, register_at, register_set, interval_set, slot_at, error_fits}
+use Rattle.simulator.specs.WellFormed.{Pairs, IsWorld}
+use Rattle.checker.specs.Outcomes.{Outcome, only, is_among, has_other, trimmed, jump_outcomes, stay_outcomes, outcome_to, error_interval, outcomes}
+use Rattle.checker.specs.Rules.{all_within, all_there}
+use Rattle.checker.proofs.Describing.{Described, from_described, register_at, register_set, interval_set, error_fits}
 use Rattle.checker.proofs.Asked.{Asked, Leads, leads, all_left, all_right}
-use Rattle.checker.proofs.Invariant.{subject_of, seen_of, table_of, Lies, LiesIfAlive, Keeps}
+use Rattle.checker.proofs.Invariant.{table_of, Lies, LiesIfAlive, Keeps}
 use Rattle.checker.proofs.Changes.{keeps_process, keeps_changed, keeps_halted, keeps_all}
 
 -- What is known before the step: the world is well formed, the process lives and lies in the bound of its

@@ -1,6 +1,6 @@
 -- Where an instruction may lead from a point with a bound, and the bound that it has there. (own)
 use Rattle.std.specs.Prelude.{◌+◌, ◌-◌, ◌==◌, ◌&&◌, ◌++◌, ℕ, Bool, ◌||◌, nat_le, nat_lt, List, [], ◌∷◌, Option, Some, None, if◌then◌else◌}
-use Rattle.certificate.specs.Bounds.{ModeBound, On, Interval, interval, with_interval, slot, held_in, Held, Bound}
+use Rattle.certificate.specs.Bounds.{On, Interval, interval, with_interval, slot, held_in, Held, Bound}
 use Rattle.simulator.specs.Programs.{Syscall, Cap_enter, Read, Instruction, Set, Jeq, Halt, Invoke}
 
 -- a point, and the bound there

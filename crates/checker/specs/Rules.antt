@@ -1,15 +1,15 @@
 -- The rules of the checker. (own)
-use Rattle.std.specs.Prelude.{◌==◌, ◌&&◌, ◌||◌, ◌+◌, not, ◌≡◌, ◌<◌, ℕ, Bool, true, false, List, [], ◌∷◌, replicate, Option, Some, None, if◌then◌else◌}
-use Rattle.std.specs.List.{list_all, list_any, slice_get}
+use Rattle.std.specs.Prelude.{◌==◌, ◌&&◌, ◌||◌, not, ◌≡◌, ◌<◌, ℕ, Bool, true, false, List, [], ◌∷◌, replicate, Option, Some, None, if◌then◌else◌}
+use Rattle.std.specs.List.{list_all, list_any}
 use Rattle.std.specs.Option.{option_map}
 use Rattle.rights.specs.Sets.{is_within, read_right}
 use Rattle.rights.specs.Operations.{Operation}
 use Rattle.rights.specs.Operations as operations
-use Rattle.certificate.specs.Bounds.{ModeBound, Off, On, Either, Target, In_grant, Any_node, Socket, Unknown, Held, Slot, slot, held_in, Bound, Certificate, bound_at}
+use Rattle.certificate.specs.Bounds.{ModeBound, Off, On, Either, Target, In_grant, Any_node, Socket, Unknown, Held, slot, held_in, Bound, Certificate, bound_at}
 use Rattle.certificate.specs.Order.{bound_within}
-use Rattle.certificate.specs.Describes.{Holds, Seen, Node_at, describes}
+use Rattle.certificate.specs.Describes.{Seen, Node_at, describes}
 use Rattle.simulator.specs.Tree.{Node, node}
-use Rattle.simulator.specs.Programs.{Program, Syscall, Cap_enter, Read, Instruction, Set, Jeq, Halt, Invoke, instruction_at, name_at}
+use Rattle.simulator.specs.Programs.{Read, Instruction, Invoke, instruction_at, name_at}
 use Rattle.simulator.specs.Plans.{FirstDescriptor, Start, Plan}
 use Rattle.simulator.specs.Policies.{grant_holds, grant_lists}
 use Rattle.checker.specs.Outcomes.{Outcome, outcomes, error_outcomes}

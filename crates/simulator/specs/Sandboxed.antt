@@ -9,7 +9,7 @@ use Rattle.simulator.specs.Descriptions.{Descriptor, Message}
 use Rattle.simulator.specs.Programs.{Program}
 use Rattle.simulator.specs.World.{World, Choice, IsFresh}
 use Rattle.simulator.specs.Answers.{Event, Effect}
-use Rattle.simulator.specs.Steps.{LineResult, Failed, Acted, Line, Stepped, step}
+use Rattle.simulator.specs.Steps.{LineResult, Failed, Acted, Stepped, step}
 use Rattle.simulator.specs.Plans.{Grant, Plan, first_world}
 use Rattle.simulator.specs.Policies.{is_allowed}
 
