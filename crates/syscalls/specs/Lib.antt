@@ -5,3 +5,4 @@ pub mod Calls
 pub mod Changes
 pub mod Steps
 pub mod Sources
+pub mod Views
