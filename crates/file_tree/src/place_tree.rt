@@ -49,6 +49,10 @@ impl Tree for PlaceTree {
         NodeId::at(0)
     }
 
+    fn made(&self) -> usize {
+        self.entries.len()
+    }
+
     fn parent(&self, n: NodeId) -> Option<NodeId> {
         match parent_in(self.entries.as_slice(), n.number()) {
             Some(dir) => Some(NodeId::at(dir)),

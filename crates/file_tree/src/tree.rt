@@ -35,6 +35,10 @@ pub trait Tree: Sized + Drop {
         ensures first { result ≡ 0 }
         ensures tree { IsTree (nodes self.now) };
 
+    /// How many nodes were made, the root and removed ones counted: from 1 to 1024. (own)
+    fn made(&self) -> usize
+        ensures { result ≡ length (nodes self.now) };
+
     /// The directory that holds a node, or nothing for the root and for removed nodes.
     fn parent(&self, n: NodeId) -> Option<NodeId>
         requires { n < length (nodes self.now) }
