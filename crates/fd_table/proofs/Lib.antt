@@ -1,0 +1,12 @@
+pub mod Scans
+pub mod Lists
+pub mod Empty
+pub mod Tables
+pub mod Kept
+pub mod Unnamed
+pub mod Alike
+pub mod QueueLaws
+pub mod Sending
+pub mod Unused
+pub mod Pairing
+pub mod Counting

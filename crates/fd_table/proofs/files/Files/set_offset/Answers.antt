@@ -1,0 +1,14 @@
+use Rattle.std.proofs.Common.{ap}
+use Rattle.fd_table.specs.Descriptions.{State}
+use Rattle.fd_table.proofs.Alike.{alike_offset, kept_state}
+use Rattle.fd_table.proofs.files.Files.set_offset.Goals as goal
+
+pub invariant_of-self : goal.invariant_of-self
+invariant_of-self c = kept_state _ _ _ _ c.self.invariant c.set_slot.ensures.slots (rw c.as_slice.ensures.value at c.description_at-description.ensures.object)
+
+pub returns : goal.returns
+returns c =
+    let object = rw c.as_slice.ensures.value at c.description_at-description.ensures.object in
+    let state = rw c.as_slice.ensures.value at c.description_at-description.ensures.state in
+    rw (← c.self.view_is, ← c.number-at.ensures)
+    (alike_offset _ _ _ _ _ c.set_slot.ensures.slots object (ap (λ (s : State). record s { offset = c.args.offset }) state))

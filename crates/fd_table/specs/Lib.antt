@@ -1,0 +1,7 @@
+pub mod Descriptions
+pub mod OpenFiles
+pub mod Filled
+pub mod Views
+pub mod Kept
+pub mod Stored
+pub mod Counts

@@ -1,0 +1,84 @@
+//! Socket pairs and their ends.
+
+ghost use Rattle.std.specs.Prelude.{◌≡◌, ◌==◌};
+ghost use Rattle.fd_table.specs.Descriptions.{other_side};
+ghost use Rattle.fd_table.specs.Views.{side_seen};
+
+use std::marker::Model;
+
+/// The number of a socket pair. It may name another pair once no end is open and nothing is on its way. (own)
+#[derive(Clone, Copy, PartialEq, Eq, Debug)]
+pub struct PairId {
+    number: usize,
+}
+
+impl Model for PairId {
+    ghost use Rattle.std.specs.Prelude.{ℕ};
+
+    ghost Value = { ℕ };
+
+    ghost view = { λ p. p.number };
+
+    ghost inverse = { λ n. record { number = n } };
+}
+
+impl PairId {
+    /// The pair of a number.
+    pub(crate) fn at(number: usize) -> PairId
+        ensures { result ≡ number }
+    {
+        PairId { number }
+    }
+
+    /// The pair's number.
+    pub(crate) fn number(self) -> usize
+        ensures { result ≡ self }
+    {
+        self.number
+    }
+}
+
+/// One of the two ends of a pair. (socketpair(2); the names are own)
+#[derive(Clone, Copy, PartialEq, Eq, Debug)]
+pub enum Side {
+    A,
+    B,
+}
+
+impl Side {
+    /// The other one.
+    pub fn other(self) -> Side
+        ensures { side_seen result ≡ other_side (side_seen self) }
+    {
+        match self {
+            Side::A => Side::B,
+            Side::B => Side::A,
+        }
+    }
+
+    /// Whether it is that one.
+    pub(crate) fn is(self, other: Side) -> bool
+        ensures { result ≡ (side_seen self == side_seen other) }
+    {
+        match (self, other) {
+            (Side::A, Side::A) => true,
+            (Side::A, Side::B) => false,
+            (Side::B, Side::A) => false,
+            (Side::B, Side::B) => true,
+        }
+    }
+}
+
+/// An end of a pair.
+#[derive(Clone, Copy, PartialEq, Eq, Debug)]
+pub struct End {
+    pub pair: PairId,
+    pub side: Side,
+}
+
+/// What stands first in a queue: its byte, and whether a descriptor comes with it. (own)
+#[derive(Clone, Copy, PartialEq, Eq, Debug)]
+pub struct Front {
+    pub byte: u8,
+    pub carries: bool,
+}

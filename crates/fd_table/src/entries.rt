@@ -1,0 +1,116 @@
+//! The tables of all processes as one list of entries: sixteen for each of sixteen processes.
+
+ghost use Rattle.std.specs.Prelude.{◌≡◌, ◌<◌, None, length, replicate, IfOk, option_map};
+ghost use Rattle.rights.specs.Maps.{put, put2};
+ghost use Rattle.fd_table.specs.Kept.{entry};
+ghost use Rattle.fd_table.specs.OpenFiles.{lowest_free};
+ghost use Rattle.fd_table.specs.Filled.{ended};
+ghost use Rattle.fd_table.specs.Views.{entry_seen};
+ghost use Rattle.fd_table.specs.Stored.{IsWithinTables, entries_kept, entry_kept};
+
+use crate::descriptors::{DescriptionId, Descriptor, Entry};
+use rights::{Fcntls, Rights};
+use std::alloc::{AllocError, Global};
+
+/// How many descriptor numbers a process has.
+pub(crate) const NUMBERS: u8 = 16;
+
+/// How many entries all tables have.
+const ENTRIES: usize = 256;
+
+/// The entry of a process at a number.
+pub(crate) fn entry_at(entries: &[Option<Descriptor>], p: u8, n: u8) -> Option<Descriptor>
+    requires { length entries.now ≡ 256 }
+    ensures { entry_kept result ≡ entry (entries_kept entries.now) p n }
+{
+    if p >= 16 || n >= NUMBERS {
+        return None;
+    }
+    entries[p as usize * 16 + n as usize]
+}
+
+/// The lowest number of a process that has no entry.
+pub(crate) fn lowest_in(entries: &[Option<Descriptor>], p: u8) -> Option<u8>
+    requires { length entries.now ≡ 256 }
+    ensures { result ≡ lowest_free (entry (entries_kept entries.now) p) }
+{
+    for n in 0..NUMBERS {
+        if entry_at(entries, p, n).is_none() {
+            return Some(n);
+        }
+    }
+    None
+}
+
+/// Sixteen tables without an entry.
+pub(crate) fn no_entries(alloc: Global) -> Result<Vec<Option<Descriptor>>, AllocError>
+    ensures { IfOk result (λ entries. entries.items ≡ replicate 256 None) }
+{
+    let mut entries = Vec::with_capacity(alloc, ENTRIES)?;
+    for _number in 0..ENTRIES {
+        entries.push(None)?;
+    }
+    Ok(entries)
+}
+
+/// Changes an entry.
+pub(crate) fn set_entry(
+    entries: &mut Vec<Option<Descriptor>>,
+    p: u8,
+    n: u8,
+    descriptor: Option<Descriptor>,
+)
+    requires room { length entries.old.items ≡ 256 }
+    requires process { p < 16 }
+    requires number { n < 16 }
+    ensures entries { entry (entries_kept entries.new.items)
+        ≡ put2 (entry (entries_kept entries.old.items)) p n (entry_kept descriptor) }
+    ensures room { length entries.new.items ≡ 256 }
+{
+    entries[p as usize * 16 + n as usize] = descriptor;
+}
+
+/// Clears all entries of a process.
+pub(crate) fn clear_row(entries: &mut Vec<Option<Descriptor>>, p: u8)
+    requires room { length entries.old.items ≡ 256 }
+    requires process { p < 16 }
+    ensures entries { entry (entries_kept entries.new.items)
+        ≡ put (entry (entries_kept entries.old.items)) p (λ n. None) }
+    ensures room { length entries.new.items ≡ 256 }
+{
+    for n in 0..NUMBERS {
+        set_entry(entries, p, n, None);
+    }
+}
+
+/// Copies all entries of a process over those of another.
+pub(crate) fn copy_row(entries: &mut Vec<Option<Descriptor>>, p: u8, q: u8)
+    requires room { length entries.old.items ≡ 256 }
+    requires process { q < 16 }
+    ensures entries { entry (entries_kept entries.new.items)
+        ≡ put (entry (entries_kept entries.old.items)) q (entry (entries_kept entries.old.items) p) }
+    ensures room { length entries.new.items ≡ 256 }
+{
+    for n in 0..NUMBERS {
+        let copied = entry_at(entries.as_slice(), p, n);
+        set_entry(entries, q, n, copied);
+    }
+}
+
+/// Names a description, with all rights and commands, in an entry or nowhere.
+pub(crate) fn set_end(entries: &mut Vec<Option<Descriptor>>, to: Option<Entry>, description: usize)
+    requires room { length entries.old.items ≡ 256 }
+    requires within { IsWithinTables (option_map entry_seen to) }
+    ensures entries { entry (entries_kept entries.new.items)
+        ≡ ended (entry (entries_kept entries.old.items)) (option_map entry_seen to) description }
+    ensures room { length entries.new.items ≡ 256 }
+{
+    if let Some(to) = to {
+        let descriptor = Descriptor {
+            description: DescriptionId::at(description),
+            rights: Rights::all(),
+            fcntls: Fcntls::all(),
+        };
+        set_entry(entries, to.process, to.number, Some(descriptor));
+    }
+}

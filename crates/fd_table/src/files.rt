@@ -1,0 +1,342 @@
+//! What all processes have open: a table for each, the descriptions that their entries name, and the queues of socket
+//! pairs.
+
+ghost use Rattle.std.specs.Prelude.{◌≡◌, ◌<◌, ℕ, None, IfErr, IfOk, OnErr, OnOk, option_map};
+ghost use Rattle.std.specs.Option.{IsSome};
+ghost use Rattle.fd_table.specs.Descriptions.{message_of, other_side};
+ghost use Rattle.fd_table.specs.OpenFiles.{Alike, is_open as is_end_open, lowest_free as lowest_number};
+ghost use Rattle.fd_table.specs.Filled.{AreApart, IsEmpty, IsEndThere, IsFree, IsFreeAt, IsNamed, MayLimit, MayPass, Opens, Pairs, front_byte, front_of, front_passed, limited, send_refusal, sent, taken, taken_to, with_entry, with_flags, with_offset, with_row};
+ghost use Rattle.fd_table.specs.Counts.{Counts};
+ghost use Rattle.fd_table.specs.Views.{Tells, access_asked, class_seen, descriptor_seen, entry_seen, front_seen, object_seen, side_seen, state_seen};
+
+use crate::descriptors::{Class, Description, DescriptionId, Descriptor, Entry};
+use crate::ends::{End, Front, PairId, Side};
+use crate::entries::{clear_row, copy_row, entry_at, lowest_in, no_entries, set_end, set_entry};
+use crate::faults::SendFault;
+use crate::queues::{MOST_MESSAGES, Queues, front_in, make_queues, messages_in, send_in, take_in};
+use crate::search::{Sought, count_named, first_unnamed, first_unused, is_named, two_unnamed};
+use crate::slots::{description_at, make_room, opened_end, opened_node, set_slot};
+use crate::status::Status;
+use file_tree::NodeId;
+use rights::{Fcntls, Memory, OpenFlags, Rights};
+use std::alloc::Global;
+use std::marker::Model;
+
+/// The tables of sixteen processes, with sixteen entries each, the descriptions, and the queues of socket pairs.
+/// A clause sees lists, which `open_files` turns into maps. (own)
+#[derive(Drop)]
+pub struct Files {
+    alloc: Global,
+    entries: Vec<Option<Descriptor>>,
+    slots: Vec<Option<Description>>,
+    queues: Vec<Queues>,
+}
+
+impl Model for Files {
+    ghost use Rattle.fd_table.specs.Kept.{Kept, IsKept};
+    ghost use Rattle.fd_table.specs.Stored.{kept};
+
+    ghost Value = { Kept };
+
+    ghost view = { λ f. kept f.entries.items f.slots.items f.queues.items };
+
+    ghost invariant = { λ f. IsKept (kept f.entries.items f.slots.items f.queues.items) };
+}
+
+impl Files {
+    ghost use Rattle.fd_table.specs.Kept.{open_files};
+
+    /// Nothing is open. Room for all tables is made here, so that an entry takes no memory later.
+    pub fn new(alloc: Global) -> Result<Files, Memory>
+        ensures { IfOk result (λ files. IsEmpty (open_files files)) }
+    {
+        let entries = no_entries(alloc)?;
+        Ok(Files {
+            alloc,
+            entries,
+            slots: Vec::new(alloc),
+            queues: Vec::new(alloc),
+        })
+    }
+
+    /// The descriptor of a process at a number, if there is one.
+    #[tactic(auto, unfolding(crate::specs::Kept::open_files))]
+    pub fn get(&self, p: u8, n: u8) -> Option<Descriptor>
+        ensures { option_map descriptor_seen result ≡ (open_files self.now).table p n }
+    {
+        entry_at(self.entries.as_slice(), p, n)
+    }
+
+    /// The lowest number that no descriptor of the process has, if one is free. (open(2), dup(2))
+    #[tactic(auto, unfolding(crate::specs::Kept::open_files))]
+    pub fn lowest_free(&self, p: u8) -> Option<u8>
+        ensures { result ≡ lowest_number ((open_files self.now).table p) }
+    {
+        lowest_in(self.entries.as_slice(), p)
+    }
+
+    /// What the description of an entry is of, and its state.
+    #[tactic(auto, unfolding(crate::specs::Kept::open_files))]
+    pub fn what(&self, d: DescriptionId) -> Description
+        requires { IsNamed (open_files self.now) d }
+        ensures object { object_seen result.object ≡ (open_files self.now).objects d }
+        ensures state { state_seen result ≡ (open_files self.now).states d }
+    {
+        description_at(self.slots.as_slice(), d.number())
+    }
+
+    /// What the end would receive next: the byte, and whether a descriptor comes with it.
+    #[tactic(auto, unfolding(crate::specs::Kept::open_files))]
+    pub fn front(&self, end: End) -> Option<Front>
+        ensures { option_map front_seen result ≡ front_of ((open_files self.now).queue end.pair (other_side (side_seen end.side))) }
+    {
+        front_in(self.queues.as_slice(), end.pair.number(), end.side.other())
+    }
+
+    /// Whether some entry, or a descriptor on its way, is of that end.
+    #[tactic(auto, unfolding(crate::specs::Kept::open_files))]
+    pub fn is_open(&self, pair: PairId, side: Side) -> bool
+        ensures { result ≡ is_end_open (open_files self.now) pair (side_seen side) }
+    {
+        is_named(
+            self.entries.as_slice(),
+            self.slots.as_slice(),
+            self.queues.as_slice(),
+            &Sought::End(End { pair, side }),
+        )
+    }
+
+    /// Clears an entry. (close(2))
+    #[tactic(auto, unfolding(crate::specs::Kept::open_files))]
+    pub fn close(&mut self, p: u8, n: u8)
+        requires { IsSome ((open_files self.old).table p n) }
+        ensures { Alike (with_entry (open_files self.old) p n None) (open_files self.new) }
+    {
+        set_entry(&mut self.entries, p, n, None);
+    }
+
+    /// Clears all entries of a process.
+    #[tactic(auto, unfolding(crate::specs::Kept::open_files))]
+    pub fn close_all(&mut self, p: u8)
+        requires { p < 16 }
+        ensures { Alike (with_row (open_files self.old) p (λ n. None)) (open_files self.new) }
+    {
+        clear_row(&mut self.entries, p);
+    }
+
+    /// Copies an entry to a free one, of the same process or of another. (dup(2))
+    #[tactic(auto, unfolding(crate::specs::Kept::open_files))]
+    pub fn share(&mut self, p: u8, n: u8, q: u8, m: u8)
+        requires there { IsSome ((open_files self.old).table p n) }
+        requires free { IsFreeAt (open_files self.old) q m }
+        ensures { Alike (with_entry (open_files self.old) q m ((open_files self.old).table p n)) (open_files self.new) }
+    {
+        let shared = entry_at(self.entries.as_slice(), p, n);
+        set_entry(&mut self.entries, q, m, shared);
+    }
+
+    /// Copies the table of a process to one that has no entry. (fork(2))
+    #[tactic(auto, unfolding(crate::specs::Kept::open_files))]
+    pub fn copy_table(&mut self, p: u8, q: u8)
+        requires from { p < 16 }
+        requires to { q < 16 }
+        requires free { (n : ℕ) → (open_files self.old).table q n ≡ None }
+        ensures { Alike (with_row (open_files self.old) q ((open_files self.old).table p)) (open_files self.new) }
+    {
+        copy_row(&mut self.entries, p, q);
+    }
+
+    /// Leaves a descriptor these rights and fcntl commands, which are within those that it has.
+    /// (cap_rights_limit(2), cap_fcntls_limit(2))
+    #[tactic(auto, unfolding(crate::specs::Kept::open_files))]
+    pub fn limit(&mut self, p: u8, n: u8, rights: Rights, fcntls: Fcntls)
+        requires { MayLimit ((open_files self.old).table p n) rights.0 fcntls.0 }
+        ensures { Alike (limited (open_files self.old) p n rights.0 fcntls.0) (open_files self.new) }
+    {
+        if let Some(descriptor) = entry_at(self.entries.as_slice(), p, n) {
+            let left = Descriptor {
+                description: descriptor.description,
+                rights,
+                fcntls,
+            };
+            set_entry(&mut self.entries, p, n, Some(left));
+        }
+    }
+
+    /// Sets the offset of an entry's description. (lseek(2))
+    #[tactic(auto, unfolding(crate::specs::Kept::open_files))]
+    pub fn set_offset(&mut self, d: DescriptionId, offset: u16)
+        requires { IsNamed (open_files self.old) d }
+        ensures { Alike (with_offset (open_files self.old) d offset) (open_files self.new) }
+    {
+        let at = d.number();
+        let description = description_at(self.slots.as_slice(), at);
+        let moved = Description {
+            object: description.object,
+            offset,
+            status: description.status,
+        };
+        set_slot(&mut self.slots, at, moved);
+    }
+
+    /// Sets the status flags of an entry's description. (fcntl(2), F_SETFL)
+    #[tactic(auto, unfolding(crate::specs::Kept::open_files))]
+    pub fn set_status(&mut self, d: DescriptionId, status: Status)
+        requires { IsNamed (open_files self.old) d }
+        ensures { Alike (with_flags (open_files self.old) d status.append status.nonblock) (open_files self.new) }
+    {
+        let at = d.number();
+        let description = description_at(self.slots.as_slice(), at);
+        let set = Description {
+            object: description.object,
+            offset: description.offset,
+            status,
+        };
+        set_slot(&mut self.slots, at, set);
+    }
+
+    /// Opens a file or directory through a free entry: a new description, at its beginning. With too little memory
+    /// nothing changes. (open(2))
+    #[tactic(auto, unfolding(crate::specs::Kept::open_files))]
+    pub fn open_node(
+        &mut self,
+        p: u8,
+        n: u8,
+        node: NodeId,
+        flags: OpenFlags,
+        rights: Rights,
+        fcntls: Fcntls,
+    ) -> Result<(), Memory>
+        requires { IsFreeAt (open_files self.old) p n }
+        ensures ok { OnOk result (Opens (open_files self.old) (open_files self.new) p n node (access_asked flags) flags.append rights.0 fcntls.0) }
+        ensures err { OnErr result (open_files self.new ≡ open_files self.old) }
+    {
+        let number = first_unnamed(
+            self.entries.as_slice(),
+            self.slots.as_slice(),
+            self.queues.as_slice(),
+            0,
+        );
+        make_room(&mut self.slots, number)?;
+        set_slot(&mut self.slots, number, opened_node(node, flags));
+        let descriptor = Descriptor {
+            description: DescriptionId::at(number),
+            rights,
+            fcntls,
+        };
+        set_entry(&mut self.entries, p, n, Some(descriptor));
+        Ok(())
+    }
+
+    /// Sends a byte, with or without a descriptor that an entry has, to the other end of a pair. (sendmsg(2))
+    #[tactic(auto, unfolding(crate::specs::Kept::open_files))]
+    pub fn send(&mut self, end: End, byte: u8, passed: Option<Descriptor>) -> Result<(), SendFault>
+        requires there { IsEndThere (open_files self.old) end.pair (side_seen end.side) }
+        requires named { MayPass (open_files self.old) (option_map descriptor_seen passed) }
+        ensures ok { OnOk result (Alike (sent (open_files self.old) end.pair (side_seen end.side) (message_of byte (option_map descriptor_seen passed))) (open_files self.new)) }
+        ensures allowed { OnOk result (send_refusal (open_files self.old) end.pair (side_seen end.side) ≡ None) }
+        ensures refused { IfErr result (Tells (send_refusal (open_files self.old) end.pair (side_seen end.side))) }
+        ensures err { OnErr result (open_files self.new ≡ open_files self.old) }
+    {
+        let other = Sought::End(End {
+            pair: end.pair,
+            side: end.side.other(),
+        });
+        let open = is_named(
+            self.entries.as_slice(),
+            self.slots.as_slice(),
+            self.queues.as_slice(),
+            &other,
+        );
+        if !open {
+            return Err(SendFault::Closed);
+        }
+        let pair = end.pair.number();
+        if messages_in(self.queues.as_slice(), pair, end.side) >= MOST_MESSAGES {
+            return Err(SendFault::Full);
+        }
+        send_in(&mut self.queues, pair, end.side, byte, passed)
+    }
+
+    /// Takes the next message that the end receives, and gives its byte. A descriptor that came with it is lost.
+    /// (recv(2))
+    #[tactic(auto, unfolding(crate::specs::Kept::open_files))]
+    pub fn receive(&mut self, end: End) -> Option<u8>
+        requires { IsEndThere (open_files self.old) end.pair (side_seen end.side) }
+        ensures byte { result ≡ front_byte ((open_files self.old).queue end.pair (other_side (side_seen end.side))) }
+        ensures taken { Alike (taken (open_files self.old) end.pair (side_seen end.side)) (open_files self.new) }
+    {
+        match take_in(&mut self.queues, end.pair.number(), end.side.other()) {
+            Some(message) => Some(message.byte),
+            None => None,
+        }
+    }
+
+    /// Takes the next message that the end receives, and puts the descriptor that came with it into a free entry.
+    /// (recvmsg(2))
+    #[tactic(auto, unfolding(crate::specs::Kept::open_files))]
+    pub fn receive_to(&mut self, end: End, p: u8, n: u8)
+        requires there { IsEndThere (open_files self.old) end.pair (side_seen end.side) }
+        requires free { IsFreeAt (open_files self.old) p n }
+        requires carries { IsSome (front_passed ((open_files self.old).queue end.pair (other_side (side_seen end.side)))) }
+        ensures { Alike (taken_to (open_files self.old) end.pair (side_seen end.side) p n) (open_files self.new) }
+    {
+        if let Some(message) = take_in(&mut self.queues, end.pair.number(), end.side.other()) {
+            set_entry(&mut self.entries, p, n, message.passed);
+        }
+    }
+
+    /// Makes a pair of sockets of a class, and puts each end into a free entry, or nowhere. With too little memory
+    /// nothing changes. (socketpair(2))
+    #[tactic(auto, unfolding(crate::specs::Kept::open_files))]
+    pub fn open_pair(
+        &mut self,
+        class: Class,
+        a: Option<Entry>,
+        b: Option<Entry>,
+    ) -> Result<(), Memory>
+        requires free_a { IsFree (open_files self.old) (option_map entry_seen a) }
+        requires free_b { IsFree (open_files self.old) (option_map entry_seen b) }
+        requires apart { AreApart (option_map entry_seen a) (option_map entry_seen b) }
+        ensures ok { OnOk result (Pairs (open_files self.old) (open_files self.new) (class_seen class) (option_map entry_seen a) (option_map entry_seen b)) }
+        ensures err { OnErr result (open_files self.new ≡ open_files self.old) }
+    {
+        let number = first_unused(
+            self.entries.as_slice(),
+            self.slots.as_slice(),
+            self.queues.as_slice(),
+        );
+        let (first, second) = two_unnamed(
+            self.entries.as_slice(),
+            &mut self.slots,
+            self.queues.as_slice(),
+        )?;
+        make_queues(self.alloc, &mut self.queues, number)?;
+        let pair = PairId::at(number);
+        let side_a = End {
+            pair,
+            side: Side::A,
+        };
+        let side_b = End {
+            pair,
+            side: Side::B,
+        };
+        set_slot(&mut self.slots, first, opened_end(side_a, class));
+        set_slot(&mut self.slots, second, opened_end(side_b, class));
+        set_end(&mut self.entries, a, first);
+        set_end(&mut self.entries, b, second);
+        Ok(())
+    }
+
+    /// How many open descriptions some entry names, or a descriptor on its way. (own)
+    #[tactic(auto, unfolding(crate::specs::Kept::open_files))]
+    pub fn count(&self) -> usize
+        ensures { Counts (open_files self.now) result }
+    {
+        count_named(
+            self.entries.as_slice(),
+            self.slots.as_slice(),
+            self.queues.as_slice(),
+        )
+    }
+}

@@ -1,0 +1,355 @@
+-- What each system call answers: its tests in the order in which they are asked, and what a success
+-- gives, changes and does. An error sets r7 and has no change; a call that waits changes nothing.
+use Rattle.std.specs.Prelude.{ℕ, ◌+◌, ◌-◌, ◌%◌, ◌==◌, Bool, true, false, ◌&&◌, ◌||◌, not, nat_lt, nat_le, List, [], ◌∷◌, length, Option, Some, None, if◌then◌else◌}
+use Rattle.std.specs.List.{slice_get}
+use Rattle.rights.specs.Sets.{is_within, all_rights, all_commands, getfl_command, setfl_command}
+use Rattle.rights.specs.Needs.{First, Second, needs_of}
+use Rattle.rights.specs.Opens.{OpenRequest, open_request}
+use Rattle.rights.specs.Errors.{Errno, EPERM, ENOENT, EBADF, EEXIST, ENOTDIR, EISDIR, EINVAL, ENFILE, EMFILE, EFBIG, ENOSPC, EPIPE, EAGAIN, ENOTSOCK, ELOOP, ENOTEMPTY, ENOTCAPABLE, ECAPMODE, Cause, CapMode, MissingRight, Path, Full, Refused}
+use Rattle.rights.specs.Errors as errors
+use Rattle.rights.specs.Operations.{Look, Read as Reads, Write as Writes, Create as Creates, Remove as Removes}
+use Rattle.file_tree.specs.Places.{begins, at_name}
+use Rattle.file_tree.specs.Nodes.{Kind, File, Dir, Link, Node, node, is_dir, is_file, has_below}
+use Rattle.file_tree.specs.Changes.{most_nodes, most_bytes, resized, written}
+use Rattle.lookup.specs.Answers.{Beneath, Global, Last, Follow, Keep, Found_node, Found_free, Lost}
+use Rattle.lookup.specs.Answers as lookups
+use Rattle.lookup.specs.Paths.{last_component}
+use Rattle.lookup.specs.Looks.{find_of}
+use Rattle.process.specs.State.{ProcessState}
+use Rattle.prog_asm.specs.Programs.{Operand, Syscall, Open, Openat, Read, Write, Sendfd, Recvfd, Lseek, Ftruncate, Fsync, Fstat, Fcntl_getfl, Fcntl_setfl, Fstatat, Stat, Mkdirat, Mkdir, Unlinkat, Unlink, Renameat, Dup, Close, Cap_rights_limit, Cap_fcntls_limit, Cap_enter, Cap_getmode, Socketpair, Fork, called}
+use Rattle.fd_table.specs.Descriptions.{Access, Made_at, State, Descriptor, Message, other_side, bit_of, status_number, with_status}
+use Rattle.fd_table.specs.OpenFiles.{is_open, lowest_from, lowest_free}
+use Rattle.kernel.specs.World.{World}
+use Rattle.kernel.specs.Answers.{Event, Effect, Make, Remove, Move, Fill, TreeChange, Same_tree, Set_entry, Clear_entry, New_file, New_pair, New_process, Push, Pop, Set_state, Change, Answer, Fails, Waits, Gives, same, gives, does, unless, held, granted, commanded, through, at_object, at_number, lost, value_of}
+
+-- how many messages a queue holds, how far a file is sought, and how many processes are made (own)
+abbrev pub most_messages : ℕ
+most_messages = 16
+
+abbrev pub most_processes : ℕ
+most_processes = 16
+
+-- the flags of a call that opens nothing
+abbrev pub no_request : OpenRequest
+no_request = open_request false false false false false
+
+-- a final name that is made is kept as it is: no link is followed there (own)
+abbrev pub last_if : Bool → Last
+last_if true = Keep
+last_if false = Follow
+
+-- what fstat tells: 1 of a file, 2 of a directory (own)
+abbrev pub kind_number : Kind → ℕ
+kind_number File = 1
+kind_number Dir = 2
+kind_number Link = 3
+
+-- In this world, process p, which stands at s, makes its call at this event.
+module _ (w : World) (p : ℕ) (s : ProcessState) (e : Event) where
+  abbrev pub at : ℕ → Node
+  at n = node w.tree n
+
+  abbrev pub entry : Operand → Option Descriptor
+  entry x = w.files.table p (value_of s x)
+
+  abbrev pub state_of : Descriptor → State
+  state_of d = w.files.states d.description
+
+  abbrev pub free : Option ℕ
+  free = lowest_free (w.files.table p)
+
+  -- the rights that the call needs of its first descriptor, and of its second (rights(4))
+  abbrev pub first_need : Syscall → OpenRequest → ℕ
+  first_need call request = needs_of (called call) request First false
+
+  -- Global name spaces can't be reached in capability mode. (capsicum(4), cap_enter(2))
+  abbrev pub outside_mode : Answer → Answer
+  outside_mode rest = unless (not s.mode) ECAPMODE CapMode rest
+
+  -- the kernel refuses (own: any call that makes something may be refused)
+  abbrev pub unrefused : Errno → Answer → Answer
+  unrefused errno rest = unless (not e.refuse) errno Refused rest
+
+  -- the descriptor's directory (openat(2), ENOTDIR)
+  abbrev pub in_directory : Descriptor → (ℕ → Answer) → Answer
+  in_directory d rest =
+      at_object (w.files.objects d.description)
+      (λ n access. unless (is_dir (at n).kind) ENOTDIR errors.Kind (rest n))
+      (λ pair side. Fails ENOTDIR errors.Kind)
+
+  -- the descriptor's file
+  abbrev pub at_file : Descriptor → (ℕ → Access → Answer) → Answer
+  at_file d rest =
+      at_object (w.files.objects d.description)
+      (λ n access. unless (is_file (at n).kind) EINVAL errors.Kind (rest n access))
+      (λ pair side. Fails EINVAL errors.Kind)
+
+  -- the descriptor's socket
+  abbrev pub at_socket : Descriptor → (ℕ → ℕ → Answer) → Answer
+  at_socket d rest = at_object (w.files.objects d.description) (λ n access. Fails ENOTSOCK errors.Kind) rest
+
+  -- a call that can't go on waits, or fails if its socket is told not to block (fcntl(2), O_NONBLOCK)
+  abbrev pub blocked : Bool → Answer
+  blocked nonblock = if nonblock then Fails EAGAIN Refused else Waits
+
+  -- ## open and openat (open(2))
+  -- What is found is opened with these rights and commands: all of them by `open`, those of the directory's
+  -- descriptor by `openat` (own).
+  abbrev pub access_for : OpenRequest → Access
+  access_for f = record { readable = f.read; writable = f.write }
+
+  abbrev pub new_file : OpenRequest → ℕ → ℕ → ℕ → ℕ → TreeChange → Change
+  new_file f rights fcntls number n tree =
+      record same { tree = tree; table = New_file number n (access_for f) f.append rights fcntls }
+
+  abbrev pub truncated : Bool → ℕ → TreeChange
+  truncated true n = Fill n []
+  truncated false n = Same_tree
+
+  abbrev pub truncates : Bool → List (List ℕ) → List Effect
+  truncates true place = does Writes place
+  truncates false place = []
+
+  abbrev pub opened_as : OpenRequest → ℕ → ℕ → ℕ → Kind → Answer
+  opened_as f rights fcntls n Link = Fails ELOOP Path
+  opened_as f rights fcntls n Dir =
+      unless (not (f.write || f.create)) EISDIR Path
+      (at_number free (λ number. unrefused ENFILE (Gives number (new_file f rights fcntls number n Same_tree) [])))
+  opened_as f rights fcntls n File =
+      at_number free (λ number.
+      unrefused ENFILE
+      (Gives number (new_file f rights fcntls number n (truncated f.trunc n)) (truncates f.trunc (at n).place)))
+
+  abbrev pub opened_new : OpenRequest → ℕ → ℕ → List (List ℕ) → Answer
+  opened_new f rights fcntls place =
+      at_number free (λ number.
+      unless (nat_lt (length w.tree) most_nodes) ENOSPC Full
+      (unrefused ENFILE
+      (Gives number (new_file f rights fcntls number (length w.tree) (Make place File)) (does Creates place))))
+
+  abbrev pub opened : OpenRequest → ℕ → ℕ → List ℕ → lookups.Answer → Answer
+  opened f rights fcntls path (Lost fault) = lost fault
+  opened f rights fcntls path (Found_free d) = opened_new f rights fcntls (at_name (at d).place (last_component path))
+  opened f rights fcntls path (Found_node n) = opened_as f rights fcntls n (at n).kind
+
+  -- ## read (read(2), recv(2))
+  -- A byte of a file, or 256 at its end; a directory isn't read. A message of a socket gives its byte, and
+  -- the descriptor that it carries is dropped.
+  abbrev pub read_byte : Descriptor → List (List ℕ) → Option ℕ → Answer
+  read_byte d place None = Gives 256 same (does Reads place)
+  read_byte d place (Some byte) =
+      Gives byte (record same { state = Set_state d.description (record (state_of d) { offset = (state_of d).offset + 1 }) }) (does Reads place)
+
+  abbrev pub read_node : Descriptor → ℕ → Access → Answer
+  read_node d n access =
+      unless (not (is_dir (at n).kind)) EISDIR errors.Kind
+      (unless access.readable EBADF errors.Access
+      (read_byte d (at n).place (slice_get (at n).content (state_of d).offset)))
+
+  abbrev pub read_end : Descriptor → ℕ → ℕ → List Message → Answer
+  read_end d pair side [] = if is_open w.files pair (other_side side) then blocked (state_of d).nonblock else gives 256
+  read_end d pair side (m ∷ messages) = Gives m.byte (record same { queue = Pop pair (other_side side) }) []
+
+  -- ## write (write(2), send(2))
+  -- One byte at the offset, or at the end with append; a gap is filled with zeros.
+  abbrev pub write_offset : State → List ℕ → ℕ
+  write_offset state content = if state.append then length content else state.offset
+
+  abbrev pub write_at : Descriptor → ℕ → ℕ → ℕ → Answer
+  write_at d n offset byte =
+      unless (nat_lt offset most_bytes) EFBIG Full
+      (unrefused ENOSPC
+      (Gives 1
+      (record same {
+        tree = Fill n (written (at n).content offset byte);
+        state = Set_state d.description (record (state_of d) { offset = offset + 1 });
+      })
+      (does Writes (at n).place)))
+
+  abbrev pub write_node : Descriptor → ℕ → Access → ℕ → Answer
+  write_node d n access byte =
+      unless (not (is_dir (at n).kind)) EISDIR errors.Kind
+      (unless access.writable EBADF errors.Access (write_at d n (write_offset (state_of d) (at n).content) byte))
+
+  -- A message goes behind what the side has sent, if the other end is open and there is room. (EPIPE)
+  abbrev pub sent_end : Descriptor → ℕ → ℕ → Message → Answer
+  sent_end d pair side message =
+      unless (is_open w.files pair (other_side side)) EPIPE Refused
+      (if nat_lt (length (w.files.queue pair side)) most_messages
+      then Gives 1 (record same { queue = Push pair side message }) []
+      else blocked (state_of d).nonblock)
+
+  -- ## recvfd (recvmsg(2), SCM_RIGHTS)
+  -- The front message's descriptor, with the rights that it has; a message without one stays.
+  abbrev pub received : ℕ → ℕ → ℕ → Option Descriptor → Answer
+  received pair side number None = Fails EINVAL Refused
+  received pair side number (Some d) =
+      Gives number (record same { queue = Pop pair (other_side side); table = Set_entry number d }) []
+
+  abbrev pub receive_end : Descriptor → ℕ → ℕ → ℕ → List Message → Answer
+  receive_end d pair side number [] =
+      unless (is_open w.files pair (other_side side)) EINVAL Refused (blocked (state_of d).nonblock)
+  receive_end d pair side number (m ∷ messages) = received pair side number m.passed
+
+  -- ## fstat, fstatat and stat (fstat(2))
+  abbrev pub looked : ℕ → Answer
+  looked n = Gives (kind_number (at n).kind) same (does Look (at n).place)
+
+  abbrev pub looked_at : lookups.Answer → Answer
+  looked_at (Lost fault) = lost fault
+  looked_at (Found_free d) = Fails ENOENT Path
+  looked_at (Found_node n) = looked n
+
+  -- ## mkdirat and mkdir (mkdir(2))
+  abbrev pub made_directory : List ℕ → lookups.Answer → Answer
+  made_directory path (Lost fault) = lost fault
+  made_directory path (Found_node n) = Fails EEXIST Path
+  made_directory path (Found_free d) =
+      unless (nat_lt (length w.tree) most_nodes) ENOSPC Full
+      (unrefused ENOSPC
+      (Gives 0 (record same { tree = Make (at_name (at d).place (last_component path)) Dir })
+      (does Creates (at_name (at d).place (last_component path)))))
+
+  -- ## unlinkat and unlink (unlink(2), rmdir(2))
+  abbrev pub unlinked_as : Bool → ℕ → Answer → Answer
+  unlinked_as true n rest =
+      unless (is_dir (at n).kind) ENOTDIR Path (unless (not (has_below w.tree (at n).place)) ENOTEMPTY Path rest)
+  unlinked_as false n rest = unless (not (is_dir (at n).kind)) EPERM Path rest
+
+  abbrev pub unlinked : Bool → lookups.Answer → Answer
+  unlinked directory (Lost fault) = lost fault
+  unlinked directory (Found_free d) = Fails ENOENT Path
+  unlinked directory (Found_node n) =
+      unlinked_as directory n (Gives 0 (record same { tree = Remove n }) (does Removes (at n).place))
+
+  -- ## renameat (rename(2))
+  -- Into a free name, or over another node, whose kind has to fit. A node that is replaced is removed, which
+  -- needs the right to unlink too (own).
+  abbrev pub moves : ℕ → List (List ℕ) → Change
+  moves n place = record same { tree = Move n place }
+
+  abbrev pub renamed_free : ℕ → List (List ℕ) → Answer
+  renamed_free n place =
+      unless (not (begins (at n).place place)) EINVAL Path
+      (Gives 0 (moves n place)
+      (record { operation = Removes; place = (at n).place } ∷ record { operation = Creates; place = place } ∷ []))
+
+  abbrev pub renamed_over : ℕ → ℕ → Answer
+  renamed_over n m =
+      unless (not (begins (at n).place (at m).place)) EINVAL Path
+      (unless (not (is_dir (at n).kind && not (is_dir (at m).kind))) ENOTDIR Path
+      (unless (not (not (is_dir (at n).kind) && is_dir (at m).kind)) EISDIR Path
+      (unless (not (has_below w.tree (at m).place)) ENOTEMPTY Path
+      (Gives 0 (moves n (at m).place)
+      (record { operation = Removes; place = (at m).place } ∷ record { operation = Removes; place = (at n).place }
+      ∷ record { operation = Creates; place = (at m).place } ∷ [])))))
+
+  abbrev pub renamed_to : Syscall → Descriptor → ℕ → List ℕ → lookups.Answer → Answer
+  renamed_to call target n path (Lost fault) = lost fault
+  renamed_to call target n path (Found_free d) = renamed_free n (at_name (at d).place (last_component path))
+  renamed_to call target n path (Found_node m) =
+      if n == m then gives 0
+      else granted (needs_of (called call) no_request Second true) target (renamed_over n m)
+
+  abbrev pub renamed_from : lookups.Answer → (ℕ → Answer) → Answer
+  renamed_from (Lost fault) rest = lost fault
+  renamed_from (Found_free d) rest = Fails ENOENT Path
+  renamed_from (Found_node n) rest = rest n
+
+  -- ## socketpair (socketpair(2))
+  -- The two lowest free numbers.
+  abbrev pub pair_at : Option ℕ → Answer
+  pair_at None = Fails EMFILE Full
+  pair_at (Some first) =
+      at_number (lowest_from (15 - first) (first + 1) (w.files.table p)) (λ second.
+      unrefused ENFILE (Gives first (record same { table = New_pair first second (Made_at s.program s.point) }) []))
+
+  -- ## The calls
+  unfoldable pub answer : Syscall → Answer
+  answer (Open path f) = outside_mode (opened f all_rights all_commands path (find_of w.tree 0 path Global (last_if f.create)))
+  answer (Openat x path f) =
+      through (first_need (Openat x path f) f) (entry x) (λ d.
+      in_directory d (λ n. opened f d.rights d.fcntls path (find_of w.tree n path Beneath (last_if f.create))))
+  answer (Read x) =
+      through (first_need (Read x) no_request) (entry x) (λ d.
+      at_object (w.files.objects d.description) (read_node d)
+      (λ pair side. read_end d pair side (w.files.queue pair (other_side side))))
+  answer (Write x v) =
+      through (first_need (Write x v) no_request) (entry x) (λ d.
+      at_object (w.files.objects d.description)
+      (λ n access. write_node d n access (value_of s v % 256))
+      (λ pair side. unrefused ENOSPC (sent_end d pair side (record { byte = value_of s v % 256; passed = None }))))
+  answer (Sendfd x y v) =
+      held (entry x) (λ d.
+      held (entry y) (λ passed.
+      granted (first_need (Sendfd x y v) no_request) d
+      (at_socket d (λ pair side. sent_end d pair side (record { byte = value_of s v % 256; passed = Some passed })))))
+  answer (Recvfd x) =
+      through (first_need (Recvfd x) no_request) (entry x) (λ d.
+      at_socket d (λ pair side.
+      at_number free (λ number. receive_end d pair side number (w.files.queue pair (other_side side)))))
+  answer (Lseek x v) =
+      through (first_need (Lseek x v) no_request) (entry x) (λ d.
+      at_file d (λ n access.
+      unless (nat_le (value_of s v) most_bytes) EINVAL Refused
+      (Gives (value_of s v) (record same { state = Set_state d.description (record (state_of d) { offset = value_of s v }) }) [])))
+  answer (Ftruncate x v) =
+      through (first_need (Ftruncate x v) no_request) (entry x) (λ d.
+      at_file d (λ n access.
+      unless access.writable EINVAL errors.Access
+      (unless (nat_le (value_of s v) most_bytes) EFBIG Full
+      (Gives 0 (record same { tree = Fill n (resized (at n).content (value_of s v)) }) (does Writes (at n).place)))))
+  answer (Fsync x) =
+      through (first_need (Fsync x) no_request) (entry x) (λ d.
+      at_object (w.files.objects d.description) (λ n access. gives 0) (λ pair side. Fails EINVAL errors.Kind))
+  answer (Fstat x) =
+      through (first_need (Fstat x) no_request) (entry x) (λ d.
+      at_object (w.files.objects d.description) (λ n access. looked n) (λ pair side. gives 3))
+  answer (Fcntl_getfl x) =
+      through (first_need (Fcntl_getfl x) no_request) (entry x) (λ d.
+      commanded getfl_command d (gives (status_number (state_of d))))
+  answer (Fcntl_setfl x v) =
+      through (first_need (Fcntl_setfl x v) no_request) (entry x) (λ d.
+      commanded setfl_command d
+      (unless (nat_le (value_of s v) 3) EINVAL Refused
+      (Gives 0
+      (record same {
+        state = Set_state d.description (with_status (state_of d) (value_of s v));
+      }) [])))
+  answer (Fstatat x path) =
+      through (first_need (Fstatat x path) no_request) (entry x) (λ d.
+      in_directory d (λ n. looked_at (find_of w.tree n path Beneath Follow)))
+  answer (Stat path) = outside_mode (looked_at (find_of w.tree 0 path Global Follow))
+  answer (Mkdirat x path) =
+      through (first_need (Mkdirat x path) no_request) (entry x) (λ d.
+      in_directory d (λ n. made_directory path (find_of w.tree n path Beneath Keep)))
+  answer (Mkdir path) = outside_mode (made_directory path (find_of w.tree 0 path Global Keep))
+  answer (Unlinkat x path directory) =
+      through (first_need (Unlinkat x path directory) no_request) (entry x) (λ d.
+      in_directory d (λ n. unlinked directory (find_of w.tree n path Beneath Keep)))
+  answer (Unlink path directory) = outside_mode (unlinked directory (find_of w.tree 0 path Global Keep))
+  answer (Renameat x from y to) =
+      held (entry x) (λ d.
+      held (entry y) (λ target.
+      granted (first_need (Renameat x from y to) no_request) d
+      (granted (needs_of (called (Renameat x from y to)) no_request Second false) target
+      (in_directory d (λ n.
+      in_directory target (λ m.
+      renamed_from (find_of w.tree n from Beneath Keep) (λ k.
+      renamed_to (Renameat x from y to) target k to (find_of w.tree m to Beneath Keep))))))))
+  answer (Dup x) = held (entry x) (λ d. at_number free (λ number. Gives number (record same { table = Set_entry number d }) []))
+  answer (Close x) = held (entry x) (λ d. Gives 0 (record same { table = Clear_entry (value_of s x) }) [])
+  answer (Cap_rights_limit x rights) =
+      held (entry x) (λ d.
+      unless (is_within rights d.rights) ENOTCAPABLE MissingRight
+      (Gives 0 (record same { table = Set_entry (value_of s x) (record d { rights = rights }) }) []))
+  answer (Cap_fcntls_limit x commands) =
+      held (entry x) (λ d.
+      unless (is_within commands d.fcntls) ENOTCAPABLE MissingRight
+      (Gives 0 (record same { table = Set_entry (value_of s x) (record d { fcntls = commands }) }) []))
+  answer Cap_enter = Gives 0 (record same { enters = true }) []
+  answer Cap_getmode = gives (bit_of s.mode 1)
+  answer Socketpair = pair_at free
+  answer Fork =
+      unless (nat_lt (length w.processes) most_processes) EAGAIN Full
+      (unrefused EAGAIN (Gives (length w.processes) (record same { table = New_process }) []))

@@ -1,0 +1,11 @@
+pub mod World
+pub mod Answers
+pub mod Calls
+pub mod Changes
+pub mod Steps
+pub mod Sources
+pub mod WellFormed
+pub mod Runs
+pub mod Renamings
+pub mod Alike
+pub mod Gains

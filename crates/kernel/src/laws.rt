@@ -1,0 +1,86 @@
+//! Laws of the system calls. Each is the contract of a function that does nothing.
+
+ghost use Rattle.kernel.specs.Alike.{AlikeWorldsActAlike, AlikeWorldsShareNumbers, AlikeWorldsTwice};
+ghost use Rattle.kernel.specs.Gains.{NoRunGains};
+ghost use Rattle.kernel.specs.Renamings.{NumbersAreIgnoredTwice, NumbersDoNotMatter};
+ghost use Rattle.kernel.specs.Runs.{AlikeWorldsRunAlike, FreshNumbersExist, NextWorldExists, RunExists, RunsShowTheSame, RunsShowTheSameLines, WellFormedWorldExists};
+ghost use Rattle.kernel.specs.Sources.{GivesNoRight};
+
+/// No call gives a right: in every world, of every process, at every event, a descriptor that a call makes has no more
+/// rights and fcntl commands than the one it comes from; and a call without such a source makes none. `open` and
+/// `socketpair` alone make descriptors of their own, with all rights. (cap_rights_limit(2), cap_fcntls_limit(2))
+pub fn no_call_gives_a_right()
+    ensures { GivesNoRight }
+{}
+
+/// From a well-formed world each event has a next world: there are fresh numbers to choose, and whichever are chosen,
+/// the next world is well formed.
+pub fn a_next_world_exists()
+    ensures { NextWorldExists }
+{}
+
+/// Whatever number that nobody names is taken for the first description, the rest of a fresh choice exists; and numbers
+/// that are free one by one are fresh together.
+pub fn fresh_numbers_exist()
+    ensures { FreshNumbersExist }
+{}
+
+/// A world that says of all that is named what a well-formed one says is well formed too, answers each call the same, has
+/// the same fresh choices, and steps to such a world again, with the same line.
+pub fn alike_worlds_act_alike()
+    ensures { AlikeWorldsActAlike }
+{}
+
+/// Two well-formed worlds that differ only in the numbers of descriptions and pairs show the same line, and their next
+/// worlds differ only so, whatever fresh numbers are chosen in each.
+pub fn numbers_do_not_matter()
+    ensures { NumbersDoNotMatter }
+{}
+
+/// Worlds that are alike differ in no number.
+pub fn alike_worlds_share_numbers()
+    ensures { AlikeWorldsShareNumbers }
+{}
+
+/// What differs only in numbers from a world that differs only in numbers does so itself.
+pub fn numbers_are_ignored_twice()
+    ensures { NumbersAreIgnoredTwice }
+{}
+
+/// From each well-formed world all events have a run.
+pub fn a_run_exists()
+    ensures { RunExists }
+{}
+
+/// All runs of the same events from one world show the same lines.
+pub fn runs_show_the_same_lines()
+    ensures { RunsShowTheSameLines }
+{}
+
+/// So do runs from two worlds that differ only in numbers.
+pub fn worlds_show_the_same_lines()
+    ensures { RunsShowTheSame }
+{}
+
+/// In every run, from any world, no process leaves capability mode, the children of one in it are in it, and each
+/// descriptor after a step has a source before it, with at least its rights and fcntl commands, but for those with all
+/// rights that `open`, outside capability mode, and `socketpair` give their process. (cap_enter(2), capsicum(4))
+pub fn no_run_gains()
+    ensures { NoRunGains }
+{}
+
+/// Worlds that are alike have the same runs.
+pub fn alike_worlds_run_alike()
+    ensures { AlikeWorldsRunAlike }
+{}
+
+/// What is alike to what is alike is alike.
+pub fn alike_twice_is_alike()
+    ensures { AlikeWorldsTwice }
+{}
+
+/// Some world is well formed, in which a process holds a directory and both ends of a pair, and a message with a
+/// directory is queued: so the laws speak of something.
+pub fn a_well_formed_world_exists()
+    ensures { WellFormedWorldExists }
+{}

@@ -1,4 +1,0 @@
-pub mod Samples
-pub mod Rows
-pub mod ProcessRows
-pub mod Rights
