@@ -1,0 +1,21 @@
+-- From what a lookup found to what a call answers.
+use Rattle.std.proofs.Common.{◌≡◌, List, subst, sym, ◌∙◌}
+use Rattle.std.specs.Prelude.{Result, Ok, Err}
+use Rattle.file_tree.specs.Nodes.{Node}
+use Rattle.fd_table.specs.OpenFiles.{OpenFiles}
+use Rattle.kernel.specs.World.{World}
+use Rattle.kernel.specs.Answers.{Answer}
+use Rattle.syscalls.specs.declared.outcomes.Refusal.{Refusal}
+use Rattle.syscalls.specs.declared.outcomes.Refusal.TheVariants as refusal
+use Rattle.syscalls.specs.Meets.{Refuses, RefusesAlone, Passes, DoesNothing}
+
+-- a refusal with nothing done
+pub refused_alone : (refused : Refusal) (w : World) (t : List Node) (f : OpenFiles) (a : Answer) → Refuses refused a → DoesNothing w t f → RefusesAlone refused w t f a
+refused_alone (refusal.Fails errno cause) w t f a is nothing = (is, nothing)
+refused_alone refusal.Waits w t f a is nothing = (is, nothing)
+refused_alone refusal.Memory w t f a is nothing = tt
+
+-- a test that goes on to another one
+pub passes_on : {A B : Type 0} (view : A → B) (whole test : (B → Answer) → Answer) (r : Result A Refusal) → ((rest : B → Answer) → whole rest ≡ test rest) → Passes view test r → Passes view whole r
+passes_on view whole test (Ok found) same passes = λ rest. same rest ∙ passes rest
+passes_on view whole test (Err refused) same passes = λ rest. subst (Refuses refused) (sym (same rest)) (passes rest)

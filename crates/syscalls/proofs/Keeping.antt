@@ -1,0 +1,153 @@
+-- What a success leaves: that nothing but one part of the world is changed.
+use Rattle.std.proofs.Common.{◌≡◌, ◌<◌, ℕ, Bool, true, List, [], ◌∷◌, refl, sym, ◌∙◌, map, length}
+use Rattle.std.specs.Prelude.{Option, Some, None}
+use Rattle.file_tree.specs.Nodes.{Kind, Node, node, child_of}
+use Rattle.file_tree.specs.Places.{at_name}
+use Rattle.file_tree.specs.Changes.{created, create_fault}
+use Rattle.file_tree.proofs.TreeLaws.{child_by_place}
+use Rattle.syscalls.proofs.Tests.{below}
+use Rattle.fd_table.specs.Descriptions.{Access, Message, Descriptor, State}
+use Rattle.fd_table.specs.Filled.{with_state, Opens}
+use Rattle.fd_table.specs.OpenFiles.{OpenFiles, Alike, SameDescription, SameDescriptions}
+use Rattle.kernel.specs.World.{World, Choice}
+use Rattle.kernel.specs.Answers.{Effect, TreeChange, TableChange, QueueChange, New_file, Make, Set_state, Answer, Gives, same}
+use Rattle.kernel.specs.Changes.{tree_after, files_after}
+use Rattle.syscalls.specs.Shows.{Shown, shown}
+use Rattle.std.specs.Prelude.{Result, Ok, Err}
+use Rattle.syscalls.specs.declared.outcomes.Success.{Success}
+use Rattle.syscalls.specs.declared.outcomes.Refusal.{Refusal}
+use Rattle.syscalls.proofs.Finding.{refused_alone}
+use Rattle.syscalls.specs.Meets.{Succeeds, Suits, Tells, Meets, IsIdle}
+
+same_description : (f : OpenFiles) (o : Option Descriptor) → SameDescription f f o
+same_description f None = tt
+same_description f (Some d) = (refl, refl)
+
+same_descriptions : (f : OpenFiles) (messages : List Message) → SameDescriptions f f messages
+same_descriptions f [] = tt
+same_descriptions f (m ∷ messages) = (same_description f m.passed, same_descriptions f messages)
+
+pub alike_refl : (f : OpenFiles) → IsIdle f → Alike f f
+alike_refl f idle = record {
+  table = λ p n. refl;
+  queue = λ pair side. refl;
+  entries = λ p n. same_description f (f.table p n);
+  messages = λ pair side. same_descriptions f (f.queue pair side);
+  idle = idle;
+}
+
+-- a choice where nothing is chosen
+pub any_choice : Choice
+any_choice = record { first = 0; second = 0; pair = 0 }
+
+-- a change of the tree alone
+pub tree_succeeds : (w : World) (p : ℕ) (t : List Node) (value : ℕ) (shows : List Shown) (a : Answer) (change : TreeChange) (effects : List Effect) → IsIdle w.files → a ≡ Gives value (record same { tree = change }) effects → map shown effects ≡ shows → t ≡ tree_after w.tree change → Succeeds w p t w.files value shows a
+unfolding files_after
+tree_succeeds w p t value shows a change effects idle is prints tree = record {
+  change = record same { tree = change };
+  effects = effects;
+  choice = any_choice;
+  is = is;
+  prints = prints;
+  suits = tt;
+  tree = tree;
+  files = alike_refl w.files idle;
+}
+
+-- a node that is made
+pub made_is : (t : List Node) (d : ℕ) (name : List ℕ) (kind : Kind) → created t d name kind [] ≡ tree_after t (Make (at_name (node t d).place name) kind)
+unfolding created
+made_is t d name kind = refl
+
+-- a free name may be made where there is room
+pub free_creates : (t : List Node) (d : ℕ) (name : List ℕ) → (node t d).linked ≡ true → child_of t d name ≡ None → length t < 1024 → create_fault t d name ≡ None
+unfolding create_fault
+free_creates t d name linked absent room =
+    rw linked (rw (sym (child_by_place t d name linked) ∙ absent) (rw (below (length t) 1024 room) refl))
+
+-- a change of a description's state alone
+pub state_succeeds : (w : World) (p : ℕ) (f : OpenFiles) (value : ℕ) (shows : List Shown) (a : Answer) (n : ℕ) (state : State) (effects : List Effect) → a ≡ Gives value (record same { state = Set_state n state }) effects → map shown effects ≡ shows → Alike (with_state w.files n state) f → Succeeds w p w.tree f value shows a
+unfolding files_after
+state_succeeds w p f value shows a n state effects is prints files = record {
+  change = record same { state = Set_state n state };
+  effects = effects;
+  choice = any_choice;
+  is = is;
+  prints = prints;
+  suits = tt;
+  tree = refl;
+  files = files;
+}
+
+-- no change
+pub same_succeeds : (w : World) (p : ℕ) (value : ℕ) (shows : List Shown) (a : Answer) (effects : List Effect) → IsIdle w.files → a ≡ Gives value same effects → map shown effects ≡ shows → Succeeds w p w.tree w.files value shows a
+unfolding files_after
+same_succeeds w p value shows a effects idle is prints = record {
+  change = same;
+  effects = effects;
+  choice = any_choice;
+  is = is;
+  prints = prints;
+  suits = tt;
+  tree = refl;
+  files = alike_refl w.files idle;
+}
+
+-- what changes nothing, told with the world
+pub told_meets : (w : World) (p : ℕ) (r : Result Success Refusal) (a : Answer) → IsIdle w.files → Tells r a → Meets w p w.tree w.files r a
+told_meets w p (Ok success) a idle tells = same_succeeds w p success.value _ a tells.effects idle tells.is tells.prints
+told_meets w p (Err refused) a idle tells = refused_alone refused w w.tree w.files a tells (record { tree = refl; files = refl })
+
+-- a change of the tree and of a description's state
+pub write_succeeds : (w : World) (p : ℕ) (t : List Node) (f : OpenFiles) (value : ℕ) (shows : List Shown) (a : Answer) (change : TreeChange) (n : ℕ) (state : State) (effects : List Effect) → a ≡ Gives value (record same { tree = change; state = Set_state n state }) effects → map shown effects ≡ shows → t ≡ tree_after w.tree change → Alike (with_state w.files n state) f → Succeeds w p t f value shows a
+unfolding files_after
+write_succeeds w p t f value shows a change n state effects is prints tree files = record {
+  change = record same { tree = change; state = Set_state n state };
+  effects = effects;
+  choice = any_choice;
+  is = is;
+  prints = prints;
+  suits = tt;
+  tree = tree;
+  files = files;
+}
+
+-- a change of the table alone, of entries that there are
+pub entry_succeeds : (w : World) (p : ℕ) (f : OpenFiles) (value : ℕ) (shows : List Shown) (a : Answer) (change : TableChange) (effects : List Effect) → Suits w.files any_choice change → a ≡ Gives value (record same { table = change }) effects → map shown effects ≡ shows → Alike (files_after w.files p (length w.processes) any_choice (record same { table = change })) f → Succeeds w p w.tree f value shows a
+entry_succeeds w p f value shows a change effects suits is prints files = record {
+  change = record same { table = change };
+  effects = effects;
+  choice = any_choice;
+  is = is;
+  prints = prints;
+  suits = suits;
+  tree = refl;
+  files = files;
+}
+
+-- a file or directory that is opened, with a change of the tree or without
+pub open_succeeds : (w : World) (p : ℕ) (t : List Node) (f : OpenFiles) (value : ℕ) (shows : List Shown) (a : Answer) (change : TreeChange) (number n : ℕ) (access : Access) (append : Bool) (rights fcntls : ℕ) (effects : List Effect) → a ≡ Gives value (record same { tree = change; table = New_file number n access append rights fcntls }) effects → map shown effects ≡ shows → t ≡ tree_after w.tree change → Opens w.files f p number n access append rights fcntls → Succeeds w p t f value shows a
+unfolding files_after
+open_succeeds w p t f value shows a change number n access append rights fcntls effects is prints tree opens = record {
+  change = record same { tree = change; table = New_file number n access append rights fcntls };
+  effects = effects;
+  choice = record { first = opens.description; second = 0; pair = 0 };
+  is = is;
+  prints = prints;
+  suits = opens.fresh;
+  tree = tree;
+  files = opens.alike;
+}
+
+-- a change of a queue alone, which takes a message
+pub queue_succeeds : (w : World) (p : ℕ) (f : OpenFiles) (value : ℕ) (shows : List Shown) (a : Answer) (change : QueueChange) (effects : List Effect) → a ≡ Gives value (record same { queue = change }) effects → map shown effects ≡ shows → Alike (files_after w.files p (length w.processes) any_choice (record same { queue = change })) f → Succeeds w p w.tree f value shows a
+queue_succeeds w p f value shows a change effects is prints files = record {
+  change = record same { queue = change };
+  effects = effects;
+  choice = any_choice;
+  is = is;
+  prints = prints;
+  suits = tt;
+  tree = refl;
+  files = files;
+}

@@ -1,0 +1,4 @@
+pub mod Shows
+pub mod Views
+pub mod Meets
+pub mod NodeCalls

@@ -1,0 +1,24 @@
+-- What the values of the code stand for.
+use Rattle.std.specs.Prelude.{List, map}
+use Rattle.rights.specs.Views.{operation_of}
+use Rattle.process.specs.State.{ProcessState}
+use Rattle.file_tree.specs.Nodes.{Node}
+use Rattle.fd_table.specs.OpenFiles.{OpenFiles}
+use Rattle.kernel.specs.World.{World}
+use Rattle.kernel.specs.Answers.{Event}
+use Rattle.syscalls.specs.declared.events.Event.{Event as EventCode}
+use Rattle.syscalls.specs.declared.outcomes.Effect.{Effect as EffectCode}
+use Rattle.syscalls.specs.Shows.{Shown}
+
+abbrev pub event_of : EventCode → Event
+event_of e = record { process = e.process; input = e.input; refuse = e.refuse }
+
+abbrev pub effect_of : EffectCode → Shown
+effect_of e = record { operation = operation_of e.op; place = e.place.items }
+
+abbrev pub effects_of : List EffectCode → List Shown
+effects_of effects = map effect_of effects
+
+-- the world of these parts
+abbrev pub world_with : List Node → OpenFiles → List ProcessState → World
+world_with tree files processes = record { tree = tree; files = files; processes = processes }

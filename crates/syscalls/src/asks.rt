@@ -1,0 +1,163 @@
+//! Calls that ask of a descriptor and change nothing of the tree: fsync, fstat and fcntl.
+
+ghost use Rattle.std.specs.Prelude.{◌≡◌, ◌<◌, IfOk, List, Some};
+ghost use Rattle.rights.specs.Errors.{ENOTCAPABLE, MissingRight};
+ghost use Rattle.fd_table.specs.Descriptions.{status_number};
+ghost use Rattle.fd_table.specs.Filled.{IsNamed};
+ghost use Rattle.fd_table.specs.Kept.{open_files};
+ghost use Rattle.prog_asm.specs.Programs as programs;
+ghost use Rattle.prog_asm.specs.Views.{operand_of};
+ghost use Rattle.kernel.specs.Answers as answers;
+ghost use Rattle.file_tree.specs.Nodes.{Node};
+ghost use Rattle.syscalls.specs.Meets.{Calls, HasNumbers, IsIdle, IsReady, Part, PassesDescription, need, set_flags};
+
+use crate::descriptors::{Caller, Reached, reach, through, value_of};
+use crate::directories::stat;
+use crate::outcomes::{Refusal, Success};
+use fd_table::{DescriptionId, Files, Status};
+use file_tree::Tree;
+use prog_asm::Operand;
+use rights::{Call, Cause, Errno, Fcntls};
+use std::alloc::Global;
+
+/// Has what was written stored, which it is at once. (fsync(2); that a directory may be asked too is own)
+pub(crate) fn sync<T: Tree>(
+    alloc: Global,
+    tree: &T,
+    files: &Files,
+    caller: &Caller,
+    operand: Operand,
+) -> Result<Success, Refusal>
+    requires { IsReady (T.nodes tree.now) (open_files files.now) caller.now.number }
+    ensures { Calls (T.nodes tree.now) (open_files files.now) caller.now (T.nodes tree.now) (open_files files.now) result (programs.Fsync (operand_of operand)) }
+{
+    match reach(files, caller, operand, Call::Fsync) {
+        Err(refused) => Err(refused),
+        Ok(reached) => match reached {
+            Reached::End(_) => Err(Refusal::Fails(Errno::EINVAL, Cause::Kind)),
+            Reached::Node(_) => Ok(Success {
+                value: 0,
+                effects: Vec::new(alloc),
+            }),
+        },
+    }
+}
+
+/// What fstat tells of a socket. (own)
+const SOCKET: u32 = 3;
+
+/// Asks what the object is. (fstat(2))
+pub(crate) fn stat_descriptor<T: Tree>(
+    alloc: Global,
+    tree: &T,
+    files: &Files,
+    caller: &Caller,
+    operand: Operand,
+) -> Result<Success, Refusal>
+    requires { IsReady (T.nodes tree.now) (open_files files.now) caller.now.number }
+    ensures { Calls (T.nodes tree.now) (open_files files.now) caller.now (T.nodes tree.now) (open_files files.now) result (programs.Fstat (operand_of operand)) }
+{
+    match reach(files, caller, operand, Call::Fstat) {
+        Err(refused) => Err(refused),
+        Ok(reached) => match reached {
+            Reached::Node(found) => stat(alloc, tree, found.node),
+            Reached::End(_) => Ok(Success {
+                value: SOCKET,
+                effects: Vec::new(alloc),
+            }),
+        },
+    }
+}
+
+/// The descriptor of an operand, if `fcntl` may do this through it. (fcntl(2), cap_fcntls_limit(2))
+#[tactic(auto, unfolding(kernel::specs::Answers::held, kernel::specs::Answers::unless))]
+fn commanded(
+    files: &Files,
+    caller: &Caller,
+    operand: Operand,
+    call: Call,
+    command: Fcntls,
+) -> Result<DescriptionId, Refusal>
+    requires { HasNumbers (open_files files.now) caller.now.number }
+    ensures passes { PassesDescription (λ rest. answers.through (need call) ((open_files files.now).table caller.now.number (answers.value_of caller.now.process (operand_of operand)))
+        (λ d. answers.commanded command.0 d (rest d.description))) result }
+    ensures named { IfOk result (IsNamed (open_files files.now)) }
+{
+    let held = match through(files, caller, operand, call) {
+        Err(refused) => return Err(refused),
+        Ok(held) => held,
+    };
+    if !held.fcntls.contains(command) {
+        return Err(Refusal::Fails(Errno::ENOTCAPABLE, Cause::MissingRight));
+    }
+    Ok(held.description)
+}
+
+/// Asks for the status flags. (fcntl(2), F_GETFL)
+pub(crate) fn get_flags(
+    alloc: Global,
+    files: &Files,
+    caller: &Caller,
+    operand: Operand,
+) -> Result<Success, Refusal>
+    requires numbers { HasNumbers (open_files files.now) caller.now.number }
+    requires idle { IsIdle (open_files files.now) }
+    ensures { (t : List Node) → Calls t (open_files files.now) caller.now t (open_files files.now) result (programs.Fcntl_getfl (operand_of operand)) }
+{
+    let description = match commanded(files, caller, operand, Call::FcntlGetfl, Fcntls::GETFL) {
+        Err(refused) => return Err(refused),
+        Ok(description) => description,
+    };
+    let status = files.what(description).status;
+    Ok(Success {
+        value: status.number() as u32,
+        effects: Vec::new(alloc),
+    })
+}
+
+/// Sets the status flags of a description.
+#[tactic(auto, unfolding(kernel::specs::Answers::unless), using(crate::proofs::Tests::at_most, crate::proofs::Tests::above))]
+fn change_flags(
+    alloc: Global,
+    files: &mut Files,
+    caller: &Caller,
+    description: DescriptionId,
+    flags: Operand,
+) -> Result<Success, Refusal>
+    requires { IsNamed (open_files files.old) description }
+    ensures { Part (open_files files.old) caller.now (open_files files.new) result (λ w.
+        set_flags w description (answers.value_of caller.now.process (operand_of flags))) }
+{
+    let flags = value_of(caller, flags);
+    if flags > 3 {
+        return Err(Refusal::Fails(Errno::EINVAL, Cause::Refused));
+    }
+    files.set_status(
+        description,
+        Status {
+            append: flags % 2 == 1,
+            nonblock: flags >= 2,
+        },
+    );
+    Ok(Success {
+        value: 0,
+        effects: Vec::new(alloc),
+    })
+}
+
+/// Sets the status flags. (fcntl(2), F_SETFL)
+pub(crate) fn set_status(
+    alloc: Global,
+    files: &mut Files,
+    caller: &Caller,
+    operand: Operand,
+    flags: Operand,
+) -> Result<Success, Refusal>
+    requires { HasNumbers (open_files files.old) caller.now.number }
+    ensures { (t : List Node) → Calls t (open_files files.old) caller.now t (open_files files.new) result (programs.Fcntl_setfl (operand_of operand) (operand_of flags)) }
+{
+    match commanded(files, caller, operand, Call::FcntlSetfl, Fcntls::SETFL) {
+        Err(refused) => Err(refused),
+        Ok(description) => change_flags(alloc, files, caller, description, flags),
+    }
+}

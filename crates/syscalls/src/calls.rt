@@ -1,0 +1,124 @@
+//! Every call that works on files and directories: what it answers, and what it does to the tree and to what is open.
+
+ghost use Rattle.std.specs.Prelude.{◌≡◌, true};
+ghost use Rattle.fd_table.specs.Kept.{open_files};
+ghost use Rattle.prog_asm.specs.Views.{syscall_of};
+ghost use Rattle.syscalls.specs.Meets.{Calls, IsReady};
+ghost use Rattle.syscalls.specs.NodeCalls.{is_on_nodes};
+
+use crate::asks::{get_flags, set_status, stat_descriptor, sync};
+use crate::descriptors::Caller;
+use crate::modes::{enter_mode, get_mode};
+use crate::nodes::{
+    make_beneath, make_path, open_beneath, open_path, remove_beneath, remove_path, rename_beneath,
+    stat_beneath, stat_path,
+};
+use crate::outcomes::{Refusal, Success};
+use crate::reads::{read, seek};
+use crate::tables::{close, duplicate, limit_fcntls, limit_rights};
+use crate::writes::{truncate, write};
+use fd_table::Files;
+use file_tree::Tree;
+use prog_asm::Syscall;
+use std::alloc::Global;
+
+/// What the call answers, and does to the tree and to what is open.
+pub(crate) fn perform<T: Tree>(
+    alloc: Global,
+    tree: &mut T,
+    files: &mut Files,
+    caller: &Caller,
+    call: &Syscall,
+) -> Result<Success, Refusal>
+    requires ready { IsReady (T.nodes tree.old) (open_files files.old) caller.now.number }
+    requires nodes { is_on_nodes (syscall_of call.now) ≡ true }
+    ensures { Calls (T.nodes tree.old) (open_files files.old) caller.now (T.nodes tree.new) (open_files files.new) result (syscall_of call.now) }
+{
+    match call {
+        Syscall::Open { path, flags } => {
+            open_path(alloc, tree, files, caller, path.bytes(), *flags)
+        }
+        Syscall::Openat {
+            descriptor,
+            path,
+            flags,
+        } => open_beneath(
+            alloc,
+            tree,
+            files,
+            caller,
+            *descriptor,
+            path.bytes(),
+            *flags,
+        ),
+        Syscall::Read { descriptor } => read(alloc, tree, files, caller, *descriptor),
+        Syscall::Write { descriptor, value } => {
+            write(alloc, tree, files, caller, *descriptor, *value)
+        }
+        Syscall::Lseek { descriptor, offset } => {
+            seek(alloc, tree, files, caller, *descriptor, *offset)
+        }
+        Syscall::Ftruncate { descriptor, len } => {
+            truncate(alloc, tree, files, caller, *descriptor, *len)
+        }
+        Syscall::Fsync { descriptor } => sync(alloc, tree, files, caller, *descriptor),
+        Syscall::Fstat { descriptor } => stat_descriptor(alloc, tree, files, caller, *descriptor),
+        Syscall::FcntlGetfl { descriptor } => get_flags(alloc, files, caller, *descriptor),
+        Syscall::FcntlSetfl { descriptor, flags } => {
+            set_status(alloc, files, caller, *descriptor, *flags)
+        }
+        Syscall::Fstatat { descriptor, path } => {
+            stat_beneath(alloc, tree, files, caller, *descriptor, path.bytes())
+        }
+        Syscall::Stat { path } => stat_path(alloc, tree, files, caller, path.bytes()),
+        Syscall::Mkdirat { descriptor, path } => {
+            make_beneath(alloc, tree, files, caller, *descriptor, path.bytes())
+        }
+        Syscall::Mkdir { path } => make_path(alloc, tree, files, caller, path.bytes()),
+        Syscall::Unlinkat {
+            descriptor,
+            path,
+            directory,
+        } => remove_beneath(
+            alloc,
+            tree,
+            files,
+            caller,
+            *descriptor,
+            path.bytes(),
+            *directory,
+        ),
+        Syscall::Unlink { path, directory } => {
+            remove_path(alloc, tree, files, caller, path.bytes(), *directory)
+        }
+        Syscall::Renameat {
+            descriptor,
+            path,
+            target,
+            new_path,
+        } => rename_beneath(
+            alloc,
+            tree,
+            files,
+            caller,
+            *descriptor,
+            path.bytes(),
+            *target,
+            new_path.bytes(),
+        ),
+        Syscall::Dup { descriptor } => duplicate(alloc, files, caller, *descriptor),
+        Syscall::Close { descriptor } => close(alloc, files, caller, *descriptor),
+        Syscall::CapRightsLimit { descriptor, rights } => {
+            limit_rights(alloc, files, caller, *descriptor, *rights)
+        }
+        Syscall::CapFcntlsLimit {
+            descriptor,
+            commands,
+        } => limit_fcntls(alloc, files, caller, *descriptor, *commands),
+        Syscall::CapEnter => Ok(enter_mode(alloc)),
+        Syscall::CapGetmode => Ok(get_mode(alloc, caller)),
+        Syscall::Sendfd { .. } | Syscall::Recvfd { .. } | Syscall::Socketpair | Syscall::Fork => {
+            Err(Refusal::Memory)
+        }
+    }
+}

@@ -1,0 +1,131 @@
+//! Calls that make directories, and that ask what a node is.
+
+ghost use Rattle.std.specs.Prelude.{◌≡◌, ◌<◌, Bool, true, false, length};
+ghost use Rattle.file_tree.specs.Nodes.{is_dir, is_link, node};
+ghost use Rattle.file_tree.specs.WellFormed.{IsTree};
+ghost use Rattle.lookup.specs.Looks.{find_of};
+ghost use Rattle.lookup.specs.Answers as lookups;
+ghost use Rattle.lookup.specs.Views.{way_of};
+ghost use Rattle.kernel.specs.Calls.{looked, looked_at, made_directory, unlinked};
+ghost use Rattle.prog_asm.specs.Programs.{is_path};
+ghost use Rattle.syscalls.specs.Meets.{Asks, OnTree};
+
+use crate::changes::create_node;
+use crate::outcomes::{Refusal, Success, effects_at};
+use crate::paths::sought;
+use file_tree::{Kind, MAX_NODES, New, NodeId, Tree, TreeFault};
+use lookup::{Found, Last, Way, last_name};
+use rights::{Cause, Errno, Op};
+use std::alloc::Global;
+
+/// What a node is: 1 for a file and 2 for a directory. (fstat(2))
+pub(crate) fn stat<T: Tree>(alloc: Global, tree: &T, n: NodeId) -> Result<Success, Refusal>
+    requires { n < length (T.nodes tree.now) }
+    ensures { Asks (T.nodes tree.now) result (λ w p s e. looked w p s e n) }
+{
+    let value = match tree.kind(n) {
+        Kind::File => 1,
+        Kind::Dir => 2,
+        Kind::Link => 3,
+    };
+    let effects = effects_at(alloc, tree, Op::Look, n)?;
+    Ok(Success { value, effects })
+}
+
+/// What a path leads to. (fstatat(2), stat(2))
+pub(crate) fn stat_at<T: Tree>(
+    alloc: Global,
+    tree: &T,
+    start: NodeId,
+    path: &[u8],
+    way: Way,
+) -> Result<Success, Refusal>
+    requires there { start < length (T.nodes tree.now) }
+    requires opened { is_link (node (T.nodes tree.now) start).kind ≡ false }
+    ensures { Asks (T.nodes tree.now) result (λ w p s e.
+        looked_at w p s e (find_of (T.nodes tree.now) start path.now (way_of way) lookups.Follow)) }
+{
+    match sought(alloc, tree, start, path, way, Last::Follow)? {
+        Found::Free(_) => Err(Refusal::Fails(Errno::ENOENT, Cause::Path)),
+        Found::Node(n) => stat(alloc, tree, n),
+    }
+}
+
+/// Makes a directory. (mkdirat(2), mkdir(2); that a full tree is asked before the kernel is own)
+#[tactic(auto, unfolding(kernel::specs::Answers::unless), using(crate::proofs::Tests::below, crate::proofs::Tests::not_below))]
+pub(crate) fn make_directory<T: Tree>(
+    alloc: Global,
+    tree: &mut T,
+    start: NodeId,
+    path: &[u8],
+    way: Way,
+    refuse: bool,
+) -> Result<Success, Refusal>
+    requires there { start < length (T.nodes tree.old) }
+    requires opened { is_link (node (T.nodes tree.old) start).kind ≡ false }
+    requires text { is_path path.now ≡ true }
+    ensures { OnTree (T.nodes tree.old) (T.nodes tree.new) refuse result (λ w p s e.
+        made_directory w p s e path.now (find_of (T.nodes tree.old) start path.now (way_of way) lookups.Keep)) }
+{
+    let dir = match sought(alloc, tree, start, path, way, Last::Keep)? {
+        Found::Node(_) => return Err(Refusal::Fails(Errno::EEXIST, Cause::Path)),
+        Found::Free(dir) => dir,
+    };
+    if tree.made() >= MAX_NODES {
+        return Err(Refusal::Fails(Errno::ENOSPC, Cause::Full));
+    }
+    if refuse {
+        return Err(Refusal::Fails(Errno::ENOSPC, Cause::Refused));
+    }
+    let made = create_node(alloc, tree, dir, last_name(path), New::Dir)?;
+    Ok(Success {
+        value: 0,
+        effects: made.effects,
+    })
+}
+
+/// Whether the node is a directory.
+pub(crate) fn is_directory<T: Tree>(tree: &T, n: NodeId) -> bool
+    requires { n < length (T.nodes tree.now) }
+    ensures { result ≡ is_dir (node (T.nodes tree.now) n).kind }
+{
+    tree.kind(n) == Kind::Dir
+}
+
+/// Removes a node: a directory if one is asked for, which has to be empty, and else another node. (unlinkat(2),
+/// unlink(2), rmdir(2))
+#[tactic(auto, unfolding(kernel::specs::Answers::unless))]
+pub(crate) fn remove<T: Tree>(
+    alloc: Global,
+    tree: &mut T,
+    start: NodeId,
+    path: &[u8],
+    way: Way,
+    directory: bool,
+) -> Result<Success, Refusal>
+    requires tree { IsTree (T.nodes tree.old) }
+    requires there { start < length (T.nodes tree.old) }
+    requires opened { is_link (node (T.nodes tree.old) start).kind ≡ false }
+    ensures { (refuse : Bool) → OnTree (T.nodes tree.old) (T.nodes tree.new) refuse result (λ w p s e.
+        unlinked w p s e directory (find_of (T.nodes tree.old) start path.now (way_of way) lookups.Keep)) }
+{
+    let n = match sought(alloc, tree, start, path, way, Last::Keep)? {
+        Found::Free(_) => return Err(Refusal::Fails(Errno::ENOENT, Cause::Path)),
+        Found::Node(n) => n,
+    };
+    let is_directory = is_directory(tree, n);
+    if directory != is_directory {
+        let errno = if directory {
+            Errno::ENOTDIR
+        } else {
+            Errno::EPERM
+        };
+        return Err(Refusal::Fails(errno, Cause::Path));
+    }
+    let effects = effects_at(alloc, tree, Op::Remove, n)?;
+    match tree.remove(n) {
+        Ok(()) => Ok(Success { value: 0, effects }),
+        Err(TreeFault::NotEmpty) => Err(Refusal::Fails(Errno::ENOTEMPTY, Cause::Path)),
+        Err(_) => Err(Refusal::Memory),
+    }
+}

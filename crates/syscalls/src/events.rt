@@ -1,0 +1,12 @@
+//! Events.
+
+/// One instruction of one process. (own)
+#[derive(Clone, Copy, PartialEq, Eq, Debug)]
+pub struct Event {
+    /// The number of the process, 0 to 15.
+    pub process: u8,
+    /// The byte that the instruction may be given.
+    pub input: u8,
+    /// Whether the kernel refuses where it may.
+    pub refuse: bool,
+}

@@ -1,0 +1,22 @@
+//! The system calls: what each answers, does and leaves, in code.
+#![tactic(auto)]
+
+mod asks;
+mod calls;
+mod changes;
+mod descriptors;
+mod directories;
+pub mod events;
+mod modes;
+mod nodes;
+mod opens;
+pub mod outcomes;
+mod paths;
+mod reads;
+mod renames;
+mod sockets;
+mod tables;
+mod writes;
+
+pub use events::Event;
+pub use outcomes::{Effect, Outcome};

@@ -1,0 +1,41 @@
+//! Calls on capability mode.
+
+ghost use Rattle.std.specs.Prelude.{◌≡◌, List, Ok};
+ghost use Rattle.file_tree.specs.Nodes.{Node};
+ghost use Rattle.fd_table.specs.Descriptions.{bit_of};
+ghost use Rattle.fd_table.specs.OpenFiles.{OpenFiles};
+ghost use Rattle.prog_asm.specs.Programs as programs;
+ghost use Rattle.syscalls.specs.declared.descriptors.Caller.{Caller as CallerSeen};
+ghost use Rattle.syscalls.specs.Meets.{Calls, IsIdle};
+
+use crate::descriptors::Caller;
+use crate::outcomes::Success;
+use std::alloc::Global;
+
+/// Enters capability mode; the process's own mode is set with its registers. (cap_enter(2))
+pub(crate) fn enter_mode(alloc: Global) -> Success
+    ensures { (t : List Node) (f : OpenFiles) (caller : CallerSeen) → IsIdle f → Calls t f caller t f (Ok result) programs.Cap_enter }
+{
+    Success {
+        value: 0,
+        effects: Vec::new(alloc),
+    }
+}
+
+/// What `cap_getmode` gives. (cap_getmode(2))
+fn mode_number(mode: bool) -> u32
+    ensures { result ≡ bit_of mode 1 }
+{
+    if mode { 1 } else { 0 }
+}
+
+/// Asks whether the process is in capability mode: 1 for yes. (cap_getmode(2))
+pub(crate) fn get_mode(alloc: Global, caller: &Caller) -> Success
+    ensures { (t : List Node) (f : OpenFiles) → IsIdle f → Calls t f caller.now t f (Ok result) programs.Cap_getmode }
+{
+    let process = caller.process;
+    Success {
+        value: mode_number(process.mode()),
+        effects: Vec::new(alloc),
+    }
+}

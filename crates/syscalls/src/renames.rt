@@ -1,0 +1,207 @@
+//! Renaming. (renameat(2), rename(2))
+
+ghost use Rattle.std.specs.Prelude.{◌≡◌, ◌<◌, ◌≢◌, ◌∷◌, [], Bool, IfErr, IfOk, None, true, false, length};
+ghost use Rattle.file_tree.specs.Nodes.{Dir, is_link};
+ghost use Rattle.file_tree.specs.Nodes as nodes;
+ghost use Rattle.file_tree.specs.Places.{at_name, begins, is_name};
+ghost use Rattle.file_tree.specs.WellFormed.{IsTree};
+ghost use Rattle.fd_table.specs.Descriptions.{Descriptor};
+ghost use Rattle.lookup.specs.Answers as lookups;
+ghost use Rattle.lookup.specs.Looks.{find_of};
+ghost use Rattle.lookup.specs.Promises.{HasName};
+ghost use Rattle.prog_asm.specs.Programs.{Syscall, is_path};
+ghost use Rattle.kernel.specs.Calls as model;
+ghost use Rattle.syscalls.specs.Meets.{MayReplace, OnTree};
+ghost use Rattle.syscalls.specs.Views.{effect_of, effects_of};
+
+use crate::directories::is_directory;
+use crate::outcomes::{Effect, Refusal, Success, effect_at, place_of};
+use crate::paths::sought;
+use file_tree::{NodeId, Tree, TreeFault};
+use lookup::{Found, Last, Way, last_name};
+use rights::{Cause, Errno, Op};
+use std::alloc::Global;
+
+/// These effects, in this order.
+fn two_effects(alloc: Global, first: Effect, second: Effect) -> Result<Vec<Effect>, Refusal>
+    ensures effects { IfOk result (λ effects. effects_of effects.items ≡ effect_of first ∷ effect_of second ∷ []) }
+    ensures only_memory { IfErr result (λ e. e ≡ Refusal.Memory) }
+{
+    let mut effects = Vec::new(alloc);
+    effects.push(first)?;
+    effects.push(second)?;
+    Ok(effects)
+}
+
+/// These effects, in this order.
+fn three_effects(
+    alloc: Global,
+    first: Effect,
+    second: Effect,
+    third: Effect,
+) -> Result<Vec<Effect>, Refusal>
+    ensures effects { IfOk result (λ effects. effects_of effects.items ≡ effect_of first ∷ effect_of second ∷ effect_of third ∷ []) }
+    ensures only_memory { IfErr result (λ e. e ≡ Refusal.Memory) }
+{
+    let mut effects = two_effects(alloc, first, second)?;
+    effects.push(third)?;
+    Ok(effects)
+}
+
+/// Gives a node a free name in a directory. (rename(2), EINVAL)
+#[tactic(auto, unfolding(kernel::specs::Answers::unless))]
+pub(crate) fn rename_free<T: Tree>(
+    alloc: Global,
+    tree: &mut T,
+    n: NodeId,
+    dir: NodeId,
+    name: &[u8],
+) -> Result<Success, Refusal>
+    requires tree { IsTree (T.nodes tree.old) }
+    requires there { n < length (T.nodes tree.old) }
+    requires linked { (nodes.node (T.nodes tree.old) n).linked ≡ true }
+    requires dir_there { dir < length (T.nodes tree.old) }
+    requires dir_linked { (nodes.node (T.nodes tree.old) dir).linked ≡ true }
+    requires directory { (nodes.node (T.nodes tree.old) dir).kind ≡ Dir }
+    requires name { is_name name.now ≡ true }
+    requires free { nodes.child_of (T.nodes tree.old) dir name.now ≡ None }
+    ensures { (refuse : Bool) → OnTree (T.nodes tree.old) (T.nodes tree.new) refuse result (λ w p s e.
+        model.renamed_free w p s e n (at_name (nodes.node (T.nodes tree.old) dir).place name.now)) }
+{
+    let from = effect_at(alloc, tree, Op::Remove, n)?;
+    match tree.rename(n, dir, name) {
+        Err(TreeFault::IntoItself) => Err(Refusal::Fails(Errno::EINVAL, Cause::Path)),
+        Err(_) => Err(Refusal::Memory),
+        Ok(()) => {
+            let to = effect_at(alloc, tree, Op::Create, n)?;
+            let effects = two_effects(alloc, from, to)?;
+            Ok(Success { value: 0, effects })
+        }
+    }
+}
+
+/// Whether a node's place begins with another's: it is that node, or below it.
+fn is_within<T: Tree>(alloc: Global, tree: &T, n: NodeId, upper: NodeId) -> Result<bool, Refusal>
+    requires tree { IsTree (T.nodes tree.now) }
+    requires there { n < length (T.nodes tree.now) }
+    requires upper { upper < length (T.nodes tree.now) }
+    ensures only_memory { IfErr result (λ e. e ≡ Refusal.Memory) }
+    ensures within { IfOk result (λ within. within ≡ begins (nodes.node (T.nodes tree.now) upper).place (nodes.node (T.nodes tree.now) n).place) }
+{
+    let path = place_of(alloc, tree, upper)?;
+    Ok(tree.place_begins(n, &path))
+}
+
+/// Gives a node the place of another one, which is removed. The kinds have to fit. (rename(2), ENOTDIR, EISDIR, ENOTEMPTY)
+#[tactic(auto, unfolding(kernel::specs::Answers::unless))]
+pub(crate) fn rename_over<T: Tree>(
+    alloc: Global,
+    tree: &mut T,
+    n: NodeId,
+    over: NodeId,
+    name: &[u8],
+) -> Result<Success, Refusal>
+    requires tree { IsTree (T.nodes tree.old) }
+    requires there { n < length (T.nodes tree.old) }
+    requires linked { (nodes.node (T.nodes tree.old) n).linked ≡ true }
+    requires over_there { over < length (T.nodes tree.old) }
+    requires over_linked { (nodes.node (T.nodes tree.old) over).linked ≡ true }
+    requires named { HasName (T.nodes tree.old) over name.now }
+    requires other { over ≢ n }
+    requires name { is_name name.now ≡ true }
+    ensures { (refuse : Bool) → OnTree (T.nodes tree.old) (T.nodes tree.new) refuse result (λ w p s e.
+        model.renamed_over w p s e n over) }
+{
+    if is_within(alloc, tree, over, n)? {
+        return Err(Refusal::Fails(Errno::EINVAL, Cause::Path));
+    }
+    let moves_directory = is_directory(tree, n);
+    if moves_directory != is_directory(tree, over) {
+        let errno = if moves_directory {
+            Errno::ENOTDIR
+        } else {
+            Errno::EISDIR
+        };
+        return Err(Refusal::Fails(errno, Cause::Path));
+    }
+    let dir = match tree.parent(over) {
+        None => return Err(Refusal::Memory),
+        Some(dir) => dir,
+    };
+    let replaced = effect_at(alloc, tree, Op::Remove, over)?;
+    let from = effect_at(alloc, tree, Op::Remove, n)?;
+    match tree.rename(n, dir, name) {
+        Err(TreeFault::NotEmpty) => Err(Refusal::Fails(Errno::ENOTEMPTY, Cause::Path)),
+        Err(_) => Err(Refusal::Memory),
+        Ok(()) => {
+            let to = effect_at(alloc, tree, Op::Create, n)?;
+            let effects = three_effects(alloc, replaced, from, to)?;
+            Ok(Success { value: 0, effects })
+        }
+    }
+}
+
+/// Gives a node the place that a path leads to. (renameat(2); that a node is replaced with the right to unlink alone is
+/// own)
+#[tactic(auto, unfolding(kernel::specs::Answers::unless))]
+pub(crate) fn rename_to<T: Tree>(
+    alloc: Global,
+    tree: &mut T,
+    n: NodeId,
+    start: NodeId,
+    path: &[u8],
+    may_replace: bool,
+) -> Result<Success, Refusal>
+    requires tree { IsTree (T.nodes tree.old) }
+    requires there { n < length (T.nodes tree.old) }
+    requires linked { (nodes.node (T.nodes tree.old) n).linked ≡ true }
+    requires start_there { start < length (T.nodes tree.old) }
+    requires opened { is_link (nodes.node (T.nodes tree.old) start).kind ≡ false }
+    requires text { is_path path.now ≡ true }
+    ensures { (refuse : Bool) (call : Syscall) (target : Descriptor) → MayReplace call target may_replace
+        → OnTree (T.nodes tree.old) (T.nodes tree.new) refuse result (λ w p s e.
+        model.renamed_to w p s e call target n path.now (find_of (T.nodes tree.old) start path.now lookups.Beneath lookups.Keep)) }
+{
+    let over = match sought(alloc, tree, start, path, Way::Beneath, Last::Keep)? {
+        Found::Free(dir) => return rename_free(alloc, tree, n, dir, last_name(path)),
+        Found::Node(over) => over,
+    };
+    if n.number() == over.number() {
+        return Ok(Success {
+            value: 0,
+            effects: Vec::new(alloc),
+        });
+    }
+    if !may_replace {
+        return Err(Refusal::Fails(Errno::ENOTCAPABLE, Cause::MissingRight));
+    }
+    rename_over(alloc, tree, n, over, last_name(path))
+}
+
+/// Renames what one path leads to to where another leads.
+pub(crate) fn rename<T: Tree>(
+    alloc: Global,
+    tree: &mut T,
+    start: NodeId,
+    path: &[u8],
+    target: NodeId,
+    new_path: &[u8],
+    may_replace: bool,
+) -> Result<Success, Refusal>
+    requires tree { IsTree (T.nodes tree.old) }
+    requires there { start < length (T.nodes tree.old) }
+    requires opened { is_link (nodes.node (T.nodes tree.old) start).kind ≡ false }
+    requires target_there { target < length (T.nodes tree.old) }
+    requires target_opened { is_link (nodes.node (T.nodes tree.old) target).kind ≡ false }
+    requires text { is_path new_path.now ≡ true }
+    ensures { (refuse : Bool) (call : Syscall) (holder : Descriptor) → MayReplace call holder may_replace
+        → OnTree (T.nodes tree.old) (T.nodes tree.new) refuse result (λ w p s e.
+        model.renamed_from w p s e (find_of (T.nodes tree.old) start path.now lookups.Beneath lookups.Keep) (λ n.
+        model.renamed_to w p s e call holder n new_path.now (find_of (T.nodes tree.old) target new_path.now lookups.Beneath lookups.Keep))) }
+{
+    let n = match sought(alloc, tree, start, path, Way::Beneath, Last::Keep)? {
+        Found::Free(_) => return Err(Refusal::Fails(Errno::ENOENT, Cause::Path)),
+        Found::Node(n) => n,
+    };
+    rename_to(alloc, tree, n, target, new_path, may_replace)
+}

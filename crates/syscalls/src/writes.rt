@@ -1,0 +1,191 @@
+//! Calls that write files.
+
+ghost use Rattle.std.specs.Prelude.{◌≡◌, ◌<◌, ◌≤◌, ◌%◌, List, None, Some, not, length, true, false};
+ghost use Rattle.rights.specs.Errors.{ENOSPC, Refused};
+ghost use Rattle.file_tree.specs.Nodes.{File, is_link};
+ghost use Rattle.file_tree.specs.Nodes as nodes;
+ghost use Rattle.fd_table.specs.Descriptions.{descriptor_of, message_of};
+ghost use Rattle.fd_table.specs.Filled.{IsEndThere, IsNamed};
+ghost use Rattle.fd_table.specs.Kept.{open_files};
+ghost use Rattle.fd_table.specs.Views.{access_seen, side_seen};
+ghost use Rattle.prog_asm.specs.Programs as programs;
+ghost use Rattle.prog_asm.specs.Views.{operand_of};
+ghost use Rattle.kernel.specs.Answers as answers;
+ghost use Rattle.kernel.specs.Calls as model;
+ghost use Rattle.syscalls.specs.Meets.{Calls, Does, Goes, IsIdle, IsReady, IsReadyEntry, OnTree, cut_to, writes_at};
+
+use crate::descriptors::{Caller, Reached, byte_of, file_through, reach, value_of};
+use crate::directories::is_directory;
+use crate::outcomes::{Refusal, Success, effects_at};
+use crate::sockets::write_end;
+use fd_table::{Access, DescriptionId, Files, PairId, Side};
+use file_tree::{MAX_BYTES, NodeId, Tree};
+use prog_asm::Operand;
+use rights::{Call, Cause, Errno, Op};
+use std::alloc::Global;
+
+/// Where a write goes: to the end with append, else to the offset. (open(2), O_APPEND)
+fn write_offset<T: Tree>(tree: &T, files: &Files, description: DescriptionId, node: NodeId) -> usize
+    requires named { IsNamed (open_files files.now) description }
+    requires there { node < length (T.nodes tree.now) }
+    ensures { result ≡ writes_at ((open_files files.now).states description) (nodes.node (T.nodes tree.now) node).content }
+{
+    let description = files.what(description);
+    if description.status.append {
+        tree.len(node)
+    } else {
+        description.offset as usize
+    }
+}
+
+/// Writes a byte into a file. (write(2))
+#[tactic(auto, unfolding(kernel::specs::Answers::unless), using(crate::proofs::Tests::below, crate::proofs::Tests::not_below))]
+pub(crate) fn write_node<T: Tree>(
+    alloc: Global,
+    tree: &mut T,
+    files: &mut Files,
+    caller: &Caller,
+    description: DescriptionId,
+    node: NodeId,
+    access: Access,
+    value: Operand,
+) -> Result<Success, Refusal>
+    requires named { IsNamed (open_files files.old) description }
+    requires there { node < length (T.nodes tree.old) }
+    requires opened { is_link (nodes.node (T.nodes tree.old) node).kind ≡ false }
+    ensures { Goes (T.nodes tree.old) (open_files files.old) caller.now.refuse (T.nodes tree.new) (open_files files.new) result
+        (λ w p s e. model.write_node w p s e (descriptor_of description 0 0) node (access_seen access) (answers.value_of caller.now.process (operand_of value) % 256)) }
+{
+    if is_directory(tree, node) {
+        return Err(Refusal::Fails(Errno::EISDIR, Cause::Kind));
+    }
+    if !access.writable {
+        return Err(Refusal::Fails(Errno::EBADF, Cause::Access));
+    }
+    let offset = write_offset(tree, files, description, node);
+    if offset >= MAX_BYTES {
+        return Err(Refusal::Fails(Errno::EFBIG, Cause::Full));
+    }
+    if caller.refuse {
+        return Err(Refusal::Fails(Errno::ENOSPC, Cause::Refused));
+    }
+    let effects = effects_at(alloc, tree, Op::Write, node)?;
+    let byte = byte_of(caller, value);
+    match tree.put_byte(node, offset, byte) {
+        Err(_) => Err(Refusal::Memory),
+        Ok(()) => {
+            files.set_offset(description, offset as u16 + 1);
+            Ok(Success { value: 1, effects })
+        }
+    }
+}
+
+/// Cuts a file, or fills it up with zeros.
+#[tactic(auto, unfolding(kernel::specs::Answers::unless), using(crate::proofs::Tests::at_most, crate::proofs::Tests::above))]
+fn cut<T: Tree>(
+    alloc: Global,
+    tree: &mut T,
+    caller: &Caller,
+    node: NodeId,
+    access: Access,
+    to: Operand,
+) -> Result<Success, Refusal>
+    requires there { node < length (T.nodes tree.old) }
+    requires file { (nodes.node (T.nodes tree.old) node).kind ≡ File }
+    ensures { OnTree (T.nodes tree.old) (T.nodes tree.new) caller.now.refuse result (λ w p s e.
+        cut_to w node (access_seen access) (answers.value_of caller.now.process (operand_of to))) }
+{
+    if !access.writable {
+        return Err(Refusal::Fails(Errno::EINVAL, Cause::Access));
+    }
+    let len = value_of(caller, to) as usize;
+    if len > MAX_BYTES {
+        return Err(Refusal::Fails(Errno::EFBIG, Cause::Full));
+    }
+    let effects = effects_at(alloc, tree, Op::Write, node)?;
+    match tree.truncate(node, len) {
+        Err(_) => Err(Refusal::Memory),
+        Ok(()) => Ok(Success { value: 0, effects }),
+    }
+}
+
+/// Sets a file's length. (ftruncate(2))
+pub(crate) fn truncate<T: Tree>(
+    alloc: Global,
+    tree: &mut T,
+    files: &Files,
+    caller: &Caller,
+    operand: Operand,
+    to: Operand,
+) -> Result<Success, Refusal>
+    requires { IsReady (T.nodes tree.old) (open_files files.now) caller.now.number }
+    ensures { Calls (T.nodes tree.old) (open_files files.now) caller.now (T.nodes tree.new) (open_files files.now) result (programs.Ftruncate (operand_of operand) (operand_of to)) }
+{
+    match file_through(tree, files, caller, operand, Call::Ftruncate) {
+        Err(refused) => Err(refused),
+        Ok(found) => cut(alloc, tree, caller, found.node, found.access, to),
+    }
+}
+
+/// Puts a byte into a socket, unless the kernel refuses. (send(2); that the kernel is asked before the other end is own)
+#[tactic(auto, unfolding(kernel::specs::Answers::unless))]
+fn write_socket(
+    alloc: Global,
+    files: &mut Files,
+    caller: &Caller,
+    description: DescriptionId,
+    pair: PairId,
+    side: Side,
+    value: Operand,
+) -> Result<Success, Refusal>
+    requires named { IsNamed (open_files files.old) description }
+    requires there { IsEndThere (open_files files.old) pair (side_seen side) }
+    ensures { (t : List nodes.Node) → Does t (open_files files.old) caller.now t (open_files files.new) result
+        (λ w e. answers.unless (not e.refuse) ENOSPC Refused (model.sent_end w caller.now.number caller.now.process e (descriptor_of description 0 0) pair (side_seen side)
+        (message_of (answers.value_of caller.now.process (operand_of value) % 256) None))) }
+{
+    if caller.refuse {
+        return Err(Refusal::Fails(Errno::ENOSPC, Cause::Refused));
+    }
+    let byte = byte_of(caller, value);
+    write_end(alloc, files, caller, description, pair, side, byte, None)
+}
+
+/// Writes a byte. (write(2), send(2))
+pub(crate) fn write<T: Tree>(
+    alloc: Global,
+    tree: &mut T,
+    files: &mut Files,
+    caller: &Caller,
+    operand: Operand,
+    value: Operand,
+) -> Result<Success, Refusal>
+    requires { IsReady (T.nodes tree.old) (open_files files.old) caller.now.number }
+    ensures { Calls (T.nodes tree.old) (open_files files.old) caller.now (T.nodes tree.new) (open_files files.new) result (programs.Write (operand_of operand) (operand_of value)) }
+{
+    let reached = match reach(files, caller, operand, Call::Write) {
+        Err(refused) => return Err(refused),
+        Ok(reached) => reached,
+    };
+    match reached {
+        Reached::Node(found) => write_node(
+            alloc,
+            tree,
+            files,
+            caller,
+            found.held.description,
+            found.node,
+            found.access,
+            value,
+        ),
+        Reached::End(socket) => write_socket(
+            alloc,
+            files,
+            caller,
+            socket.held.description,
+            socket.end.pair,
+            socket.end.side,
+            value,
+        ),
+    }
+}
