@@ -1,0 +1,7 @@
+pub mod FirstTrees
+pub mod Openings
+pub mod FirstWorlds
+pub mod AsGiven
+pub mod Allowances
+pub mod Limits
+pub mod Samples

@@ -1,0 +1,102 @@
+-- Which plans are tasks. (own; that an open directory cannot be written is of open(2))
+use Rattle.std.specs.Prelude.{◌==◌, ℕ, Bool, true, false, ◌&&◌, ◌||◌, not, nat_le, nat_lt, nat_eq, List, [], ◌∷◌, ◌++◌, length}
+use Rattle.std.specs.List.{list_all, list_any}
+use Rattle.std.specs.Str.{bytes_eq}
+use Rattle.rights.specs.Sets.{is_within, all_rights, all_commands}
+use Rattle.file_tree.specs.Places.{begins, above}
+use Rattle.file_tree.specs.Nodes.{Node, node, is_dir, is_link, stands_at}
+use Rattle.file_tree.specs.Changes.{most_nodes}
+use Rattle.file_tree.specs.WellFormed.{has_directory, is_within_limits}
+use Rattle.prog_asm.specs.Programs.{is_program}
+use Rattle.kernel.specs.Calls.{most_processes}
+use Rattle.task.specs.Plans.{Grant, NamedProgram, FirstDescriptor, Start, Plan}
+
+-- how many grants and programs a task may have
+abbrev pub most_grants : ℕ
+most_grants = 8
+
+abbrev pub most_programs : ℕ
+most_programs = 8
+
+-- A word: a letter from a to z, then up to 15 of these letters, of digits and of `_`.
+abbrev pub is_letter : ℕ → Bool
+is_letter b = nat_le 97 b && nat_le b 122
+
+abbrev pub is_digit : ℕ → Bool
+is_digit b = nat_le 48 b && nat_le b 57
+
+abbrev pub is_word_byte : ℕ → Bool
+is_word_byte b = is_letter b || is_digit b || (b == 95)
+
+abbrev pub is_word : List ℕ → Bool
+is_word [] = false
+is_word (b ∷ bytes) = is_letter b && nat_le (length bytes) 15 && list_all is_word_byte bytes
+
+-- each passes the test with those after it
+abbrev pub all_apart : {A : Type 0} → (A → A → Bool) → List A → Bool
+all_apart apart [] = true
+all_apart apart (x ∷ xs) = list_all (apart x) xs && all_apart apart xs
+
+-- The root is a directory at the empty place. Each further node is made in a directory that was made
+-- before it, at a place where nothing stands.
+abbrev pub is_root_node : Node → Bool
+is_root_node m = stands_at [] m && is_dir m.kind && nat_eq (length m.content) 0
+
+abbrev pub can_follow : List Node → Node → Bool
+can_follow made m =
+    m.linked && is_within_limits m && has_directory made (above m.place) && not (list_any (stands_at m.place) made)
+
+abbrev pub are_made : List Node → List Node → Bool
+are_made made [] = true
+are_made made (m ∷ nodes) = can_follow made m && are_made (made ++ m ∷ []) nodes
+
+abbrev pub is_tree : List Node → Bool
+is_tree [] = false
+is_tree (root ∷ nodes) = is_root_node root && nat_lt (length nodes) most_nodes && are_made (root ∷ []) nodes
+
+-- Grants are of directories, and no place is in two of them. Each name is given once.
+abbrev pub is_grant : List Node → Grant → Bool
+is_grant tree g = is_word g.name && has_directory tree g.path
+
+abbrev pub are_apart : Grant → Grant → Bool
+are_apart g h = not (bytes_eq g.name h.name) && not (begins g.path h.path) && not (begins h.path g.path)
+
+abbrev pub are_grants : List Node → List Grant → Bool
+are_grants tree grants = nat_le (length grants) most_grants && list_all (is_grant tree) grants && all_apart are_apart grants
+
+-- Each program is valid, and has a name of its own.
+abbrev pub is_named : NamedProgram → Bool
+is_named p = is_word p.name && is_program p.code
+
+abbrev pub are_named_apart : NamedProgram → NamedProgram → Bool
+are_named_apart p q = not (bytes_eq p.name q.name)
+
+abbrev pub are_programs : List NamedProgram → Bool
+are_programs programs = nat_le (length programs) most_programs && list_all is_named programs && all_apart are_named_apart programs
+
+-- A first descriptor is of a file or directory, and is for reading or writing; a directory is not written.
+abbrev pub is_accessed : Node → FirstDescriptor → Bool
+is_accessed m d = not (is_link m.kind) && (d.access.readable || d.access.writable) && not (is_dir m.kind && d.access.writable)
+
+abbrev pub is_descriptor : List Node → FirstDescriptor → Bool
+is_descriptor tree d =
+    nat_lt d.number 16 && is_accessed (node tree d.node) d && is_within d.rights all_rights && is_within d.fcntls all_commands
+
+-- each at a number of its own
+abbrev pub are_numbered_apart : FirstDescriptor → FirstDescriptor → Bool
+are_numbered_apart d e = not (d.number == e.number)
+
+abbrev pub are_descriptors : List Node → List FirstDescriptor → Bool
+are_descriptors tree descriptors = list_all (is_descriptor tree) descriptors && all_apart are_numbered_apart descriptors
+
+abbrev pub is_start : List Node → ℕ → Start → Bool
+is_start tree programs s = nat_lt s.program programs && are_descriptors tree s.descriptors
+
+abbrev pub are_starts : List Node → ℕ → List Start → Bool
+are_starts tree programs starts =
+    nat_le 1 (length starts) && nat_le (length starts) most_processes && list_all (is_start tree programs) starts
+
+abbrev pub is_plan : Plan → Bool
+is_plan plan =
+    is_tree plan.nodes && are_grants plan.nodes plan.grants && are_programs plan.programs
+    && are_starts plan.nodes (length plan.programs) plan.starts

@@ -1,0 +1,51 @@
+-- A task as a value: a file tree, a policy, programs, and the first processes with their descriptors. (own, after
+-- capsicum(4) and rights(4))
+use Rattle.std.specs.Prelude.{ℕ, Bool, List, [], Option, Some, None}
+use Rattle.std.specs.List.{slice_get}
+use Rattle.rights.specs.Operations.{Operation}
+use Rattle.file_tree.specs.Nodes.{Node}
+use Rattle.prog_asm.specs.Programs.{Instruction}
+use Rattle.fd_table.specs.Descriptions.{Access}
+
+-- A grant allows operations at a directory's place and at everything beneath it.
+pub record Grant : Type 0 where
+  pub name : List ℕ
+  pub path : List (List ℕ)
+  pub operations : List Operation
+
+pub record NamedProgram : Type 0 where
+  pub name : List ℕ
+  pub code : List Instruction
+
+-- A descriptor that a process starts with, on a node of the task, by the node's number. Its rights and fcntl commands are
+-- sets. (rights(4), cap_fcntls_limit(2))
+pub record FirstDescriptor : Type 0 where
+  pub number : ℕ
+  pub node : ℕ
+  pub access : Access
+  pub rights : ℕ
+  pub fcntls : ℕ
+
+-- a first process: its program, by number, whether it starts in capability mode, and its descriptors
+pub record Start : Type 0 where
+  pub program : ℕ
+  pub mode : Bool
+  pub descriptors : List FirstDescriptor
+
+-- Nodes are in the order in which they are made, the root first; what is given by number is counted in these lists.
+pub record Plan : Type 0 where
+  pub nodes : List Node
+  pub grants : List Grant
+  pub programs : List NamedProgram
+  pub starts : List Start
+
+abbrev pub plan_with : List Node → List Grant → List NamedProgram → List Start → Plan
+plan_with nodes grants programs starts = record { nodes = nodes; grants = grants; programs = programs; starts = starts }
+
+-- the code of a program by its number; where a task has none, there is the empty list
+abbrev pub code_in : Option NamedProgram → List Instruction
+code_in None = []
+code_in (Some p) = p.code
+
+abbrev pub programs_of_plan : Plan → ℕ → List Instruction
+programs_of_plan plan n = code_in (slice_get plan.programs n)

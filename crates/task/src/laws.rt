@@ -1,0 +1,37 @@
+//! Laws of tasks. Each is the contract of a function that does nothing.
+
+ghost use Rattle.task.specs.Kept.{PlansKeepLimits, TreesAreMadeInOrder};
+ghost use Rattle.task.specs.Laws.{AllowedIsTested, FirstWorldsAreFirst, FirstWorldsAreWellFormed, PlanExists};
+
+/// What is tested of a plan, fact by fact: its tree is one, with no removed node; names are words that are given once; no
+/// place is in two grants; programs are valid; and first descriptors can be used, each at a number of its own.
+pub fn plans_keep_limits()
+    ensures { PlansKeepLimits }
+{}
+
+/// The tree can be made node by node, in the order of the task: none is refused.
+pub fn trees_are_made_in_order()
+    ensures { TreesAreMadeInOrder }
+{}
+
+/// A task starts in a well-formed world: its programs are valid, its tree is one, and what each first descriptor names is a
+/// file or directory of it.
+pub fn first_worlds_are_well_formed()
+    ensures { FirstWorldsAreWellFormed }
+{}
+
+/// A task's first world has the task's tree and processes, which stand at point 0 with all registers 0; each first
+/// descriptor, and no other, with a description of its own at offset 0 and without flags; and nothing is queued.
+pub fn first_worlds_are_first()
+    ensures { FirstWorldsAreFirst }
+{}
+
+/// What the test of a policy allows is what a grant lists at a place that goes on from its path, name by name.
+pub fn allowed_operations_are_tested()
+    ensures { AllowedIsTested }
+{}
+
+/// Some plan is valid, of a dozen nodes, two grants and two processes: so the laws speak of something.
+pub fn a_valid_plan_exists()
+    ensures { PlanExists }
+{}

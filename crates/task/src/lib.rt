@@ -1,0 +1,20 @@
+//! Tasks: a file tree, a policy, programs and first processes as one value, and the world that they start in.
+#![tactic(auto)]
+
+pub mod grants;
+pub mod laws;
+pub mod nodes;
+pub mod policies;
+pub mod programs;
+pub mod starts;
+pub mod tasks;
+
+pub use grants::Grant;
+pub use nodes::TaskNode;
+pub use policies::{grant_holds, grant_lists, grant_named};
+pub use programs::NamedProgram;
+pub use starts::{FirstDescriptor, Start};
+pub use tasks::Task;
+
+#[cfg(test)]
+mod tests;
