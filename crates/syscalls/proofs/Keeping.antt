@@ -17,7 +17,7 @@ use Rattle.std.specs.Prelude.{Result, Ok, Err}
 use Rattle.syscalls.specs.declared.outcomes.Success.{Success}
 use Rattle.syscalls.specs.declared.outcomes.Refusal.{Refusal}
 use Rattle.syscalls.proofs.Finding.{refused_alone}
-use Rattle.syscalls.specs.Meets.{Succeeds, Suits, Tells, Meets, IsIdle}
+use Rattle.syscalls.specs.Meets.{Succeeds, Suits, IsOrdinary, Tells, Meets, IsIdle}
 
 same_description : (f : OpenFiles) (o : Option Descriptor) → SameDescription f f o
 same_description f None = tt
@@ -50,6 +50,7 @@ tree_succeeds w p t value shows a change effects idle is prints tree = record {
   is = is;
   prints = prints;
   suits = tt;
+  plain = (refl, tt);
   tree = tree;
   files = alike_refl w.files idle;
 }
@@ -75,6 +76,7 @@ state_succeeds w p f value shows a n state effects is prints files = record {
   is = is;
   prints = prints;
   suits = tt;
+  plain = (refl, tt);
   tree = refl;
   files = files;
 }
@@ -89,6 +91,7 @@ same_succeeds w p value shows a effects idle is prints = record {
   is = is;
   prints = prints;
   suits = tt;
+  plain = (refl, tt);
   tree = refl;
   files = alike_refl w.files idle;
 }
@@ -108,19 +111,21 @@ write_succeeds w p t f value shows a change n state effects is prints tree files
   is = is;
   prints = prints;
   suits = tt;
+  plain = (refl, tt);
   tree = tree;
   files = files;
 }
 
 -- a change of the table alone, of entries that there are
-pub entry_succeeds : (w : World) (p : ℕ) (f : OpenFiles) (value : ℕ) (shows : List Shown) (a : Answer) (change : TableChange) (effects : List Effect) → Suits w.files any_choice change → a ≡ Gives value (record same { table = change }) effects → map shown effects ≡ shows → Alike (files_after w.files p (length w.processes) any_choice (record same { table = change })) f → Succeeds w p w.tree f value shows a
-entry_succeeds w p f value shows a change effects suits is prints files = record {
+pub entry_succeeds : (w : World) (p : ℕ) (f : OpenFiles) (value : ℕ) (shows : List Shown) (a : Answer) (change : TableChange) (effects : List Effect) → Suits w.files any_choice change → IsOrdinary change → a ≡ Gives value (record same { table = change }) effects → map shown effects ≡ shows → Alike (files_after w.files p (length w.processes) any_choice (record same { table = change })) f → Succeeds w p w.tree f value shows a
+entry_succeeds w p f value shows a change effects suits ordinary is prints files = record {
   change = record same { table = change };
   effects = effects;
   choice = any_choice;
   is = is;
   prints = prints;
   suits = suits;
+  plain = (refl, ordinary);
   tree = refl;
   files = files;
 }
@@ -135,6 +140,7 @@ open_succeeds w p t f value shows a change number n access append rights fcntls 
   is = is;
   prints = prints;
   suits = opens.fresh;
+  plain = (refl, tt);
   tree = tree;
   files = opens.alike;
 }
@@ -148,6 +154,7 @@ queue_succeeds w p f value shows a change effects is prints files = record {
   is = is;
   prints = prints;
   suits = tt;
+  plain = (refl, tt);
   tree = refl;
   files = files;
 }

@@ -6,3 +6,4 @@ pub mod Targets
 pub mod Keeping
 pub mod Removing
 pub mod Renaming
+pub mod Calling

@@ -19,7 +19,7 @@ use Rattle.lookup.specs.declared.ways.Found.{Found}
 use Rattle.lookup.specs.Views.{found_of}
 use Rattle.lookup.specs.Answers as lookups
 use Rattle.kernel.specs.World.{World, Choice}
-use Rattle.kernel.specs.Answers.{Event, Effect, TableChange, New_file, New_pair, Set_state, Change, Answer, Fails, Waits, Gives, TreeChange, Fill, Same_tree, same, does, lost, unless}
+use Rattle.kernel.specs.Answers.{Event, Effect, TableChange, New_file, New_pair, Set_state, Change, Answer, Fails, Waits, Gives, TreeChange, Fill, Same_tree, same, does, lost, unless, New_process}
 use Rattle.kernel.specs.Changes.{tree_after, files_after}
 use Rattle.syscalls.specs.declared.outcomes.Success.{Success}
 use Rattle.syscalls.specs.declared.outcomes.Refusal.{Refusal}
@@ -49,6 +49,15 @@ Suits f choice (New_pair first second class) =
     IsUnnamed f choice.first × IsUnnamed f choice.second × (choice.first ≢ choice.second) × IsUnused f choice.pair
 Suits f choice _ = Unit {0}
 
+-- The process neither makes a pair or a child nor enters capability mode.
+abbrev pub IsOrdinary : TableChange → Type 0
+IsOrdinary (New_pair first second class) = ⊥
+IsOrdinary New_process = ⊥
+IsOrdinary _ = Unit {0}
+
+abbrev pub IsPlain : Change → Type 0
+IsPlain change = (change.enters ≡ false) × IsOrdinary change.table
+
 -- The answer is a success with this value, and the tree and what is open are what its change leaves.
 pub record Succeeds (w : World) (p : ℕ) (t : List Node) (f : OpenFiles) (value : ℕ) (shows : List Shown) (a : Answer) : Type 0 where
   pub change : Change
@@ -57,6 +66,7 @@ pub record Succeeds (w : World) (p : ℕ) (t : List Node) (f : OpenFiles) (value
   pub is : a ≡ Gives value change effects
   pub prints : map shown effects ≡ shows
   pub suits : Suits w.files choice change.table
+  pub plain : IsPlain change
   pub tree : t ≡ tree_after w.tree change.tree
   pub files : Alike (files_after w.files p (length w.processes) choice change) f
 

@@ -8,7 +8,7 @@ ghost use Rattle.syscalls.specs.NodeCalls.{is_on_nodes};
 
 use crate::asks::{get_flags, set_status, stat_descriptor, sync};
 use crate::descriptors::Caller;
-use crate::modes::{enter_mode, get_mode};
+use crate::modes::get_mode;
 use crate::nodes::{
     make_beneath, make_path, open_beneath, open_path, remove_beneath, remove_path, rename_beneath,
     stat_beneath, stat_path,
@@ -115,10 +115,11 @@ pub(crate) fn perform<T: Tree>(
             descriptor,
             commands,
         } => limit_fcntls(alloc, files, caller, *descriptor, *commands),
-        Syscall::CapEnter => Ok(enter_mode(alloc)),
         Syscall::CapGetmode => Ok(get_mode(alloc, caller)),
-        Syscall::Sendfd { .. } | Syscall::Recvfd { .. } | Syscall::Socketpair | Syscall::Fork => {
-            Err(Refusal::Memory)
-        }
+        Syscall::CapEnter
+        | Syscall::Sendfd { .. }
+        | Syscall::Recvfd { .. }
+        | Syscall::Socketpair
+        | Syscall::Fork => Err(Refusal::Memory),
     }
 }

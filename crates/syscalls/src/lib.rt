@@ -16,7 +16,9 @@ mod reads;
 mod renames;
 mod sockets;
 mod tables;
+pub mod world;
 mod writes;
 
 pub use events::Event;
 pub use outcomes::{Effect, Outcome};
+pub use world::World;

@@ -1,4 +1,4 @@
-//! Calls on capability mode.
+//! Asking for the mode.
 
 ghost use Rattle.std.specs.Prelude.{◌≡◌, List, Ok};
 ghost use Rattle.file_tree.specs.Nodes.{Node};
@@ -11,16 +11,6 @@ ghost use Rattle.syscalls.specs.Meets.{Calls, IsIdle};
 use crate::descriptors::Caller;
 use crate::outcomes::Success;
 use std::alloc::Global;
-
-/// Enters capability mode; the process's own mode is set with its registers. (cap_enter(2))
-pub(crate) fn enter_mode(alloc: Global) -> Success
-    ensures { (t : List Node) (f : OpenFiles) (caller : CallerSeen) → IsIdle f → Calls t f caller t f (Ok result) programs.Cap_enter }
-{
-    Success {
-        value: 0,
-        effects: Vec::new(alloc),
-    }
-}
 
 /// What `cap_getmode` gives. (cap_getmode(2))
 fn mode_number(mode: bool) -> u32

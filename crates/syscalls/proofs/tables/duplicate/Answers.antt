@@ -30,5 +30,5 @@ returns c = λ t processes e same.
     let p = c.args.caller.now.number in
     let number = c.in-Ok-free_number.number in
     let left = open_files c.share.new.self in
-    entry_succeeds w p left number _ _ (Set_entry number (held_seen c.in-Ok.held)) [] tt (c.in-Ok.ensures.passes _ ∙ c.in-Ok-free_number.ensures.passes _) (sym (ap effects_of c.new.ensures.items))
+    entry_succeeds w p left number _ _ (Set_entry number (held_seen c.in-Ok.held)) [] tt tt (c.in-Ok.ensures.passes _ ∙ c.in-Ok-free_number.ensures.passes _) (sym (ap effects_of c.new.ensures.items))
     (subst (λ o. Alike (with_entry f p number o) left) c.in-Ok.ensures.entry c.share.ensures)

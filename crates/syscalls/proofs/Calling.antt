@@ -1,0 +1,232 @@
+-- From the parts of a call to the whole: its process, and its fresh numbers.
+use Rattle.std.proofs.Common.{◌≡◌, ◌+◌, ◌<◌, ◌≤◌, arith, ℕ, Bool, true, false, List, [], ◌++◌, map, length, slice_set, refl, ap, sym, subst, ◌∙◌, append-nil}
+use Rattle.std.specs.Prelude.{◌||◌, Option, Some, None}
+use Rattle.std.proofs.lemmas.Option.{slice_get_within}
+use Rattle.process.specs.State.{ProcessState}
+use Rattle.file_tree.specs.Nodes.{Node}
+use Rattle.fd_table.specs.Descriptions.{Object, At_node, At_end, Descriptor}
+use Rattle.fd_table.specs.OpenFiles.{OpenFiles, Alike}
+use Rattle.rights.specs.Errors.{Errno, Cause}
+use Rattle.rights.specs.Views.{errno_of, cause_of}
+use Rattle.rights.specs.declared.errors.Errno.{Errno as ErrnoCode}
+use Rattle.rights.specs.declared.errors.Cause.{Cause as CauseCode}
+use Rattle.syscalls.specs.declared.outcomes.Refusal.{Refusal}
+use Rattle.syscalls.specs.declared.outcomes.Refusal.TheVariants as refusal
+use Rattle.prog_asm.specs.Programs.{Syscall, Open, Openat, Read, Write, Sendfd, Recvfd, Lseek, Ftruncate, Fsync, Fstat, Fcntl_getfl, Fcntl_setfl, Fstatat, Stat, Mkdirat, Mkdir, Unlinkat, Unlink, Renameat, Dup, Close, Cap_rights_limit, Cap_fcntls_limit, Cap_enter, Cap_getmode, Socketpair, Fork}
+use Rattle.kernel.specs.World.{World, Choice, IsFresh}
+use Rattle.kernel.specs.Answers.{Event, TreeChange, TableChange, Same_table, Set_entry, Clear_entry, New_file, New_pair, New_process, QueueChange, StateChange, Change, Fails, Waits}
+use Rattle.kernel.specs.Calls.{answer}
+use Rattle.kernel.specs.Changes.{files_after, changed, given, second_number, children, processes_after}
+use Rattle.kernel.specs.Steps.{Value, Failed, Waiting, Programs, answered, failed}
+use Rattle.kernel.specs.WellFormed.{IsWellFormed, Numbering, IsObject, IsDescriptor, IfHeld}
+use Rattle.kernel.proofs.Trees.{there_if_opened}
+use Rattle.kernel.specs.Runs.{MayChoose}
+use Rattle.kernel.specs.Alike.{AlikeWorlds}
+use Rattle.kernel.proofs.Fresh.{fresh_some}
+use Rattle.kernel.proofs.Keeping.{fresh_numbers}
+use Rattle.syscalls.specs.Shows.{Shown, shown}
+use Rattle.syscalls.specs.Views.{world_with}
+use Rattle.syscalls.specs.Meets.{Suits, IsOrdinary, IsPlain, Succeeds, RefusesAlone, IsIdle, IsReady, IsReadyEntry, IsReadyObject}
+use Rattle.syscalls.specs.MayCall.{MayCall, is_entering}
+use Rattle.syscalls.specs.Called.{Comes, succeeded_as}
+use Rattle.syscalls.proofs.Keeping.{alike_refl}
+
+-- A fresh choice with which the change leaves the same.
+record Chosen (f : OpenFiles) (p n : ℕ) (change : Change) (g : OpenFiles) : Type 0 where
+  choice : Choice
+  fresh : IsFresh f choice
+  alike : Alike (files_after f p n choice change) g
+
+chosen : (f : OpenFiles) (p n : ℕ) (tree : TreeChange) (table : TableChange) (queue : QueueChange) (state : StateChange) (enters : Bool) (choice : Choice) (g : OpenFiles) → MayChoose f → (some : Choice) → IsFresh f some → Suits f choice table → IsOrdinary table → Alike (files_after f p n choice (record { tree = tree; table = table; queue = queue; state = state; enters = enters })) g → Chosen f p n (record { tree = tree; table = table; queue = queue; state = state; enters = enters }) g
+unfolding files_after
+chosen f p n tree Same_table queue state enters choice g may some fresh suits ordinary alike = record { choice = some; fresh = fresh; alike = alike }
+chosen f p n tree (Set_entry number d) queue state enters choice g may some fresh suits ordinary alike = record { choice = some; fresh = fresh; alike = alike }
+chosen f p n tree (Clear_entry number) queue state enters choice g may some fresh suits ordinary alike = record { choice = some; fresh = fresh; alike = alike }
+chosen f p n tree (New_file number node access append rights fcntls) queue state enters choice g may some fresh suits ordinary alike =
+    let with = may.with_first choice.first suits in
+    record {
+      choice = with.0;
+      fresh = with.2;
+      alike = subst (λ first. Alike (files_after f p n (record { first = first; second = 0; pair = 0 }) (record { tree = tree; table = New_file number node access append rights fcntls; queue = queue; state = state; enters = enters })) g) (sym with.1) alike;
+    }
+chosen f p n tree (New_pair first second class) queue state enters choice g may some fresh suits ordinary alike = absurd ordinary
+chosen f p n tree New_process queue state enters choice g may some fresh suits ordinary alike = absurd ordinary
+
+-- what a plain change makes of the process
+plain_registers : (table : TableChange) (registers : List ℕ) → IsOrdinary table → second_number table registers ≡ registers
+plain_registers Same_table registers ordinary = refl
+plain_registers (Set_entry number d) registers ordinary = refl
+plain_registers (Clear_entry number) registers ordinary = refl
+plain_registers (New_file number node access append rights fcntls) registers ordinary = refl
+plain_registers (New_pair first second class) registers ordinary = absurd ordinary
+plain_registers New_process registers ordinary = absurd ordinary
+
+no_children : (table : TableChange) (s : ProcessState) → IsOrdinary table → children table s ≡ []
+no_children Same_table s ordinary = refl
+no_children (Set_entry number d) s ordinary = refl
+no_children (Clear_entry number) s ordinary = refl
+no_children (New_file number node access append rights fcntls) s ordinary = refl
+no_children (New_pair first second class) s ordinary = absurd ordinary
+no_children New_process s ordinary = absurd ordinary
+
+given_plain : (s : ProcessState) (value : ℕ) (change : Change) → IsPlain change → given s value change ≡ succeeded_as s value false
+given_plain s value change (enters, ordinary) =
+    ap (λ registers. record s { registers = registers; point = s.point + 1; mode = s.mode || change.enters }) (plain_registers change.table (slice_set s.registers 0 value) ordinary)
+    ∙ ap (λ b. record s { registers = slice_set s.registers 0 value; point = s.point + 1; mode = s.mode || b }) enters
+
+processes_plain : (processes : List ProcessState) (p : ℕ) (s : ProcessState) (value : ℕ) (change : Change) → IsPlain change → processes_after processes p (given s value change) change.table ≡ slice_set processes p (succeeded_as s value false)
+processes_plain processes p s value change plain =
+    ap (λ more. slice_set processes p (given s value change) ++ more) (no_children change.table (given s value change) plain.1)
+    ∙ append-nil (slice_set processes p (given s value change))
+    ∙ ap (slice_set processes p) (given_plain s value change plain)
+
+-- ## The three ways of a call
+module _ (programs : Programs) (t : List Node) (f : OpenFiles) (processes : List ProcessState) (good : IsWellFormed programs (world_with t f processes)) (p : ℕ) (s : ProcessState) (e : Event) (call : Syscall) (otherwise : ℕ) where
+  abbrev pub w : World
+  w = world_with t f processes
+
+  idle : IsIdle f
+  idle = good.world.idle
+
+  some : (choice : Choice) × IsFresh f choice
+  some = fresh_some programs good.numbering w good.world
+
+  -- it succeeds
+  pub succeeds : (after : List Node) (left : OpenFiles) (value : ℕ) (shows : List Shown) → Succeeds w p after left value shows (answer w p s e call) → Comes w p s e call otherwise (Value value) shows (world_with after left (slice_set processes p (succeeded_as s value false)))
+  unfolding answered changed
+  succeeds after left value shows y =
+      let c = chosen f p (length processes) y.change.tree y.change.table y.change.queue y.change.state y.change.enters y.choice left (fresh_numbers programs w good) some.0 some.1 y.suits y.plain.1 y.files in
+      let v = world_with after left (slice_set processes p (succeeded_as s value false)) in
+      record {
+        choice = c.choice;
+        fresh = c.fresh;
+        outcome = ap (λ a. (answered w p s c.choice otherwise a).outcome) (sym y.is);
+        prints = sym y.prints ∙ ap (λ a. map shown (answered w p s c.choice otherwise a).effects) (sym y.is);
+        world = subst (λ a. AlikeWorlds (answered w p s c.choice otherwise a).world v) (sym y.is)
+            (record { tree = y.tree; processes = sym (processes_plain processes p s value y.change y.plain); files = c.alike });
+      }
+
+  -- it fails
+  pub fails : (errno : Errno) (cause : Cause) → answer w p s e call ≡ Fails errno cause → Comes w p s e call otherwise (Failed errno cause) [] (world_with t f (slice_set processes p (failed s errno otherwise)))
+  unfolding answered
+  fails errno cause is =
+      let v = world_with t f (slice_set processes p (failed s errno otherwise)) in
+      record {
+        choice = some.0;
+        fresh = some.1;
+        outcome = ap (λ a. (answered w p s some.0 otherwise a).outcome) (sym is);
+        prints = ap (λ a. map shown (answered w p s some.0 otherwise a).effects) (sym is);
+        world = subst (λ a. AlikeWorlds (answered w p s some.0 otherwise a).world v) (sym is) (record { tree = refl; processes = refl; files = alike_refl f idle });
+      }
+
+  -- it waits
+  pub waits : answer w p s e call ≡ Waits → Comes w p s e call otherwise Waiting [] w
+  unfolding answered
+  waits is = record {
+    choice = some.0;
+    fresh = some.1;
+    outcome = ap (λ a. (answered w p s some.0 otherwise a).outcome) (sym is);
+    prints = ap (λ a. map shown (answered w p s some.0 otherwise a).effects) (sym is);
+    world = subst (λ a. AlikeWorlds (answered w p s some.0 otherwise a).world w) (sym is) (record { tree = refl; processes = refl; files = alike_refl f idle });
+  }
+
+-- cap_enter always succeeds
+pub enters : (programs : Programs) (t : List Node) (f : OpenFiles) (processes : List ProcessState) → IsWellFormed programs (world_with t f processes) → (p : ℕ) (s : ProcessState) (e : Event) (otherwise : ℕ) → Comes (world_with t f processes) p s e Cap_enter otherwise (Value 0) [] (world_with t f (slice_set processes p (succeeded_as s 0 true)))
+unfolding answer answered changed files_after
+enters programs t f processes good p s e otherwise =
+    let w = world_with t f processes in
+    let some = fresh_some programs good.numbering w good.world in
+    record {
+      choice = some.0;
+      fresh = some.1;
+      outcome = refl;
+      prints = refl;
+      world = record { tree = refl; processes = sym (append-nil (slice_set processes p (succeeded_as s 0 true))); files = alike_refl f good.world.idle };
+    }
+
+-- What a well-formed world gives to the parts of a call.
+ready_object : (t : List Node) (numbering : Numbering) (d : ℕ) (o : Object) → IsObject t numbering d o → IsReadyObject t o
+ready_object t numbering d (At_node n access) is = (there_if_opened t n is, is)
+ready_object t numbering d (At_end pair side class) is = tt
+
+ready_entry : (t : List Node) (numbering : Numbering) (f : OpenFiles) (o : Option Descriptor) → IfHeld (IsDescriptor t numbering f.objects f.states) o → IsReadyEntry t f o
+ready_entry t numbering f None is = tt
+ready_entry t numbering f (Some d) is = (ready_object t numbering d.description (f.objects d.description) is.object, is.offset)
+
+pub made_few : (t : List Node) (f : OpenFiles) (processes : List ProcessState) (p : ℕ) (s : ProcessState) → MayCall (world_with t f processes) p s → p < length processes
+made_few t f processes p s may = slice_get_within processes p s may.made
+
+pub ready : (t : List Node) (f : OpenFiles) (processes : List ProcessState) (p : ℕ) (s : ProcessState) → MayCall (world_with t f processes) p s → IsReady t f p
+ready t f processes p s may =
+    let good = may.good.world in
+    let low : p < length processes = made_few t f processes p s may in
+    let few : length processes ≤ 16 = good.few in
+    record {
+      tree = good.tree;
+      process = omega arith;
+      numbers = good.numbers p;
+      entries = λ n. ready_entry t may.good.numbering f (f.table p n) (good.entries p n);
+      idle = good.idle;
+    }
+
+-- ## The same of what the code left
+only_entering : (call : Syscall) → is_entering call ≡ true → call ≡ Cap_enter
+only_entering (Open path flags) is = absurd cc
+only_entering (Openat descriptor path flags) is = absurd cc
+only_entering (Read descriptor) is = absurd cc
+only_entering (Write descriptor value) is = absurd cc
+only_entering (Sendfd descriptor sent value) is = absurd cc
+only_entering (Recvfd descriptor) is = absurd cc
+only_entering (Lseek descriptor offset) is = absurd cc
+only_entering (Ftruncate descriptor len) is = absurd cc
+only_entering (Fsync descriptor) is = absurd cc
+only_entering (Fstat descriptor) is = absurd cc
+only_entering (Fcntl_getfl descriptor) is = absurd cc
+only_entering (Fcntl_setfl descriptor flags) is = absurd cc
+only_entering (Fstatat descriptor path) is = absurd cc
+only_entering (Stat path) is = absurd cc
+only_entering (Mkdirat descriptor path) is = absurd cc
+only_entering (Mkdir path) is = absurd cc
+only_entering (Unlinkat descriptor path directory) is = absurd cc
+only_entering (Unlink path directory) is = absurd cc
+only_entering (Renameat descriptor path target new_path) is = absurd cc
+only_entering (Dup descriptor) is = absurd cc
+only_entering (Close descriptor) is = absurd cc
+only_entering (Cap_rights_limit descriptor rights) is = absurd cc
+only_entering (Cap_fcntls_limit descriptor commands) is = absurd cc
+only_entering Cap_enter is = refl
+only_entering Cap_getmode is = absurd cc
+only_entering Socketpair is = absurd cc
+only_entering Fork is = absurd cc
+
+-- worlds of equal parts
+same_world : {t u : List Node} {f h : OpenFiles} {processes others : List ProcessState} → t ≡ u → f ≡ h → processes ≡ others → world_with t f processes ≡ world_with u h others
+same_world tree files processes i = world_with (tree i) (files i) (processes i)
+
+module _ (programs : Programs) (t : List Node) (f : OpenFiles) (processes : List ProcessState) (good : IsWellFormed programs (world_with t f processes)) (p : ℕ) (s : ProcessState) (e : Event) (call : Syscall) (otherwise : ℕ) (after : List Node) (left : OpenFiles) (next : ProcessState) (shows : List Shown) where
+  pub succeeds_as : (value : ℕ) → Succeeds (world_with t f processes) p after left value shows (answer (world_with t f processes) p s e call) → next ≡ succeeded_as s value false → Comes (world_with t f processes) p s e call otherwise (Value value) shows (world_with after left (slice_set processes p next))
+  succeeds_as value y is =
+      subst (λ (v : World). Comes (world_with t f processes) p s e call otherwise (Value value) shows v) (same_world refl refl (ap (slice_set processes p) (sym is)))
+      (succeeds programs t f processes good p s e call otherwise after left value shows y)
+
+  pub fails_as : (refused : Refusal) (errno : ErrnoCode) (cause : CauseCode) → refused ≡ refusal.Fails errno cause → RefusesAlone refused (world_with t f processes) after left (answer (world_with t f processes) p s e call) → next ≡ failed s (errno_of errno) otherwise → shows ≡ [] → Comes (world_with t f processes) p s e call otherwise (Failed (errno_of errno) (cause_of cause)) shows (world_with after left (slice_set processes p next))
+  fails_as refused errno cause same alone is none =
+      let w = world_with t f processes in
+      let (answers, nothing) = subst (λ r. RefusesAlone r w after left (answer w p s e call)) same alone in
+      subst (λ (v : World). Comes w p s e call otherwise (Failed (errno_of errno) (cause_of cause)) shows v) (same_world (sym nothing.tree) (sym nothing.files) (ap (slice_set processes p) (sym is)))
+      (subst (λ x. Comes w p s e call otherwise (Failed (errno_of errno) (cause_of cause)) x (world_with t f (slice_set processes p (failed s (errno_of errno) otherwise)))) (sym none)
+      (fails programs t f processes good p s e call otherwise (errno_of errno) (cause_of cause) answers))
+
+  pub waits_as : (refused : Refusal) → refused ≡ refusal.Waits → RefusesAlone refused (world_with t f processes) after left (answer (world_with t f processes) p s e call) → shows ≡ [] → Comes (world_with t f processes) p s e call otherwise Waiting shows (world_with after left processes)
+  waits_as refused same alone none =
+      let w = world_with t f processes in
+      let (answers, nothing) = subst (λ r. RefusesAlone r w after left (answer w p s e call)) same alone in
+      subst (λ (v : World). Comes w p s e call otherwise Waiting shows v) (same_world (sym nothing.tree) (sym nothing.files) refl)
+      (subst (λ x. Comes w p s e call otherwise Waiting x w) (sym none) (waits programs t f processes good p s e call otherwise answers))
+
+  pub enters_as : is_entering call ≡ true → next ≡ succeeded_as s 0 true → shows ≡ [] → Comes (world_with t f processes) p s e call otherwise (Value 0) shows (world_with t f (slice_set processes p next))
+  enters_as entering is none =
+      let w = world_with t f processes in
+      subst (λ (v : World). Comes w p s e call otherwise (Value 0) shows v) (same_world refl refl (ap (slice_set processes p) (sym is)))
+      (subst (λ x. Comes w p s e call otherwise (Value 0) x (world_with t f (slice_set processes p (succeeded_as s 0 true)))) (sym none)
+      (subst (λ x. Comes w p s e x otherwise (Value 0) [] (world_with t f (slice_set processes p (succeeded_as s 0 true)))) (sym (only_entering call entering)) (enters programs t f processes good p s e otherwise)))

@@ -1,0 +1,30 @@
+-- What a call of a process comes to, with its process after it.
+use Rattle.std.specs.Prelude.{◌≡◌, ◌+◌, ◌||◌, ℕ, Bool, List, map, slice_set}
+use Rattle.rights.specs.Views.{errno_of, cause_of}
+use Rattle.process.specs.State.{ProcessState}
+use Rattle.prog_asm.specs.Programs.{Syscall}
+use Rattle.kernel.specs.World.{World, Choice, IsFresh}
+use Rattle.kernel.specs.Answers.{Event}
+use Rattle.kernel.specs.Calls.{answer}
+use Rattle.kernel.specs.Steps.{LineResult, Value, Failed, Waiting, answered}
+use Rattle.kernel.specs.Alike.{AlikeWorlds}
+use Rattle.syscalls.specs.declared.outcomes.Outcome.{Outcome}
+use Rattle.syscalls.specs.declared.outcomes.Outcome.TheVariants as outcome
+use Rattle.syscalls.specs.Shows.{Shown, shown}
+
+abbrev pub result_of : Outcome → LineResult
+result_of (outcome.Value value) = Value value
+result_of (outcome.Error errno cause) = Failed (errno_of errno) (cause_of cause)
+result_of outcome.Wait = Waiting
+
+-- a process after a success, which sets register 0 and goes on
+abbrev pub succeeded_as : ProcessState → ℕ → Bool → ProcessState
+succeeded_as s value enters = record s { registers = slice_set s.registers 0 value; point = s.point + 1; mode = s.mode || enters }
+
+-- Under some fresh numbers the call comes to this, with these effects, and to a world that is alike.
+pub record Comes (w : World) (p : ℕ) (s : ProcessState) (e : Event) (call : Syscall) (otherwise : ℕ) (told : LineResult) (shows : List Shown) (v : World) : Type 0 where
+  pub choice : Choice
+  pub fresh : IsFresh w.files choice
+  pub outcome : told ≡ (answered w p s choice otherwise (answer w p s e call)).outcome
+  pub prints : shows ≡ map shown (answered w p s choice otherwise (answer w p s e call)).effects
+  pub world : AlikeWorlds (answered w p s choice otherwise (answer w p s e call)).world v
