@@ -10,7 +10,7 @@ use Rattle.fd_table.specs.Descriptions.{Access, Message, Descriptor, State}
 use Rattle.fd_table.specs.Filled.{with_state, Opens}
 use Rattle.fd_table.specs.OpenFiles.{OpenFiles, Alike, SameDescription, SameDescriptions}
 use Rattle.kernel.specs.World.{World, Choice}
-use Rattle.kernel.specs.Answers.{Effect, TreeChange, TableChange, QueueChange, New_file, Make, Set_state, Answer, Gives, same}
+use Rattle.kernel.specs.Answers.{Effect, TreeChange, TableChange, QueueChange, New_file, Make, Set_state, Answer, Gives, same, Set_entry}
 use Rattle.kernel.specs.Changes.{tree_after, files_after}
 use Rattle.syscalls.specs.Shows.{Shown, shown}
 use Rattle.std.specs.Prelude.{Result, Ok, Err}
@@ -150,6 +150,20 @@ pub queue_succeeds : (w : World) (p : ℕ) (f : OpenFiles) (value : ℕ) (shows 
 queue_succeeds w p f value shows a change effects is prints files = record {
   change = record same { queue = change };
   effects = effects;
+  choice = any_choice;
+  is = is;
+  prints = prints;
+  suits = tt;
+  plain = (refl, tt);
+  tree = refl;
+  files = files;
+}
+
+-- a message that is taken with its descriptor
+pub take_succeeds : (w : World) (p : ℕ) (f : OpenFiles) (value : ℕ) (shows : List Shown) (a : Answer) (queue : QueueChange) (number : ℕ) (d : Descriptor) → a ≡ Gives value (record same { queue = queue; table = Set_entry number d }) [] → [] ≡ shows → Alike (files_after w.files p (length w.processes) any_choice (record same { queue = queue; table = Set_entry number d })) f → Succeeds w p w.tree f value shows a
+take_succeeds w p f value shows a queue number d is prints files = record {
+  change = record same { queue = queue; table = Set_entry number d };
+  effects = [];
   choice = any_choice;
   is = is;
   prints = prints;

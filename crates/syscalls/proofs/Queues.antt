@@ -1,14 +1,14 @@
 -- What a call through a socket answers, by the front message.
 use Rattle.std.proofs.Common.{◌≡◌, ℕ, Bool, true, false, List, [], ◌∷◌, refl, ap, sym, subst, ◌∙◌}
-use Rattle.std.specs.Prelude.{Option, Some, None, nat_lt, length, if◌then◌else◌}
+use Rattle.std.specs.Prelude.{Option, Some, None, is_some, nat_lt, length, if◌then◌else◌}
 use Rattle.process.specs.State.{ProcessState}
 use Rattle.fd_table.specs.Descriptions.{Descriptor, Message, other_side}
 use Rattle.fd_table.specs.OpenFiles.{is_open}
-use Rattle.fd_table.specs.Filled.{Front, SendRefusal, Closed, Full, front_of, send_refusal}
+use Rattle.fd_table.specs.Filled.{Front, SendRefusal, Closed, Full, front_of, front_passed, send_refusal}
 use Rattle.kernel.specs.World.{World}
-use Rattle.kernel.specs.Answers.{Event, Fails, Gives, Pop, Push, same, gives}
-use Rattle.kernel.specs.Calls.{read_end, sent_end, blocked}
-use Rattle.rights.specs.Errors.{EPIPE, Refused}
+use Rattle.kernel.specs.Answers.{Event, Fails, Gives, Pop, Push, Set_entry, same, gives, unless}
+use Rattle.kernel.specs.Calls.{read_end, sent_end, receive_end, received, blocked}
+use Rattle.rights.specs.Errors.{EINVAL, EPIPE, Refused}
 use Rattle.fd_table.specs.declared.faults.SendFault.{SendFault}
 use Rattle.fd_table.specs.declared.faults.SendFault.TheVariants as fault
 use Rattle.fd_table.specs.Views.{Tells}
@@ -62,3 +62,37 @@ told_closed o e tells is = subst (Tells o) is tells (λ same. absurd cc)
 
 pub told_full : (o : Option SendRefusal) (e : SendFault) → Tells o e → e ≡ fault.Full → o ≡ Some Full
 told_full o e tells is = subst (Tells o) is tells (λ same. absurd cc)
+
+-- ## Receiving a descriptor
+module _ (w : World) (p : ℕ) (s : ProcessState) (e : Event) (d : Descriptor) (pair side number : ℕ) where
+  pub receives_none : (messages : List Message) → None ≡ front_of messages → receive_end w p s e d pair side number messages ≡ unless (is_open w.files pair (other_side side)) EINVAL Refused (blocked w p s e (w.files.states d.description).nonblock)
+  receives_none [] is = refl
+  receives_none (m ∷ messages) is = absurd cc
+
+  pub receives_plain : (messages : List Message) (front : Front) → Some front ≡ front_of messages → front.carries ≡ false → receive_end w p s e d pair side number messages ≡ Fails EINVAL Refused
+  receives_plain [] front is plain = absurd cc
+  receives_plain (m ∷ messages) front is plain = at m.passed (ap (λ (f : Front). f.carries) (front_same is) ∙ plain)
+    where
+      front_same : {x y : Front} → Some x ≡ Some y → y ≡ x
+      front_same same = cc
+
+      at : (o : Option Descriptor) → is_some o ≡ false → received w p s e pair side number o ≡ Fails EINVAL Refused
+      at None none = refl
+      at (Some passed) none = absurd cc
+
+  -- the descriptor that comes
+  pub record Arrives (messages : List Message) : Type 0 where
+    pub passed : Descriptor
+    pub front : front_passed messages ≡ Some passed
+    pub is : receive_end w p s e d pair side number messages ≡ Gives number (record same { queue = Pop pair (other_side side); table = Set_entry number passed }) []
+
+  pub receives : (messages : List Message) (front : Front) → Some front ≡ front_of messages → front.carries ≡ true → Arrives messages
+  receives [] front is carries = absurd cc
+  receives (m ∷ messages) front is carries = at m.passed refl (ap (λ (f : Front). f.carries) (front_same is) ∙ carries)
+    where
+      front_same : {x y : Front} → Some x ≡ Some y → y ≡ x
+      front_same same = cc
+
+      at : (o : Option Descriptor) → m.passed ≡ o → is_some o ≡ true → Arrives (m ∷ messages)
+      at None same none = absurd cc
+      at (Some passed) same none = record { passed = passed; front = same; is = ap (received w p s e pair side number) same }

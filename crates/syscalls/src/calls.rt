@@ -1,4 +1,4 @@
-//! Every call that works on files and directories: what it answers, and what it does to the tree and to what is open.
+//! Every call that leaves the mode and the processes: what it answers, and what it does to the tree and to what is open.
 
 ghost use Rattle.std.specs.Prelude.{◌≡◌, true};
 ghost use Rattle.fd_table.specs.Kept.{open_files};
@@ -14,6 +14,7 @@ use crate::nodes::{
     stat_beneath, stat_path,
 };
 use crate::outcomes::{Refusal, Success};
+use crate::passing::{receive_descriptor, send_descriptor};
 use crate::reads::{read, seek};
 use crate::tables::{close, duplicate, limit_fcntls, limit_rights};
 use crate::writes::{truncate, write};
@@ -55,6 +56,12 @@ pub(crate) fn perform<T: Tree>(
         Syscall::Write { descriptor, value } => {
             write(alloc, tree, files, caller, *descriptor, *value)
         }
+        Syscall::Sendfd {
+            descriptor,
+            sent,
+            value,
+        } => send_descriptor(alloc, files, caller, *descriptor, *sent, *value),
+        Syscall::Recvfd { descriptor } => receive_descriptor(alloc, files, caller, *descriptor),
         Syscall::Lseek { descriptor, offset } => {
             seek(alloc, tree, files, caller, *descriptor, *offset)
         }
@@ -116,10 +123,6 @@ pub(crate) fn perform<T: Tree>(
             commands,
         } => limit_fcntls(alloc, files, caller, *descriptor, *commands),
         Syscall::CapGetmode => Ok(get_mode(alloc, caller)),
-        Syscall::CapEnter
-        | Syscall::Sendfd { .. }
-        | Syscall::Recvfd { .. }
-        | Syscall::Socketpair
-        | Syscall::Fork => Err(Refusal::Memory),
+        Syscall::CapEnter | Syscall::Socketpair | Syscall::Fork => Err(Refusal::Memory),
     }
 }

@@ -11,6 +11,7 @@ mod modes;
 mod nodes;
 mod opens;
 pub mod outcomes;
+mod passing;
 mod paths;
 mod reads;
 mod renames;

@@ -19,7 +19,7 @@ use rights::{Cause, Errno};
 use std::alloc::Global;
 
 /// A call that can't go on waits, or fails if its socket is told not to block. (fcntl(2), O_NONBLOCK)
-fn blocked(nonblock: bool) -> Refusal
+pub(crate) fn blocked(nonblock: bool) -> Refusal
     ensures { Refuses result (if nonblock then answers.Fails EAGAIN Refused else answers.Waits) }
 {
     if nonblock {
@@ -30,7 +30,7 @@ fn blocked(nonblock: bool) -> Refusal
 }
 
 /// Whether the description is told not to block.
-fn is_nonblocking(files: &Files, description: DescriptionId) -> bool
+pub(crate) fn is_nonblocking(files: &Files, description: DescriptionId) -> bool
     requires { IsNamed (open_files files.now) description }
     ensures { result ≡ ((open_files files.now).states description).nonblock }
 {

@@ -131,7 +131,7 @@ fn invoke<T: Tree>(
 /// dropped.
 ///
 /// Its caller knows that the world is well formed, that the process was made and has a next point, that the event is
-/// this process's, and that the instruction is a call other than `sendfd`, `recvfd`, `socketpair` and `fork`.
+/// this process's, and that the instruction is a call other than `socketpair` and `fork`.
 pub fn call<T: Tree>(
     alloc: Global,
     world: &mut World<T>,
