@@ -1,6 +1,7 @@
 pub mod Tests
 pub mod Numbers
 pub mod Finding
+pub mod Forking
 pub mod Queues
 pub mod Targets
 pub mod Keeping

@@ -2,7 +2,7 @@
 use Rattle.std.specs.Prelude.{◌≡◌, ◌+◌, ◌<◌, ◌||◌, ℕ, Bool, true, false, List, Some}
 use Rattle.std.specs.List.{slice_get}
 use Rattle.process.specs.State.{ProcessState}
-use Rattle.prog_asm.specs.Programs.{Instruction, Invoke, Syscall, Cap_enter}
+use Rattle.prog_asm.specs.Programs.{Instruction, Invoke, Syscall, Cap_enter, Fork}
 use Rattle.kernel.specs.World.{World}
 use Rattle.kernel.specs.Answers.{Event}
 use Rattle.kernel.specs.Steps.{LineResult, Programs}
@@ -15,9 +15,13 @@ abbrev pub is_entering : Syscall → Bool
 is_entering Cap_enter = true
 is_entering _ = false
 
+abbrev pub is_making : Syscall → Bool
+is_making Fork = true
+is_making _ = false
+
 -- the instruction is a call whose code stands
 abbrev pub IsCall : Instruction → Type 0
-IsCall (Invoke call otherwise) = (is_entering call || is_on_nodes call) ≡ true
+IsCall (Invoke call otherwise) = (is_making call || is_entering call || is_on_nodes call) ≡ true
 IsCall _ = ⊥
 
 -- The world is well formed, for some programs; the process was made; and it has a next point.

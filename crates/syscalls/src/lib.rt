@@ -7,6 +7,7 @@ mod changes;
 mod descriptors;
 mod directories;
 pub mod events;
+mod forks;
 mod modes;
 mod nodes;
 mod opens;

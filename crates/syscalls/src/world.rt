@@ -8,13 +8,14 @@ ghost use Rattle.prog_asm.specs.Views.{instruction_of, syscall_of};
 ghost use Rattle.process.specs.State.{ProcessState};
 ghost use Rattle.kernel.specs.Steps as steps;
 ghost use Rattle.syscalls.specs.Called.{Comes, result_of, succeeded_as};
-ghost use Rattle.syscalls.specs.MayCall.{CallComes, IsCall, MayBeCalled, MayCall, is_entering};
+ghost use Rattle.syscalls.specs.MayCall.{CallComes, IsCall, MayBeCalled, MayCall, is_entering, is_making};
 ghost use Rattle.syscalls.specs.NodeCalls.{is_on_nodes};
 ghost use Rattle.syscalls.specs.Views.{effects_of, event_of, world_with};
 
 use crate::calls::perform;
 use crate::descriptors::Caller;
 use crate::events::Event;
+use crate::forks::fork;
 use crate::outcomes::{Effect, Outcome, Refusal};
 use fd_table::Files;
 use file_tree::Tree;
@@ -32,7 +33,7 @@ pub struct World<T: Tree> {
 }
 
 /// The calling process after a success: register 0 has the value, and it goes on.
-fn succeeded(mut process: Process, value: u32, enters: bool) -> Process
+pub(crate) fn succeeded(mut process: Process, value: u32, enters: bool) -> Process
     requires { process.point + 1 < 256 }
     ensures { result ≡ succeeded_as process value enters }
 {
@@ -45,7 +46,7 @@ fn succeeded(mut process: Process, value: u32, enters: bool) -> Process
 }
 
 /// The calling process after an error: register 7 has its number, and it goes to the label.
-fn failed(mut process: Process, errno: Errno, otherwise: u8) -> Process
+pub(crate) fn failed(mut process: Process, errno: Errno, otherwise: u8) -> Process
     ensures { result ≡ steps.failed process (errno_of errno) otherwise }
 {
     process.registers[7] = u32::from(errno.number());
@@ -59,6 +60,16 @@ fn is_cap_enter(call: &Syscall) -> bool
 {
     match call {
         Syscall::CapEnter => true,
+        _ => false,
+    }
+}
+
+/// Whether the call makes a process.
+fn is_fork(call: &Syscall) -> bool
+    ensures { result ≡ is_making (syscall_of call.now) }
+{
+    match call {
+        Syscall::Fork => true,
         _ => false,
     }
 }
@@ -82,10 +93,13 @@ fn invoke<T: Tree>(
     event: Event,
 ) -> Result<Called, Memory>
     requires may { MayCall (world_with (T.nodes tree.old) (open_files files.old) processes.old.items) event.process process }
-    requires code { (is_entering (syscall_of call.now) || is_on_nodes (syscall_of call.now)) ≡ true }
+    requires code { (is_making (syscall_of call.now) || is_entering (syscall_of call.now) || is_on_nodes (syscall_of call.now)) ≡ true }
     ensures { IfOk result (λ called. Comes (world_with (T.nodes tree.old) (open_files files.old) processes.old.items) event.process process (event_of event) (syscall_of call.now) otherwise
         (result_of called.outcome) (effects_of called.effects.items) (world_with (T.nodes tree.new) (open_files files.new) processes.new.items)) }
 {
+    if is_fork(call) {
+        return fork(alloc, tree, files, processes, process, otherwise, event);
+    }
     let number = event.process as usize;
     if is_cap_enter(call) {
         processes[number] = succeeded(process, 0, true);
@@ -131,7 +145,7 @@ fn invoke<T: Tree>(
 /// dropped.
 ///
 /// Its caller knows that the world is well formed, that the process was made and has a next point, that the event is
-/// this process's, and that the instruction is a call other than `socketpair` and `fork`.
+/// this process's, and that the instruction is a call other than `socketpair`.
 pub fn call<T: Tree>(
     alloc: Global,
     world: &mut World<T>,
