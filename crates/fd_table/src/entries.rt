@@ -1,9 +1,9 @@
 //! The tables of all processes as one list of entries: sixteen for each of sixteen processes.
 
-ghost use Rattle.std.specs.Prelude.{◌≡◌, ◌<◌, None, length, replicate, IfOk, option_map};
+ghost use Rattle.std.specs.Prelude.{◌≡◌, ◌-◌, ◌≤◌, ◌<◌, None, length, replicate, IfOk, option_map};
 ghost use Rattle.rights.specs.Maps.{put, put2};
 ghost use Rattle.fd_table.specs.Kept.{entry};
-ghost use Rattle.fd_table.specs.OpenFiles.{lowest_free};
+ghost use Rattle.fd_table.specs.OpenFiles.{lowest_from};
 ghost use Rattle.fd_table.specs.Filled.{ended};
 ghost use Rattle.fd_table.specs.Views.{entry_seen};
 ghost use Rattle.fd_table.specs.Stored.{IsWithinTables, entries_kept, entry_kept};
@@ -29,12 +29,13 @@ pub(crate) fn entry_at(entries: &[Option<Descriptor>], p: u8, n: u8) -> Option<D
     entries[p as usize * 16 + n as usize]
 }
 
-/// The lowest number of a process that has no entry.
-pub(crate) fn lowest_in(entries: &[Option<Descriptor>], p: u8) -> Option<u8>
-    requires { length entries.now ≡ 256 }
-    ensures { result ≡ lowest_free (entry (entries_kept entries.now) p) }
+/// The lowest number of a process, from this one on, that has no entry.
+pub(crate) fn lowest_in(entries: &[Option<Descriptor>], p: u8, from: u8) -> Option<u8>
+    requires entries { length entries.now ≡ 256 }
+    requires from { from ≤ 16 }
+    ensures { result ≡ lowest_from (16 - from) from (entry (entries_kept entries.now) p) }
 {
-    for n in 0..NUMBERS {
+    for n in from..NUMBERS {
         if entry_at(entries, p, n).is_none() {
             return Some(n);
         }

@@ -1,10 +1,10 @@
 //! What all processes have open: a table for each, the descriptions that their entries name, and the queues of socket
 //! pairs.
 
-ghost use Rattle.std.specs.Prelude.{◌≡◌, ◌<◌, ℕ, None, IfErr, IfOk, OnErr, OnOk, option_map};
+ghost use Rattle.std.specs.Prelude.{◌≡◌, ◌+◌, ◌-◌, ◌<◌, ℕ, None, IfErr, IfOk, OnErr, OnOk, option_map};
 ghost use Rattle.std.specs.Option.{IsSome};
 ghost use Rattle.fd_table.specs.Descriptions.{message_of, other_side};
-ghost use Rattle.fd_table.specs.OpenFiles.{Alike, is_open as is_end_open, lowest_free as lowest_number};
+ghost use Rattle.fd_table.specs.OpenFiles.{Alike, is_open as is_end_open, lowest_free as lowest_number, lowest_from};
 ghost use Rattle.fd_table.specs.Filled.{AreApart, IsEmpty, IsEndThere, IsFree, IsFreeAt, IsNamed, MayLimit, MayPass, Opens, Pairs, front_byte, front_of, front_passed, limited, send_refusal, sent, taken, taken_to, with_entry, with_flags, with_offset, with_row};
 ghost use Rattle.fd_table.specs.Counts.{Counts};
 ghost use Rattle.fd_table.specs.Views.{Tells, access_asked, class_seen, descriptor_seen, entry_seen, front_seen, object_seen, side_seen, state_seen};
@@ -72,7 +72,16 @@ impl Files {
     pub fn lowest_free(&self, p: u8) -> Option<u8>
         ensures { result ≡ lowest_number ((open_files self.now).table p) }
     {
-        lowest_in(self.entries.as_slice(), p)
+        lowest_in(self.entries.as_slice(), p, 0)
+    }
+
+    /// The lowest number above this one that no descriptor of the process has, if one is free. (socketpair(2))
+    #[tactic(auto, unfolding(crate::specs::Kept::open_files))]
+    pub fn next_free(&self, p: u8, n: u8) -> Option<u8>
+        requires { n < 16 }
+        ensures { result ≡ lowest_from (15 - n) (n + 1) ((open_files self.now).table p) }
+    {
+        lowest_in(self.entries.as_slice(), p, n + 1)
     }
 
     /// What the description of an entry is of, and its state.

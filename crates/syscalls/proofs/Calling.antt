@@ -27,7 +27,8 @@ use Rattle.kernel.proofs.Keeping.{fresh_numbers}
 use Rattle.syscalls.specs.Shows.{Shown, shown}
 use Rattle.syscalls.specs.Views.{world_with}
 use Rattle.syscalls.specs.Meets.{Suits, IsOrdinary, IsPlain, Succeeds, RefusesAlone, IsIdle, IsReady, IsReadyEntry, IsReadyObject}
-use Rattle.syscalls.specs.MayCall.{MayCall, is_entering}
+use Rattle.syscalls.specs.MayCall.{MayCall, is_entering, is_making, is_pairing}
+use Rattle.syscalls.specs.NodeCalls.{is_on_nodes}
 use Rattle.syscalls.specs.Called.{Comes, succeeded_as}
 use Rattle.syscalls.proofs.Keeping.{alike_refl}
 
@@ -199,6 +200,36 @@ only_entering Cap_getmode is = absurd cc
 only_entering Socketpair is = absurd cc
 only_entering Fork is = absurd cc
 
+-- every other call leaves the mode and the processes, and makes no pair
+pub on_nodes_else : (call : Syscall) → is_making call ≡ false → is_pairing call ≡ false → is_entering call ≡ false → is_on_nodes call ≡ true
+on_nodes_else (Open path flags) fork pair enter = refl
+on_nodes_else (Openat descriptor path flags) fork pair enter = refl
+on_nodes_else (Read descriptor) fork pair enter = refl
+on_nodes_else (Write descriptor value) fork pair enter = refl
+on_nodes_else (Sendfd descriptor sent value) fork pair enter = refl
+on_nodes_else (Recvfd descriptor) fork pair enter = refl
+on_nodes_else (Lseek descriptor offset) fork pair enter = refl
+on_nodes_else (Ftruncate descriptor len) fork pair enter = refl
+on_nodes_else (Fsync descriptor) fork pair enter = refl
+on_nodes_else (Fstat descriptor) fork pair enter = refl
+on_nodes_else (Fcntl_getfl descriptor) fork pair enter = refl
+on_nodes_else (Fcntl_setfl descriptor flags) fork pair enter = refl
+on_nodes_else (Fstatat descriptor path) fork pair enter = refl
+on_nodes_else (Stat path) fork pair enter = refl
+on_nodes_else (Mkdirat descriptor path) fork pair enter = refl
+on_nodes_else (Mkdir path) fork pair enter = refl
+on_nodes_else (Unlinkat descriptor path directory) fork pair enter = refl
+on_nodes_else (Unlink path directory) fork pair enter = refl
+on_nodes_else (Renameat descriptor path target new_path) fork pair enter = refl
+on_nodes_else (Dup descriptor) fork pair enter = refl
+on_nodes_else (Close descriptor) fork pair enter = refl
+on_nodes_else (Cap_rights_limit descriptor rights) fork pair enter = refl
+on_nodes_else (Cap_fcntls_limit descriptor commands) fork pair enter = refl
+on_nodes_else Cap_enter fork pair enter = absurd cc
+on_nodes_else Cap_getmode fork pair enter = refl
+on_nodes_else Socketpair fork pair enter = absurd cc
+on_nodes_else Fork fork pair enter = absurd cc
+
 -- worlds of equal parts
 same_world : {t u : List Node} {f h : OpenFiles} {processes others : List ProcessState} → t ≡ u → f ≡ h → processes ≡ others → world_with t f processes ≡ world_with u h others
 same_world tree files processes i = world_with (tree i) (files i) (processes i)
@@ -230,3 +261,7 @@ module _ (programs : Programs) (t : List Node) (f : OpenFiles) (processes : List
       subst (λ (v : World). Comes w p s e call otherwise (Value 0) shows v) (same_world refl refl (ap (slice_set processes p) (sym is)))
       (subst (λ x. Comes w p s e call otherwise (Value 0) x (world_with t f (slice_set processes p (succeeded_as s 0 true)))) (sym none)
       (subst (λ x. Comes w p s e x otherwise (Value 0) [] (world_with t f (slice_set processes p (succeeded_as s 0 true)))) (sym (only_entering call entering)) (enters programs t f processes good p s e otherwise)))
+
+pub or_false : (b : Bool) → (b || false) ≡ b
+or_false true = refl
+or_false false = refl

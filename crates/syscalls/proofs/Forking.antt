@@ -1,7 +1,7 @@
 -- A fork, from its parts to the whole.
-use Rattle.std.proofs.Common.{◌≡◌, ◌<◌, ◌≤◌, arith, ℕ, Bool, true, false, not, List, [], ◌∷◌, ◌++◌, map, length, slice_set, refl, ap, sym, subst, ◌∙◌}
-use Rattle.std.specs.Prelude.{nat_lt, None}
-use Rattle.std.specs.List.{push, slice_get}
+use Rattle.std.proofs.Common.{◌≡◌, ◌<◌, ◌≤◌, arith, ℕ, true, false, not, List, [], map, length, slice_set, refl, ap, sym, subst, ◌∙◌}
+use Rattle.std.specs.Prelude.{None}
+use Rattle.std.specs.List.{push}
 use Rattle.std.proofs.lemmas.Option.{slice_get_past}
 use Rattle.rights.specs.Errors.{EAGAIN, Full, Refused}
 use Rattle.process.specs.State.{ProcessState, forked}
@@ -10,7 +10,7 @@ use Rattle.fd_table.specs.OpenFiles.{OpenFiles, Alike}
 use Rattle.fd_table.specs.Filled.{with_row}
 use Rattle.prog_asm.specs.Programs.{Fork}
 use Rattle.kernel.specs.World.{World}
-use Rattle.kernel.specs.Answers.{Event, Answer, Fails, Gives, same, New_process}
+use Rattle.kernel.specs.Answers.{Event, Gives, same, New_process}
 use Rattle.kernel.specs.Calls.{answer}
 use Rattle.kernel.specs.Changes.{files_after, changed}
 use Rattle.kernel.specs.Steps.{Value, Failed, Programs, answered, failed}

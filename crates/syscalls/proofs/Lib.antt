@@ -1,5 +1,6 @@
 pub mod Tests
 pub mod Numbers
+pub mod Pairing
 pub mod Finding
 pub mod Forking
 pub mod Queues

@@ -21,6 +21,10 @@ result_of outcome.Wait = Waiting
 abbrev pub succeeded_as : ProcessState → ℕ → Bool → ProcessState
 succeeded_as s value enters = record s { registers = slice_set s.registers 0 value; point = s.point + 1; mode = s.mode || enters }
 
+-- and after it made a pair, whose second number register 1 has
+abbrev pub paired_as : ProcessState → ℕ → ℕ → ProcessState
+paired_as s first second = record s { registers = slice_set (slice_set s.registers 0 first) 1 second; point = s.point + 1 }
+
 -- Under some fresh numbers the call comes to this, with these effects, and to a world that is alike.
 pub record Comes (w : World) (p : ℕ) (s : ProcessState) (e : Event) (call : Syscall) (otherwise : ℕ) (told : LineResult) (shows : List Shown) (v : World) : Type 0 where
   pub choice : Choice

@@ -1,14 +1,13 @@
 -- What the caller of a call has to know. (own)
-use Rattle.std.specs.Prelude.{◌≡◌, ◌+◌, ◌<◌, ◌||◌, ℕ, Bool, true, false, List, Some}
+use Rattle.std.specs.Prelude.{◌≡◌, ◌+◌, ◌<◌, ℕ, Bool, true, false, List, Some}
 use Rattle.std.specs.List.{slice_get}
 use Rattle.process.specs.State.{ProcessState}
-use Rattle.prog_asm.specs.Programs.{Instruction, Invoke, Syscall, Cap_enter, Fork}
+use Rattle.prog_asm.specs.Programs.{Instruction, Invoke, Syscall, Cap_enter, Socketpair, Fork}
 use Rattle.kernel.specs.World.{World}
 use Rattle.kernel.specs.Answers.{Event}
 use Rattle.kernel.specs.Steps.{LineResult, Programs}
 use Rattle.kernel.specs.WellFormed.{IsWellFormed}
 use Rattle.syscalls.specs.Shows.{Shown}
-use Rattle.syscalls.specs.NodeCalls.{is_on_nodes}
 use Rattle.syscalls.specs.Called.{Comes}
 
 abbrev pub is_entering : Syscall → Bool
@@ -19,9 +18,12 @@ abbrev pub is_making : Syscall → Bool
 is_making Fork = true
 is_making _ = false
 
--- the instruction is a call whose code stands
+abbrev pub is_pairing : Syscall → Bool
+is_pairing Socketpair = true
+is_pairing _ = false
+
 abbrev pub IsCall : Instruction → Type 0
-IsCall (Invoke call otherwise) = (is_making call || is_entering call || is_on_nodes call) ≡ true
+IsCall (Invoke call otherwise) = Unit {0}
 IsCall _ = ⊥
 
 -- The world is well formed, for some programs; the process was made; and it has a next point.

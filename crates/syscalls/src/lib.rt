@@ -12,6 +12,7 @@ mod modes;
 mod nodes;
 mod opens;
 pub mod outcomes;
+mod pairs;
 mod passing;
 mod paths;
 mod reads;

@@ -1,6 +1,6 @@
 //! The state of a run, and a system call of one of its processes.
 
-ghost use Rattle.std.specs.Prelude.{◌≡◌, ◌<◌, ◌+◌, ◌||◌, IfOk, Some, true, false};
+ghost use Rattle.std.specs.Prelude.{◌≡◌, ◌<◌, ◌+◌, IfOk, Some, true, false};
 ghost use Rattle.std.specs.List.{slice_get};
 ghost use Rattle.rights.specs.Views.{errno_of};
 ghost use Rattle.fd_table.specs.Kept.{open_files};
@@ -8,8 +8,7 @@ ghost use Rattle.prog_asm.specs.Views.{instruction_of, syscall_of};
 ghost use Rattle.process.specs.State.{ProcessState};
 ghost use Rattle.kernel.specs.Steps as steps;
 ghost use Rattle.syscalls.specs.Called.{Comes, result_of, succeeded_as};
-ghost use Rattle.syscalls.specs.MayCall.{CallComes, IsCall, MayBeCalled, MayCall, is_entering, is_making};
-ghost use Rattle.syscalls.specs.NodeCalls.{is_on_nodes};
+ghost use Rattle.syscalls.specs.MayCall.{CallComes, IsCall, MayBeCalled, MayCall, is_entering, is_making, is_pairing};
 ghost use Rattle.syscalls.specs.Views.{effects_of, event_of, world_with};
 
 use crate::calls::perform;
@@ -17,6 +16,7 @@ use crate::descriptors::Caller;
 use crate::events::Event;
 use crate::forks::fork;
 use crate::outcomes::{Effect, Outcome, Refusal};
+use crate::pairs::make_pair;
 use fd_table::Files;
 use file_tree::Tree;
 use process::Process;
@@ -74,6 +74,16 @@ fn is_fork(call: &Syscall) -> bool
     }
 }
 
+/// Whether the call makes a pair of sockets.
+fn is_socketpair(call: &Syscall) -> bool
+    ensures { result ≡ is_pairing (syscall_of call.now) }
+{
+    match call {
+        Syscall::Socketpair => true,
+        _ => false,
+    }
+}
+
 /// What a call came to, with its effects.
 #[derive(Drop)]
 pub struct Called {
@@ -92,13 +102,15 @@ fn invoke<T: Tree>(
     otherwise: u8,
     event: Event,
 ) -> Result<Called, Memory>
-    requires may { MayCall (world_with (T.nodes tree.old) (open_files files.old) processes.old.items) event.process process }
-    requires code { (is_making (syscall_of call.now) || is_entering (syscall_of call.now) || is_on_nodes (syscall_of call.now)) ≡ true }
+    requires { MayCall (world_with (T.nodes tree.old) (open_files files.old) processes.old.items) event.process process }
     ensures { IfOk result (λ called. Comes (world_with (T.nodes tree.old) (open_files files.old) processes.old.items) event.process process (event_of event) (syscall_of call.now) otherwise
         (result_of called.outcome) (effects_of called.effects.items) (world_with (T.nodes tree.new) (open_files files.new) processes.new.items)) }
 {
     if is_fork(call) {
         return fork(alloc, tree, files, processes, process, otherwise, event);
+    }
+    if is_socketpair(call) {
+        return make_pair(alloc, tree, files, processes, process, otherwise, event);
     }
     let number = event.process as usize;
     if is_cap_enter(call) {
@@ -145,7 +157,7 @@ fn invoke<T: Tree>(
 /// dropped.
 ///
 /// Its caller knows that the world is well formed, that the process was made and has a next point, that the event is
-/// this process's, and that the instruction is a call other than `socketpair`.
+/// this process's, and that the instruction is a call.
 pub fn call<T: Tree>(
     alloc: Global,
     world: &mut World<T>,
