@@ -154,6 +154,8 @@ fn what_is_opened(rt: HostRuntime) -> Result<(), Fail> {
     assert_eq!(rt; description.status.append, true);
     assert_eq!(rt; description.status.nonblock, false);
     assert_eq!(rt; files.lowest_free(3), Some(1));
+    assert_eq!(rt; files.next_free(3, 0), Some(1));
+    assert_eq!(rt; files.next_free(3, 15), None);
     assert_eq!(rt; files.lowest_free(2), Some(0));
     assert_eq!(rt; files.get(16, 0), None);
     assert_eq!(rt; files.count(), 1);
