@@ -17,7 +17,7 @@ use Rattle.kernel.specs.World.{World, Choice, IsFresh}
 use Rattle.kernel.specs.Answers.{Event, TreeChange, TableChange, Same_table, Set_entry, Clear_entry, New_file, New_pair, New_process, QueueChange, StateChange, Change, Fails, Waits}
 use Rattle.kernel.specs.Calls.{answer}
 use Rattle.kernel.specs.Changes.{files_after, changed, given, second_number, children, processes_after}
-use Rattle.kernel.specs.Steps.{Value, Failed, Waiting, Programs, answered, failed}
+use Rattle.kernel.specs.Steps.{LineResult, Value, Failed, Waiting, Programs, answered, failed}
 use Rattle.kernel.specs.WellFormed.{IsWellFormed, Numbering, IsObject, IsDescriptor, IfHeld}
 use Rattle.kernel.proofs.Trees.{there_if_opened}
 use Rattle.kernel.specs.Runs.{MayChoose}
@@ -29,7 +29,7 @@ use Rattle.syscalls.specs.Views.{world_with}
 use Rattle.syscalls.specs.Meets.{Suits, IsOrdinary, IsPlain, Succeeds, RefusesAlone, IsIdle, IsReady, IsReadyEntry, IsReadyObject}
 use Rattle.syscalls.specs.MayCall.{MayCall, is_entering, is_making, is_pairing}
 use Rattle.syscalls.specs.NodeCalls.{is_on_nodes}
-use Rattle.syscalls.specs.Called.{Comes, succeeded_as}
+use Rattle.syscalls.specs.Called.{Comes, FailsAs, succeeded_as}
 use Rattle.syscalls.proofs.Keeping.{alike_refl}
 
 -- A fresh choice with which the change leaves the same.
@@ -234,19 +234,28 @@ on_nodes_else Fork fork pair enter = absurd cc
 same_world : {t u : List Node} {f h : OpenFiles} {processes others : List ProcessState} → t ≡ u → f ≡ h → processes ≡ others → world_with t f processes ≡ world_with u h others
 same_world tree files processes i = world_with (tree i) (files i) (processes i)
 
+-- a failure, where it is told as it has to be
+pub falls : (programs : Programs) (t : List Node) (f : OpenFiles) (processes : List ProcessState) → IsWellFormed programs (world_with t f processes) → (p : ℕ) (s : ProcessState) (e : Event) (call : Syscall) (otherwise : ℕ) (errno : Errno) (cause : Cause) → answer (world_with t f processes) p s e call ≡ Fails errno cause → (told : LineResult) (shows : List Shown) (after : List ProcessState) → FailsAs processes p s otherwise errno cause told shows after → Comes (world_with t f processes) p s e call otherwise told shows (world_with t f after)
+falls programs t f processes good p s e call otherwise errno cause is told shows after y =
+    let w = world_with t f processes in
+    subst (λ x. Comes w p s e call otherwise x shows (world_with t f after)) (sym y.told)
+    (subst (λ x. Comes w p s e call otherwise (Failed errno cause) x (world_with t f after)) (sym y.nothing)
+    (subst (λ x. Comes w p s e call otherwise (Failed errno cause) [] (world_with t f x)) (sym y.processes)
+    (fails programs t f processes good p s e call otherwise errno cause is)))
+
+-- and where nothing was done before
+pub falls_as : (programs : Programs) (t : List Node) (f : OpenFiles) (processes : List ProcessState) → IsWellFormed programs (world_with t f processes) → (p : ℕ) (s : ProcessState) (e : Event) (call : Syscall) (otherwise : ℕ) (after : List Node) (left : OpenFiles) (refused : Refusal) (errno : ErrnoCode) (cause : CauseCode) → refused ≡ refusal.Fails errno cause → RefusesAlone refused (world_with t f processes) after left (answer (world_with t f processes) p s e call) → (told : LineResult) (shows : List Shown) (stand : List ProcessState) → FailsAs processes p s otherwise (errno_of errno) (cause_of cause) told shows stand → Comes (world_with t f processes) p s e call otherwise told shows (world_with after left stand)
+falls_as programs t f processes good p s e call otherwise after left refused errno cause same alone told shows stand y =
+    let w = world_with t f processes in
+    let (answers, nothing) = subst (λ r. RefusesAlone r w after left (answer w p s e call)) same alone in
+    subst (λ (v : World). Comes w p s e call otherwise told shows v) (same_world (sym nothing.tree) (sym nothing.files) refl)
+    (falls programs t f processes good p s e call otherwise (errno_of errno) (cause_of cause) answers told shows stand y)
+
 module _ (programs : Programs) (t : List Node) (f : OpenFiles) (processes : List ProcessState) (good : IsWellFormed programs (world_with t f processes)) (p : ℕ) (s : ProcessState) (e : Event) (call : Syscall) (otherwise : ℕ) (after : List Node) (left : OpenFiles) (next : ProcessState) (shows : List Shown) where
   pub succeeds_as : (value : ℕ) → Succeeds (world_with t f processes) p after left value shows (answer (world_with t f processes) p s e call) → next ≡ succeeded_as s value false → Comes (world_with t f processes) p s e call otherwise (Value value) shows (world_with after left (slice_set processes p next))
   succeeds_as value y is =
       subst (λ (v : World). Comes (world_with t f processes) p s e call otherwise (Value value) shows v) (same_world refl refl (ap (slice_set processes p) (sym is)))
       (succeeds programs t f processes good p s e call otherwise after left value shows y)
-
-  pub fails_as : (refused : Refusal) (errno : ErrnoCode) (cause : CauseCode) → refused ≡ refusal.Fails errno cause → RefusesAlone refused (world_with t f processes) after left (answer (world_with t f processes) p s e call) → next ≡ failed s (errno_of errno) otherwise → shows ≡ [] → Comes (world_with t f processes) p s e call otherwise (Failed (errno_of errno) (cause_of cause)) shows (world_with after left (slice_set processes p next))
-  fails_as refused errno cause same alone is none =
-      let w = world_with t f processes in
-      let (answers, nothing) = subst (λ r. RefusesAlone r w after left (answer w p s e call)) same alone in
-      subst (λ (v : World). Comes w p s e call otherwise (Failed (errno_of errno) (cause_of cause)) shows v) (same_world (sym nothing.tree) (sym nothing.files) (ap (slice_set processes p) (sym is)))
-      (subst (λ x. Comes w p s e call otherwise (Failed (errno_of errno) (cause_of cause)) x (world_with t f (slice_set processes p (failed s (errno_of errno) otherwise)))) (sym none)
-      (fails programs t f processes good p s e call otherwise (errno_of errno) (cause_of cause) answers))
 
   pub waits_as : (refused : Refusal) → refused ≡ refusal.Waits → RefusesAlone refused (world_with t f processes) after left (answer (world_with t f processes) p s e call) → shows ≡ [] → Comes (world_with t f processes) p s e call otherwise Waiting shows (world_with after left processes)
   waits_as refused same alone none =

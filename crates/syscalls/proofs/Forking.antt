@@ -13,13 +13,13 @@ use Rattle.kernel.specs.World.{World}
 use Rattle.kernel.specs.Answers.{Event, Gives, same, New_process}
 use Rattle.kernel.specs.Calls.{answer}
 use Rattle.kernel.specs.Changes.{files_after, changed}
-use Rattle.kernel.specs.Steps.{Value, Failed, Programs, answered, failed}
+use Rattle.kernel.specs.Steps.{LineResult, Value, Programs, answered}
 use Rattle.kernel.specs.WellFormed.{IsWellFormed, HasNone}
 use Rattle.kernel.specs.Alike.{AlikeWorlds}
 use Rattle.kernel.proofs.Fresh.{fresh_some}
 use Rattle.syscalls.specs.Shows.{Shown, shown}
 use Rattle.syscalls.specs.Views.{world_with}
-use Rattle.syscalls.specs.Called.{Comes, succeeded_as}
+use Rattle.syscalls.specs.Called.{Comes, FailsAs, succeeded_as}
 use Rattle.syscalls.proofs.Tests.{passes, fails, below, not_below}
 use Rattle.syscalls.proofs.Calling as calling
 
@@ -31,15 +31,15 @@ module _ (programs : Programs) (t : List Node) (f : OpenFiles) (processes : List
   made = length processes
 
   -- too many were made
-  pub full : 16 ≤ made → Comes w p s e Fork otherwise (Failed EAGAIN Full) [] (world_with t f (slice_set processes p (failed s EAGAIN otherwise)))
+  pub full : (n : ℕ) → n ≡ length processes → 16 ≤ n → (told : LineResult) (shows : List Shown) (after : List ProcessState) → FailsAs processes p s otherwise EAGAIN Full told shows after → Comes w p s e Fork otherwise told shows (world_with t f after)
   unfolding answer
-  full many = calling.fails programs t f processes good p s e Fork otherwise EAGAIN Full (fails _ _ _ _ (not_below made 16 many))
+  full n counts many = calling.falls programs t f processes good p s e Fork otherwise EAGAIN Full (fails _ _ _ _ (not_below made 16 (subst (λ m. 16 ≤ m) counts many)))
 
   -- the kernel refuses
-  pub refused : made < 16 → e.refuse ≡ true → Comes w p s e Fork otherwise (Failed EAGAIN Refused) [] (world_with t f (slice_set processes p (failed s EAGAIN otherwise)))
+  pub refused : (n : ℕ) → n ≡ length processes → n < 16 → e.refuse ≡ true → (told : LineResult) (shows : List Shown) (after : List ProcessState) → FailsAs processes p s otherwise EAGAIN Refused told shows after → Comes w p s e Fork otherwise told shows (world_with t f after)
   unfolding answer
-  refused few is = calling.fails programs t f processes good p s e Fork otherwise EAGAIN Refused
-      (passes _ _ _ _ (below made 16 few) ∙ fails _ _ _ _ (ap not is))
+  refused n counts few is = calling.falls programs t f processes good p s e Fork otherwise EAGAIN Refused
+      (passes _ _ _ _ (below made 16 (subst (λ m. m < 16) counts few)) ∙ fails _ _ _ _ (ap not is))
 
   -- a child is made
   pub forks : (left : OpenFiles) → made < 16 → e.refuse ≡ false → Alike (with_row f made (f.table p)) left → Comes w p s e Fork otherwise (Value made) [] (world_with t left (push (slice_set processes p (succeeded_as s made false)) (forked (succeeded_as s made false))))
@@ -58,16 +58,6 @@ module _ (programs : Programs) (t : List Node) (f : OpenFiles) (processes : List
 
   -- the same of what the code left, where it counts so many processes
   module _ (n : ℕ) (counts : n ≡ length processes) (shows : List Shown) (empty : shows ≡ []) where
-    pub full_as : 16 ≤ n → (stands : ProcessState) → stands ≡ failed s EAGAIN otherwise → Comes w p s e Fork otherwise (Failed EAGAIN Full) shows (world_with t f (slice_set processes p stands))
-    full_as many stands is =
-        subst (λ x. Comes w p s e Fork otherwise (Failed EAGAIN Full) shows (world_with t f (slice_set processes p x))) (sym is)
-        (subst (λ x. Comes w p s e Fork otherwise (Failed EAGAIN Full) x (world_with t f (slice_set processes p (failed s EAGAIN otherwise)))) (sym empty) (full (subst (λ m. 16 ≤ m) counts many)))
-
-    pub refused_as : n < 16 → e.refuse ≡ true → (stands : ProcessState) → stands ≡ failed s EAGAIN otherwise → Comes w p s e Fork otherwise (Failed EAGAIN Refused) shows (world_with t f (slice_set processes p stands))
-    refused_as few refuses stands is =
-        subst (λ x. Comes w p s e Fork otherwise (Failed EAGAIN Refused) shows (world_with t f (slice_set processes p x))) (sym is)
-        (subst (λ x. Comes w p s e Fork otherwise (Failed EAGAIN Refused) x (world_with t f (slice_set processes p (failed s EAGAIN otherwise)))) (sym empty) (refused (subst (λ m. m < 16) counts few) refuses))
-
     pub forks_as : (left : OpenFiles) → n < 16 → e.refuse ≡ false → Alike (with_row f n (f.table p)) left → (parent child : ProcessState) → parent ≡ succeeded_as s n false → child ≡ forked parent → (after : List ProcessState) → after ≡ push (slice_set processes p parent) child → Comes w p s e Fork otherwise (Value n) shows (world_with t left after)
     forks_as left few refuses alike parent child goes copies after holds =
         let told : ℕ → List Shown → List ProcessState → Type 0 = λ m x v. Comes w p s e Fork otherwise (Value m) x (world_with t left v) in

@@ -1,7 +1,7 @@
 -- A new pair, from its parts to the whole.
 use Rattle.std.proofs.Common.{◌≡◌, ◌≢◌, ◌+◌, ◌-◌, ◌<◌, arith, ℕ, true, false, not, List, [], map, slice_set, refl, ap, sym, subst, ◌∙◌, append-nil}
 use Rattle.std.specs.Prelude.{Option, Some, None}
-use Rattle.rights.specs.Errors.{Errno, Cause, EMFILE, ENFILE, Full, Refused}
+use Rattle.rights.specs.Errors.{EMFILE, ENFILE, Full, Refused}
 use Rattle.process.specs.State.{ProcessState}
 use Rattle.file_tree.specs.Nodes.{Node}
 use Rattle.fd_table.specs.Descriptions.{Class, Made_at}
@@ -9,15 +9,15 @@ use Rattle.fd_table.specs.OpenFiles.{OpenFiles, lowest_free, lowest_from}
 use Rattle.fd_table.specs.Filled.{Entry, IsFreeAt, Pairs}
 use Rattle.prog_asm.specs.Programs.{Socketpair}
 use Rattle.kernel.specs.World.{World, Choice}
-use Rattle.kernel.specs.Answers.{Event, Answer, Fails, Gives, same, New_pair, at_number}
+use Rattle.kernel.specs.Answers.{Event, Answer, Gives, same, New_pair, at_number}
 use Rattle.kernel.specs.Calls.{answer, pair_at, unrefused}
 use Rattle.kernel.specs.Changes.{files_after, changed, given}
-use Rattle.kernel.specs.Steps.{Value, Failed, Programs, answered, failed}
+use Rattle.kernel.specs.Steps.{LineResult, Value, Programs, answered}
 use Rattle.kernel.specs.WellFormed.{IsWellFormed}
 use Rattle.kernel.specs.Alike.{AlikeWorlds}
 use Rattle.syscalls.specs.Shows.{Shown, shown}
 use Rattle.syscalls.specs.Views.{world_with}
-use Rattle.syscalls.specs.Called.{Comes, paired_as}
+use Rattle.syscalls.specs.Called.{Comes, FailsAs, paired_as}
 use Rattle.syscalls.proofs.Numbers.{lowest_is_free}
 use Rattle.syscalls.proofs.Tests.{passes, fails}
 use Rattle.syscalls.proofs.Calling as calling
@@ -32,12 +32,6 @@ module _ (programs : Programs) (t : List Node) (f : OpenFiles) (processes : List
   abbrev made : ℕ → ℕ → Answer
   made first second = Gives first (record same { table = New_pair first second (Made_at s.program s.point) }) []
 
-  failed_as : (errno : Errno) (cause : Cause) (shows : List Shown) (stands : ProcessState) → answer w p s e Socketpair ≡ Fails errno cause → shows ≡ [] → stands ≡ failed s errno otherwise → Comes w p s e Socketpair otherwise (Failed errno cause) shows (world_with t f (slice_set processes p stands))
-  failed_as errno cause shows stands is empty stood =
-      subst (λ x. Comes w p s e Socketpair otherwise (Failed errno cause) shows (world_with t f (slice_set processes p x))) (sym stood)
-      (subst (λ x. Comes w p s e Socketpair otherwise (Failed errno cause) x (world_with t f (slice_set processes p (failed s errno otherwise)))) (sym empty)
-      (calling.fails programs t f processes good p s e Socketpair otherwise errno cause is))
-
   with_first : (first : ℕ) → lowest_free (f.table p) ≡ Some first → answer w p s e Socketpair ≡ at_number (second_from first) (λ second. unrefused w p s e ENFILE (made first second))
   unfolding answer
   with_first first is = ap (pair_at w p s e) is
@@ -47,17 +41,17 @@ module _ (programs : Programs) (t : List Node) (f : OpenFiles) (processes : List
   with_second first second one two = with_first first one ∙ ap (λ o. at_number o (λ second. unrefused w p s e ENFILE (made first second))) two
 
   -- no number is free, or one alone
-  pub no_first : (shows : List Shown) (stands : ProcessState) → lowest_free (f.table p) ≡ None → shows ≡ [] → stands ≡ failed s EMFILE otherwise → Comes w p s e Socketpair otherwise (Failed EMFILE Full) shows (world_with t f (slice_set processes p stands))
+  pub no_first : lowest_free (f.table p) ≡ None → (told : LineResult) (shows : List Shown) (after : List ProcessState) → FailsAs processes p s otherwise EMFILE Full told shows after → Comes w p s e Socketpair otherwise told shows (world_with t f after)
   unfolding answer
-  no_first shows stands is = failed_as EMFILE Full shows stands (ap (pair_at w p s e) is)
+  no_first is = calling.falls programs t f processes good p s e Socketpair otherwise EMFILE Full (ap (pair_at w p s e) is)
 
-  pub no_second : (first : ℕ) (shows : List Shown) (stands : ProcessState) → lowest_free (f.table p) ≡ Some first → second_from first ≡ None → shows ≡ [] → stands ≡ failed s EMFILE otherwise → Comes w p s e Socketpair otherwise (Failed EMFILE Full) shows (world_with t f (slice_set processes p stands))
+  pub no_second : (first : ℕ) → lowest_free (f.table p) ≡ Some first → second_from first ≡ None → (told : LineResult) (shows : List Shown) (after : List ProcessState) → FailsAs processes p s otherwise EMFILE Full told shows after → Comes w p s e Socketpair otherwise told shows (world_with t f after)
   unfolding at_number
-  no_second first shows stands one two = failed_as EMFILE Full shows stands (with_first first one ∙ ap (λ o. at_number o (λ second. unrefused w p s e ENFILE (made first second))) two)
+  no_second first one two = calling.falls programs t f processes good p s e Socketpair otherwise EMFILE Full (with_first first one ∙ ap (λ o. at_number o (λ second. unrefused w p s e ENFILE (made first second))) two)
 
   -- the kernel refuses
-  pub refused : (first second : ℕ) (shows : List Shown) (stands : ProcessState) → lowest_free (f.table p) ≡ Some first → second_from first ≡ Some second → e.refuse ≡ true → shows ≡ [] → stands ≡ failed s ENFILE otherwise → Comes w p s e Socketpair otherwise (Failed ENFILE Refused) shows (world_with t f (slice_set processes p stands))
-  refused first second shows stands one two is = failed_as ENFILE Refused shows stands (with_second first second one two ∙ fails _ _ _ _ (ap not is))
+  pub refused : (first second : ℕ) → lowest_free (f.table p) ≡ Some first → second_from first ≡ Some second → e.refuse ≡ true → (told : LineResult) (shows : List Shown) (after : List ProcessState) → FailsAs processes p s otherwise ENFILE Refused told shows after → Comes w p s e Socketpair otherwise told shows (world_with t f after)
+  refused first second one two is = calling.falls programs t f processes good p s e Socketpair otherwise ENFILE Refused (with_second first second one two ∙ fails _ _ _ _ (ap not is))
 
   -- a pair is made
   pub pairs : (first second : ℕ) (left : OpenFiles) → lowest_free (f.table p) ≡ Some first → second_from first ≡ Some second → e.refuse ≡ false → Pairs f left (Made_at s.program s.point) (Some (record { process = p; number = first })) (Some (record { process = p; number = second })) → Comes w p s e Socketpair otherwise (Value first) [] (world_with t left (slice_set processes p (paired_as s first second)))

@@ -1,12 +1,13 @@
 -- What a call of a process comes to, with its process after it.
-use Rattle.std.specs.Prelude.{◌≡◌, ◌+◌, ◌||◌, ℕ, Bool, List, map, slice_set}
+use Rattle.std.specs.Prelude.{◌≡◌, ◌+◌, ◌||◌, ℕ, Bool, List, [], map, slice_set}
+use Rattle.rights.specs.Errors.{Errno, Cause}
 use Rattle.rights.specs.Views.{errno_of, cause_of}
 use Rattle.process.specs.State.{ProcessState}
 use Rattle.prog_asm.specs.Programs.{Syscall}
 use Rattle.kernel.specs.World.{World, Choice, IsFresh}
 use Rattle.kernel.specs.Answers.{Event}
 use Rattle.kernel.specs.Calls.{answer}
-use Rattle.kernel.specs.Steps.{LineResult, Value, Failed, Waiting, answered}
+use Rattle.kernel.specs.Steps.{LineResult, Value, Failed, Waiting, answered, failed}
 use Rattle.kernel.specs.Alike.{AlikeWorlds}
 use Rattle.syscalls.specs.declared.outcomes.Outcome.{Outcome}
 use Rattle.syscalls.specs.declared.outcomes.Outcome.TheVariants as outcome
@@ -24,6 +25,12 @@ succeeded_as s value enters = record s { registers = slice_set s.registers 0 val
 -- and after it made a pair, whose second number register 1 has
 abbrev pub paired_as : ProcessState → ℕ → ℕ → ProcessState
 paired_as s first second = record s { registers = slice_set (slice_set s.registers 0 first) 1 second; point = s.point + 1 }
+
+-- A call that fails is told with its cause, shows nothing, and leaves this of the processes.
+pub record FailsAs (before : List ProcessState) (p : ℕ) (s : ProcessState) (otherwise : ℕ) (errno : Errno) (cause : Cause) (result : LineResult) (shows : List Shown) (after : List ProcessState) : Type 0 where
+  pub told : result ≡ Failed errno cause
+  pub nothing : shows ≡ []
+  pub processes : after ≡ slice_set before p (failed s errno otherwise)
 
 -- Under some fresh numbers the call comes to this, with these effects, and to a world that is alike.
 pub record Comes (w : World) (p : ℕ) (s : ProcessState) (e : Event) (call : Syscall) (otherwise : ℕ) (told : LineResult) (shows : List Shown) (v : World) : Type 0 where

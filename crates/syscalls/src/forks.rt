@@ -9,7 +9,7 @@ ghost use Rattle.syscalls.specs.Views.{effects_of, event_of, world_with};
 
 use crate::events::Event;
 use crate::outcomes::Outcome;
-use crate::world::{Called, failed, succeeded};
+use crate::world::{Called, fail, succeeded};
 use fd_table::Files;
 use file_tree::Tree;
 use process::Process;
@@ -34,25 +34,32 @@ pub(crate) fn fork<T: Tree>(
     ensures { IfOk result (λ called. Comes (world_with (T.nodes tree.now) (open_files files.old) processes.old.items) event.process process (event_of event) programs.Fork otherwise
         (result_of called.outcome) (effects_of called.effects.items) (world_with (T.nodes tree.now) (open_files files.new) processes.new.items)) }
 {
-    let number = event.process as usize;
     let made = processes.len();
     if made >= MOST_PROCESSES {
-        processes[number] = failed(process, Errno::EAGAIN, otherwise);
-        return Ok(Called {
-            outcome: Outcome::Error(Errno::EAGAIN, Cause::Full),
-            effects: Vec::new(alloc),
-        });
+        return Ok(fail(
+            alloc,
+            processes,
+            event.process,
+            process,
+            otherwise,
+            Errno::EAGAIN,
+            Cause::Full,
+        ));
     }
     if event.refuse {
-        processes[number] = failed(process, Errno::EAGAIN, otherwise);
-        return Ok(Called {
-            outcome: Outcome::Error(Errno::EAGAIN, Cause::Refused),
-            effects: Vec::new(alloc),
-        });
+        return Ok(fail(
+            alloc,
+            processes,
+            event.process,
+            process,
+            otherwise,
+            Errno::EAGAIN,
+            Cause::Refused,
+        ));
     }
     let parent = succeeded(process, made as u32, false);
     files.copy_table(event.process, made as u8);
-    processes[number] = parent;
+    processes[event.process as usize] = parent;
     processes.push(parent.fork_of())?;
     Ok(Called {
         outcome: Outcome::Value(made as u32),

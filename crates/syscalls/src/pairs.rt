@@ -1,17 +1,19 @@
 //! Making a pair of sockets: socketpair.
 
-ghost use Rattle.std.specs.Prelude.{◌≡◌, ◌+◌, ◌<◌, IfOk};
+ghost use Rattle.std.specs.Prelude.{◌≡◌, ◌+◌, ◌<◌, IfOk, length};
+ghost use Rattle.rights.specs.Errors as errors;
+ghost use Rattle.rights.specs.Errors.{EMFILE};
 ghost use Rattle.fd_table.specs.Descriptions.{Made_at};
 ghost use Rattle.fd_table.specs.Kept.{open_files};
 ghost use Rattle.fd_table.specs.Views.{class_seen};
 ghost use Rattle.prog_asm.specs.Programs as programs;
-ghost use Rattle.syscalls.specs.Called.{Comes, paired_as, result_of};
+ghost use Rattle.syscalls.specs.Called.{Comes, FailsAs, paired_as, result_of};
 ghost use Rattle.syscalls.specs.MayCall.{MayCall};
 ghost use Rattle.syscalls.specs.Views.{effects_of, event_of, world_with};
 
 use crate::events::Event;
 use crate::outcomes::Outcome;
-use crate::world::{Called, failed};
+use crate::world::{Called, fail};
 use fd_table::{Class, Entry, Files};
 use file_tree::Tree;
 use process::Process;
@@ -39,6 +41,28 @@ fn class_of(process: Process) -> Class
     }
 }
 
+/// The caller has not two free numbers.
+fn full(
+    alloc: Global,
+    processes: &mut Vec<Process>,
+    process: Process,
+    otherwise: u8,
+    event: Event,
+) -> Called
+    requires { event.process < length processes.old.items }
+    ensures { FailsAs processes.old.items event.process process otherwise EMFILE errors.Full (result_of result.outcome) (effects_of result.effects.items) processes.new.items }
+{
+    fail(
+        alloc,
+        processes,
+        event.process,
+        process,
+        otherwise,
+        Errno::EMFILE,
+        Cause::Full,
+    )
+}
+
 /// Makes a pair of connected sockets with all rights, its ends under the two lowest free numbers. Register 1 has the
 /// second. (socketpair(2))
 pub(crate) fn make_pair<T: Tree>(
@@ -54,33 +78,24 @@ pub(crate) fn make_pair<T: Tree>(
     ensures { IfOk result (λ called. Comes (world_with (T.nodes tree.now) (open_files files.old) processes.old.items) event.process process (event_of event) programs.Socketpair otherwise
         (result_of called.outcome) (effects_of called.effects.items) (world_with (T.nodes tree.now) (open_files files.new) processes.new.items)) }
 {
-    let number = event.process as usize;
     let first = match files.lowest_free(event.process) {
-        None => {
-            processes[number] = failed(process, Errno::EMFILE, otherwise);
-            return Ok(Called {
-                outcome: Outcome::Error(Errno::EMFILE, Cause::Full),
-                effects: Vec::new(alloc),
-            });
-        }
+        None => return Ok(full(alloc, processes, process, otherwise, event)),
         Some(first) => first,
     };
     let second = match files.next_free(event.process, first) {
-        None => {
-            processes[number] = failed(process, Errno::EMFILE, otherwise);
-            return Ok(Called {
-                outcome: Outcome::Error(Errno::EMFILE, Cause::Full),
-                effects: Vec::new(alloc),
-            });
-        }
+        None => return Ok(full(alloc, processes, process, otherwise, event)),
         Some(second) => second,
     };
     if event.refuse {
-        processes[number] = failed(process, Errno::ENFILE, otherwise);
-        return Ok(Called {
-            outcome: Outcome::Error(Errno::ENFILE, Cause::Refused),
-            effects: Vec::new(alloc),
-        });
+        return Ok(fail(
+            alloc,
+            processes,
+            event.process,
+            process,
+            otherwise,
+            Errno::ENFILE,
+            Cause::Refused,
+        ));
     }
     let a = Entry {
         process: event.process,
@@ -91,7 +106,7 @@ pub(crate) fn make_pair<T: Tree>(
         number: second,
     };
     files.open_pair(class_of(process), Some(a), Some(b))?;
-    processes[number] = paired(process, first as u32, second as u32);
+    processes[event.process as usize] = paired(process, first as u32, second as u32);
     Ok(Called {
         outcome: Outcome::Value(first as u32),
         effects: Vec::new(alloc),

@@ -1,13 +1,13 @@
 //! The state of a run, and a system call of one of its processes.
 
-ghost use Rattle.std.specs.Prelude.{◌≡◌, ◌<◌, ◌+◌, IfOk, Some, true, false};
+ghost use Rattle.std.specs.Prelude.{◌≡◌, ◌<◌, ◌+◌, IfOk, Some, length, true, false};
 ghost use Rattle.std.specs.List.{slice_get};
-ghost use Rattle.rights.specs.Views.{errno_of};
+ghost use Rattle.rights.specs.Views.{cause_of, errno_of};
 ghost use Rattle.fd_table.specs.Kept.{open_files};
 ghost use Rattle.prog_asm.specs.Views.{instruction_of, syscall_of};
 ghost use Rattle.process.specs.State.{ProcessState};
 ghost use Rattle.kernel.specs.Steps as steps;
-ghost use Rattle.syscalls.specs.Called.{Comes, result_of, succeeded_as};
+ghost use Rattle.syscalls.specs.Called.{Comes, FailsAs, result_of, succeeded_as};
 ghost use Rattle.syscalls.specs.MayCall.{CallComes, IsCall, MayBeCalled, MayCall, is_entering, is_making, is_pairing};
 ghost use Rattle.syscalls.specs.Views.{effects_of, event_of, world_with};
 
@@ -21,7 +21,7 @@ use fd_table::Files;
 use file_tree::Tree;
 use process::Process;
 use prog_asm::{Instruction, Syscall};
-use rights::{Errno, Memory};
+use rights::{Cause, Errno, Memory};
 use std::alloc::Global;
 
 /// The file tree, what is open, and the processes in the order of making.
@@ -46,7 +46,7 @@ pub(crate) fn succeeded(mut process: Process, value: u32, enters: bool) -> Proce
 }
 
 /// The calling process after an error: register 7 has its number, and it goes to the label.
-pub(crate) fn failed(mut process: Process, errno: Errno, otherwise: u8) -> Process
+fn failed(mut process: Process, errno: Errno, otherwise: u8) -> Process
     ensures { result ≡ steps.failed process (errno_of errno) otherwise }
 {
     process.registers[7] = u32::from(errno.number());
@@ -89,6 +89,26 @@ fn is_socketpair(call: &Syscall) -> bool
 pub struct Called {
     pub outcome: Outcome,
     pub effects: Vec<Effect>,
+}
+
+/// The call fails: register 7 has the error's number, and the process goes to the label.
+pub(crate) fn fail(
+    alloc: Global,
+    processes: &mut Vec<Process>,
+    number: u8,
+    process: Process,
+    otherwise: u8,
+    errno: Errno,
+    cause: Cause,
+) -> Called
+    requires { number < length processes.old.items }
+    ensures { FailsAs processes.old.items number process otherwise (errno_of errno) (cause_of cause) (result_of result.outcome) (effects_of result.effects.items) processes.new.items }
+{
+    processes[number as usize] = failed(process, errno, otherwise);
+    Called {
+        outcome: Outcome::Error(errno, cause),
+        effects: Vec::new(alloc),
+    }
 }
 
 /// The call of a process, which gets its registers, its point and its mode.
@@ -134,13 +154,15 @@ fn invoke<T: Tree>(
             })
         }
         Err(refused) => match refused {
-            Refusal::Fails(errno, cause) => {
-                processes[number] = failed(process, errno, otherwise);
-                Ok(Called {
-                    outcome: Outcome::Error(errno, cause),
-                    effects: Vec::new(alloc),
-                })
-            }
+            Refusal::Fails(errno, cause) => Ok(fail(
+                alloc,
+                processes,
+                event.process,
+                process,
+                otherwise,
+                errno,
+                cause,
+            )),
             Refusal::Waits => Ok(Called {
                 outcome: Outcome::Wait,
                 effects: Vec::new(alloc),

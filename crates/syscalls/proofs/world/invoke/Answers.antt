@@ -2,7 +2,7 @@ use Rattle.std.proofs.Common.{sym, refl, ap}
 use Rattle.fd_table.specs.Kept.{open_files}
 use Rattle.prog_asm.specs.Views.{syscall_of}
 use Rattle.syscalls.specs.Views.{event_of, effects_of}
-use Rattle.syscalls.proofs.Calling.{on_nodes_else, ready, succeeds_as, fails_as, waits_as, enters_as}
+use Rattle.syscalls.proofs.Calling.{on_nodes_else, ready, succeeds_as, falls_as, waits_as, enters_as}
 use Rattle.syscalls.proofs.world.invoke.Goals as goal
 
 pub perform-requires-clause-ready : goal.perform-requires-clause-ready
@@ -20,8 +20,8 @@ returns-in-Ok g c =
 
 pub returns-in-Fails : goal.returns-in-Fails
 returns-in-Fails g c =
-    fails_as c.requires.programs (g.T.Tree.nodes c.args.tree.now) (open_files c.args.files.now) c.args.processes.now.items c.requires.good c.args.event.process c.args.process (event_of c.args.event) (syscall_of c.args.call.now) c.args.otherwise (g.T.Tree.nodes c.perform.new.tree) (open_files c.perform.new.files) c.failed.result (effects_of c.new-in-Fails.result.items)
-    c.in-Err.refused c.in-Fails.errno c.in-Fails.cause c.in-Fails.is (c.in-Err.ensures c.args.processes.now.items (event_of c.args.event) refl) c.failed.ensures (ap effects_of c.new-in-Fails.ensures.items)
+    falls_as c.requires.programs (g.T.Tree.nodes c.args.tree.now) (open_files c.args.files.now) c.args.processes.now.items c.requires.good c.args.event.process c.args.process (event_of c.args.event) (syscall_of c.args.call.now) c.args.otherwise (g.T.Tree.nodes c.perform.new.tree) (open_files c.perform.new.files)
+    c.in-Err.refused c.in-Fails.errno c.in-Fails.cause c.in-Fails.is (c.in-Err.ensures c.args.processes.now.items (event_of c.args.event) refl) _ _ _ c.fail.ensures
 
 pub returns-then-is_cap_enter : goal.returns-then-is_cap_enter
 returns-then-is_cap_enter g c =
