@@ -1,81 +1,74 @@
 -- The worked rows, by computation.
-use Rattle.std.proofs.Common.{◌≡◌, ℕ, List, [], ◌∷◌, ◌++◌, codes, refl, ap, sym, ◌∙◌, subst}
-use Rattle.std.specs.Prelude.{true}
+use Rattle.std.proofs.Common.{◌≡◌, ℕ, zero, suc, ◌+◌, List, [], ◌∷◌, ◌++◌, codes, refl, ap, sym, ◌∙◌}
+use Rattle.std.specs.Prelude.{true, Option}
 use Rattle.std.proofs.Math.Decide.{ℕ_discrete}
 use Rattle.std.specs.Fmt.{digits}
-use Rattle.simulator.specs.Programs.{Program}
-use Rattle.simulator.specs.World.{World, Choice}
-use Rattle.simulator.specs.Answers.{Event, unless, held, through, at_object, read_byte, read_node, read_empty, read_end, answer}
-use Rattle.simulator.specs.Steps.{Line, Stepped, answered, jumped, executed, stepped_at, stepped_by, stepped, step}
-use Rattle.simulator.specs.Plans.{Plan, is_plan, first_world}
-use Rattle.capcheck.specs.Named.{first_plan, bare_plan, loop_plan}
-use Rattle.simulator.specs.Runs.{Runs}
-use Rattle.capcheck.specs.Served.{absent_event, events_of_first, example_events}
-use Rattle.simulator.specs.Simulations.{IsRun}
+use Rattle.file_tree.specs.Places.{is_name}
+use Rattle.file_tree.specs.WellFormed.{is_within_limits}
+use Rattle.kernel.specs.World.{World, Choice}
+use Rattle.kernel.specs.Answers.{Event, unless, held, at_object}
+use Rattle.kernel.specs.Calls.{answer}
+use Rattle.kernel.specs.Changes.{files_after, changed}
+use Rattle.kernel.specs.Runs.{Runs}
+use Rattle.kernel.specs.Steps.{Acted, answered, jumped, executed, stepped_at, stepped_by, stepped, step}
+use Rattle.task.specs.Begins.{first_world}
+use Rattle.task.specs.Limits.{is_plan}
+use Rattle.task.specs.Plans.{Plan, programs_of_plan}
+use Rattle.simulator.specs.Lines.{line_at}
 use Rattle.simulator.specs.Traces.{line_text, trace_text}
-use Rattle.simulator.proofs.Determined.{same-step}
+use Rattle.capcheck.specs.Named.{first_plan, bare_plan, loop_plan}
+use Rattle.capcheck.specs.Served.{AlwaysShows, absent_event, events_of_first, example_events}
 
--- numbers that nobody names
-some_choice : Choice
-some_choice = record { first = 100; second = 101; pair = 100 }
+-- The trace of these events, under the numbers that are chosen at each step.
+abbrev trace : Plan → World → List Event → (ℕ → Choice) → List ℕ
+trace plan w [] choose = []
+trace plan w (e ∷ events) choose =
+    let s = step (programs_of_plan plan) w e (choose 0) in
+    line_text plan (line_at e s.acted) ++ trace plan s.world events (λ n. choose (suc n))
 
-abbrev trace : List Program → World → List Event → List ℕ
-trace programs w [] = []
-trace programs w (e ∷ events) =
-    let s = step programs w e some_choice in
-    line_text s.line ++ trace programs s.world events
+-- the choices of a run, of which the first is this one
+abbrev and_then : Choice → (ℕ → Choice) → ℕ → Choice
+and_then choice choose zero = choice
+and_then choice choose (suc n) = choose n
 
-abbrev trace_of : Plan → List Event → List ℕ
-trace_of plan events = trace plan.programs (first_world plan) events
+-- where there is no step
+no_choice : Choice
+no_choice = record { first = 0; second = 0; pair = 0 }
 
--- the trace of every run, since no step depends on the numbers that are chosen
-run_shows : (programs : List Program) (w : World) (events : List Event) (lines : List Line) → Runs programs w events lines → trace_text lines ≡ trace programs w events
-run_shows programs w [] [] run = refl
-run_shows programs w [] (line ∷ lines) run = absurd run
-run_shows programs w (e ∷ events) [] run = absurd run
-run_shows programs w (e ∷ events) (line ∷ lines) (choice, fresh, here, rest) =
-    let same : step programs w e choice ≡ step programs w e some_choice = same-step programs w e choice some_choice in
-    let first : line_text line ≡ line_text (step programs w e some_choice).line = ap line_text (sym here) ∙ ap (λ (s : Stepped). line_text s.line) same in
-    let moved : Runs programs (step programs w e some_choice).world events lines = subst (λ (s : Stepped). Runs programs s.world events lines) same rest in
-    let others : trace_text lines ≡ trace programs (step programs w e some_choice).world events = run_shows programs (step programs w e some_choice).world events lines moved in
-    λ i. first i ++ others i
+-- What a run shows is the trace under the numbers that it chooses.
+run_shows : (plan : Plan) (w : World) (events : List Event) (lines : List (Option Acted)) → Runs (programs_of_plan plan) w events lines → (choose : ℕ → Choice) × (trace_text plan events lines ≡ trace plan w events choose)
+run_shows plan w [] [] run = ((λ n. no_choice), refl)
+run_shows plan w [] (line ∷ lines) run = absurd run
+run_shows plan w (e ∷ events) [] run = absurd run
+run_shows plan w (e ∷ events) (line ∷ lines) (choice, fresh, here, rest) =
+    let others = run_shows plan (step (programs_of_plan plan) w e choice).world events lines rest in (
+      and_then choice others.0,
+      (λ i. line_text plan (line_at e (sym here i)) ++ others.1 i),
+    )
 
-are_plans : (is_plan first_plan ≡ true) × (is_plan bare_plan ≡ true) × (is_plan loop_plan ≡ true)
-are_plans = (refl, refl, refl)
+-- None of the rows depends on the numbers that are chosen.
+always : (plan : Plan) (events : List Event) (text : List ℕ) → ((choose : ℕ → Choice) → trace plan (first_world plan) events choose ≡ text) → AlwaysShows plan events text
+always plan events text is lines run =
+    let shown = run_shows plan (first_world plan) events lines run in
+    shown.1 ∙ is shown.0
 
-first_rows : trace_of first_plan (events_of_first 5) ≡ codes "0 main:0 = 0\n0 main:1 = 65 read /work/in\n0 main:2 halt\n0 main:2 ended\n0 main:2 ended\n"
-unfolding ℕ_discrete digits unless held through at_object read_byte read_node read_empty read_end answer answered jumped executed stepped_at stepped_by stepped step first_world
-first_rows = refl
+pub every_first : AlwaysShows first_plan (events_of_first 5) (codes "0 main:0 = 0\n0 main:1 = 65 read /work/in\n0 main:2 halt\n0 main:2 ended\n0 main:2 ended\n")
+unfolding ℕ_discrete digits unless held at_object answer files_after changed answered jumped executed stepped_at stepped_by stepped step first_world
+every_first = always first_plan (events_of_first 5) _ (λ choose. refl)
 
-bare_rows : trace_of bare_plan (events_of_first 3) ≡ codes "0 main:0 = 0\n0 main:1 ! ENOTCAPABLE MissingRight\n0 main:2 halt\n"
-unfolding ℕ_discrete digits unless held through at_object read_byte read_node read_empty read_end answer answered jumped executed stepped_at stepped_by stepped step first_world
-bare_rows = refl
+pub every_bare : AlwaysShows bare_plan (events_of_first 3) (codes "0 main:0 = 0\n0 main:1 ! ENOTCAPABLE MissingRight\n0 main:2 halt\n")
+unfolding ℕ_discrete digits unless held at_object answer files_after changed answered jumped executed stepped_at stepped_by stepped step first_world
+every_bare = always bare_plan (events_of_first 3) _ (λ choose. refl)
 
-loop_rows : trace_of loop_plan (events_of_first 10) ≡
-    codes "0 main:0 = 65 read /work/in\n0 main:1 ok\n0 main:2 ok\n0 main:0 = 66 read /work/in\n0 main:1 ok\n0 main:2 ok\n0 main:3 ok\n0 main:0 = 256 read /work/in\n0 main:1 ok\n0 main:4 halt\n"
-unfolding ℕ_discrete digits unless held through at_object read_byte read_node read_empty read_end answer answered jumped executed stepped_at stepped_by stepped step first_world
-loop_rows = refl
+pub every_loop : AlwaysShows loop_plan (events_of_first 10) (codes "0 main:0 = 65 read /work/in\n0 main:1 ok\n0 main:2 ok\n0 main:0 = 66 read /work/in\n0 main:1 ok\n0 main:2 ok\n0 main:3 ok\n0 main:0 = 256 read /work/in\n0 main:1 ok\n0 main:4 halt\n")
+unfolding ℕ_discrete digits unless held at_object answer files_after changed answered jumped executed stepped_at stepped_by stepped step first_world
+every_loop = always loop_plan (events_of_first 10) _ (λ choose. refl)
 
 -- the event of a process that was not made
-absent_rows : trace_of first_plan (absent_event ∷ events_of_first 1) ≡ codes "5 - none\n0 main:0 = 0\n"
-unfolding ℕ_discrete digits unless held through at_object read_byte read_node read_empty read_end answer answered jumped executed stepped_at stepped_by stepped step first_world
-absent_rows = refl
+pub every_absent : AlwaysShows first_plan (absent_event ∷ events_of_first 1) (codes "5 - none\n0 main:0 = 0\n")
+unfolding ℕ_discrete digits unless held at_object answer files_after changed answered jumped executed stepped_at stepped_by stepped step first_world
+every_absent = always first_plan (absent_event ∷ events_of_first 1) _ (λ choose. refl)
 
-pub every_first : (lines : List Line) → IsRun first_plan (events_of_first 5) lines → trace_text lines ≡ codes "0 main:0 = 0\n0 main:1 = 65 read /work/in\n0 main:2 halt\n0 main:2 ended\n0 main:2 ended\n"
-every_first lines run = run_shows first_plan.programs (first_world first_plan) (events_of_first 5) lines run ∙ first_rows
-
-pub every_bare : (lines : List Line) → IsRun bare_plan (events_of_first 3) lines → trace_text lines ≡ codes "0 main:0 = 0\n0 main:1 ! ENOTCAPABLE MissingRight\n0 main:2 halt\n"
-every_bare lines run = run_shows bare_plan.programs (first_world bare_plan) (events_of_first 3) lines run ∙ bare_rows
-
-pub every_loop : (lines : List Line) → IsRun loop_plan (events_of_first 10) lines → trace_text lines ≡ codes "0 main:0 = 65 read /work/in\n0 main:1 ok\n0 main:2 ok\n0 main:0 = 66 read /work/in\n0 main:1 ok\n0 main:2 ok\n0 main:3 ok\n0 main:0 = 256 read /work/in\n0 main:1 ok\n0 main:4 halt\n"
-every_loop lines run = run_shows loop_plan.programs (first_world loop_plan) (events_of_first 10) lines run ∙ loop_rows
-
-pub every_absent : (lines : List Line) → IsRun first_plan (absent_event ∷ events_of_first 1) lines → trace_text lines ≡ codes "5 - none\n0 main:0 = 0\n"
-every_absent lines run = run_shows first_plan.programs (first_world first_plan) (absent_event ∷ events_of_first 1) lines run ∙ absent_rows
-
-example_rows : trace_of first_plan example_events ≡ codes "0 main:0 = 0\n0 main:1 = 65 read /work/in\n"
-unfolding ℕ_discrete digits unless held through at_object read_byte read_node read_empty read_end answer answered jumped executed stepped_at stepped_by stepped step first_world
-example_rows = refl
-
-pub every_example : (lines : List Line) → IsRun first_plan example_events lines → trace_text lines ≡ codes "0 main:0 = 0\n0 main:1 = 65 read /work/in\n"
-every_example lines run = run_shows first_plan.programs (first_world first_plan) example_events lines run ∙ example_rows
+pub every_example : AlwaysShows first_plan example_events (codes "0 main:0 = 0\n0 main:1 = 65 read /work/in\n")
+unfolding ℕ_discrete digits unless held at_object answer files_after changed answered jumped executed stepped_at stepped_by stepped step first_world
+every_example = always first_plan example_events _ (λ choose. refl)

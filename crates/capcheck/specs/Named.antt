@@ -5,9 +5,9 @@ use Rattle.std.specs.Prelude.{ℕ, true, false, List, [], ◌∷◌, codes, Opti
 use Rattle.std.specs.Str.{bytes_eq}
 use Rattle.rights.specs.Sets.{all_rights, all_commands, seek_right}
 use Rattle.rights.specs.Operations.{Look, Read as Reads}
-use Rattle.simulator.specs.Tree.{Node, File, Dir}
-use Rattle.simulator.specs.Programs.{Instruction, Jeq, Halt, Invoke, Cap_enter, Read}
-use Rattle.simulator.specs.Plans.{Plan, Grant, Start}
+use Rattle.file_tree.specs.Nodes.{Node, File, Dir}
+use Rattle.prog_asm.specs.Programs.{Instruction, Jeq, Halt, Invoke, Cap_enter, Read, Number}
+use Rattle.task.specs.Plans.{Plan, Grant, Start}
 
 -- the root, `/work`, and the file `/work/in` with the bytes `AB`
 abbrev pub small_tree : List Node
@@ -46,11 +46,11 @@ plan_of code rights = record {
 
 -- enters the mode and reads a byte
 abbrev pub enter_and_read : List Instruction
-enter_and_read = Invoke Cap_enter 2 ∷ Invoke (Read 2) 2 ∷ Halt ∷ []
+enter_and_read = Invoke Cap_enter 2 ∷ Invoke (Read (Number 2)) 2 ∷ Halt ∷ []
 
 -- reads until the end, or until a byte is neither `A` nor `B`
 abbrev pub read_on : List Instruction
-read_on = Invoke (Read 2) 4 ∷ Jeq 0 256 4 ∷ Jeq 0 65 0 ∷ Jeq 0 66 0 ∷ Halt ∷ []
+read_on = Invoke (Read (Number 2)) 4 ∷ Jeq 0 256 4 ∷ Jeq 0 65 0 ∷ Jeq 0 66 0 ∷ Halt ∷ []
 
 abbrev pub first_plan : Plan
 first_plan = plan_of enter_and_read all_rights

@@ -3,14 +3,16 @@ use Rattle.std.specs.Prelude.{◌≡◌, ◌==◌, ◌||◌, ◌⊎◌, ◌++◌
 use Rattle.std.specs.Fmt.{decimal}
 use Rattle.rights.specs.Output.{Took}
 use Rattle.certificate.specs.Bounds.{Certificate}
-use Rattle.checker.specs.Rules.{Verdict, Yes, No, IsVerdict}
-use Rattle.simulator.specs.Answers.{Event}
+use Rattle.checker.specs.Points.{name_at}
+use Rattle.checker.specs.Verdicts.{Verdict, Yes, No, Uncovered, IsVerdict}
+use Rattle.kernel.specs.Answers.{Event}
+use Rattle.kernel.specs.Steps.{Acted}
+use Rattle.task.specs.Plans.{Plan}
+use Rattle.simulator.specs.Sandboxed.{IsSandboxed}
+use Rattle.simulator.specs.Simulations.{IsRun, WritesTrace}
+use Rattle.simulator.specs.Traces.{trace_text}
 use Rattle.capcheck.specs.Named.{first_plan, plan_named}
 use Rattle.capcheck.specs.NamedCertificates.{certificate_named}
-use Rattle.simulator.specs.Plans.{Plan}
-use Rattle.simulator.specs.Programs.{name_at}
-use Rattle.simulator.specs.Sandboxed.{IsSandboxed}
-use Rattle.simulator.specs.Simulations.{WritesTrace}
 
 -- so many events of process 0
 abbrev pub events_of_first : ℕ → List Event
@@ -25,6 +27,10 @@ absent_event = record { process = 5; input = 0; refuse = false }
 abbrev pub example_events : List Event
 example_events = events_of_first 2
 
+-- every run of these events shows this text
+abbrev pub AlwaysShows : Plan → List Event → List ℕ → Type 0
+AlwaysShows plan events text = (lines : List (Option Acted)) → IsRun plan events lines → trace_text plan events lines ≡ text
+
 -- the trace of the task of this name over the events of a schedule
 pub record RunsNamed (task : List ℕ) (before after : Option (List ℕ)) : Type 0 where
   pub plan : Plan
@@ -32,27 +38,38 @@ pub record RunsNamed (task : List ℕ) (before after : Option (List ℕ)) : Type
   pub events : List Event
   pub writes : WritesTrace plan events before after
 
--- `yes`, or the program's name, the point and the rule, as `no main:4 K7`
+-- `no main:4`
+abbrev pub no_at : Plan → ℕ → ℕ → List ℕ
+no_at plan program point = codes "no " ++ name_at plan program ++ codes ":" ++ decimal point
+
+-- `yes`; or a no, with the rule that is broken, as `no main:4 K7`, or with word that the rules don't cover the
+-- instruction yet, as `no main:4 uncovered`
 abbrev pub verdict_text : Plan → Verdict → List ℕ
 verdict_text plan Yes = codes "yes\n"
-verdict_text plan (No program point rule) =
-    codes "no " ++ name_at plan.programs program ++ codes ":" ++ decimal point ++ codes " K" ++ decimal rule ++ codes "\n"
+verdict_text plan (No program point rule) = no_at plan program point ++ codes " K" ++ decimal rule ++ codes "\n"
+verdict_text plan (Uncovered program point) = no_at plan program point ++ codes " uncovered\n"
 
+-- a certificate whose task isn't known to be sandboxed is not accepted
 abbrev pub verdict_status : Verdict → ℕ
 verdict_status Yes = 0
 verdict_status (No program point rule) = 1
+verdict_status (Uncovered program point) = 1
 
--- the verdict on the task of this name with the certificate of this name
-pub record ChecksNamed (task certificate : List ℕ) (status : ℕ) (before after : Option (List ℕ)) : Type 0 where
-  pub plan : Plan
-  pub named : plan_named task ≡ Some plan
-  pub bounds : Certificate
-  pub known : certificate_named certificate ≡ Some bounds
+-- the verdict on a task with a certificate
+pub record Judges (plan : Plan) (bounds : Certificate) (status : ℕ) (before after : Option (List ℕ)) : Type 0 where
   pub verdict : Verdict
   pub is : IsVerdict plan bounds verdict
   pub status_is : status ≡ verdict_status verdict
   pub sound : verdict ≡ Yes → IsSandboxed plan
   pub writes : Took before after (verdict_text plan verdict)
+
+-- the same of the task of this name with the certificate of this name
+pub record ChecksNamed (task certificate : List ℕ) (status : ℕ) (before after : Option (List ℕ)) : Type 0 where
+  pub plan : Plan
+  pub named : plan_named task ≡ Some plan
+  pub bounds : Certificate
+  pub known : certificate_named certificate ≡ Some bounds
+  pub judges : Judges plan bounds status before after
 
 -- the commands with two words, with status 0 or 1
 abbrev pub ServesTwo : List ℕ → List ℕ → List ℕ → ℕ → Option (List ℕ) → Option (List ℕ) → Type 0

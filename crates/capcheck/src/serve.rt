@@ -3,8 +3,9 @@
 ghost use Rattle.std.specs.Prelude.{◌≡◌, ◌<◌, ◌≤◌, ◌-◌, ◌^◌, IfOk, IsTrue, OnOk, Some, map, string_bytes};
 ghost use Rattle.capcheck.specs.Named.{first_plan, plan_named};
 ghost use Rattle.capcheck.specs.NamedCertificates.{certificate_named};
-ghost use Rattle.capcheck.specs.Served.{ChecksNamed, RunsNamed, Serves, ServesTwo, example_events, is_done_status, is_fault_status, is_status, verdict_status, verdict_text};
+ghost use Rattle.capcheck.specs.Served.{ChecksNamed, Judges, RunsNamed, Serves, ServesTwo, example_events, is_done_status, is_fault_status, is_status, no_at, verdict_status, verdict_text};
 ghost use Rattle.certificate.specs.Views.{certificate_of};
+ghost use Rattle.checker.specs.Points.{name_at};
 ghost use Rattle.checker.specs.Views.{verdict_of};
 ghost use Rattle.simulator.specs.Simulations.{WritesTrace};
 
@@ -13,8 +14,10 @@ use crate::named::task_named;
 use certificate::Cert;
 use checker::{Verdict, check};
 use rights::{Out, Stop, write_all};
-use simulator::{Event, ScheduleFault, Task, name_at, read_schedule, simulate};
+use simulator::{ScheduleFault, read_schedule, simulate};
 use std::alloc::{AllocError, Global};
+use syscalls::Event;
+use task::Task;
 
 /// Why a file isn't read.
 #[derive(Clone, Copy, PartialEq, Eq, Debug)]
@@ -186,11 +189,33 @@ fn status_of_verdict(verdict: Verdict) -> u8
 {
     match verdict {
         Verdict::Yes => DONE,
-        Verdict::No { .. } => BROKEN,
+        Verdict::No { .. } | Verdict::Uncovered { .. } => BROKEN,
     }
 }
 
-/// The line of a verdict: `yes`, or the program's name, the point and the rule.
+/// The name of a program, by its place in the task; no bytes for one that isn't there.
+fn name_at(task: &Task, program: u8) -> &[u8]
+    ensures { result.now ≡ name_at task.now program }
+{
+    match task.programs().get(program as usize) {
+        None => b"",
+        Some(named) => named.name.as_bytes(),
+    }
+}
+
+/// The beginning of the line of a no: the program's name, and the point.
+fn no_at(alloc: Global, task: &Task, program: u8, point: u8) -> Result<Vec<u8>, AllocError>
+    ensures { IfOk result (λ text. text.items ≡ no_at task.now program point) }
+{
+    let mut text = Vec::from_slice(alloc, b"no ")?;
+    text.extend_from_slice(name_at(task, program))?;
+    text.extend_from_slice(b":")?;
+    text.extend_from_slice(point.to_string(alloc)?.as_bytes())?;
+    Ok(text)
+}
+
+/// The line of a verdict: `yes`; or the program's name and the point, with the rule that is broken, or with
+/// word that the rules don't cover the instruction yet.
 fn text_of_verdict(alloc: Global, task: &Task, verdict: Verdict) -> Result<Vec<u8>, AllocError>
     ensures { IfOk result (λ text. text.items ≡ verdict_text task.now (verdict_of verdict)) }
 {
@@ -201,20 +226,38 @@ fn text_of_verdict(alloc: Global, task: &Task, verdict: Verdict) -> Result<Vec<u
             point,
             rule,
         } => {
-            let mut text = Vec::from_slice(alloc, b"no ")?;
-            text.extend_from_slice(name_at(task.programs(), program))?;
-            text.extend_from_slice(b":")?;
-            text.extend_from_slice(point.to_string(alloc)?.as_bytes())?;
+            let mut text = no_at(alloc, task, program, point)?;
             text.extend_from_slice(b" K")?;
             text.extend_from_slice(rule.to_string(alloc)?.as_bytes())?;
             text.extend_from_slice(b"\n")?;
             Ok(text)
         }
+        Verdict::Uncovered { program, point } => {
+            let mut text = no_at(alloc, task, program, point)?;
+            text.extend_from_slice(b" uncovered\n")?;
+            Ok(text)
+        }
     }
 }
 
-/// Checks a certificate against a task, and gives the status of the verdict.
-fn check_certificate<'a, W: Out>(
+/// Checks a certificate against a task, writes the verdict, and gives its status.
+pub(crate) fn judge<W: Out>(
+    alloc: Global,
+    task: &Task,
+    cert: &Cert,
+    out: &mut W,
+) -> Result<u8, Stop>
+    requires { W.faults out.old < 2 ^ 64 - 1 }
+    ensures { IfOk result (λ status. Judges task.now (certificate_of cert.now) status (W.taken out.old) (W.taken out.new)) }
+{
+    let verdict = check(task, cert);
+    let text = text_of_verdict(alloc, task, verdict)?;
+    write_all(out, &text)?;
+    Ok(status_of_verdict(verdict))
+}
+
+/// Does so with the task and the certificate of these names.
+fn judge_named<'a, W: Out>(
     alloc: Global,
     task: &'a str,
     cert: &'a str,
@@ -225,10 +268,7 @@ fn check_certificate<'a, W: Out>(
 {
     let task = named(alloc, task)?;
     let cert = certificate(alloc, cert)?;
-    let verdict = check(&task, &cert);
-    let text = text_of_verdict(alloc, &task, verdict)?;
-    write_all(out, &text)?;
-    Ok(status_of_verdict(verdict))
+    Ok(judge(alloc, &task, &cert, out)?)
 }
 
 /// The trace of the task `first` on two events.
@@ -259,7 +299,7 @@ fn perform_two<'a, S: Source, W: Out>(
             run(alloc, task, other, files, out)?;
             Ok(DONE)
         }
-        "check" => check_certificate(alloc, task, other, out),
+        "check" => judge_named(alloc, task, other, out),
         _ => Err(Fault::Words),
     }
 }

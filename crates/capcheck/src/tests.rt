@@ -2,12 +2,17 @@
 
 ghost use Rattle.std.specs.Prelude.{◌≡◌, Some};
 
-use crate::named::task_named;
-use crate::serve::{Source, Unread, serve};
-use rights::{Out, OutFault};
-use simulator::{Event, Machine};
+use crate::certificates::certificate_named;
+use crate::named::{task_named, task_of};
+use crate::serve::{Source, Unread, judge, serve};
+use file_tree::PlaceTree;
+use prog_asm::{Instruction, Program, Syscall};
+use rights::{Out, OutFault, Rights};
+use simulator::Machine;
 use std::alloc::{AllocError, Global};
 use std::test::Fail;
+use syscalls::Event;
+use task::Task;
 
 /// Takes at most so many bytes a call, and fails at one call, in which it refuses or takes none.
 #[derive(Drop)]
@@ -218,6 +223,35 @@ fn checks_the_named_certificates(rt: HostRuntime) -> Result<(), Fail> {
     Ok(())
 }
 
+/// A task that enters the mode, and makes then a pair of sockets, which the rules don't cover.
+#[tactic(auto, unfolding(file_tree::specs::WellFormed::is_within_limits, file_tree::specs::Places::is_name))]
+fn paired(alloc: Global) -> Result<Task, AllocError> {
+    let mut code = Vec::new(alloc);
+    code.push(Instruction::Invoke {
+        call: Syscall::CapEnter,
+        otherwise: 2,
+    })?;
+    code.push(Instruction::Invoke {
+        call: Syscall::Socketpair,
+        otherwise: 2,
+    })?;
+    code.push(Instruction::Halt)?;
+    task_of(alloc, Program::new(code), Rights::all())
+}
+
+#[test]
+fn tells_what_the_rules_do_not_cover(rt: HostRuntime) -> Result<(), Fail> {
+    let alloc = rt.alloc();
+    let task = paired(alloc)?;
+    let Some(cert) = certificate_named(alloc, "good")? else {
+        panic!(rt; "no certificate");
+    };
+    let mut out = empty_shelf(alloc, 1000, 0, true);
+    assert_eq!(rt; judge(alloc, &task, &cert, &mut out), Ok(1));
+    assert_eq!(rt; out.bytes.as_slice(), b"no main:1 uncovered\n".as_slice());
+    Ok(())
+}
+
 #[test]
 fn tells_a_failed_verdict(rt: HostRuntime) -> Result<(), Fail> {
     let said = program_says(rt.alloc(), &["check", "first", "good"], b"", 1, 2, false)?;
@@ -286,7 +320,7 @@ fn steps_a_machine(rt: HostRuntime) -> Result<(), Fail> {
         (1, 1, 1)
     );
     assert_eq!(rt; task.nodes().len(), 3);
-    let mut machine = Machine::start(alloc, &task)?;
+    let mut machine: Machine<'_, PlaceTree> = Machine::start(alloc, &task)?;
     let line = machine.step(Event {
         process: 0,
         input: 0,
@@ -297,7 +331,7 @@ fn steps_a_machine(rt: HostRuntime) -> Result<(), Fail> {
         assert!(rt; false);
         return Ok(());
     };
-    assert_eq!(rt; acted.program.as_str(), "main");
+    assert_eq!(rt; acted.program, 0);
     assert_eq!(rt; acted.point, 0);
     assert!(rt; acted.effects.is_empty());
     Ok(())

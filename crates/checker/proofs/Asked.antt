@@ -1,15 +1,17 @@
--- What it says that no rule is broken at a point.
+-- What it says that nothing is found at a point.
 use Rattle.std.proofs.Common.{◌≡◌, ℕ, Bool, true, false, List, [], ◌∷◌, ◌++◌, refl, sym, ◌∙◌, subst}
 use Rattle.std.specs.Prelude.{not, Option, Some, None, cond}
 use Rattle.std.specs.List.{list_all}
+use Rattle.std.specs.Option.{option_map}
 use Rattle.std.specs.Cmp.Derive.{both_true}
 use Rattle.rights.proofs.Tests.{both_left, both_right, not_true}
 use Rattle.certificate.specs.Bounds.{Bound, Certificate, bound_at}
 use Rattle.certificate.specs.Order.{bound_within}
-use Rattle.simulator.specs.Programs.{Instruction, instruction_at, name_at}
-use Rattle.simulator.specs.Plans.{Plan}
-use Rattle.checker.specs.Outcomes.{Outcome, outcomes, error_outcomes}
-use Rattle.checker.specs.Rules.{Test, starts_within, within_if_there, all_within, is_there, all_there, keeps_rights, keeps_known, keeps_policy, is_started, tests, tests_with, tests_without, tests_at, least_broken, broken_at}
+use Rattle.prog_asm.specs.Programs.{Instruction}
+use Rattle.task.specs.Plans.{Plan}
+use Rattle.checker.specs.Points.{instruction_at, name_at}
+use Rattle.checker.specs.Outcomes.{Outcome, is_covered, outcomes, error_outcomes}
+use Rattle.checker.specs.Rules.{Test, starts_within, within_if_there, all_within, is_there, all_there, keeps_rights, keeps_known, keeps_policy, is_started, tests, tests_without, least_broken, Broken, Uncovered, found_with, found_at}
 
 -- every test is kept
 abbrev pub AreKept : List Test → Type 0
@@ -24,56 +26,70 @@ none_broken (t ∷ ts) none = go t.kept refl none (none_broken ts)
     go true kept is rest = (kept, rest is)
     go false kept is rest = absurd cc
 
+none_told : (o : Option ℕ) → option_map Broken o ≡ None → o ≡ None
+none_told None none = refl
+none_told (Some rule) none = absurd cc
+
 -- the rules at a point with an instruction and a bound
 pub record Asked (plan : Plan) (certificate : Certificate) (program point : ℕ) (i : Instruction) (b : Bound) : Type 0 where
+  pub covered : is_covered i ≡ true
   pub starts : starts_within plan program point b ≡ true
-  pub successes : all_within certificate (name_at plan.programs program) (outcomes point b i) ≡ true
-  pub errors : all_within certificate (name_at plan.programs program) (error_outcomes b i) ≡ true
+  pub successes : all_within certificate (name_at plan program) (outcomes point b i) ≡ true
+  pub errors : all_within certificate (name_at plan program) (error_outcomes b i) ≡ true
   pub rights : keeps_rights b i ≡ true
   pub known : keeps_known b i ≡ true
   pub policy : keeps_policy plan b i ≡ true
-  pub successes_there : all_there certificate (name_at plan.programs program) (outcomes point b i) ≡ true
-  pub errors_there : all_there certificate (name_at plan.programs program) (error_outcomes b i) ≡ true
+  pub successes_there : all_there certificate (name_at plan program) (outcomes point b i) ≡ true
+  pub errors_there : all_there certificate (name_at plan program) (error_outcomes b i) ≡ true
 
-asked_of : (plan : Plan) (certificate : Certificate) (program point : ℕ) (i : Instruction) (b : Bound) → least_broken (tests plan certificate program point i b) ≡ None → Asked plan certificate program point i b
+asked_of : (plan : Plan) (certificate : Certificate) (program point : ℕ) (i : Instruction) (b : Bound) → is_covered i ≡ true → least_broken (tests plan certificate program point i b) ≡ None → Asked plan certificate program point i b
 unfolding tests
-asked_of plan certificate program point i b none =
+asked_of plan certificate program point i b covered none =
     let all = none_broken (tests plan certificate program point i b) none in
     let there = all.1.1.1.1.1.1.0 in
     record {
+      covered = covered;
       starts = all.0;
       successes = all.1.0;
       errors = all.1.1.0;
       rights = all.1.1.1.0;
       known = all.1.1.1.1.0;
       policy = all.1.1.1.1.1.0;
-      successes_there = both_left _ (all_there certificate (name_at plan.programs program) (error_outcomes b i)) there;
-      errors_there = both_right (all_there certificate (name_at plan.programs program) (outcomes point b i)) _ there;
+      successes_there = both_left _ (all_there certificate (name_at plan program) (error_outcomes b i)) there;
+      errors_there = both_right (all_there certificate (name_at plan program) (outcomes point b i)) _ there;
     }
 
-pub asked : (plan : Plan) (certificate : Certificate) (program point : ℕ) (i : Instruction) (b : Bound) → instruction_at plan.programs program point ≡ Some i → bound_at certificate (name_at plan.programs program) point ≡ Some b → broken_at plan certificate program point ≡ None → Asked plan certificate program point i b
-unfolding tests_at tests_with
+asked_with : (plan : Plan) (certificate : Certificate) (program point : ℕ) (i : Instruction) (b : Bound) → found_with plan certificate program point (Some i) (Some b) ≡ None → Asked plan certificate program point i b
+unfolding found_with
+asked_with plan certificate program point i b none = go (is_covered i) refl none
+  where
+    go : (c : Bool) → is_covered i ≡ c → cond c (option_map Broken (least_broken (tests plan certificate program point i b))) (Some Uncovered) ≡ None → Asked plan certificate program point i b
+    go true covered none = asked_of plan certificate program point i b covered (none_told (least_broken (tests plan certificate program point i b)) none)
+    go false other none = absurd cc
+
+pub asked : (plan : Plan) (certificate : Certificate) (program point : ℕ) (i : Instruction) (b : Bound) → instruction_at plan program point ≡ Some i → bound_at certificate (name_at plan program) point ≡ Some b → found_at plan certificate program point ≡ None → Asked plan certificate program point i b
+unfolding found_at
 asked plan certificate program point i b here bounded none =
-    asked_of plan certificate program point i b
-    (subst (λ o. least_broken (tests_with plan certificate program point (Some i) o) ≡ None) bounded
-    (subst (λ o. least_broken (tests_with plan certificate program point o (bound_at certificate (name_at plan.programs program) point)) ≡ None) here none))
+    asked_with plan certificate program point i b
+    (subst (λ o. found_with plan certificate program point (Some i) o ≡ None) bounded
+    (subst (λ o. found_with plan certificate program point o (bound_at certificate (name_at plan program) point) ≡ None) here none))
 
 -- a program that a process starts has a bound at point 0
-pub started : (plan : Plan) (certificate : Certificate) (program : ℕ) (i : Instruction) → instruction_at plan.programs program 0 ≡ Some i → is_started plan program ≡ true → broken_at plan certificate program 0 ≡ None → (b : Bound) × (bound_at certificate (name_at plan.programs program) 0 ≡ Some b)
-unfolding tests_at tests_with tests_without
-started plan certificate program i here is none = go (bound_at certificate (name_at plan.programs program) 0) refl
+pub started : (plan : Plan) (certificate : Certificate) (program : ℕ) (i : Instruction) → instruction_at plan program 0 ≡ Some i → is_started plan program ≡ true → found_at plan certificate program 0 ≡ None → (b : Bound) × (bound_at certificate (name_at plan program) 0 ≡ Some b)
+unfolding found_at found_with tests_without
+started plan certificate program i here is none = go (bound_at certificate (name_at plan program) 0) refl
   where
-    at : least_broken (tests_with plan certificate program 0 (Some i) (bound_at certificate (name_at plan.programs program) 0)) ≡ None
-    at = subst (λ o. least_broken (tests_with plan certificate program 0 o (bound_at certificate (name_at plan.programs program) 0)) ≡ None) here none
+    at : found_with plan certificate program 0 (Some i) (bound_at certificate (name_at plan program) 0) ≡ None
+    at = subst (λ o. found_with plan certificate program 0 o (bound_at certificate (name_at plan program) 0) ≡ None) here none
 
     no_bound : is_started plan program ≡ false → ⊥
     no_bound none_starts = let wrong : true ≡ false = sym is ∙ none_starts in cc
 
-    go : (o : Option Bound) → bound_at certificate (name_at plan.programs program) 0 ≡ o → (b : Bound) × (bound_at certificate (name_at plan.programs program) 0 ≡ Some b)
+    go : (o : Option Bound) → bound_at certificate (name_at plan program) 0 ≡ o → (b : Bound) × (bound_at certificate (name_at plan program) 0 ≡ Some b)
     go (Some b) bounded = (b, bounded)
     go None bounded =
-        let without : least_broken (tests_without plan program 0) ≡ None = subst (λ o. least_broken (tests_with plan certificate program 0 (Some i) o) ≡ None) bounded at in
-        let kept : not (is_started plan program) ≡ true = (none_broken (tests_without plan program 0) without).0 in
+        let without : option_map Broken (least_broken (tests_without plan program 0)) ≡ None = subst (λ o. found_with plan certificate program 0 (Some i) o ≡ None) bounded at in
+        let kept : not (is_started plan program) ≡ true = (none_broken (tests_without plan program 0) (none_told (least_broken (tests_without plan program 0)) without)).0 in
         absurd (no_bound (not_true (is_started plan program) kept))
 
 -- Where an outcome leads there is a bound, and the outcome's is within it.

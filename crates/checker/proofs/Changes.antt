@@ -1,17 +1,21 @@
 -- What each kind of change of a step leaves of everybody else.
-use Rattle.std.proofs.Common.{◌≡◌, ◌≢◌, ℕ, false, List, [], refl, ap}
+use Rattle.std.proofs.Common.{◌≡◌, ◌≢◌, ℕ, Bool, false, List, refl, ap, ◌∙◌, append-nil}
 use Rattle.std.specs.Prelude.{slice_set, Option, None}
 use Rattle.std.specs.List.{slice_get}
 use Rattle.rights.proofs.Changes.{put-other}
 use Rattle.rights.proofs.Lists.{slice_get-set_cases}
 use Rattle.process.specs.State.{ProcessState}
-use Rattle.simulator.specs.Descriptions.{Descriptor}
-use Rattle.simulator.specs.World.{World, Choice}
-use Rattle.simulator.specs.Answers.{Change, changed}
-use Rattle.simulator.specs.Steps.{with_process, halted}
-use Rattle.simulator.specs.Plans.{Plan}
-use Rattle.simulator.proofs.Modes.{queue_kept}
+use Rattle.fd_table.specs.Descriptions.{Descriptor}
+use Rattle.kernel.specs.World.{World, Choice}
+use Rattle.kernel.specs.Answers.{Same_tree, Same_table, QueueChange, StateChange, Change}
+use Rattle.kernel.specs.Changes.{files_after, changed}
+use Rattle.kernel.specs.Steps.{with_process, halted}
+use Rattle.task.specs.Plans.{Plan}
 use Rattle.checker.proofs.Invariant.{Keeps}
+
+-- A call that makes no descriptor changes neither the tree nor a table.
+abbrev pub quiet : QueueChange → StateChange → Bool → Change
+quiet queue state enters = record { tree = Same_tree; table = Same_table; queue = queue; state = state; enters = enters }
 
 other_process : (processes : List ProcessState) (p : ℕ) (s : ProcessState) (q : ℕ) → q ≢ p → slice_get (slice_set processes p s) q ≡ slice_get processes q
 other_process processes p s q other =
@@ -22,21 +26,18 @@ pub keeps_process : (plan : Plan) (w : World) (p : ℕ) (s : ProcessState) → K
 keeps_process plan w p s = record {
   objects = λ n. refl;
   places = λ n name is. is;
-  outside = λ clear. clear;
   processes = other_process w.processes p s;
   tables = λ q other n. refl;
-  queues = λ pair side. ([], refl);
 }
 
 -- a queue, the state of a description, and the process
-pub keeps_changed : (plan : Plan) (w : World) (p : ℕ) (choice : Choice) (change : Change) (s : ProcessState) → Keeps plan w (with_process (changed w choice change) p s) p
-keeps_changed plan w p choice change s = record {
+pub keeps_changed : (plan : Plan) (w : World) (p : ℕ) (choice : Choice) (queue : QueueChange) (state : StateChange) (enters : Bool) (s : ProcessState) → Keeps plan w (changed w p s choice (quiet queue state enters)) p
+unfolding changed files_after
+keeps_changed plan w p choice queue state enters s = record {
   objects = λ n. refl;
   places = λ n name is. is;
-  outside = λ clear. clear;
-  processes = other_process w.processes p s;
+  processes = λ q other. ap (λ (ps : List ProcessState). slice_get ps q) (append-nil (slice_set w.processes p s)) ∙ other_process w.processes p s q other;
   tables = λ q other n. refl;
-  queues = queue_kept w.queue change.queue;
 }
 
 -- the process ends and its table is closed
@@ -46,10 +47,8 @@ keeps_halted plan w p s =
     record {
       objects = λ n. refl;
       places = λ n name is. is;
-      outside = λ clear. clear;
       processes = other_process w.processes p (record s { alive = false });
-      tables = λ q other n. ap (λ (row : ℕ → Option Descriptor). row n) (put-other w.table p closed q other);
-      queues = λ pair side. ([], refl);
+      tables = λ q other n. ap (λ (row : ℕ → Option Descriptor). row n) (put-other w.files.table p closed q other);
     }
 
 -- nothing
@@ -57,8 +56,6 @@ pub keeps_all : (plan : Plan) (w : World) (p : ℕ) → Keeps plan w w p
 keeps_all plan w p = record {
   objects = λ n. refl;
   places = λ n name is. is;
-  outside = λ clear. clear;
   processes = λ q other. refl;
   tables = λ q other n. refl;
-  queues = λ pair side. ([], refl);
 }

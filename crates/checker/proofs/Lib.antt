@@ -1,9 +1,10 @@
 pub mod Describing
 pub mod Asked
+pub mod IntervalLaws
 pub mod Invariant
-pub mod FirstTables
 pub mod Changes
+pub mod PastEnds
 pub mod Stepping
 pub mod Calls
+pub mod FirstStates
 pub mod Sound
-pub mod PastEnds

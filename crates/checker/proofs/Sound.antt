@@ -1,55 +1,132 @@
 -- Soundness: where the rules are met, each run is sandboxed.
-use Rattle.std.proofs.Common.{◌≡◌, ℕ, zero, suc, Bool, true, false, List, [], ◌∷◌, refl, ap, sym, ◌∙◌, subst, map, replicate, length}
-use Rattle.std.specs.Prelude.{◌==◌, ◌||◌, not, Option, Some, None}
-use Rattle.std.specs.List.{slice_get, list_all, list_any}
-use Rattle.std.specs.Option.{option_map}
-use Rattle.std.proofs.lemmas.Bool.{eqb-true, eq-eqb}
-use Rattle.std.proofs.lemmas.Option.{slice_get-map}
-use Rattle.rights.specs.Sets.{is_within}
-use Rattle.rights.proofs.Lists.{list_all-slice_get}
-use Rattle.rights.proofs.Subsets.{is_within-refl}
+use Rattle.std.proofs.Common.{◌≡◌, ℕ, ◌+◌, ◌%◌, ◌^◌, Bool, true, false, List, [], ◌∷◌, refl, arith, sym, ◌∙◌, subst}
+use Rattle.std.specs.Prelude.{◌==◌, nat_lt, Option, Some, None}
+use Rattle.std.specs.List.{slice_get}
+use Rattle.std.proofs.lemmas.Bool.{eqb-true, eq-eqb, ltb-true, ltb-false}
 use Rattle.process.specs.State.{ProcessState}
-use Rattle.certificate.specs.Bounds.{Bound, Certificate}
-use Rattle.certificate.specs.Describes.{slot_describes, describes}
-use Rattle.simulator.specs.Descriptions.{Descriptor}
-use Rattle.simulator.specs.Programs.{Instruction, Set, Jeq, Halt, Invoke, Cap_enter, Read, is_program, instruction_at}
-use Rattle.simulator.specs.World.{World, Choice}
-use Rattle.simulator.specs.Answers.{Event, answer}
-use Rattle.simulator.specs.Steps.{Line, Executed, Stepped, Ended, shown, line_of_process, register, plain, jumped, executed, stepped_at, stepped_by, stepped, step}
-use Rattle.simulator.specs.Plans.{Plan, Start, is_plan, first_process, first_world}
-use Rattle.simulator.specs.Policies.{grant_holds}
-use Rattle.simulator.specs.Sandboxed.{IsInMode, IsUnrefusedLine, IsSourced, IsSafe, Sandboxed, IsSandboxed}
-use Rattle.simulator.specs.Simulations.{WasThere, GainsNothing}
-use Rattle.simulator.specs.WellFormed.{IsMade, IsPoint, IsWorld}
-use Rattle.simulator.proofs.Begins.{checked, first_well_formed}
-use Rattle.simulator.proofs.Keeping.{kept}
-use Rattle.simulator.proofs.Modes.{gains_nothing}
-use Rattle.checker.specs.Rules.{MeetsRules, first_table, start_within, starts_within, is_started}
-use Rattle.checker.proofs.Describing.{described, from_described, slots_go_on}
-use Rattle.checker.proofs.Asked.{asked, started}
+use Rattle.certificate.specs.Bounds.{Interval, interval, Certificate}
+use Rattle.certificate.specs.Describes.{interval_describes}
+use Rattle.prog_asm.specs.Programs.{Register, Number, Syscall, Open, Openat, Read, Write, Sendfd, Recvfd, Lseek, Ftruncate, Fsync, Fstat, Fcntl_getfl, Fcntl_setfl, Fstatat, Stat, Mkdirat, Mkdir, Unlinkat, Unlink, Renameat, Dup, Close, Cap_rights_limit, Cap_fcntls_limit, Cap_enter, Cap_getmode, Socketpair, Fork, Instruction, Set, Mov, Add, In, Jmp, Jeq, Jlt, Halt, Invoke}
+use Rattle.kernel.specs.World.{World, Choice, IsFresh}
+use Rattle.kernel.specs.Answers.{Event}
+use Rattle.kernel.specs.Calls.{answer}
+use Rattle.kernel.specs.Steps.{Executed, Stepped, Ended, acted_as, register, plain, jumped, executed, stepped_at, stepped_by, stepped, step}
+use Rattle.kernel.specs.WellFormed.{ArePrograms, IsEvent, IsWellFormed}
+use Rattle.kernel.specs.Gains.{GainsNothing}
+use Rattle.kernel.specs.Runs.{AreEvents}
+use Rattle.kernel.proofs.Gains.{never_gains}
+use Rattle.kernel.proofs.Keeping.{next_world}
+use Rattle.kernel.proofs.Rights.{gives_no_right}
+use Rattle.task.specs.Plans.{Plan, programs_of_plan}
+use Rattle.task.specs.Limits.{is_plan}
+use Rattle.task.specs.Policies.{grant_holds}
+use Rattle.task.specs.Begins.{first_world}
+use Rattle.task.proofs.FirstWorlds.{first_well_formed}
+use Rattle.simulator.specs.Sandboxed.{IsInMode, KeepsSources, IsSafe, Sandboxed, IsSandboxed}
+use Rattle.checker.specs.Points.{instruction_at}
+use Rattle.checker.specs.Intervals.{only, sums, equal_part, other_part, lower_part, upper_part}
+use Rattle.checker.specs.Outcomes.{is_covered, outcomes_in, byte_interval, outcomes}
+use Rattle.checker.specs.Verdicts.{MeetsRules}
+use Rattle.checker.proofs.Describing.{described}
+use Rattle.checker.proofs.IntervalLaws.{lies_in, only_fits, sum_fits, has_equal, has_other, has_lower, has_upper}
+use Rattle.checker.proofs.Asked.{asked}
 use Rattle.checker.proofs.Invariant.{table_of, Lies, LiesIfAlive, Invariant, next}
-use Rattle.checker.proofs.FirstTables.{first_opened}
 use Rattle.checker.proofs.Changes.{keeps_all}
-use Rattle.checker.proofs.Stepping.{Standing, Owed, owed_set, owed_jump, owed_stay, owed_halt, owed_answer}
+use Rattle.checker.proofs.Stepping.{Standing, Owed, register_lies, owed_set, owed_jump, owed_taken, owed_passed_by, owed_halt, owed_answer}
 use Rattle.checker.proofs.Calls.{owed_cap_enter, owed_read}
+use Rattle.checker.proofs.FirstStates.{first_invariant}
+
+-- each call owes what it should
+owed_call : (plan : Plan) (certificate : Certificate) (w : World) (e : Event) (choice : Choice) (s : ProcessState) (call : Syscall) (otherwise : ℕ) → is_covered (Invoke call otherwise) ≡ true → Standing plan certificate w e.process s (Invoke call otherwise) → Owed plan certificate w e.process s (executed w e choice s (Invoke call otherwise))
+unfolding executed
+owed_call plan certificate w e choice s Cap_enter otherwise covered known =
+    owed_answer plan certificate w e.process s (Invoke Cap_enter otherwise) known choice otherwise (answer w e.process s e Cap_enter) (owed_cap_enter plan certificate w e s otherwise known)
+owed_call plan certificate w e choice s (Read (Number n)) otherwise covered known =
+    owed_answer plan certificate w e.process s (Invoke (Read (Number n)) otherwise) known choice otherwise (answer w e.process s e (Read (Number n))) (owed_read plan certificate w e s n otherwise known)
+owed_call plan certificate w e choice s (Read (Register r)) otherwise covered known = absurd cc
+owed_call plan certificate w e choice s (Open path flags) otherwise covered known = absurd cc
+owed_call plan certificate w e choice s (Openat x path flags) otherwise covered known = absurd cc
+owed_call plan certificate w e choice s (Write x v) otherwise covered known = absurd cc
+owed_call plan certificate w e choice s (Sendfd x y v) otherwise covered known = absurd cc
+owed_call plan certificate w e choice s (Recvfd x) otherwise covered known = absurd cc
+owed_call plan certificate w e choice s (Lseek x v) otherwise covered known = absurd cc
+owed_call plan certificate w e choice s (Ftruncate x v) otherwise covered known = absurd cc
+owed_call plan certificate w e choice s (Fsync x) otherwise covered known = absurd cc
+owed_call plan certificate w e choice s (Fstat x) otherwise covered known = absurd cc
+owed_call plan certificate w e choice s (Fcntl_getfl x) otherwise covered known = absurd cc
+owed_call plan certificate w e choice s (Fcntl_setfl x v) otherwise covered known = absurd cc
+owed_call plan certificate w e choice s (Fstatat x path) otherwise covered known = absurd cc
+owed_call plan certificate w e choice s (Stat path) otherwise covered known = absurd cc
+owed_call plan certificate w e choice s (Mkdirat x path) otherwise covered known = absurd cc
+owed_call plan certificate w e choice s (Mkdir path) otherwise covered known = absurd cc
+owed_call plan certificate w e choice s (Unlinkat x path directory) otherwise covered known = absurd cc
+owed_call plan certificate w e choice s (Unlink path directory) otherwise covered known = absurd cc
+owed_call plan certificate w e choice s (Renameat x from y to) otherwise covered known = absurd cc
+owed_call plan certificate w e choice s (Dup x) otherwise covered known = absurd cc
+owed_call plan certificate w e choice s (Close x) otherwise covered known = absurd cc
+owed_call plan certificate w e choice s (Cap_rights_limit x rights) otherwise covered known = absurd cc
+owed_call plan certificate w e choice s (Cap_fcntls_limit x commands) otherwise covered known = absurd cc
+owed_call plan certificate w e choice s Cap_getmode otherwise covered known = absurd cc
+owed_call plan certificate w e choice s Socketpair otherwise covered known = absurd cc
+owed_call plan certificate w e choice s Fork otherwise covered known = absurd cc
 
 -- each instruction owes what it should
-owed_executed : (plan : Plan) (certificate : Certificate) (w : World) (e : Event) (choice : Choice) (s : ProcessState) (i : Instruction) → Standing plan certificate w e.process s i → Owed plan certificate w e.process s (executed w e choice s i)
-unfolding executed jumped
-owed_executed plan certificate w e choice s (Set r v) known =
-    owed_set plan certificate w e.process s (Set r v) known r v refl
-owed_executed plan certificate w e choice s (Jeq r v target) known = jump (register s r == v) refl
+owed_executed : (plan : Plan) (certificate : Certificate) (w : World) (e : Event) (choice : Choice) (s : ProcessState) (i : Instruction) → IsEvent e → Standing plan certificate w e.process s i → Owed plan certificate w e.process s (executed w e choice s i)
+unfolding executed jumped outcomes
+owed_executed plan certificate w e choice s (Set r v) byte known =
+    owed_set plan certificate w e.process s (Set r v) known r v (only v) refl (only_fits v)
+owed_executed plan certificate w e choice s (Mov r source) byte known =
+    owed_set plan certificate w e.process s (Mov r source) known r (register s source) (interval known.bound.registers source) refl
+    (register_lies plan certificate w e.process s (Mov r source) known source)
+owed_executed plan certificate w e choice s (Add r addend) byte known =
+    let i : Instruction = Add r addend in
+    let mine = interval known.bound.registers r in
+    let other = interval known.bound.registers addend in
+    owed_set plan certificate w e.process s i known r ((register s r + register s addend) % 2 ^ 32) (sums mine other) refl
+    (sum_fits mine other (register s r) (register s addend) (register_lies plan certificate w e.process s i known r) (register_lies plan certificate w e.process s i known addend))
+owed_executed plan certificate w e choice s (In r) byte known =
+    owed_set plan certificate w e.process s (In r) known r e.input byte_interval refl (lies_in byte_interval e.input (omega arith) (omega (arith, byte)))
+owed_executed plan certificate w e choice s (Jmp target) byte known =
+    owed_jump plan certificate w e.process s (Jmp target) known target refl
+owed_executed plan certificate w e choice s (Jeq r v target) byte known = jump (register s r == v) refl
   where
+    i : Instruction
+    i = Jeq r v target
+
+    n : Interval
+    n = interval known.bound.registers r
+
+    lies : interval_describes n (register s r) ≡ true
+    lies = register_lies plan certificate w e.process s i known r
+
     jump : (taken : Bool) → (register s r == v) ≡ taken → Owed plan certificate w e.process s (plain w e.process (jumped s taken target))
-    jump true is = owed_jump plan certificate w e.process s (Jeq r v target) known r v target refl (eqb-true _ _ is)
+    jump true is =
+        owed_taken plan certificate w e.process s i known r target (equal_part n v) (outcomes_in (s.point + 1) known.bound r (other_part n v)) refl
+        (has_equal n v (register s r) lies (eqb-true _ _ is))
     jump false is =
-        owed_stay plan certificate w e.process s (Jeq r v target) known r v target refl
-        (λ same. absurd (let clash : true ≡ false = sym (eq-eqb _ _ same) ∙ is in cc))
-owed_executed plan certificate w e choice s Halt known = owed_halt plan certificate w e.process s Halt known
-owed_executed plan certificate w e choice s (Invoke Cap_enter otherwise) known =
-    owed_answer plan certificate w e.process s (Invoke Cap_enter otherwise) known choice otherwise (answer w e.process e Cap_enter) (owed_cap_enter plan certificate w e s otherwise known)
-owed_executed plan certificate w e choice s (Invoke (Read n) otherwise) known =
-    owed_answer plan certificate w e.process s (Invoke (Read n) otherwise) known choice otherwise (answer w e.process e (Read n)) (owed_read plan certificate w e s n otherwise known)
+        owed_passed_by plan certificate w e.process s i known r (other_part n v) (outcomes_in target known.bound r (equal_part n v)) refl
+        (has_other n v (register s r) lies (λ same. absurd (let clash : true ≡ false = sym (eq-eqb _ _ same) ∙ is in cc)))
+owed_executed plan certificate w e choice s (Jlt r v target) byte known = jump (nat_lt (register s r) v) refl
+  where
+    i : Instruction
+    i = Jlt r v target
+
+    n : Interval
+    n = interval known.bound.registers r
+
+    lies : interval_describes n (register s r) ≡ true
+    lies = register_lies plan certificate w e.process s i known r
+
+    jump : (taken : Bool) → nat_lt (register s r) v ≡ taken → Owed plan certificate w e.process s (plain w e.process (jumped s taken target))
+    jump true is =
+        owed_taken plan certificate w e.process s i known r target (lower_part n v) (outcomes_in (s.point + 1) known.bound r (upper_part n v)) refl
+        (has_lower n v (register s r) lies (ltb-true _ _ is))
+    jump false is =
+        owed_passed_by plan certificate w e.process s i known r (upper_part n v) (outcomes_in target known.bound r (lower_part n v)) refl
+        (has_upper n v (register s r) lies (ltb-false _ _ is))
+owed_executed plan certificate w e choice s Halt byte known = owed_halt plan certificate w e.process s Halt known
+owed_executed plan certificate w e choice s (Invoke call otherwise) byte known =
+    owed_call plan certificate w e choice s call otherwise known.asked.covered known
 
 -- a process that doesn't act leaves all as it is
 unmoved : (plan : Plan) (certificate : Certificate) (w : World) (p : ℕ) (s : ProcessState) → Invariant plan certificate w → Owed plan certificate w p s (record { world = w; outcome = Ended; effects = [] })
@@ -61,164 +138,88 @@ unmoved plan certificate w p s inv = record {
 }
 
 -- what is known of a living process at a point with an instruction
-standing : (plan : Plan) (certificate : Certificate) (w : World) (p : ℕ) (s : ProcessState) (i : Instruction) → MeetsRules plan certificate → (inv : Invariant plan certificate w) → slice_get w.processes p ≡ Some s → s.alive ≡ true → instruction_at plan.programs s.program s.point ≡ Some i → Standing plan certificate w p s i
+standing : (plan : Plan) (certificate : Certificate) (w : World) (p : ℕ) (s : ProcessState) (i : Instruction) → MeetsRules plan certificate → (inv : Invariant plan certificate w) → slice_get w.processes p ≡ Some s → s.alive ≡ true → instruction_at plan s.program s.point ≡ Some i → Standing plan certificate w p s i
 standing plan certificate w p s i meets inv made alive here =
     let lies : Lies plan certificate w p s = (subst (LiesIfAlive plan certificate w p) made (inv.living p)) alive in
     record {
-      pairs = inv.pairs;
-      numbers = inv.numbers;
-      world = inv.world;
+      numbering = inv.formed.numbering;
+      world = inv.formed.world;
       made = made;
       bound = lies.bound;
       at = lies.at;
-      lies = described (grant_holds plan.grants) lies.bound s.mode s.registers (table_of w p) lies.is;
+      lies = described (grant_holds plan.grants) lies.bound s.mode s.registers (table_of plan w p) lies.is;
       asked = asked plan certificate s.program s.point i lies.bound here lies.at (meets s.program s.point);
     }
 
--- no descriptor has more than its source
-sourced : (before after : Option Descriptor) → WasThere before after → IsSourced before after
-sourced before None was = tt
-sourced None (Some d) was = absurd cc
-sourced (Some source) (Some d) was =
-    let same : source ≡ d = cc in
-    subst (λ (x : Descriptor). (is_within d.rights x.rights ≡ true) × (is_within d.fcntls x.fcntls ≡ true)) (sym same)
-    (is_within-refl d.rights, is_within-refl d.fcntls)
+keeps_sources : (w : World) (e : Event) → KeepsSources w e
+keeps_sources w e s call value change effects made own is = gives_no_right w e.process s e call value change effects own is
 
 -- a step that is safe, and after which the invariant holds
 abbrev Fine : Plan → Certificate → World → Event → Stepped → Type 0
-Fine plan certificate w e next = IsSafe plan.grants w e next × Invariant plan certificate next.world
+Fine plan certificate w e next = IsSafe (programs_of_plan plan) plan.grants w e next × Invariant plan certificate next.world
 
-module _ (plan : Plan) (certificate : Certificate) (w : World) (e : Event) (choice : Choice) (valid : list_all is_program plan.programs ≡ true) (meets : MeetsRules plan certificate) (inv : Invariant plan certificate w) where
-  fine : (s : ProcessState) → slice_get w.processes e.process ≡ Some s → (x : Executed) (line : Line) → IsUnrefusedLine line.acted → Owed plan certificate w e.process s x → GainsNothing w x.world → IsWorld plan.programs inv.pairs inv.numbers x.world → Fine plan certificate w e (record { world = x.world; line = line; effects = x.effects })
-  fine s made x line unrefused owed gained good = (
+-- what the kernel's laws say of a step
+record Lawful (plan : Plan) (w : World) (e : Event) (v : World) : Type 0 where
+  gained : GainsNothing (programs_of_plan plan) w e v
+  formed : IsWellFormed (programs_of_plan plan) v
+
+module _ (plan : Plan) (certificate : Certificate) (w : World) (e : Event) (byte : IsEvent e) (choice : Choice) (meets : MeetsRules plan certificate) (inv : Invariant plan certificate w) where
+  fine : (s : ProcessState) → slice_get w.processes e.process ≡ Some s → (x : Executed) → Owed plan certificate w e.process s x → Lawful plan w e x.world → Fine plan certificate w e (record { world = x.world; acted = acted_as s x.outcome x.effects })
+  fine s made x owed lawful = (
     record {
       allowed = λ on. owed.allowed (subst IsInMode made on);
-      unrefused = unrefused;
-      tables = λ p n. sourced (w.table p n) (x.world.table p n) (gained.entries p n);
-      queues = gained.queues;
+      unrefused = owed.unrefused;
+      sources = keeps_sources w e;
+      gains = lawful.gained;
     },
-    next plan w x.world e.process owed.keeps certificate inv good owed.lies,
+    next plan w x.world e.process owed.keeps certificate inv lawful.formed owed.lies,
   )
 
-  at_fine : (s : ProcessState) → slice_get w.processes e.process ≡ Some s → s.alive ≡ true → (o : Option Instruction) → instruction_at plan.programs s.program s.point ≡ o → GainsNothing w (stepped_at plan.programs w e choice s o).world → IsWorld plan.programs inv.pairs inv.numbers (stepped_at plan.programs w e choice s o).world → Fine plan certificate w e (stepped_at plan.programs w e choice s o)
+  at_fine : (s : ProcessState) → slice_get w.processes e.process ≡ Some s → s.alive ≡ true → (o : Option Instruction) → instruction_at plan s.program s.point ≡ o → Lawful plan w e (stepped_at w e choice s o).world → Fine plan certificate w e (stepped_at w e choice s o)
   unfolding stepped_at
-  at_fine s made alive None here gained good =
-      fine s made (record { world = w; outcome = Ended; effects = [] }) (line_of_process plan.programs e s Ended []) tt (unmoved plan certificate w e.process s inv) gained good
-  at_fine s made alive (Some i) here gained good =
-      let x = executed w e choice s i in
-      let owed = owed_executed plan certificate w e choice s i (standing plan certificate w e.process s i meets inv made alive here) in
-      fine s made x (line_of_process plan.programs e s x.outcome (map shown x.effects)) owed.unrefused owed gained good
+  at_fine s made alive None here lawful =
+      fine s made (record { world = w; outcome = Ended; effects = [] }) (unmoved plan certificate w e.process s inv) lawful
+  at_fine s made alive (Some i) here lawful =
+      let known = standing plan certificate w e.process s i meets inv made alive here in
+      fine s made (executed w e choice s i) (owed_executed plan certificate w e choice s i byte known) lawful
 
-  by_fine : (s : ProcessState) → slice_get w.processes e.process ≡ Some s → (alive : Bool) → s.alive ≡ alive → GainsNothing w (stepped_by plan.programs w e choice s alive).world → IsWorld plan.programs inv.pairs inv.numbers (stepped_by plan.programs w e choice s alive).world → Fine plan certificate w e (stepped_by plan.programs w e choice s alive)
+  by_fine : (s : ProcessState) → slice_get w.processes e.process ≡ Some s → (alive : Bool) → s.alive ≡ alive → Lawful plan w e (stepped_by (programs_of_plan plan) w e choice s alive).world → Fine plan certificate w e (stepped_by (programs_of_plan plan) w e choice s alive)
   unfolding stepped_by
-  by_fine s made false alive gained good =
-      fine s made (record { world = w; outcome = Ended; effects = [] }) (line_of_process plan.programs e s Ended []) tt (unmoved plan certificate w e.process s inv) gained good
-  by_fine s made true alive gained good =
-      at_fine s made alive (instruction_at plan.programs s.program s.point) refl gained good
+  by_fine s made false alive lawful =
+      fine s made (record { world = w; outcome = Ended; effects = [] }) (unmoved plan certificate w e.process s inv) lawful
+  by_fine s made true alive lawful = at_fine s made alive (instruction_at plan s.program s.point) refl lawful
 
-  step_fine : (o : Option ProcessState) → slice_get w.processes e.process ≡ o → GainsNothing w (stepped plan.programs w e choice o).world → IsWorld plan.programs inv.pairs inv.numbers (stepped plan.programs w e choice o).world → Fine plan certificate w e (stepped plan.programs w e choice o)
+  step_fine : (o : Option ProcessState) → slice_get w.processes e.process ≡ o → Lawful plan w e (stepped (programs_of_plan plan) w e choice o).world → Fine plan certificate w e (stepped (programs_of_plan plan) w e choice o)
   unfolding stepped
-  step_fine None made gained good = (
+  step_fine None made lawful = (
     record {
       allowed = λ on. absurd (subst IsInMode made on);
       unrefused = tt;
-      tables = λ p n. sourced (w.table p n) (w.table p n) (gained.entries p n);
-      queues = gained.queues;
+      sources = keeps_sources w e;
+      gains = lawful.gained;
     },
     inv,
   )
-  step_fine (Some s) made gained good = by_fine s made s.alive refl gained good
+  step_fine (Some s) made lawful = by_fine s made s.alive refl lawful
 
   -- One step: it is safe, and the invariant goes on.
-  pub one_step : IsSafe plan.grants w e (step plan.programs w e choice) × Invariant plan certificate (step plan.programs w e choice).world
+  pub one_step : ArePrograms (programs_of_plan plan) → IsFresh w.files choice → Fine plan certificate w e (step (programs_of_plan plan) w e choice)
   unfolding step
-  one_step =
-      step_fine (slice_get w.processes e.process) refl (gains_nothing plan.programs w e choice)
-      (kept plan.programs inv.pairs inv.numbers w e choice valid inv.world)
-
--- an element that passes the test
-any_at : {A : Type 0} (test : A → Bool) (xs : List A) (j : ℕ) (x : A) → slice_get xs j ≡ Some x → test x ≡ true → list_any test xs ≡ true
-any_at test [] j x here passes = absurd cc
-any_at test (y ∷ xs) zero x here passes =
-    let same : y ≡ x = cc in
-    let passed : test y ≡ true = ap test same ∙ passes in
-    either_left (test y) (list_any test xs) passed
-  where
-    either_left : (a b : Bool) → a ≡ true → (a || b) ≡ true
-    either_left true b h = refl
-    either_left false b h = absurd cc
-any_at test (y ∷ xs) (suc j) x here passes = either_right (test y) (list_any test xs) (any_at test xs j x here passes)
-  where
-    either_right : (a b : Bool) → b ≡ true → (a || b) ≡ true
-    either_right true b h = refl
-    either_right false b h = h
-
--- what the rules say of a first process
-module _ (plan : Plan) (certificate : Certificate) (valid : is_plan plan ≡ true) (meets : MeetsRules plan certificate) (p : ℕ) (st : Start) (here : slice_get plan.starts p ≡ Some st) where
-  own_start : (b : Bound) → starts_within plan st.program 0 b ≡ true → start_within plan b st ≡ true
-  own_start b within = own (st.program == st.program) (eq-eqb st.program st.program refl) (list_all-slice_get (λ (s : Start). not (s.program == st.program) || start_within plan b s) plan.starts p st within here)
-    where
-      own : (a : Bool) → a ≡ true → (not a || start_within plan b st) ≡ true → start_within plan b st ≡ true
-      own true is h = h
-      own false is h = absurd cc
-
-  first_is : (m : ℕ) → first_table plan.nodes st m ≡ table_of (first_world plan) p m
-  unfolding first_world
-  first_is m = sym (first_opened plan.nodes (length plan.programs) plan.starts p st m (checked plan valid).starts here)
-
-  first_described : (b : Bound) → start_within plan b st ≡ true → describes (grant_holds plan.grants) b st.mode (replicate 8 0) (table_of (first_world plan) p) ≡ true
-  first_described b within =
-      let holds = grant_holds plan.grants in
-      let facts = described holds b st.mode (replicate 8 0) (first_table plan.nodes st) within in
-      from_described holds b st.mode (replicate 8 0) (table_of (first_world plan) p) (record {
-        mode = facts.mode;
-        registers = facts.registers;
-        slots = slots_go_on holds 0 b.slots (first_table plan.nodes st) (table_of (first_world plan) p) (λ s m is. subst (λ o. slot_describes holds s o ≡ true) (first_is m) is) facts.slots;
+  one_step valid fresh =
+      let programs = programs_of_plan plan in
+      step_fine (slice_get w.processes e.process) refl (record {
+        gained = (never_gains programs w (e ∷ []) choice fresh).0;
+        formed = (next_world programs w e valid inv.formed byte).each choice fresh;
       })
 
-  first_lies : IsPoint (instruction_at plan.programs st.program 0) → Lies plan certificate (first_world plan) p (first_process st)
-  first_lies point = go (instruction_at plan.programs st.program 0) refl point
-    where
-      go : (o : Option Instruction) → instruction_at plan.programs st.program 0 ≡ o → IsPoint o → Lies plan certificate (first_world plan) p (first_process st)
-      go None at none = absurd none
-      go (Some i) at some =
-          let is : is_started plan st.program ≡ true = any_at (λ (s : Start). s.program == st.program) plan.starts p st here (eq-eqb st.program st.program refl) in
-          let bounded = started plan certificate st.program i at is (meets st.program 0) in
-          let rules = asked plan certificate st.program 0 i bounded.0 at bounded.1 (meets st.program 0) in
-          record { bound = bounded.0; at = bounded.1; is = first_described bounded.0 (own_start bounded.0 rules.starts) }
-
--- The invariant holds of a task's first world.
-pub first_invariant : (plan : Plan) (certificate : Certificate) → is_plan plan ≡ true → MeetsRules plan certificate → Invariant plan certificate (first_world plan)
-unfolding first_world
-first_invariant plan certificate valid meets =
-    let formed = first_well_formed plan valid in
-    record {
-      pairs = formed.pairs;
-      numbers = formed.bound;
-      world = formed.world;
-      living = λ p. subst (LiesIfAlive plan certificate (first_world plan) p) (sym (slice_get-map first_process plan.starts p)) (lies p (slice_get plan.starts p) refl);
-      carried = λ pair side. tt;
-      clear = λ n other. refl;
-    }
-  where
-    made : (p : ℕ) (st : Start) → slice_get plan.starts p ≡ Some st → IsPoint (instruction_at plan.programs st.program 0)
-    made p st here =
-        let at : slice_get (first_world plan).processes p ≡ Some (first_process st) = slice_get-map first_process plan.starts p ∙ ap (option_map first_process) here in
-        let process : IsMade plan.programs (Some (first_process st)) = subst (IsMade plan.programs) at ((first_well_formed plan valid).world.processes p) in
-        process.placed refl
-
-    lies : (p : ℕ) (o : Option Start) → slice_get plan.starts p ≡ o → LiesIfAlive plan certificate (first_world plan) p (option_map first_process o)
-    lies p None here = tt
-    lies p (Some st) here = λ alive. first_lies plan certificate valid meets p st here (made p st here)
-
 -- Each run from a world of the invariant is sandboxed.
-runs : (plan : Plan) (certificate : Certificate) (w : World) (events : List Event) → list_all is_program plan.programs ≡ true → MeetsRules plan certificate → Invariant plan certificate w → Sandboxed plan.grants plan.programs w events
-runs plan certificate w [] valid meets inv = tt
-runs plan certificate w (e ∷ events) valid meets inv = λ choice fresh.
-    let here = one_step plan certificate w e choice valid meets inv in
-    (here.0, runs plan certificate (step plan.programs w e choice).world events valid meets here.1)
+runs : (plan : Plan) (certificate : Certificate) (w : World) (events : List Event) → ArePrograms (programs_of_plan plan) → MeetsRules plan certificate → Invariant plan certificate w → AreEvents events → Sandboxed (programs_of_plan plan) plan.grants w events
+runs plan certificate w [] valid meets inv are = tt
+runs plan certificate w (e ∷ events) valid meets inv are = λ choice fresh.
+    let here = one_step plan certificate w e are.0 choice meets inv valid fresh in
+    (here.0, runs plan certificate (step (programs_of_plan plan) w e choice).world events valid meets here.1 are.1)
 
 -- Soundness.
 pub sound : (plan : Plan) (certificate : Certificate) → is_plan plan ≡ true → MeetsRules plan certificate → IsSandboxed plan
-sound plan certificate valid meets events =
-    runs plan certificate (first_world plan) events (checked plan valid).programs meets (first_invariant plan certificate valid meets)
+sound plan certificate valid meets events are =
+    runs plan certificate (first_world plan) events (first_well_formed plan valid).0 meets (first_invariant plan certificate valid meets) are

@@ -1,42 +1,41 @@
 -- One step of a process that lies in the bound of its point: it is safe, and the process lies in the
 -- bound of the point that it comes to.
-use Rattle.std.proofs.Common.{◌≡◌, ◌≢◌, ℕ, ◌+◌, ◌≤◌, Bool, true, false, List, [], refl, arith, ap, sym, ◌∙◌, subst}
-use Rattle.std.specs.Prelude.{◌==◌, ◌||◌, ◌-◌, ◌++◌, nat_le, nat_lt, slice_set, Some, if◌then◌else◌}
+use Rattle.std.proofs.Common.{◌≡◌, ℕ, ◌+◌, Bool, true, false, List, [], refl, ap, sym, ◌∙◌, subst, append-nil}
+use Rattle.std.specs.Prelude.{◌||◌, ◌++◌, slice_set, Option, Some}
 use Rattle.std.specs.List.{slice_get}
-use Rattle.std.specs.Cmp.Derive.{both_true}
-use Rattle.std.proofs.lemmas.Bool.{eqb-true, leb-true, le-leb, ltb-false}
 use Rattle.rights.specs.Errors.{Errno, errno_number, Cause}
 use Rattle.rights.proofs.Lists.{slice_get-set_same}
-use Rattle.rights.proofs.Tests.{both_left, both_right}
 use Rattle.process.specs.State.{ProcessState}
 use Rattle.certificate.specs.Bounds.{Interval, interval, with_interval, Bound, Certificate, bound_at}
 use Rattle.certificate.specs.Describes.{interval_describes}
 use Rattle.certificate.proofs.Smaller.{describes_smaller}
-use Rattle.simulator.specs.Programs.{Instruction, Set, Jeq, name_at}
-use Rattle.simulator.specs.World.{World, Choice}
-use Rattle.simulator.specs.Answers.{Effect, Answer, Fails, Waits, Gives, unless, changed}
-use Rattle.simulator.specs.Steps.{Executed, Halted, register, with_register, moved_to, with_process, plain, given, failed, answered, halted}
-use Rattle.simulator.specs.Plans.{Plan}
-use Rattle.simulator.specs.Policies.{grant_holds}
+use Rattle.prog_asm.specs.Programs.{Instruction}
+use Rattle.kernel.specs.World.{World, Choice}
+use Rattle.kernel.specs.Answers.{Effect, QueueChange, StateChange, Change, Answer, Fails, Waits, Gives, unless}
+use Rattle.kernel.specs.Changes.{given, files_after, changed}
+use Rattle.kernel.specs.Steps.{Executed, Halted, register, with_register, moved_to, goes_on, with_process, plain, failed, answered, halted}
+use Rattle.kernel.specs.WellFormed.{Numbering, IsWorld}
+use Rattle.task.specs.Plans.{Plan, programs_of_plan}
+use Rattle.task.specs.Policies.{grant_holds}
 use Rattle.simulator.specs.Sandboxed.{AreAllowed, IsOtherCause, IsUnrefused}
-use Rattle.simulator.specs.WellFormed.{Pairs, IsWorld}
-use Rattle.checker.specs.Outcomes.{Outcome, only, is_among, has_other, trimmed, jump_outcomes, stay_outcomes, outcome_to, error_interval, outcomes}
+use Rattle.checker.specs.Points.{name_at}
+use Rattle.checker.specs.Outcomes.{Outcome, outcome_to, outcomes_in, error_interval, outcomes}
 use Rattle.checker.specs.Rules.{all_within, all_there}
 use Rattle.checker.proofs.Describing.{Described, from_described, register_at, register_set, interval_set, error_fits}
+use Rattle.checker.proofs.IntervalLaws.{HasPart}
 use Rattle.checker.proofs.Asked.{Asked, Leads, leads, all_left, all_right}
 use Rattle.checker.proofs.Invariant.{table_of, Lies, LiesIfAlive, Keeps}
-use Rattle.checker.proofs.Changes.{keeps_process, keeps_changed, keeps_halted, keeps_all}
+use Rattle.checker.proofs.Changes.{quiet, keeps_process, keeps_changed, keeps_halted, keeps_all}
 
 -- What is known before the step: the world is well formed, the process lives and lies in the bound of its
 -- point, and there the rules are kept.
 pub record Standing (plan : Plan) (certificate : Certificate) (w : World) (p : ℕ) (s : ProcessState) (i : Instruction) : Type 0 where
-  pub pairs : Pairs
-  pub numbers : ℕ
-  pub world : IsWorld plan.programs pairs numbers w
+  pub numbering : Numbering
+  pub world : IsWorld (programs_of_plan plan) numbering w
   pub made : slice_get w.processes p ≡ Some s
   pub bound : Bound
-  pub at : bound_at certificate (name_at plan.programs s.program) s.point ≡ Some bound
-  pub lies : Described (grant_holds plan.grants) bound s.mode s.registers (table_of w p)
+  pub at : bound_at certificate (name_at plan s.program) s.point ≡ Some bound
+  pub lies : Described (grant_holds plan.grants) bound s.mode s.registers (table_of plan w p)
   pub asked : Asked plan certificate s.program s.point i bound
 
 -- What is owed of it: what it does is allowed, no call is refused for a right or by the mode, all else is
@@ -55,13 +54,13 @@ put_there plan certificate w v p s t made is lies =
 
 module _ (plan : Plan) (certificate : Certificate) (w : World) (p : ℕ) (s : ProcessState) (i : Instruction) (known : Standing plan certificate w p s i) where
   -- The process comes to a point, in a mode and with registers that an outcome describes.
-  arrives : (v : World) (o : Outcome) (on : Bool) (values : List ℕ) → Leads certificate (name_at plan.programs s.program) o → Described (grant_holds plan.grants) o.bound on values (table_of v p) → Lies plan certificate v p (record s { point = o.point; registers = values; mode = on })
+  arrives : (v : World) (o : Outcome) (on : Bool) (values : List ℕ) → Leads certificate (name_at plan s.program) o → Described (grant_holds plan.grants) o.bound on values (table_of plan v p) → Lies plan certificate v p (record s { point = o.point; registers = values; mode = on })
   arrives v o on values there is = record {
     bound = there.bound;
     at = there.at;
     is =
-        describes_smaller (grant_holds plan.grants) o.bound there.bound on values (table_of v p) there.within
-        (from_described (grant_holds plan.grants) o.bound on values (table_of v p) is);
+        describes_smaller (grant_holds plan.grants) o.bound there.bound on values (table_of plan v p) there.within
+        (from_described (grant_holds plan.grants) o.bound on values (table_of plan v p) is);
   }
 
   -- the state of the process alone is another
@@ -69,18 +68,18 @@ module _ (plan : Plan) (certificate : Certificate) (w : World) (p : ℕ) (s : Pr
   moves t lies = put_there plan certificate w (with_process w p t) p s t known.made refl lies
 
   -- an instruction that changes registers and the point alone
-  comes : (point : ℕ) (r : ℕ) (n : Interval) (values : List ℕ) → Leads certificate (name_at plan.programs s.program) (record { point = point; bound = with_interval known.bound r n }) → Described (grant_holds plan.grants) (with_interval known.bound r n) s.mode values (table_of w p) → Owed plan certificate w p s (plain w p (record s { point = point; registers = values }))
-  comes point r n values there is =
+  comes : (point : ℕ) (bound : Bound) (values : List ℕ) → Leads certificate (name_at plan s.program) (record { point = point; bound = bound }) → Described (grant_holds plan.grants) bound s.mode values (table_of plan w p) → Owed plan certificate w p s (plain w p (record s { point = point; registers = values }))
+  comes point bound values there is =
       let t : ProcessState = record s { point = point; registers = values } in
       record {
         allowed = λ on. tt;
         unrefused = tt;
         keeps = keeps_process plan w p t;
-        lies = moves t (λ alive. arrives (with_process w p t) (record { point = point; bound = with_interval known.bound r n }) s.mode values there is);
+        lies = moves t (λ alive. arrives (with_process w p t) (record { point = point; bound = bound }) s.mode values there is);
       }
 
   -- the registers with one that is set, in the bound with its interval
-  set_lies : (r v : ℕ) (n : Interval) → interval_describes n v ≡ true → Described (grant_holds plan.grants) (with_interval known.bound r n) s.mode (slice_set s.registers r v) (table_of w p)
+  set_lies : (r v : ℕ) (n : Interval) → interval_describes n v ≡ true → Described (grant_holds plan.grants) (with_interval known.bound r n) s.mode (slice_set s.registers r v) (table_of plan w p)
   set_lies r v n fits = record {
     mode = known.lies.mode;
     registers = register_set known.bound.registers s.registers r v n fits known.lies.registers;
@@ -88,93 +87,61 @@ module _ (plan : Plan) (certificate : Certificate) (w : World) (p : ℕ) (s : Pr
   }
 
   -- the interval alone is another
-  same_lies : (r : ℕ) (n : Interval) → interval_describes n (register s r) ≡ true → Described (grant_holds plan.grants) (with_interval known.bound r n) s.mode s.registers (table_of w p)
+  same_lies : (r : ℕ) (n : Interval) → interval_describes n (register s r) ≡ true → Described (grant_holds plan.grants) (with_interval known.bound r n) s.mode s.registers (table_of plan w p)
   same_lies r n fits = record {
     mode = known.lies.mode;
     registers = interval_set known.bound.registers s.registers r n fits known.lies.registers;
     slots = known.lies.slots;
   }
 
-  only_fits : (v : ℕ) → interval_describes (only v) v ≡ true
-  only_fits v = both_true (le-leb v v (omega arith)) (le-leb v v (omega arith))
+  -- what a register holds lies in its interval
+  pub register_lies : (r : ℕ) → interval_describes (interval known.bound.registers r) (register s r) ≡ true
+  register_lies r = register_at known.bound.registers s.registers known.lies.registers r
 
-  -- `set`
-  pub owed_set : (r v : ℕ) → i ≡ Set r v → Owed plan certificate w p s (plain w p (moved_to (with_register s r v) (s.point + 1)))
-  unfolding outcomes
-  owed_set r v is =
-      let name = name_at plan.programs s.program in
-      let b = known.bound in
-      comes (s.point + 1) r (only v) (slice_set s.registers r v)
-      (leads certificate name (record { point = s.point + 1; bound = with_interval b r (only v) })
-      (subst (λ k. all_within certificate name (outcomes s.point b k) ≡ true) is known.asked.successes)
-      (subst (λ k. all_there certificate name (outcomes s.point b k) ≡ true) is known.asked.successes_there))
-      (set_lies r v (only v) (only_fits v))
+  -- what the rules say of outcomes that are these
+  all_lead : (os : List Outcome) → outcomes s.point known.bound i ≡ os → (all_within certificate (name_at plan s.program) os ≡ true) × (all_there certificate (name_at plan s.program) os ≡ true)
+  all_lead os is = (
+    subst (λ xs. all_within certificate (name_at plan s.program) xs ≡ true) is known.asked.successes,
+    subst (λ xs. all_there certificate (name_at plan s.program) xs ≡ true) is known.asked.successes_there,
+  )
 
-  -- `jeq` to its target, and past it
-  pub owed_jump : (r v target : ℕ) → i ≡ Jeq r v target → register s r ≡ v → Owed plan certificate w p s (plain w p (moved_to s target))
-  unfolding outcomes
-  owed_jump r v target is equal =
-      let name = name_at plan.programs s.program in
-      let b = known.bound in
-      let within : all_within certificate name (jump_outcomes b r v target ++ stay_outcomes s.point b r v) ≡ true = subst (λ k. all_within certificate name (outcomes s.point b k) ≡ true) is known.asked.successes in
-      let there : all_there certificate name (jump_outcomes b r v target ++ stay_outcomes s.point b r v) ≡ true = subst (λ k. all_there certificate name (outcomes s.point b k) ≡ true) is known.asked.successes_there in
-      let among : is_among (interval b.registers r) v ≡ true = subst (λ k. interval_describes (interval b.registers r) k ≡ true) equal (register_at b.registers s.registers known.lies.registers r) in
-      let only_one : jump_outcomes b r v target ≡ outcome_to target (with_interval b r (only v)) = ap (λ c. if c then outcome_to target (with_interval b r (only v)) else []) among in
-      comes target r (only v) s.registers
-      (leads certificate name (record { point = target; bound = with_interval b r (only v) })
-      (subst (λ os. all_within certificate name os ≡ true) only_one (all_left _ (jump_outcomes b r v target) (stay_outcomes s.point b r v) within))
-      (subst (λ os. all_there certificate name os ≡ true) only_one (all_left _ (jump_outcomes b r v target) (stay_outcomes s.point b r v) there)))
-      (same_lies r (only v) (subst (λ k. interval_describes (only v) k ≡ true) (sym equal) (only_fits v)))
+  -- an instruction that sets a register to a value of an interval
+  pub owed_set : (r v : ℕ) (n : Interval) → outcomes s.point known.bound i ≡ outcome_to (s.point + 1) (with_interval known.bound r n) → interval_describes n v ≡ true → Owed plan certificate w p s (plain w p (goes_on (with_register s r v)))
+  owed_set r v n is fits =
+      let lead = all_lead (outcome_to (s.point + 1) (with_interval known.bound r n)) is in
+      comes (s.point + 1) (with_interval known.bound r n) (slice_set s.registers r v)
+      (leads certificate (name_at plan s.program) (record { point = s.point + 1; bound = with_interval known.bound r n }) lead.0 lead.1)
+      (set_lies r v n fits)
 
-  -- a number that isn't the value stays in the interval without it
-  stays_in : (n : Interval) (v k : ℕ) → interval_describes n k ≡ true → k ≢ v → interval_describes (trimmed n v) k ≡ true
-  stays_in n v k fits other = go (n.low == v) (n.high == v) refl refl
-    where
-      low : n.low ≤ k
-      low = leb-true _ _ (both_left _ (nat_le k n.high) fits)
+  -- `jmp`
+  pub owed_jump : (target : ℕ) → outcomes s.point known.bound i ≡ outcome_to target known.bound → Owed plan certificate w p s (plain w p (moved_to s target))
+  owed_jump target is =
+      let lead = all_lead (outcome_to target known.bound) is in
+      comes target known.bound s.registers
+      (leads certificate (name_at plan s.program) (record { point = target; bound = known.bound }) lead.0 lead.1)
+      known.lies
 
-      high : k ≤ n.high
-      high = leb-true _ _ (both_right (nat_le n.low k) _ fits)
+  -- a jump to a point where the register is in a part of its interval
+  comes_in : (point r : ℕ) (part : Option Interval) → HasPart part (register s r) → all_within certificate (name_at plan s.program) (outcomes_in point known.bound r part) ≡ true → all_there certificate (name_at plan s.program) (outcomes_in point known.bound r part) ≡ true → Owed plan certificate w p s (plain w p (moved_to s point))
+  comes_in point r part has within there =
+      let name = name_at plan s.program in
+      let bound : Bound = with_interval known.bound r has.interval in
+      comes point bound s.registers
+      (leads certificate name (record { point = point; bound = bound })
+      (subst (λ o. all_within certificate name (outcomes_in point known.bound r o) ≡ true) has.is within)
+      (subst (λ o. all_there certificate name (outcomes_in point known.bound r o) ≡ true) has.is there))
+      (same_lies r has.interval has.fits)
 
-      go : (a b : Bool) → (n.low == v) ≡ a → (n.high == v) ≡ b → interval_describes (if a then record { low = n.low + 1; high = n.high } else (if b then record { low = n.low; high = n.high - 1 } else n)) k ≡ true
-      go true b at_low is =
-          let same : n.low ≡ v = eqb-true _ _ at_low in
-          let above : n.low + 1 ≤ k = omega (arith, same, low, other) in
-          both_true (le-leb (n.low + 1) k above) (le-leb k n.high high)
-      go false true is at_high =
-          let same : n.high ≡ v = eqb-true _ _ at_high in
-          let below : k ≤ n.high - 1 = omega (arith, same, high, other) in
-          both_true (le-leb n.low k low) (le-leb k (n.high - 1) below)
-      go false false is also = fits
+  -- `jeq` and `jlt` to their target, and past it
+  pub owed_taken : (r target : ℕ) (part : Option Interval) (rest : List Outcome) → outcomes s.point known.bound i ≡ outcomes_in target known.bound r part ++ rest → HasPart part (register s r) → Owed plan certificate w p s (plain w p (moved_to s target))
+  owed_taken r target part rest is has =
+      let lead = all_lead (outcomes_in target known.bound r part ++ rest) is in
+      comes_in target r part has (all_left _ (outcomes_in target known.bound r part) rest lead.0) (all_left _ (outcomes_in target known.bound r part) rest lead.1)
 
-  another : (n : Interval) (v k : ℕ) → interval_describes n k ≡ true → k ≢ v → has_other n v ≡ true
-  another n v k fits other = go (nat_lt n.low v) (nat_lt v n.high) refl refl
-    where
-      go : (a b : Bool) → nat_lt n.low v ≡ a → nat_lt v n.high ≡ b → (a || b) ≡ true
-      go true b below is = refl
-      go false true is above = refl
-      go false false is also =
-          let low : n.low ≤ k = leb-true _ _ (both_left _ (nat_le k n.high) fits) in
-          let high : k ≤ n.high = leb-true _ _ (both_right (nat_le n.low k) _ fits) in
-          let first : v ≤ n.low = ltb-false n.low v is in
-          let last : n.high ≤ v = ltb-false v n.high also in
-          absurd (other (omega (arith, low, high, first, last)))
-
-  pub owed_stay : (r v target : ℕ) → i ≡ Jeq r v target → register s r ≢ v → Owed plan certificate w p s (plain w p (moved_to s (s.point + 1)))
-  unfolding outcomes
-  owed_stay r v target is other =
-      let name = name_at plan.programs s.program in
-      let b = known.bound in
-      let n = interval b.registers r in
-      let within : all_within certificate name (jump_outcomes b r v target ++ stay_outcomes s.point b r v) ≡ true = subst (λ k. all_within certificate name (outcomes s.point b k) ≡ true) is known.asked.successes in
-      let there : all_there certificate name (jump_outcomes b r v target ++ stay_outcomes s.point b r v) ≡ true = subst (λ k. all_there certificate name (outcomes s.point b k) ≡ true) is known.asked.successes_there in
-      let fits : interval_describes n (register s r) ≡ true = register_at b.registers s.registers known.lies.registers r in
-      let only_one : stay_outcomes s.point b r v ≡ outcome_to (s.point + 1) (with_interval b r (trimmed n v)) = ap (λ c. if c then outcome_to (s.point + 1) (with_interval b r (trimmed n v)) else []) (another n v (register s r) fits other) in
-      comes (s.point + 1) r (trimmed n v) s.registers
-      (leads certificate name (record { point = s.point + 1; bound = with_interval b r (trimmed n v) })
-      (subst (λ os. all_within certificate name os ≡ true) only_one (all_right _ (jump_outcomes b r v target) (stay_outcomes s.point b r v) within))
-      (subst (λ os. all_there certificate name os ≡ true) only_one (all_right _ (jump_outcomes b r v target) (stay_outcomes s.point b r v) there)))
-      (same_lies r (trimmed n v) (stays_in n v (register s r) fits other))
+  pub owed_passed_by : (r : ℕ) (part : Option Interval) (others : List Outcome) → outcomes s.point known.bound i ≡ others ++ outcomes_in (s.point + 1) known.bound r part → HasPart part (register s r) → Owed plan certificate w p s (plain w p (goes_on s))
+  owed_passed_by r part others is has =
+      let lead = all_lead (others ++ outcomes_in (s.point + 1) known.bound r part) is in
+      comes_in (s.point + 1) r part has (all_right _ others (outcomes_in (s.point + 1) known.bound r part) lead.0) (all_right _ others (outcomes_in (s.point + 1) known.bound r part) lead.1)
 
   -- `halt`
   pub owed_halt : Owed plan certificate w p s (record { world = halted w p s; outcome = Halted; effects = [] })
@@ -185,21 +152,46 @@ module _ (plan : Plan) (certificate : Certificate) (w : World) (p : ℕ) (s : Pr
     lies = put_there plan certificate w (halted w p s) p s (record s { alive = false }) known.made refl (λ alive. absurd cc);
   }
 
-  -- What a call owes: no forbidden cause; what it does is allowed; and the process lies in the bound of
-  -- the point that it comes to.
-  pub record Given (value : ℕ) (enters : Bool) (effects : List Effect) : Type 0 where
+  -- What a call owes: no forbidden cause; what it does is allowed; it changes neither the tree nor a table; and the
+  -- process lies in the bound of the point that it comes to.
+  pub record Given (value : ℕ) (change : Change) (effects : List Effect) : Type 0 where
+    pub queue : QueueChange
+    pub state : StateChange
+    pub is : change ≡ quiet queue state change.enters
     pub allowed : s.mode ≡ true → AreAllowed plan.grants effects
     pub bound : Bound
-    pub leads_on : Leads certificate (name_at plan.programs s.program) (record { point = s.point + 1; bound = bound })
-    pub lies : Described (grant_holds plan.grants) bound (s.mode || enters) (slice_set s.registers 0 value) (table_of w p)
+    pub leads_on : Leads certificate (name_at plan s.program) (record { point = s.point + 1; bound = bound })
+    pub lies : Described (grant_holds plan.grants) bound (s.mode || change.enters) (slice_set s.registers 0 value) (table_of plan w p)
 
   abbrev pub FailsTo : ℕ → Type 0
-  FailsTo otherwise = Leads certificate (name_at plan.programs s.program) (record { point = otherwise; bound = with_interval known.bound 7 error_interval })
+  FailsTo otherwise = Leads certificate (name_at plan s.program) (record { point = otherwise; bound = with_interval known.bound 7 error_interval })
 
   unfoldable pub OwedBy : ℕ → Answer → Type 0
   OwedBy otherwise (Fails errno cause) = IsOtherCause cause × FailsTo otherwise
   OwedBy otherwise Waits = Unit {0}
-  OwedBy otherwise (Gives value change effects) = Given value change.enters effects
+  OwedBy otherwise (Gives value change effects) = Given value change effects
+
+  processes_same : (t : ProcessState) (choice : Choice) (queue : QueueChange) (state : StateChange) (enters : Bool) → (changed w p t choice (quiet queue state enters)).processes ≡ slice_set w.processes p t
+  unfolding changed
+  processes_same t choice queue state enters = append-nil (slice_set w.processes p t)
+
+  table_same : (t : ProcessState) (choice : Choice) (queue : QueueChange) (state : StateChange) (enters : Bool) (bound : Bound) (value : ℕ) → Described (grant_holds plan.grants) bound (s.mode || enters) (slice_set s.registers 0 value) (table_of plan w p) → Described (grant_holds plan.grants) bound (s.mode || enters) (slice_set s.registers 0 value) (table_of plan (changed w p t choice (quiet queue state enters)) p)
+  unfolding changed files_after
+  table_same t choice queue state enters bound value lies = lies
+
+  -- a success that changes neither the tree nor a table
+  owed_quiet : (choice : Choice) (otherwise value : ℕ) (queue : QueueChange) (state : StateChange) (enters : Bool) (effects : List Effect) (bound : Bound) → (s.mode ≡ true → AreAllowed plan.grants effects) → Leads certificate (name_at plan s.program) (record { point = s.point + 1; bound = bound }) → Described (grant_holds plan.grants) bound (s.mode || enters) (slice_set s.registers 0 value) (table_of plan w p) → Owed plan certificate w p s (answered w p s choice otherwise (Gives value (quiet queue state enters) effects))
+  unfolding answered
+  owed_quiet choice otherwise value queue state enters effects bound allowed leads_on lies =
+      let change : Change = quiet queue state enters in
+      let t : ProcessState = given s value change in
+      let v : World = changed w p t choice change in
+      record {
+        allowed = allowed;
+        unrefused = tt;
+        keeps = keeps_changed plan w p choice queue state enters t;
+        lies = put_there plan certificate w v p s t known.made (processes_same t choice queue state enters) (λ alive. arrives v (record { point = s.point + 1; bound = bound }) (s.mode || enters) (slice_set s.registers 0 value) leads_on (table_same t choice queue state enters bound value lies));
+      }
 
   pub owed_answer : (choice : Choice) (otherwise : ℕ) (a : Answer) → OwedBy otherwise a → Owed plan certificate w p s (answered w p s choice otherwise a)
   unfolding answered OwedBy
@@ -218,18 +210,12 @@ module _ (plan : Plan) (certificate : Certificate) (w : World) (p : ℕ) (s : Pr
     lies = subst (LiesIfAlive plan certificate w p) (sym known.made) (λ alive. record {
       bound = known.bound;
       at = known.at;
-      is = from_described (grant_holds plan.grants) known.bound s.mode s.registers (table_of w p) known.lies;
+      is = from_described (grant_holds plan.grants) known.bound s.mode s.registers (table_of plan w p) known.lies;
     });
   }
   owed_answer choice otherwise (Gives value change effects) owed =
-      let t : ProcessState = given s value change in
-      let v : World = with_process (changed w choice change) p t in
-      record {
-        allowed = owed.allowed;
-        unrefused = tt;
-        keeps = keeps_changed plan w p choice change t;
-        lies = put_there plan certificate w v p s t known.made refl (λ alive. arrives v (record { point = s.point + 1; bound = owed.bound }) (s.mode || change.enters) (slice_set s.registers 0 value) owed.leads_on owed.lies);
-      }
+      subst (λ (c : Change). Owed plan certificate w p s (answered w p s choice otherwise (Gives value c effects))) (sym owed.is)
+      (owed_quiet choice otherwise value owed.queue owed.state change.enters effects owed.bound owed.allowed owed.leads_on owed.lies)
 
   -- the tests that a call asks
   pub owed_unless : (otherwise : ℕ) (test : Bool) (errno : Errno) (cause : Cause) (rest : Answer) → IsOtherCause cause → FailsTo otherwise → (test ≡ true → OwedBy otherwise rest) → OwedBy otherwise (unless test errno cause rest)

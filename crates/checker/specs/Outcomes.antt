@@ -1,40 +1,47 @@
 -- Where an instruction may lead from a point with a bound, and the bound that it has there. (own)
-use Rattle.std.specs.Prelude.{◌+◌, ◌-◌, ◌==◌, ◌&&◌, ◌++◌, ℕ, Bool, ◌||◌, nat_le, nat_lt, List, [], ◌∷◌, Option, Some, None, if◌then◌else◌}
+use Rattle.std.specs.Prelude.{◌+◌, ◌++◌, ℕ, Bool, true, false, List, [], ◌∷◌, Option, Some, None}
 use Rattle.certificate.specs.Bounds.{On, Interval, interval, with_interval, slot, held_in, Held, Bound}
-use Rattle.simulator.specs.Programs.{Syscall, Cap_enter, Read, Instruction, Set, Jeq, Halt, Invoke}
+use Rattle.prog_asm.specs.Programs.{Number, Syscall, Cap_enter, Read, Instruction, Set, Mov, Add, In, Jmp, Jeq, Jlt, Halt, Invoke}
+use Rattle.checker.specs.Intervals.{only, sums, equal_part, other_part, lower_part, upper_part}
+
+-- The rules cover every instruction but most calls: of those these two, the second at a number that stands in the
+-- program.
+abbrev pub is_covered_call : Syscall → Bool
+is_covered_call Cap_enter = true
+is_covered_call (Read (Number n)) = true
+is_covered_call _ = false
+
+abbrev pub is_covered : Instruction → Bool
+is_covered (Invoke call otherwise) = is_covered_call call
+is_covered _ = true
 
 -- a point, and the bound there
 pub record Outcome : Type 0 where
   pub point : ℕ
   pub bound : Bound
 
-abbrev pub only : ℕ → Interval
-only value = record { low = value; high = value }
-
 abbrev pub outcome_to : ℕ → Bound → List Outcome
 outcome_to point b = record { point = point; bound = b } ∷ []
 
--- `jeq` goes to its target where the value is in the interval, and the register is that value there. It
--- goes on where the interval has another number; the value goes from an end of it.
-abbrev pub is_among : Interval → ℕ → Bool
-is_among i value = nat_le i.low value && nat_le value i.high
+-- with a register in another interval, if there is one
+abbrev pub outcomes_in : ℕ → Bound → ℕ → Option Interval → List Outcome
+outcomes_in point b r None = []
+outcomes_in point b r (Some i) = outcome_to point (with_interval b r i)
 
-abbrev pub has_other : Interval → ℕ → Bool
-has_other i value = nat_lt i.low value || nat_lt value i.high
+-- `jeq` and `jlt` lead to their target, and on, with the part of the register's interval that goes there.
+abbrev pub equal_outcomes : ℕ → Bound → ℕ → ℕ → ℕ → List Outcome
+equal_outcomes point b r value target =
+    outcomes_in target b r (equal_part (interval b.registers r) value)
+    ++ outcomes_in (point + 1) b r (other_part (interval b.registers r) value)
 
-abbrev pub trimmed : Interval → ℕ → Interval
-trimmed i value =
-    if i.low == value then record { low = i.low + 1; high = i.high }
-    else (if i.high == value then record { low = i.low; high = i.high - 1 } else i)
+abbrev pub less_outcomes : ℕ → Bound → ℕ → ℕ → ℕ → List Outcome
+less_outcomes point b r value target =
+    outcomes_in target b r (lower_part (interval b.registers r) value)
+    ++ outcomes_in (point + 1) b r (upper_part (interval b.registers r) value)
 
-abbrev pub jump_outcomes : Bound → ℕ → ℕ → ℕ → List Outcome
-jump_outcomes b r value target =
-    if is_among (interval b.registers r) value then outcome_to target (with_interval b r (only value)) else []
-
-abbrev pub stay_outcomes : ℕ → Bound → ℕ → ℕ → List Outcome
-stay_outcomes point b r value =
-    if has_other (interval b.registers r) value
-    then outcome_to (point + 1) (with_interval b r (trimmed (interval b.registers r) value)) else []
+-- what `in` gives
+abbrev pub byte_interval : Interval
+byte_interval = record { low = 0; high = 255 }
 
 -- what `read` gives: a byte, or 256 at the end
 abbrev pub read_interval : Interval
@@ -47,12 +54,19 @@ read_outcomes point b (Some h) = outcome_to (point + 1) (with_interval b 0 read_
 
 abbrev pub success_outcomes : ℕ → Bound → Syscall → List Outcome
 success_outcomes point b Cap_enter = outcome_to (point + 1) (with_interval (record b { mode = On }) 0 (only 0))
-success_outcomes point b (Read n) = read_outcomes point b (held_in (slot b.slots n))
+success_outcomes point b (Read (Number n)) = read_outcomes point b (held_in (slot b.slots n))
+success_outcomes point b _ = []
 
--- All outcomes but those of errors. `halt` has none.
+-- All outcomes but those of errors, of an instruction that is covered. `halt` has none.
 unfoldable pub outcomes : ℕ → Bound → Instruction → List Outcome
 outcomes point b (Set r value) = outcome_to (point + 1) (with_interval b r (only value))
-outcomes point b (Jeq r value target) = jump_outcomes b r value target ++ stay_outcomes point b r value
+outcomes point b (Mov r source) = outcome_to (point + 1) (with_interval b r (interval b.registers source))
+outcomes point b (Add r addend) =
+    outcome_to (point + 1) (with_interval b r (sums (interval b.registers r) (interval b.registers addend)))
+outcomes point b (In r) = outcome_to (point + 1) (with_interval b r byte_interval)
+outcomes point b (Jmp target) = outcome_to target b
+outcomes point b (Jeq r value target) = equal_outcomes point b r value target
+outcomes point b (Jlt r value target) = less_outcomes point b r value target
 outcomes point b Halt = []
 outcomes point b (Invoke call otherwise) = success_outcomes point b call
 
@@ -63,10 +77,9 @@ error_interval = record { low = 1; high = 94 }
 -- A call that may fail sets register 7 and goes to its label. `cap_enter` never fails.
 abbrev pub call_error_outcomes : Bound → Syscall → ℕ → List Outcome
 call_error_outcomes b Cap_enter otherwise = []
-call_error_outcomes b (Read n) otherwise = outcome_to otherwise (with_interval b 7 error_interval)
+call_error_outcomes b (Read (Number n)) otherwise = outcome_to otherwise (with_interval b 7 error_interval)
+call_error_outcomes b _ otherwise = []
 
 unfoldable pub error_outcomes : Bound → Instruction → List Outcome
-error_outcomes b (Set r value) = []
-error_outcomes b (Jeq r value target) = []
-error_outcomes b Halt = []
 error_outcomes b (Invoke call otherwise) = call_error_outcomes b call otherwise
+error_outcomes b _ = []

@@ -1,5 +1,5 @@
 -- The rules of the checker. (own)
-use Rattle.std.specs.Prelude.{◌==◌, ◌&&◌, ◌||◌, not, ◌≡◌, ◌<◌, ℕ, Bool, true, false, List, [], ◌∷◌, replicate, Option, Some, None, if◌then◌else◌}
+use Rattle.std.specs.Prelude.{◌==◌, ◌&&◌, ◌||◌, not, ℕ, Bool, true, false, List, [], ◌∷◌, replicate, Option, Some, None, if◌then◌else◌}
 use Rattle.std.specs.List.{list_all, list_any}
 use Rattle.std.specs.Option.{option_map}
 use Rattle.rights.specs.Sets.{is_within, read_right}
@@ -8,11 +8,13 @@ use Rattle.rights.specs.Operations as operations
 use Rattle.certificate.specs.Bounds.{ModeBound, Off, On, Either, Target, In_grant, Any_node, Socket, Unknown, Held, slot, held_in, Bound, Certificate, bound_at}
 use Rattle.certificate.specs.Order.{bound_within}
 use Rattle.certificate.specs.Describes.{Seen, Node_at, describes}
-use Rattle.simulator.specs.Tree.{Node, node}
-use Rattle.simulator.specs.Programs.{Read, Instruction, Invoke, instruction_at, name_at}
-use Rattle.simulator.specs.Plans.{FirstDescriptor, Start, Plan}
-use Rattle.simulator.specs.Policies.{grant_holds, grant_lists}
-use Rattle.checker.specs.Outcomes.{Outcome, outcomes, error_outcomes}
+use Rattle.file_tree.specs.Nodes.{Node, node}
+use Rattle.prog_asm.specs.Programs.{Number, Read, Instruction, Invoke}
+use Rattle.task.specs.Plans.{FirstDescriptor, Start, Plan}
+use Rattle.task.specs.Policies.{grant_holds, grant_lists}
+use Rattle.task.specs.Laws.{with_number}
+use Rattle.checker.specs.Points.{instruction_at, name_at}
+use Rattle.checker.specs.Outcomes.{Outcome, is_covered, outcomes, error_outcomes}
 
 -- A rule, by its number, and whether it is kept at a point.
 pub record Test : Type 0 where
@@ -23,12 +25,8 @@ pub record Test : Type 0 where
 abbrev pub first_seen : List Node → FirstDescriptor → Seen
 first_seen tree d = record { subject = Node_at (node tree d.node).place; rights = d.rights; fcntls = d.fcntls }
 
-abbrev pub descriptor_numbered : List FirstDescriptor → ℕ → Option FirstDescriptor
-descriptor_numbered [] n = None
-descriptor_numbered (d ∷ descriptors) n = if d.number == n then Some d else descriptor_numbered descriptors n
-
 abbrev pub first_table : List Node → Start → ℕ → Option Seen
-first_table tree s n = option_map (first_seen tree) (descriptor_numbered s.descriptors n)
+first_table tree s n = option_map (first_seen tree) (with_number n s.descriptors)
 
 abbrev pub start_within : Plan → Bound → Start → Bool
 start_within plan b s = describes (grant_holds plan.grants) b s.mode (replicate 8 0) (first_table plan.nodes s)
@@ -40,7 +38,7 @@ starts_program starts program = list_any (λ (s : Start). s.program == program) 
 abbrev pub is_started : Plan → ℕ → Bool
 is_started plan program = starts_program plan.starts program
 
--- K1: at point 0, the first state of each process of the program is one that the bound describes.
+-- Rule 1: at point 0, the first state of each process of the program is one that the bound describes.
 abbrev pub all_starts_within : Plan → ℕ → Bound → List Start → Bool
 all_starts_within plan program b starts =
     list_all (λ (s : Start). not (s.program == program) || start_within plan b s) starts
@@ -48,7 +46,7 @@ all_starts_within plan program b starts =
 abbrev pub starts_within : Plan → ℕ → ℕ → Bound → Bool
 starts_within plan program point b = not (point == 0) || all_starts_within plan program b plan.starts
 
--- K2 and K3: an outcome is within the bound of the point that it goes to, if that has one.
+-- Rules 2 and 3: an outcome is within the bound of the point that it goes to, if that has one.
 abbrev pub within_if_there : Bound → Option Bound → Bool
 within_if_there b None = true
 within_if_there b (Some there) = bound_within b there
@@ -57,7 +55,7 @@ abbrev pub all_within : Certificate → List ℕ → List Outcome → Bool
 all_within certificate name outs =
     list_all (λ (o : Outcome). within_if_there o.bound (bound_at certificate name o.point)) outs
 
--- K16: and it has one.
+-- Rule 16: and it has one.
 abbrev pub is_there : Option Bound → Bool
 is_there None = false
 is_there (Some b) = true
@@ -71,12 +69,12 @@ may_be_on Off = false
 may_be_on On = true
 may_be_on Either = true
 
--- K7: what a call goes through has the right that it needs.
+-- Rule 7: what a call goes through has the right that it needs.
 abbrev pub has_need : ℕ → Option Held → Bool
 has_need need None = true
 has_need need (Some h) = is_within need h.least
 
--- K10: where the mode may be on, a call that works on an object goes through a slot that is in a grant, or a
+-- Rule 10: where the mode may be on, a call that works on an object goes through a slot that is in a grant, or a
 -- socket.
 abbrev pub is_known : Target → Bool
 is_known (In_grant name) = true
@@ -88,7 +86,7 @@ abbrev pub goes_known : Option Held → Bool
 goes_known None = true
 goes_known (Some h) = is_known h.target
 
--- K11: where the mode may be on and the slot is in a grant, the grant lists the call's operation.
+-- Rule 11: where the mode may be on and the slot is in a grant, the grant lists the call's operation.
 abbrev pub target_lists : Plan → Operation → Target → Bool
 target_lists plan operation (In_grant name) = grant_lists plan.grants name operation
 target_lists plan operation Any_node = true
@@ -99,34 +97,34 @@ abbrev pub goes_listed : Plan → Operation → Option Held → Bool
 goes_listed plan operation None = true
 goes_listed plan operation (Some h) = target_lists plan operation h.target
 
--- what a call asks of the slot that it goes through
+-- `read` alone, of the calls that are covered, goes through a slot.
+abbrev pub read_through : Bound → Instruction → Option Held
+read_through b (Invoke (Read (Number n)) otherwise) = held_in (slot b.slots n)
+read_through b _ = None
+
 abbrev pub keeps_rights : Bound → Instruction → Bool
-keeps_rights b (Invoke (Read n) otherwise) = has_need read_right (held_in (slot b.slots n))
-keeps_rights b _ = true
+keeps_rights b i = has_need read_right (read_through b i)
 
 abbrev pub keeps_known : Bound → Instruction → Bool
-keeps_known b (Invoke (Read n) otherwise) = not (may_be_on b.mode) || goes_known (held_in (slot b.slots n))
-keeps_known b _ = true
+keeps_known b i = not (may_be_on b.mode) || goes_known (read_through b i)
 
 abbrev pub keeps_policy : Plan → Bound → Instruction → Bool
-keeps_policy plan b (Invoke (Read n) otherwise) =
-    not (may_be_on b.mode) || goes_listed plan operations.Read (held_in (slot b.slots n))
-keeps_policy plan b _ = true
+keeps_policy plan b i = not (may_be_on b.mode) || goes_listed plan operations.Read (read_through b i)
 
 -- The rules at a point that has an instruction and a bound, in the order of their numbers.
 unfoldable pub tests : Plan → Certificate → ℕ → ℕ → Instruction → Bound → List Test
 tests plan certificate program point i b =
     record { rule = 1; kept = starts_within plan program point b }
-    ∷ record { rule = 2; kept = all_within certificate (name_at plan.programs program) (outcomes point b i) }
-    ∷ record { rule = 3; kept = all_within certificate (name_at plan.programs program) (error_outcomes b i) }
+    ∷ record { rule = 2; kept = all_within certificate (name_at plan program) (outcomes point b i) }
+    ∷ record { rule = 3; kept = all_within certificate (name_at plan program) (error_outcomes b i) }
     ∷ record { rule = 7; kept = keeps_rights b i }
     ∷ record { rule = 10; kept = keeps_known b i }
     ∷ record { rule = 11; kept = keeps_policy plan b i }
     ∷ record {
       rule = 16;
       kept =
-          all_there certificate (name_at plan.programs program) (outcomes point b i)
-          && all_there certificate (name_at plan.programs program) (error_outcomes b i);
+          all_there certificate (name_at plan program) (outcomes point b i)
+          && all_there certificate (name_at plan program) (error_outcomes b i);
     }
     ∷ []
 
@@ -135,41 +133,24 @@ tests plan certificate program point i b =
 unfoldable pub tests_without : Plan → ℕ → ℕ → List Test
 tests_without plan program point = record { rule = 16; kept = not (point == 0 && is_started plan program) } ∷ []
 
-unfoldable pub tests_with : Plan → Certificate → ℕ → ℕ → Option Instruction → Option Bound → List Test
-tests_with plan certificate program point None b = []
-tests_with plan certificate program point (Some i) None = tests_without plan program point
-tests_with plan certificate program point (Some i) (Some b) = tests plan certificate program point i b
-
--- the rules at a point of a program; none past a program's end
-unfoldable pub tests_at : Plan → Certificate → ℕ → ℕ → List Test
-tests_at plan certificate program point =
-    tests_with plan certificate program point (instruction_at plan.programs program point)
-    (bound_at certificate (name_at plan.programs program) point)
-
 -- the first test that isn't kept
 abbrev pub least_broken : List Test → Option ℕ
 least_broken [] = None
 least_broken (t ∷ ts) = if t.kept then least_broken ts else Some t.rule
 
-abbrev pub broken_at : Plan → Certificate → ℕ → ℕ → Option ℕ
-broken_at plan certificate program point = least_broken (tests_at plan certificate program point)
+-- What is found at a point: the least rule that is broken, or, before any rule is asked, an instruction that the rules
+-- don't cover yet.
+pub data Finding : Type 0 where
+  Broken : (rule : ℕ) → Finding
+  Uncovered : Finding
 
--- The certificate meets the rules: none is broken at any point.
-abbrev pub MeetsRules : Plan → Certificate → Type 0
-MeetsRules plan certificate = (program point : ℕ) → broken_at plan certificate program point ≡ None
+unfoldable pub found_with : Plan → Certificate → ℕ → ℕ → Option Instruction → Option Bound → Option Finding
+found_with plan certificate program point None b = None
+found_with plan certificate program point (Some i) None = option_map Broken (least_broken (tests_without plan program point))
+found_with plan certificate program point (Some i) (Some b) =
+    if is_covered i then option_map Broken (least_broken (tests plan certificate program point i b)) else Some Uncovered
 
--- At this point the rule is the least that is broken, and at no point before, in the task's order of
--- programs, is one broken.
-pub record IsFirstBroken (plan : Plan) (certificate : Certificate) (program point rule : ℕ) : Type 0 where
-  pub broken : broken_at plan certificate program point ≡ Some rule
-  pub points : (k : ℕ) → k < point → broken_at plan certificate program k ≡ None
-  pub programs : (p k : ℕ) → p < program → broken_at plan certificate p k ≡ None
-
--- What the checker answers: yes, or no with the program by its place in the task, the point and the rule.
-pub data Verdict : Type 0 where
-  Yes : Verdict
-  No : (program point rule : ℕ) → Verdict
-
-abbrev pub IsVerdict : Plan → Certificate → Verdict → Type 0
-IsVerdict plan certificate Yes = MeetsRules plan certificate
-IsVerdict plan certificate (No program point rule) = IsFirstBroken plan certificate program point rule
+-- at a point of a program; nothing past a program's end
+unfoldable pub found_at : Plan → Certificate → ℕ → ℕ → Option Finding
+found_at plan certificate program point =
+    found_with plan certificate program point (instruction_at plan program point) (bound_at certificate (name_at plan program) point)

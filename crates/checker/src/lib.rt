@@ -4,7 +4,9 @@
 //! what a yes means.
 #![tactic(auto)]
 
+mod intervals;
 mod outcomes;
+mod points;
 mod rules;
 mod starts;
 pub mod verdicts;

@@ -1,13 +1,15 @@
 //! Where an instruction may lead from a point with a bound.
 
-ghost use Rattle.std.specs.Prelude.{◌≡◌, ◌++◌, ◌+◌, ◌<◌, MatchOption, Some, None, option_map, if◌then◌else◌};
+ghost use Rattle.std.specs.Prelude.{◌≡◌, ◌++◌, ◌+◌, option_map};
+ghost use Rattle.certificate.specs.Bounds.{with_interval};
 ghost use Rattle.certificate.specs.Views.{bound_of, held_of, interval_of};
-ghost use Rattle.checker.specs.Outcomes.{call_error_outcomes, error_outcomes, has_other, jump_outcomes, only, outcome_to, outcomes, read_outcomes, stay_outcomes, success_outcomes, trimmed};
+ghost use Rattle.checker.specs.Outcomes.{call_error_outcomes, equal_outcomes, error_outcomes, is_covered, is_covered_call, less_outcomes, outcome_to, outcomes, outcomes_in, read_outcomes, success_outcomes};
 ghost use Rattle.checker.specs.Views.{listed, successes_of};
-ghost use Rattle.simulator.specs.Views.{instruction_of, syscall_of};
+ghost use Rattle.prog_asm.specs.Views.{instruction_of, syscall_of};
 
+use crate::intervals::{equal_part, lower_part, only, other_part, sums, upper_part};
 use certificate::{Bound, Held, Interval, ModeBound};
-use simulator::{Instruction, Syscall};
+use prog_asm::{Instruction, Operand, Register, Syscall};
 
 /// A point, and the bound there.
 #[derive(Clone, Copy)]
@@ -23,15 +25,8 @@ pub(crate) struct NextPoints {
     pub second: Option<Outcome>,
 }
 
-/// One value alone.
-fn only(value: u32) -> Interval
-    ensures { interval_of result ≡ only value }
-{
-    Interval {
-        low: value,
-        high: value,
-    }
-}
+/// What `in` gives.
+const BYTE: Interval = Interval { low: 0, high: 255 };
 
 /// What `read` gives: a byte, or 256 at the end.
 const READ: Interval = Interval { low: 0, high: 256 };
@@ -39,52 +34,94 @@ const READ: Interval = Interval { low: 0, high: 256 };
 /// The numbers of errors.
 const ERRORS: Interval = Interval { low: 1, high: 94 };
 
-/// The interval without a value at one of its ends, if it has another number.
-fn trimmed(interval: Interval, value: u32) -> Option<Interval>
-    ensures { option_map interval_of result
-        ≡ (if has_other (interval_of interval) value then Some (trimmed (interval_of interval) value) else None) }
+/// Whether the rules cover the call.
+fn is_covered_call(call: &Syscall) -> bool
+    ensures { result ≡ is_covered_call (syscall_of call.now) }
 {
-    if interval.low < value || value < interval.high {
-        if interval.low == value {
-            return Some(Interval {
-                low: interval.low + 1,
-                high: interval.high,
-            });
-        }
-        if interval.high == value {
-            return Some(Interval {
-                low: interval.low,
-                high: interval.high - 1,
-            });
-        }
-        return Some(interval);
+    match call {
+        Syscall::CapEnter => true,
+        Syscall::Read { descriptor } => match descriptor {
+            Operand::Number(_) => true,
+            Operand::Register(_) => false,
+        },
+        _ => false,
     }
-    None
 }
 
-/// Where `jeq` leads at its target.
-fn jump(bound: &Bound, register: u8, value: u32, target: u8) -> Option<Outcome>
-    ensures { listed result ≡ jump_outcomes (bound_of bound.now) register value target }
+/// Whether the rules cover the instruction.
+pub(crate) fn is_covered(instruction: &Instruction) -> bool
+    ensures { result ≡ is_covered (instruction_of instruction.now) }
 {
-    let interval = bound.interval(register);
-    if interval.low <= value && value <= interval.high {
-        return Some(Outcome {
-            point: target as usize,
-            bound: bound.with_interval(register, only(value)),
-        });
+    match instruction {
+        Instruction::Invoke { call, .. } => is_covered_call(call),
+        _ => true,
     }
-    None
 }
 
-/// Where `jeq` leads past it.
-fn stay(point: u8, bound: &Bound, register: u8, value: u32) -> Option<Outcome>
-    ensures { listed result ≡ stay_outcomes point (bound_of bound.now) register value }
+/// Where an instruction leads that leaves a register in an interval, if there is one.
+fn outcome_in(
+    point: usize,
+    bound: &Bound,
+    register: Register,
+    interval: Option<Interval>,
+) -> Option<Outcome>
+    ensures { listed result ≡ outcomes_in point (bound_of bound.now) register (option_map interval_of interval) }
 {
-    let interval = trimmed(bound.interval(register), value)?;
+    let interval = interval?;
     Some(Outcome {
-        point: point as usize + 1,
-        bound: bound.with_interval(register, interval),
+        point,
+        bound: bound.with_interval(register.number(), interval),
     })
+}
+
+/// Where an instruction leads that sets a register and goes on.
+fn set(point: u8, bound: &Bound, register: Register, interval: Interval) -> NextPoints
+    ensures { successes_of result
+        ≡ outcome_to (point + 1) (with_interval (bound_of bound.now) register (interval_of interval)) }
+{
+    NextPoints {
+        first: outcome_in(point as usize + 1, bound, register, Some(interval)),
+        second: None,
+    }
+}
+
+/// Where a jump leads.
+fn jump(bound: &Bound, target: u8) -> NextPoints
+    ensures { successes_of result ≡ outcome_to target (bound_of bound.now) }
+{
+    NextPoints {
+        first: Some(Outcome {
+            point: target as usize,
+            bound: *bound,
+        }),
+        second: None,
+    }
+}
+
+/// Where `jeq` leads: to its target where the register may be the value, and on where it may be another.
+fn jump_if_equal(point: u8, bound: &Bound, register: Register, value: u32, target: u8) -> NextPoints
+    ensures { successes_of result ≡ equal_outcomes point (bound_of bound.now) register value target }
+{
+    let interval = bound.interval(register.number());
+    let equal = equal_part(interval, value);
+    let other = other_part(interval, value);
+    NextPoints {
+        first: outcome_in(target as usize, bound, register, equal),
+        second: outcome_in(point as usize + 1, bound, register, other),
+    }
+}
+
+/// Where `jlt` leads: to its target where the register may be less than the value, and on where it may not.
+fn jump_if_less(point: u8, bound: &Bound, register: Register, value: u32, target: u8) -> NextPoints
+    ensures { successes_of result ≡ less_outcomes point (bound_of bound.now) register value target }
+{
+    let interval = bound.interval(register.number());
+    let lower = lower_part(interval, value);
+    let upper = upper_part(interval, value);
+    NextPoints {
+        first: outcome_in(target as usize, bound, register, lower),
+        second: outcome_in(point as usize + 1, bound, register, upper),
+    }
 }
 
 /// Where a read through a slot leads that may be open.
@@ -101,8 +138,8 @@ fn read(point: u8, bound: &Bound, held: Option<Held>) -> Option<Outcome>
 }
 
 /// Where a call leads that succeeds.
-fn success(point: u8, bound: &Bound, call: Syscall) -> Option<Outcome>
-    ensures { listed result ≡ success_outcomes point (bound_of bound.now) (syscall_of call) }
+fn success(point: u8, bound: &Bound, call: &Syscall) -> Option<Outcome>
+    ensures { listed result ≡ success_outcomes point (bound_of bound.now) (syscall_of call.now) }
 {
     match call {
         Syscall::CapEnter => {
@@ -115,32 +152,42 @@ fn success(point: u8, bound: &Bound, call: Syscall) -> Option<Outcome>
                 bound: on.with_interval(0, only(0)),
             })
         }
-        Syscall::Read { descriptor } => read(point, bound, bound.slot(descriptor).held()),
+        Syscall::Read { descriptor } => match descriptor {
+            Operand::Number(number) => read(point, bound, bound.slot(*number).held()),
+            Operand::Register(_) => None,
+        },
+        _ => None,
     }
 }
 
-/// All outcomes of an instruction that are no errors.
+/// All outcomes of an instruction that are no errors, if the rules cover it.
 #[tactic(auto, unfolding(crate::specs::Outcomes::outcomes))]
-pub(crate) fn successes(point: u8, bound: &Bound, instruction: Instruction) -> NextPoints
+pub(crate) fn successes(point: u8, bound: &Bound, instruction: &Instruction) -> NextPoints
     ensures { successes_of result
-        ≡ outcomes point (bound_of bound.now) (instruction_of instruction) }
+        ≡ outcomes point (bound_of bound.now) (instruction_of instruction.now) }
 {
     match instruction {
-        Instruction::Set { register, value } => NextPoints {
-            first: Some(Outcome {
-                point: point as usize + 1,
-                bound: bound.with_interval(register, only(value)),
-            }),
-            second: None,
-        },
+        Instruction::Set { register, value } => set(point, bound, *register, only(*value)),
+        Instruction::Mov { register, source } => {
+            set(point, bound, *register, bound.interval(source.number()))
+        }
+        Instruction::Add { register, addend } => {
+            let interval = bound.interval(register.number());
+            let sums = sums(interval, bound.interval(addend.number()));
+            set(point, bound, *register, sums)
+        }
+        Instruction::In { register } => set(point, bound, *register, BYTE),
+        Instruction::Jmp { target } => jump(bound, *target),
         Instruction::Jeq {
             register,
             value,
             target,
-        } => NextPoints {
-            first: jump(bound, register, value, target),
-            second: stay(point, bound, register, value),
-        },
+        } => jump_if_equal(point, bound, *register, *value, *target),
+        Instruction::Jlt {
+            register,
+            value,
+            target,
+        } => jump_if_less(point, bound, *register, *value, *target),
         Instruction::Halt => NextPoints {
             first: None,
             second: None,
@@ -152,19 +199,29 @@ pub(crate) fn successes(point: u8, bound: &Bound, instruction: Instruction) -> N
     }
 }
 
-/// The error outcome of an instruction: a call that may fail.
-#[tactic(auto, unfolding(crate::specs::Outcomes::error_outcomes))]
-pub(crate) fn failure(bound: &Bound, instruction: Instruction) -> Option<Outcome>
-    ensures { listed result ≡ error_outcomes (bound_of bound.now) (instruction_of instruction) }
+/// Where a call leads that fails, if it may.
+fn call_failure(bound: &Bound, call: &Syscall, otherwise: u8) -> Option<Outcome>
+    ensures { listed result ≡ call_error_outcomes (bound_of bound.now) (syscall_of call.now) otherwise }
 {
-    match instruction {
-        Instruction::Set { .. } | Instruction::Jeq { .. } | Instruction::Halt => None,
-        Instruction::Invoke { call, otherwise } => match call {
-            Syscall::CapEnter => None,
-            Syscall::Read { .. } => Some(Outcome {
+    match call {
+        Syscall::Read { descriptor } => match descriptor {
+            Operand::Number(_) => Some(Outcome {
                 point: otherwise as usize,
                 bound: bound.with_interval(7, ERRORS),
             }),
+            Operand::Register(_) => None,
         },
+        _ => None,
+    }
+}
+
+/// The error outcome of an instruction that the rules cover: a call that may fail.
+#[tactic(auto, unfolding(crate::specs::Outcomes::error_outcomes))]
+pub(crate) fn failure(bound: &Bound, instruction: &Instruction) -> Option<Outcome>
+    ensures { listed result ≡ error_outcomes (bound_of bound.now) (instruction_of instruction.now) }
+{
+    match instruction {
+        Instruction::Invoke { call, otherwise } => call_failure(bound, call, *otherwise),
+        _ => None,
     }
 }

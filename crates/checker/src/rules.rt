@@ -1,19 +1,29 @@
 //! The rules at a point of a program.
 
-ghost use Rattle.std.specs.Prelude.{◌≡◌, ◌++◌, true, map, option_map};
-ghost use Rattle.std.specs.List.{list_all};
-ghost use Rattle.certificate.specs.Views.{bound_of, certificate_of, mode_of, slot_of, target_of};
-ghost use Rattle.checker.specs.Rules.{all_there, all_within, broken_at, is_known, keeps_known, keeps_policy, keeps_rights, least_broken, may_be_on, target_lists, tests};
-ghost use Rattle.checker.specs.Views.{listed, successes_of};
+ghost use Rattle.std.specs.Prelude.{◌≡◌, Some, option_map};
+ghost use Rattle.certificate.specs.Views.{bound_of, certificate_of, held_of, mode_of, target_of};
+ghost use Rattle.checker.specs.Points.{instruction_at, name_at};
+ghost use Rattle.checker.specs.Rules.{all_there, all_within, found_at, found_with, is_known, keeps_known, keeps_policy, keeps_rights, least_broken, may_be_on, read_through, target_lists, tests};
+ghost use Rattle.checker.specs.Views.{finding_of, listed, successes_of};
+ghost use Rattle.prog_asm.specs.Views.{instruction_of};
 ghost use Rattle.rights.specs.Views.{operation_of};
-ghost use Rattle.simulator.specs.Programs.{name_at};
-ghost use Rattle.simulator.specs.Views.{instruction_of};
 
-use crate::outcomes::{NextPoints, Outcome, failure, successes};
+use crate::outcomes::{NextPoints, Outcome, failure, is_covered, successes};
+use crate::points::{instruction_at, name_at};
 use crate::starts::{is_started, starts_within};
-use certificate::{Bound, Cert, ModeBound, Target};
+use certificate::{Bound, Cert, Held, ModeBound, Target};
+use prog_asm::{Instruction, Operand, Syscall};
 use rights::{Op, Rights};
-use simulator::{Instruction, Syscall, Task, grant_lists, instruction_at, name_at};
+use task::{Task, grant_lists};
+
+/// What is found at a point of a program.
+#[derive(Clone, Copy)]
+pub(crate) enum Finding {
+    /// This rule is the least that is broken.
+    Broken(u8),
+    /// The rules don't cover the instruction yet.
+    Uncovered,
+}
 
 /// Whether an outcome, if there is one, is within the bound of the point that it goes to, if that has one.
 fn is_within(cert: &Cert, name: &[u8], outcome: Option<Outcome>) -> bool
@@ -68,58 +78,52 @@ fn target_lists(task: &Task, operation: Op, target: &Target) -> bool
     }
 }
 
-/// Whether what a call goes through has the rights that it needs. (rights(4))
-fn keeps_rights(bound: &Bound, instruction: Instruction) -> bool
-    ensures { result ≡ keeps_rights (bound_of bound.now) (instruction_of instruction) }
+/// What `read` goes through, where the instruction is one and its slot may be open.
+fn read_through(bound: &Bound, instruction: &Instruction) -> Option<Held>
+    ensures { option_map held_of result ≡ read_through (bound_of bound.now) (instruction_of instruction.now) }
 {
     match instruction {
-        Instruction::Invoke {
-            call: Syscall::Read { descriptor },
-            ..
-        } => match bound.slot(descriptor).held() {
-            None => true,
-            Some(held) => held.rights.least.contains(Rights::READ),
+        Instruction::Invoke { call, .. } => match call {
+            Syscall::Read { descriptor } => match descriptor {
+                Operand::Number(number) => bound.slot(*number).held(),
+                Operand::Register(_) => None,
+            },
+            _ => None,
         },
-        _ => true,
+        _ => None,
+    }
+}
+
+/// Whether what a call goes through has the rights that it needs. (rights(4))
+fn keeps_rights(bound: &Bound, instruction: &Instruction) -> bool
+    ensures { result ≡ keeps_rights (bound_of bound.now) (instruction_of instruction.now) }
+{
+    match read_through(bound, instruction) {
+        None => true,
+        Some(held) => held.rights.least.contains(Rights::READ),
     }
 }
 
 /// Whether a call in the mode goes through a descriptor of which it is known what it is of.
-fn keeps_known(bound: &Bound, instruction: Instruction) -> bool
-    ensures { result ≡ keeps_known (bound_of bound.now) (instruction_of instruction) }
+fn keeps_known(bound: &Bound, instruction: &Instruction) -> bool
+    ensures { result ≡ keeps_known (bound_of bound.now) (instruction_of instruction.now) }
 {
-    match instruction {
-        Instruction::Invoke {
-            call: Syscall::Read { descriptor },
-            ..
-        } => {
-            !may_be_on(bound.mode)
-                || match bound.slot(descriptor).held() {
-                    None => true,
-                    Some(held) => is_known(&held.target),
-                }
+    !may_be_on(bound.mode)
+        || match read_through(bound, instruction) {
+            None => true,
+            Some(held) => is_known(&held.target),
         }
-        _ => true,
-    }
 }
 
 /// Whether the grant lists what a call in the mode does.
-fn keeps_policy(task: &Task, bound: &Bound, instruction: Instruction) -> bool
-    ensures { result ≡ keeps_policy task.now (bound_of bound.now) (instruction_of instruction) }
+fn keeps_policy(task: &Task, bound: &Bound, instruction: &Instruction) -> bool
+    ensures { result ≡ keeps_policy task.now (bound_of bound.now) (instruction_of instruction.now) }
 {
-    match instruction {
-        Instruction::Invoke {
-            call: Syscall::Read { descriptor },
-            ..
-        } => {
-            !may_be_on(bound.mode)
-                || match bound.slot(descriptor).held() {
-                    None => true,
-                    Some(held) => target_lists(task, Op::Read, &held.target),
-                }
+    !may_be_on(bound.mode)
+        || match read_through(bound, instruction) {
+            None => true,
+            Some(held) => target_lists(task, Op::Read, &held.target),
         }
-        _ => true,
-    }
 }
 
 /// The least rule that is broken at a point with a bound.
@@ -129,13 +133,13 @@ fn broken_with(
     cert: &Cert,
     program: u8,
     point: u8,
-    instruction: Instruction,
+    instruction: &Instruction,
     bound: &Bound,
 ) -> Option<u8>
     ensures { result ≡ least_broken (tests task.now (certificate_of cert.now) program point
-        (instruction_of instruction) (bound_of bound.now)) }
+        (instruction_of instruction.now) (bound_of bound.now)) }
 {
-    let name = name_at(task.programs(), program);
+    let name = name_at(task, program);
     let successes = successes(point, bound, instruction);
     let failure = failure(bound, instruction);
     if !starts_within(task, program, point, bound) {
@@ -176,17 +180,37 @@ fn are_there(cert: &Cert, name: &[u8], successes: NextPoints) -> bool
     is_there(cert, name, successes.first) && is_there(cert, name, successes.second)
 }
 
-/// The least rule that is broken at a point of a program, if one is. A point that isn't one breaks none.
-#[tactic(auto, unfolding(crate::specs::Rules::tests_at, crate::specs::Rules::tests_with, crate::specs::Rules::tests_without))]
-pub(crate) fn broken_at(task: &Task, cert: &Cert, program: u8, point: u8) -> Option<u8>
-    ensures { result ≡ broken_at task.now (certificate_of cert.now) program point }
+/// What is found at a point with a bound.
+#[tactic(auto, unfolding(crate::specs::Rules::found_with))]
+fn found_with(
+    task: &Task,
+    cert: &Cert,
+    program: u8,
+    point: u8,
+    instruction: &Instruction,
+    bound: &Bound,
+) -> Option<Finding>
+    ensures { option_map finding_of result ≡ found_with task.now (certificate_of cert.now) program point
+        (Some (instruction_of instruction.now)) (Some (bound_of bound.now)) }
 {
-    let instruction = instruction_at(task.programs(), program, point)?;
-    match cert.bound_at(name_at(task.programs(), program), point as usize) {
-        Some(bound) => broken_with(task, cert, program, point, instruction, bound),
+    if !is_covered(instruction) {
+        return Some(Finding::Uncovered);
+    }
+    let rule = broken_with(task, cert, program, point, instruction, bound)?;
+    Some(Finding::Broken(rule))
+}
+
+/// What is found at a point of a program, if anything is. At a point that isn't one there is nothing to find.
+#[tactic(auto, unfolding(crate::specs::Rules::found_at, crate::specs::Rules::found_with, crate::specs::Rules::tests_without))]
+pub(crate) fn found_at(task: &Task, cert: &Cert, program: u8, point: u8) -> Option<Finding>
+    ensures { option_map finding_of result ≡ found_at task.now (certificate_of cert.now) program point }
+{
+    let instruction = instruction_at(task, program, point)?;
+    match cert.bound_at(name_at(task, program), point as usize) {
+        Some(bound) => found_with(task, cert, program, point, instruction, bound),
         None => {
             if point == 0 && is_started(task, program) {
-                return Some(16);
+                return Some(Finding::Broken(16));
             }
             None
         }

@@ -3,14 +3,16 @@
 ghost use Rattle.std.specs.Prelude.{◌≡◌, ◌+◌, ◌≤◌, length, map, option_map, true};
 ghost use Rattle.certificate.specs.Describes.{held_describes, interval_describes, mode_describes, registers_describe, slot_describes, slots_describe, target_describes, Node_at};
 ghost use Rattle.certificate.specs.Views.{bound_of, held_of, interval_of, mode_of, slot_of, target_of};
-ghost use Rattle.checker.specs.Rules.{all_starts_within, descriptor_numbered, first_seen, first_table, is_started, start_within, starts_program, starts_within};
-ghost use Rattle.simulator.specs.Policies.{grant_holds};
-ghost use Rattle.simulator.specs.Tree.{node};
-ghost use Rattle.simulator.specs.Views.{first_descriptor_of, grants_of, nodes_of, place_of, start_of, starts_of};
+ghost use Rattle.checker.specs.Rules.{all_starts_within, first_seen, first_table, is_started, start_within, starts_program, starts_within};
+ghost use Rattle.file_tree.specs.Nodes.{node};
+ghost use Rattle.file_tree.specs.Views.{names_of};
+ghost use Rattle.task.specs.Laws.{with_number};
+ghost use Rattle.task.specs.Policies.{grant_holds};
+ghost use Rattle.task.specs.Views.{first_descriptor_of, grants_of, nodes_of, start_of, starts_of};
 
 use certificate::{Bound, Held, Interval, ModeBound, Slot, Target};
 use rights::Rights;
-use simulator::{FirstDescriptor, Grant, Node, Start, Task, grant_holds};
+use task::{FirstDescriptor, Grant, Start, Task, TaskNode, grant_holds};
 
 /// Whether a process may be in this mode.
 fn mode_describes(bound: ModeBound, mode: bool) -> bool
@@ -39,8 +41,8 @@ fn registers_describe(intervals: &[Interval], values: &[u32]) -> bool
 }
 
 /// The place of a node; the root's for one that isn't there.
-fn place_of(nodes: &[Node], number: u16) -> &[Vec<u8>]
-    ensures { place_of result.now ≡ (node (nodes_of nodes.now) number).place }
+fn place_of(nodes: &[TaskNode], number: u16) -> &[Vec<u8>]
+    ensures { names_of result.now ≡ (node (nodes_of nodes.now) number).place }
 {
     match nodes.get(number as usize) {
         Some(node) => &node.place,
@@ -51,7 +53,7 @@ fn place_of(nodes: &[Node], number: u16) -> &[Vec<u8>]
 /// Whether a descriptor of a node may be of this target.
 fn target_describes(grants: &[Grant], target: &Target, place: &[Vec<u8>]) -> bool
     ensures { result
-        ≡ target_describes (grant_holds (grants_of grants.now)) (target_of target.now) (Node_at (place_of place.now)) }
+        ≡ target_describes (grant_holds (grants_of grants.now)) (target_of target.now) (Node_at (names_of place.now)) }
 {
     match target {
         Target::InGrant(name) => grant_holds(grants, name.as_bytes(), place),
@@ -62,7 +64,7 @@ fn target_describes(grants: &[Grant], target: &Target, place: &[Vec<u8>]) -> boo
 /// Whether a first descriptor is one that the bound describes.
 fn held_describes(
     grants: &[Grant],
-    nodes: &[Node],
+    nodes: &[TaskNode],
     held: &Held,
     descriptor: FirstDescriptor,
 ) -> bool
@@ -77,9 +79,9 @@ fn held_describes(
 }
 
 /// The descriptor of this number, if there is one.
-fn descriptor_numbered(descriptors: &[FirstDescriptor], number: usize) -> Option<FirstDescriptor>
+fn with_number(descriptors: &[FirstDescriptor], number: usize) -> Option<FirstDescriptor>
     ensures { option_map first_descriptor_of result
-        ≡ descriptor_numbered (map first_descriptor_of descriptors.now) number }
+        ≡ with_number number (map first_descriptor_of descriptors.now) }
 {
     match descriptors {
         [] => None,
@@ -87,7 +89,7 @@ fn descriptor_numbered(descriptors: &[FirstDescriptor], number: usize) -> Option
             if first.number as usize == number {
                 return Some(*first);
             }
-            descriptor_numbered(rest, number)
+            with_number(rest, number)
         }
     }
 }
@@ -95,7 +97,7 @@ fn descriptor_numbered(descriptors: &[FirstDescriptor], number: usize) -> Option
 /// Whether a number of a table is as its slot says.
 fn slot_describes(
     grants: &[Grant],
-    nodes: &[Node],
+    nodes: &[TaskNode],
     slot: &Slot,
     descriptor: Option<FirstDescriptor>,
 ) -> bool
@@ -118,7 +120,7 @@ fn slot_describes(
 /// Whether each number from one on, up to sixteen, is as its slot says.
 fn slots_describe(
     grants: &[Grant],
-    nodes: &[Node],
+    nodes: &[TaskNode],
     number: usize,
     slots: &[Slot],
     start: &Start,
@@ -134,7 +136,7 @@ fn slots_describe(
                 grants,
                 nodes,
                 first,
-                descriptor_numbered(&start.descriptors, number),
+                with_number(&start.descriptors, number),
             ) && slots_describe(grants, nodes, number + 1, rest, start)
         }
     }

@@ -2,20 +2,21 @@
 
 ghost use Rattle.std.specs.Prelude.{◌≡◌, ◌<◌, ◌≤◌, ℕ, None, Some, MatchOption};
 ghost use Rattle.certificate.specs.Views.{certificate_of};
-ghost use Rattle.checker.specs.Rules.{IsVerdict, MeetsRules, Yes, broken_at};
-ghost use Rattle.checker.specs.Views.{verdict_of};
+ghost use Rattle.checker.specs.Rules.{found_at};
+ghost use Rattle.checker.specs.Verdicts.{IsVerdict, MeetsRules, Yes};
+ghost use Rattle.checker.specs.Views.{finding_of, verdict_of};
 ghost use Rattle.simulator.specs.Sandboxed.{IsSandboxed};
 
-use crate::rules::broken_at;
+use crate::rules::{Finding, found_at};
 use certificate::Cert;
-use simulator::Task;
+use task::Task;
 
 /// What the checker answers.
 #[derive(Clone, Copy, PartialEq, Eq, Debug)]
 pub enum Verdict {
     /// The certificate meets the rules: every run of the task is sandboxed.
     Yes,
-    /// The least rule that is broken at the first point of the first program where one is.
+    /// The least rule that is broken at the first point of the first program where anything is found.
     No {
         /// The program's place in the task.
         program: u8,
@@ -23,34 +24,42 @@ pub enum Verdict {
         /// The rule's number, from 1 on.
         rule: u8,
     },
+    /// The instruction at the first point where anything is found is one that the rules don't cover yet. Whether the
+    /// task is sandboxed is left open.
+    Uncovered {
+        /// The program's place in the task.
+        program: u8,
+        point: u8,
+    },
 }
 
-/// A broken rule and its point.
+/// A finding and its point.
 #[derive(Clone, Copy)]
-struct Broken {
+struct Found {
     point: u8,
-    rule: u8,
+    finding: Finding,
 }
 
-/// The first of so many points of a program where a rule is broken, with the least rule there.
-fn first_broken(task: &Task, cert: &Cert, program: u8, points: usize) -> Option<Broken>
+/// The first of so many points of a program where anything is found.
+fn first_found(task: &Task, cert: &Cert, program: u8, points: usize) -> Option<Found>
     requires { points ≤ 256 }
     ensures { MatchOption result
-        ((point : ℕ) → point < points → broken_at task.now (certificate_of cert.now) program point ≡ None)
-        (λ broken. (broken_at task.now (certificate_of cert.now) program broken.point ≡ Some broken.rule)
-        × ((point : ℕ) → point < broken.point → broken_at task.now (certificate_of cert.now) program point ≡ None)) }
+        ((point : ℕ) → point < points → found_at task.now (certificate_of cert.now) program point ≡ None)
+        (λ found. (found_at task.now (certificate_of cert.now) program found.point ≡ Some (finding_of found.finding))
+        × ((point : ℕ) → point < found.point → found_at task.now (certificate_of cert.now) program point ≡ None)) }
 {
     for point in 0..points {
         let point = point as u8;
-        if let Some(rule) = broken_at(task, cert, program, point) {
-            return Some(Broken { point, rule });
+        if let Some(finding) = found_at(task, cert, program, point) {
+            return Some(Found { point, finding });
         }
     }
     None
 }
 
-/// Whether the certificate meets the rules at every point of every program of the task; else the first
-/// program, by its place in the task, the first point there, and the least rule that is broken there.
+/// Whether the certificate meets the rules at every point of every program of the task; else the first program, by
+/// its place in the task, and the first point there where it doesn't, with the least rule that is broken there, or
+/// with word that the rules don't cover the instruction yet.
 ///
 /// A yes means that every run of the task is sandboxed: whatever list of events, inputs, schedules and
 /// refusals, no process in capability mode does to the tree what the policy doesn't allow, no call is
@@ -62,11 +71,17 @@ pub fn check(task: &Task, cert: &Cert) -> Verdict
 {
     for (number, program) in task.programs().iter().enumerate() {
         let number = number as u8;
-        if let Some(broken) = first_broken(task, cert, number, program.code.len()) {
-            return Verdict::No {
-                program: number,
-                point: broken.point,
-                rule: broken.rule,
+        if let Some(found) = first_found(task, cert, number, program.program.code().len()) {
+            return match found.finding {
+                Finding::Broken(rule) => Verdict::No {
+                    program: number,
+                    point: found.point,
+                    rule,
+                },
+                Finding::Uncovered => Verdict::Uncovered {
+                    program: number,
+                    point: found.point,
+                },
             };
         }
     }

@@ -17,22 +17,22 @@ use Rattle.kernel.proofs.ChangedAlike.{Aims, each_named}
 use Rattle.kernel.proofs.SteppedAlike.{SameStep, steps_same}
 
 -- ## Two numbers change places
-swap : ℕ → ℕ → ℕ → ℕ
+pub swap : ℕ → ℕ → ℕ → ℕ
 swap a b = put (put (λ n. n) a b) b a
 
-swap-left : (a b : ℕ) → swap a b a ≡ b
+pub swap-left : (a b : ℕ) → swap a b a ≡ b
 unfolding swap
 swap-left a b = put-cases (λ x. x ≡ b) (put (λ n. n) a b) b a a (λ same. same) (λ other. put-same (λ n. n) a b)
 
-swap-right : (a b : ℕ) → swap a b b ≡ a
+pub swap-right : (a b : ℕ) → swap a b b ≡ a
 unfolding swap
 swap-right a b = put-same (put (λ n. n) a b) b a
 
-swap-other : (a b n : ℕ) → n ≢ a → n ≢ b → swap a b n ≡ n
+pub swap-other : (a b n : ℕ) → n ≢ a → n ≢ b → swap a b n ≡ n
 unfolding swap
 swap-other a b n one two = put-other (put (λ n. n) a b) b a n two ∙ put-other (λ n. n) a b n one
 
-swap-back : (a b n : ℕ) → swap a b (swap a b n) ≡ n
+pub swap-back : (a b n : ℕ) → swap a b (swap a b n) ≡ n
 swap-back a b n =
     elim (eqb_tells n b) [
       | inl right ↦ ap (swap a b) (ap (swap a b) right.1 ∙ swap-right a b) ∙ swap-left a b ∙ sym right.1
@@ -43,7 +43,7 @@ swap-back a b n =
     ]
 
 -- ## The renaming, turned so that n goes to k
-abbrev aimed : Renaming → ℕ → ℕ → Renaming
+abbrev pub aimed : Renaming → ℕ → ℕ → Renaming
 aimed r n k = record {
   description = λ m. swap (r.description n) k (r.description m);
   pair = r.pair;
@@ -67,7 +67,7 @@ aimed_pair r n k = record {
   pair_here = λ m. ap r.pair_back (swap-back (r.pair n) k (r.pair m)) ∙ r.pair_here m;
 }
 
-aim-kept : (r : Renaming) (n k m : ℕ) → m ≢ n → r.description m ≢ k → (aimed r n k).description m ≡ r.description m
+pub aim-kept : (r : Renaming) (n k m : ℕ) → m ≢ n → r.description m ≢ k → (aimed r n k).description m ≡ r.description m
 aim-kept r n k m other away =
     swap-other (r.description n) k (r.description m)
     (λ same. other (sym (r.description_here m) ∙ ap r.description_back same ∙ r.description_here n)) away

@@ -3,7 +3,7 @@ use Rattle.std.proofs.Common.{◌≡◌, ℕ, ◌+◌, ◌<◌, ◌≤◌, Bool,
 use Rattle.std.specs.Prelude.{Option, Some, None, Result, Ok, Err, cond, nat_le, ◌==◌}
 use Rattle.std.proofs.lemmas.Bool.{leb-true, le-leb}
 use Rattle.std.proofs.lemmas.List.{take-append-le, take_all}
-use Rattle.simulator.specs.Answers.{Event}
+use Rattle.kernel.specs.Answers.{Event}
 use Rattle.simulator.specs.Schedules.{Faulty, Too_many, parts, parts_from, event_of_line, with_event, events_from, limited, schedule_of}
 
 -- events, and then what comes of the rest

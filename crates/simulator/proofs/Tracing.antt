@@ -1,122 +1,137 @@
 -- What a simulation has written so far, and where it is in the run.
-use Rattle.std.proofs.Common.{◌≡◌, ℕ, true, List, [], ◌∷◌, ◌++◌, ◌+◌, refl, ap, sym, ◌∙◌, subst, append_assoc, append-nil}
+use Rattle.std.proofs.Common.{◌≡◌, ℕ, zero, suc, ◌+◌, ◌<◌, arith, length, take, true, List, [], ◌∷◌, ◌++◌, refl, ap, sym, ◌∙◌, subst, append_assoc, append-nil}
 use Rattle.std.specs.Prelude.{Option, Some, None}
-use Rattle.std.specs.List.{list_all}
-use Rattle.std.proofs.lemmas.List.Concat.{flat_map-append}
+use Rattle.std.specs.List.{slice_index_or}
 use Rattle.rights.specs.Output.{Took, TookFront}
 use Rattle.rights.proofs.Taken.{took_more, front_after, front_of_more}
-use Rattle.simulator.specs.Programs.{Program, is_program}
-use Rattle.simulator.specs.World.{World, Choice}
-use Rattle.simulator.specs.Answers.{Event}
-use Rattle.simulator.specs.Steps.{Line, Steps, step}
-use Rattle.simulator.specs.Runs.{HasNext, Runs}
-use Rattle.simulator.specs.Plans.{Plan, first_world}
-use Rattle.simulator.specs.Simulations.{IsRun, WritesTrace, WritesFront}
+use Rattle.kernel.specs.World.{World}
+use Rattle.kernel.specs.Answers.{Event}
+use Rattle.kernel.specs.Steps.{Acted, Programs, step}
+use Rattle.kernel.specs.Runs.{AreEvents, Runs}
+use Rattle.kernel.specs.Renamings.{DiffersInNumbers}
+use Rattle.kernel.specs.WellFormed.{ArePrograms, IsEvent, IsWellFormed}
+use Rattle.kernel.proofs.AlikeWorlds.{act_alike}
+use Rattle.kernel.proofs.Determined.{alike_share, differs_twice, run_exists}
+use Rattle.kernel.proofs.Aimed.{steps_alike}
+use Rattle.kernel.proofs.Keeping.{next_world}
+use Rattle.task.specs.Plans.{Plan, programs_of_plan}
+use Rattle.task.specs.Begins.{first_world}
+use Rattle.task.specs.Limits.{is_plan}
+use Rattle.task.proofs.FirstWorlds.{first_well_formed}
+use Rattle.simulator.specs.Lines.{Line, line_at}
+use Rattle.simulator.specs.Steps.{Steps}
+use Rattle.simulator.specs.Simulations.{IsRun, WritesFront, WritesTrace}
 use Rattle.simulator.specs.Traces.{line_text, trace_text}
-use Rattle.simulator.specs.WellFormed.{IsWellFormed}
-use Rattle.simulator.proofs.Determined.{same-lines}
-use Rattle.simulator.proofs.Fresh.{fresh_choice}
-use Rattle.simulator.proofs.Keeping.{kept}
 
--- a run of any events from a well-formed world
-pub run_from : (programs : List Program) → list_all is_program programs ≡ true → (w : World) → IsWellFormed programs w → (events : List Event) → (lines : List Line) × Runs programs w events lines
-run_from programs valid w good [] = ([], tt)
-run_from programs valid w good (e ∷ events) =
-    let choice : Choice = record { first = good.bound; second = good.bound + 1; pair = w.pairs } in
-    let next : IsWellFormed programs (step programs w e choice).world = record {
-      pairs = good.pairs;
-      bound = good.bound;
-      world = kept programs good.pairs good.bound w e choice valid good.world;
-    } in
-    let rest = run_from programs valid (step programs w e choice).world next events in
-    ((step programs w e choice).line ∷ rest.0, (choice, fresh_choice programs good.pairs good.bound w good.world, refl, rest.1))
+-- a step leads to a well-formed world
+pub steps_good : (programs : Programs) (w next : World) (e : Event) (line : Line) → ArePrograms programs → IsWellFormed programs w → IsEvent e → Steps programs w e line next → IsWellFormed programs next
+steps_good programs w next e line valid good byte s =
+    (act_alike programs (step programs w e s.choice).world next valid ((next_world programs w e valid good byte).each s.choice s.fresh) s.world_is).well_formed
 
--- The lines so far are taken, and whatever the rest shows, they and it are the whole run.
+-- Where a run of these events is: what it showed so far is written so, and it goes on from a world that differs from
+-- this one in numbers alone.
+pub record IsAhead (plan : Plan) (events : List Event) (lines : List (Option Acted)) (begun : List ℕ) (w : World) (left : List Event) : Type 0 where
+  pub world : World
+  pub rest : List (Option Acted)
+  pub good : IsWellFormed (programs_of_plan plan) world
+  pub same : DiffersInNumbers world w
+  pub run : Runs (programs_of_plan plan) world left rest
+  pub text : begun ++ trace_text plan left rest ≡ trace_text plan events lines
+
+-- So much is taken, and each run of the events is there.
 pub record IsTraced (plan : Plan) (events : List Event) (before after : Option (List ℕ)) (w : World) (left : List Event) : Type 0 where
-  pub lines : List Line
-  pub took : Took before after (trace_text lines)
-  pub leads : (rest : List Line) → Runs plan.programs w left rest → IsRun plan events (lines ++ rest)
+  pub begun : List ℕ
+  pub took : Took before after begun
+  pub each : (lines : List (Option Acted)) → IsRun plan events lines → IsAhead plan events lines begun w left
 
-pub took_nothing : (before : Option (List ℕ)) → Took before before []
+took_nothing : (before : Option (List ℕ)) → Took before before []
 took_nothing None = refl
 took_nothing (Some bytes) = ap Some (sym (append-nil bytes))
 
-pub traced-start : (plan : Plan) (events : List Event) (before : Option (List ℕ)) (w : World) → w ≡ first_world plan → IsTraced plan events before before w events
-traced-start plan events before w is = record {
-  lines = [];
+pub traced-start : (plan : Plan) (events : List Event) (before : Option (List ℕ)) (w : World) → is_plan plan ≡ true → DiffersInNumbers (first_world plan) w → IsTraced plan events before before w events
+traced-start plan events before w test differs = record {
+  begun = [];
   took = took_nothing before;
-  leads = λ rest run. subst (λ v. Runs plan.programs v events rest) is run;
+  each = λ lines run. record { world = first_world plan; rest = lines; good = (first_well_formed plan test).1; same = differs; run = run; text = refl };
 }
 
--- one event more
-more : (programs : List Program) (w next : World) (e : Event) (line : Line) (left : List Event) (rest : List Line) → Steps programs w e line next → Runs programs next left rest → Runs programs w (e ∷ left) (line ∷ rest)
-more programs w next e line left rest s run =
-    (s.choice, s.fresh, s.line_is, subst (λ v. Runs programs v left rest) (sym s.world_is) run)
+-- one line more
+trace_more : (plan : Plan) (e : Event) (left : List Event) (acted : Option Acted) (rest : List (Option Acted)) → line_text plan (line_at e acted) ++ trace_text plan left rest ≡ trace_text plan (e ∷ left) (acted ∷ rest)
+trace_more plan e left acted rest = refl
 
-text-more : (lines : List Line) (line : Line) → trace_text (lines ++ line ∷ []) ≡ trace_text lines ++ line_text line
-text-more lines line = flat_map-append line_text lines (line ∷ []) ∙ ap (λ t. trace_text lines ++ t) (append-nil (line_text line))
+ahead-step : (plan : Plan) (events : List Event) (lines : List (Option Acted)) (begun : List ℕ) (w next : World) (e : Event) (left : List Event) (line : Line) → is_plan plan ≡ true → IsWellFormed (programs_of_plan plan) w → IsEvent e → Steps (programs_of_plan plan) w e line next → IsAhead plan events lines begun w (e ∷ left) → IsAhead plan events lines (begun ++ line_text plan line) next left
+ahead-step plan events lines begun w next e left line test good byte s at = go at.rest at.run at.text
+  where
+    programs : Programs
+    programs = programs_of_plan plan
 
-pub traced-step : (plan : Plan) (events : List Event) (before mid after : Option (List ℕ)) (w next : World) (e : Event) (left : List Event) (line : Line) → IsTraced plan events before mid w (e ∷ left) → Steps plan.programs w e line next → Took mid after (line_text line) → IsTraced plan events before after next left
-traced-step plan events before mid after w next e left line so_far s took = record {
-  lines = so_far.lines ++ line ∷ [];
-  took = subst (Took before after) (sym (text-more so_far.lines line)) (took_more before mid after _ _ so_far.took took);
-  leads = λ rest run.
-      subst (IsRun plan events) (sym (append_assoc so_far.lines (line ∷ []) rest))
-      (so_far.leads (line ∷ rest) (more plan.programs w next e line left rest s run));
+    go : (rest : List (Option Acted)) → Runs programs at.world (e ∷ left) rest → begun ++ trace_text plan (e ∷ left) rest ≡ trace_text plan events lines → IsAhead plan events lines (begun ++ line_text plan line) next left
+    go [] run text = absurd run
+    go (acted ∷ rest) (choice, fresh, is, run) text =
+        let valid = (first_well_formed plan test).0 in
+        let both = steps_alike programs at.world w e choice s.choice valid at.good good at.same fresh s.fresh in
+        let own : line ≡ line_at e acted = s.line_is ∙ ap (line_at e) (both.line ∙ is) in
+        record {
+          world = (step programs at.world e choice).world;
+          rest = rest;
+          good = (next_world programs at.world e valid at.good byte).each choice fresh;
+          same = differs_twice _ _ _ both.next (alike_share _ _ s.world_is);
+          run = run;
+          text =
+              append_assoc begun (line_text plan line) (trace_text plan left rest)
+              ∙ ap (λ (l : Line). begun ++ (line_text plan l ++ trace_text plan left rest)) own
+              ∙ ap (λ t. begun ++ t) (trace_more plan e left acted rest)
+              ∙ text;
+        }
+
+pub traced-step : (plan : Plan) (events : List Event) (before mid after : Option (List ℕ)) (w next : World) (e : Event) (left : List Event) (line : Line) → is_plan plan ≡ true → IsWellFormed (programs_of_plan plan) w → IsEvent e → IsTraced plan events before mid w (e ∷ left) → Steps (programs_of_plan plan) w e line next → Took mid after (line_text plan line) → IsTraced plan events before after next left
+traced-step plan events before mid after w next e left line test good byte so_far s took = record {
+  begun = so_far.begun ++ line_text plan line;
+  took = took_more before mid after _ _ so_far.took took;
+  each = λ lines run. ahead-step plan events lines so_far.begun w next e left line test good byte s (so_far.each lines run);
 }
 
-pub traced-end : (plan : Plan) (events : List Event) (before after : Option (List ℕ)) (w : World) → IsTraced plan events before after w [] → WritesTrace plan events before after
-traced-end plan events before after w so_far =
-    let run : IsRun plan events so_far.lines = subst (IsRun plan events) (append-nil so_far.lines) (so_far.leads [] tt) in
+pub traced-end : (plan : Plan) (events : List Event) (before after : Option (List ℕ)) (w : World) → is_plan plan ≡ true → AreEvents events → IsTraced plan events before after w [] → WritesTrace plan events before after
+traced-end plan events before after w test bytes so_far =
+    let first = first_well_formed plan test in
+    let run = run_exists (programs_of_plan plan) (first_world plan) events first.0 first.1 bytes in
     record {
-      lines = so_far.lines;
-      run = run;
+      lines = run.0;
+      run = run.1;
       every = λ others other.
-          subst (λ lines. Took before after (trace_text lines)) (same-lines plan.programs (first_world plan) events so_far.lines others run other) so_far.took;
+          let at = so_far.each others other in
+          subst (Took before after) (sym (append-nil so_far.begun) ∙ at.text) so_far.took;
     }
 
--- what was taken, and a beginning of the next line, is a beginning of every run's trace
-pub traced-front : (plan : Plan) (events : List Event) (before after : Option (List ℕ)) (w : World) (left : List Event) → list_all is_program plan.programs ≡ true → IsWellFormed plan.programs w → IsTraced plan events before after w left → WritesFront plan events before after
-traced-front plan events before after w left valid good so_far lines run =
-    let rest = run_from plan.programs valid w good left in
-    let whole : so_far.lines ++ rest.0 ≡ lines =
-    same-lines plan.programs (first_world plan) events (so_far.lines ++ rest.0) lines (so_far.leads rest.0 rest.1) run
-    in
-    let text : trace_text so_far.lines ++ trace_text rest.0 ≡ trace_text lines = sym (flat_map-append line_text so_far.lines rest.0) ∙ ap trace_text whole in
-    record {
-      front = trace_text so_far.lines;
-      rest = trace_text rest.0;
-      whole = text;
-      took = so_far.took;
-    }
+-- what was taken is a beginning of every run's trace
+pub traced-front : (plan : Plan) (events : List Event) (before after : Option (List ℕ)) (w : World) (left : List Event) → IsTraced plan events before after w left → WritesFront plan events before after
+traced-front plan events before after w left so_far lines run =
+    let at = so_far.each lines run in
+    record { front = so_far.begun; rest = trace_text plan left at.rest; whole = at.text; took = so_far.took }
 
-pub traced-line : (plan : Plan) (events : List Event) (before mid after : Option (List ℕ)) (w next : World) (e : Event) (left : List Event) (line : Line) → list_all is_program plan.programs ≡ true → IsWellFormed plan.programs next → IsTraced plan events before mid w (e ∷ left) → Steps plan.programs w e line next → TookFront mid after (line_text line) → WritesFront plan events before after
-traced-line plan events before mid after w next e left line valid good so_far s front lines run =
-    let rest = run_from plan.programs valid next good left in
-    let whole : so_far.lines ++ line ∷ rest.0 ≡ lines =
-    same-lines plan.programs (first_world plan) events (so_far.lines ++ line ∷ rest.0) lines (so_far.leads (line ∷ rest.0) (more plan.programs w next e line left rest.0 s rest.1)) run
+-- so is what was taken, with a beginning of the next line
+pub traced-line : (plan : Plan) (events : List Event) (before mid after : Option (List ℕ)) (w next : World) (e : Event) (left : List Event) (line : Line) → is_plan plan ≡ true → IsWellFormed (programs_of_plan plan) w → IsEvent e → IsTraced plan events before mid w (e ∷ left) → Steps (programs_of_plan plan) w e line next → TookFront mid after (line_text plan line) → WritesFront plan events before after
+traced-line plan events before mid after w next e left line test good byte so_far s front lines run =
+    let at = ahead-step plan events lines so_far.begun w next e left line test good byte s (so_far.each lines run) in
+    let whole : so_far.begun ++ (line_text plan line ++ trace_text plan left at.rest) ≡ trace_text plan events lines =
+    sym (append_assoc so_far.begun (line_text plan line) (trace_text plan left at.rest)) ∙ at.text
     in
-    let text : trace_text so_far.lines ++ (line_text line ++ trace_text rest.0) ≡ trace_text lines = sym (flat_map-append line_text so_far.lines (line ∷ rest.0)) ∙ ap trace_text whole in
-    subst (TookFront before after) text
-    (front_after before mid after (trace_text so_far.lines) (line_text line ++ trace_text rest.0) so_far.took
-    (front_of_more mid after (line_text line) (trace_text rest.0) front))
+    subst (TookFront before after) whole
+    (front_after before mid after so_far.begun (line_text plan line ++ trace_text plan left at.rest) so_far.took
+    (front_of_more mid after (line_text plan line) (trace_text plan left at.rest) front))
+
+-- the events so far are bytes
+pub bytes_more : (events : List Event) (k : ℕ) (none : Event) → k < length events → AreEvents (take k events) → IsEvent (slice_index_or events k none) → AreEvents (take (k + 1) events)
+bytes_more [] k none low so_far byte = absurd (omega arith)
+bytes_more (e ∷ events) zero none low so_far byte = (byte, tt)
+bytes_more (e ∷ events) (suc k) none low so_far byte =
+    let next : suc k + 1 ≡ suc (k + 1) = omega arith in
+    subst (λ n. AreEvents (take n (e ∷ events))) (sym next) (so_far.0, bytes_more events k none (omega arith) so_far.1 byte)
 
 pub nothing-front : (plan : Plan) (events : List Event) (before after : Option (List ℕ)) → after ≡ before → WritesFront plan events before after
 nothing-front plan events before after same lines run = record {
   front = [];
-  rest = trace_text lines;
+  rest = trace_text plan events lines;
   whole = refl;
   took = same ∙ took_nothing before;
 }
-
-pub has_next : (programs : List Program) → list_all is_program programs ≡ true → (w : World) (e : Event) → IsWellFormed programs w → HasNext programs w e
-has_next programs valid w e good =
-    let choice : Choice = record { first = good.bound; second = good.bound + 1; pair = w.pairs } in
-    record {
-      some = (choice, fresh_choice programs good.pairs good.bound w good.world);
-      each = λ choice fresh. record {
-        pairs = good.pairs;
-        bound = good.bound;
-        world = kept programs good.pairs good.bound w e choice valid good.world;
-      };
-    }

@@ -1,26 +1,34 @@
 -- When a run is sandboxed. (own, after capsicum(4), rights(4), cap_rights_limit(2) and
 -- cap_fcntls_limit(2))
-use Rattle.std.specs.Prelude.{◌≡◌, ◌++◌, ℕ, true, List, [], ◌∷◌, Option, Some, None}
+use Rattle.std.specs.Prelude.{◌≡◌, ℕ, true, false, List, [], ◌∷◌, Option, Some, None}
 use Rattle.std.specs.List.{slice_get}
-use Rattle.rights.specs.Sets.{is_within}
 use Rattle.rights.specs.Errors.{Cause, CapMode, MissingRight}
 use Rattle.process.specs.State.{ProcessState}
-use Rattle.simulator.specs.Descriptions.{Descriptor, Message}
-use Rattle.simulator.specs.Programs.{Program}
-use Rattle.simulator.specs.World.{World, Choice, IsFresh}
-use Rattle.simulator.specs.Answers.{Event, Effect}
-use Rattle.simulator.specs.Steps.{LineResult, Failed, Acted, Stepped, step}
-use Rattle.simulator.specs.Plans.{Grant, Plan, first_world}
-use Rattle.simulator.specs.Policies.{is_allowed}
+use Rattle.prog_asm.specs.Programs.{Syscall}
+use Rattle.kernel.specs.World.{World, Choice, IsFresh}
+use Rattle.kernel.specs.Answers.{Event, Effect, Change, Gives}
+use Rattle.kernel.specs.Calls.{answer}
+use Rattle.kernel.specs.Steps.{LineResult, Failed, Programs, Acted, Stepped, step}
+use Rattle.kernel.specs.Sources.{AreWithin, has_own, new_in, source_of}
+use Rattle.kernel.specs.Gains.{GainsNothing}
+use Rattle.kernel.specs.Runs.{AreEvents}
+use Rattle.task.specs.Plans.{Grant, Plan, programs_of_plan}
+use Rattle.task.specs.Laws.{Allowed}
+use Rattle.task.specs.Begins.{first_world}
 
 -- the process was made and is in capability mode
 abbrev pub IsInMode : Option ProcessState → Type 0
 IsInMode None = ⊥
 IsInMode (Some s) = s.mode ≡ true
 
+-- Each effect is at a place where the policy allows it.
 abbrev pub AreAllowed : List Grant → List Effect → Type 0
 AreAllowed grants [] = Unit {0}
-AreAllowed grants (f ∷ effects) = (is_allowed grants f.operation f.place ≡ true) × AreAllowed grants effects
+AreAllowed grants (f ∷ effects) = Allowed grants f.operation f.place × AreAllowed grants effects
+
+abbrev pub IsAllowedLine : List Grant → Option Acted → Type 0
+IsAllowedLine grants None = Unit {0}
+IsAllowedLine grants (Some a) = AreAllowed grants a.effects
 
 -- neither a missing right nor capability mode is the cause
 abbrev pub IsOtherCause : Cause → Type 0
@@ -36,30 +44,35 @@ abbrev pub IsUnrefusedLine : Option Acted → Type 0
 IsUnrefusedLine None = Unit {0}
 IsUnrefusedLine (Some a) = IsUnrefused a.outcome
 
--- A descriptor comes from its source. No instruction of today makes a descriptor, so the source of one
--- in a table is the one that stood there before. Rights and commands are within the source's.
-abbrev pub IsSourced : Option Descriptor → Option Descriptor → Type 0
-IsSourced before None = Unit {0}
-IsSourced None (Some d) = ⊥
-IsSourced (Some source) (Some d) = (is_within d.rights source.rights ≡ true) × (is_within d.fcntls source.fcntls ≡ true)
+-- What a call of the process makes that has a source has no more rights and commands than the source.
+abbrev pub KeepsSources : World → Event → Type 0
+KeepsSources w e =
+    (s : ProcessState) (call : Syscall) (value : ℕ) (change : Change) (effects : List Effect)
+    → slice_get w.processes e.process ≡ Some s
+    → has_own call ≡ false
+    → answer w e.process s e call ≡ Gives value change effects
+    → AreWithin (source_of w e.process s call) (new_in change)
 
--- One step is safe: what a process that was in capability mode before it does to the tree is allowed;
--- no call is refused for a missing right or by capability mode; and no descriptor, in a table or on its
--- way in a message, has more than its source.
-pub record IsSafe (grants : List Grant) (w : World) (e : Event) (next : Stepped) : Type 0 where
-  pub allowed : IsInMode (slice_get w.processes e.process) → AreAllowed grants next.effects
-  pub unrefused : IsUnrefusedLine next.line.acted
-  pub tables : (p n : ℕ) → IsSourced (w.table p n) (next.world.table p n)
-  pub queues : (pair side : ℕ) → (gone : List Message) × (w.queue pair side ≡ gone ++ next.world.queue pair side)
+-- One step is safe: what a process that was in capability mode before it does to the tree is allowed; no call is
+-- refused for a missing right or by capability mode; and no descriptor, in a table or on its way in a message, has
+-- more than what it comes from.
+pub record IsSafe (programs : Programs) (grants : List Grant) (w : World) (e : Event) (next : Stepped) : Type 0 where
+  pub allowed : IsInMode (slice_get w.processes e.process) → IsAllowedLine grants next.acted
+  pub unrefused : IsUnrefusedLine next.acted
+  pub sources : KeepsSources w e
+  pub gains : GainsNothing programs w e next.world
 
 -- Each step of every run of these events from this world is safe, whatever fresh numbers are chosen.
-abbrev pub Sandboxed : List Grant → List Program → World → List Event → Type 0
-Sandboxed grants programs w [] = Unit {0}
-Sandboxed grants programs w (e ∷ events) =
+abbrev pub Sandboxed : Programs → List Grant → World → List Event → Type 0
+Sandboxed programs grants w [] = Unit {0}
+Sandboxed programs grants w (e ∷ events) =
     (choice : Choice)
-    → IsFresh w choice
-    → IsSafe grants w e (step programs w e choice) × Sandboxed grants programs (step programs w e choice).world events
+    → IsFresh w.files choice
+    → IsSafe programs grants w e (step programs w e choice) × Sandboxed programs grants (step programs w e choice).world events
 
 -- Every run of the task, for every list of events, is sandboxed.
 abbrev pub IsSandboxed : Plan → Type 0
-IsSandboxed plan = (events : List Event) → Sandboxed plan.grants plan.programs (first_world plan) events
+IsSandboxed plan = (events : List Event) → AreEvents events → Sandboxed (programs_of_plan plan) plan.grants (first_world plan) events
+
+abbrev pub EveryStepKeepsSources : Type 0
+EveryStepKeepsSources = (w : World) (e : Event) → KeepsSources w e

@@ -2,12 +2,12 @@
 use Rattle.std.specs.Prelude.{◌≡◌, ℕ, List, [], ◌∷◌, map, Option, Some, None, Result, Ok, Err}
 use Rattle.std.specs.declared.vec.Vec.{Vec}
 use Rattle.std.specs.declared.alloc.Global.{Global}
-use Rattle.simulator.specs.declared.events.Event.{Event as EventCode}
+use Rattle.syscalls.specs.declared.events.Event.{Event as EventCode}
 use Rattle.simulator.specs.declared.schedule.ScheduleFault.{ScheduleFault}
 use Rattle.simulator.specs.declared.schedule.ScheduleFault.TheVariants.{Line, Limit, Memory}
-use Rattle.simulator.specs.Answers.{Event}
+use Rattle.kernel.specs.Answers.{Event}
 use Rattle.simulator.specs.Schedules.{Fault, Faulty, Too_many, parts}
-use Rattle.simulator.specs.StepViews.{event_of}
+use Rattle.syscalls.specs.Views.{event_of}
 
 -- The parts are the first one, and those of the rest where there is any.
 abbrev pub Begins : List (List ℕ) → ℕ → List ℕ → Option (List ℕ) → Type 0

@@ -1,10 +1,14 @@
 -- The text of a trace: a line for each event. (own)
-use Rattle.std.specs.Prelude.{ℕ, List, ◌++◌, codes, Option, Some, None}
-use Rattle.std.specs.List.{flat_map}
+use Rattle.std.specs.Prelude.{ℕ, List, [], ◌∷◌, ◌++◌, codes, Option, Some, None}
+use Rattle.std.specs.List.{flat_map, slice_get}
 use Rattle.std.specs.Fmt.{decimal}
 use Rattle.rights.specs.Errors.{errno_name, cause_name}
 use Rattle.rights.specs.Operations.{operation_name}
-use Rattle.simulator.specs.Steps.{LineResult, Done, Halted, Value, Failed, Waiting, Ended, Shown, Acted, Line}
+use Rattle.kernel.specs.Answers.{Event}
+use Rattle.kernel.specs.Steps.{LineResult, Done, Halted, Value, Failed, Waiting, Ended, Acted}
+use Rattle.syscalls.specs.Shows.{Shown}
+use Rattle.task.specs.Plans.{NamedProgram, Plan}
+use Rattle.simulator.specs.Lines.{Line, ShownStep, line_at}
 
 abbrev pub result_text : LineResult → List ℕ
 result_text Done = codes "ok"
@@ -18,15 +22,25 @@ result_text Ended = codes "ended"
 abbrev pub effect_text : Shown → List ℕ
 effect_text e = codes " " ++ operation_name e.operation ++ codes " " ++ e.place
 
+-- the name of a program, by its number; no bytes for one that isn't there
+abbrev pub name_in : Option NamedProgram → List ℕ
+name_in None = []
+name_in (Some p) = p.name
+
+abbrev pub program_name : Plan → ℕ → List ℕ
+program_name plan n = name_in (slice_get plan.programs n)
+
 -- ` main:1 = 65 read /work/in`, or ` - none`
-abbrev pub acted_text : Option Acted → List ℕ
-acted_text None = codes " - none"
-acted_text (Some a) =
-    codes " " ++ a.program ++ codes ":" ++ decimal a.point ++ codes " " ++ result_text a.outcome
+abbrev pub acted_text : Plan → Option ShownStep → List ℕ
+acted_text plan None = codes " - none"
+acted_text plan (Some a) =
+    codes " " ++ program_name plan a.program ++ codes ":" ++ decimal a.point ++ codes " " ++ result_text a.outcome
     ++ flat_map effect_text a.effects
 
-abbrev pub line_text : Line → List ℕ
-line_text line = decimal line.process ++ acted_text line.acted ++ codes "\n"
+abbrev pub line_text : Plan → Line → List ℕ
+line_text plan line = decimal line.process ++ acted_text plan line.acted ++ codes "\n"
 
-abbrev pub trace_text : List Line → List ℕ
-trace_text lines = flat_map line_text lines
+abbrev pub trace_text : Plan → List Event → List (Option Acted) → List ℕ
+trace_text plan (e ∷ events) (acted ∷ lines) = line_text plan (line_at e acted) ++ trace_text plan events lines
+trace_text plan [] lines = []
+trace_text plan (e ∷ events) [] = []

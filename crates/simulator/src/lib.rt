@@ -1,39 +1,23 @@
-//! The simulator: tasks, the machine that runs one step by step, the text of a trace, schedules, and
-//! laws of every run.
+//! The simulator: the machine that runs a task step by step, the text of a trace, schedules, and laws of every run.
 //!
-//! The model stands in `specs/`; `Machine`, `simulate` and `read_schedule` are tied to it by their
-//! contracts.
+//! The kernel's model says what a step is; `Machine`, `simulate` and `read_schedule` are tied to it by their contracts.
 #![tactic(auto)]
 
-mod answers;
-pub mod events;
-pub mod files;
+mod actions;
 pub mod laws;
 pub mod lines;
 pub mod machine;
-pub mod nodes;
-pub mod policies;
-pub mod programs;
+mod planting;
 pub mod schedule;
 pub mod simulation;
 mod starting;
-pub mod steps;
-pub mod task;
+mod steps;
 mod trace;
-pub mod world;
 
-pub use answers::Effect;
-pub use events::Event;
-pub use files::{Access, FirstDescriptor};
-pub use lines::{Acted, Line};
+pub use lines::{Acted, Line, LineResult};
 pub use machine::Machine;
-pub use nodes::{Kind, Node};
-pub use policies::{grant_holds, grant_lists, grant_named};
-pub use programs::{Instruction, Program, Syscall, instruction_at, name_at};
 pub use schedule::{ScheduleFault, read_schedule};
 pub use simulation::simulate;
-pub use steps::LineResult;
-pub use task::{Grant, Start, Task};
 
 #[cfg(test)]
 mod tests;

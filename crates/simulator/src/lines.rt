@@ -1,13 +1,31 @@
 //! Lines of a trace.
 
-use crate::answers::Effect;
-use crate::steps::LineResult;
+ghost use Rattle.std.specs.Prelude.{◌≡◌};
+ghost use Rattle.syscalls.specs.Called as called;
+ghost use Rattle.simulator.specs.Views.{result_of};
+
+use rights::{Cause, Errno};
+use syscalls::{Effect, Outcome};
+
+/// What a step comes to.
+#[derive(Clone, Copy, PartialEq, Eq, Debug)]
+pub enum LineResult {
+    /// An instruction that is no call was done.
+    Done,
+    Halted,
+    /// The call's value, in the caller.
+    Value(u32),
+    Failed(Errno, Cause),
+    Waiting,
+    /// The process had ended before.
+    Ended,
+}
 
 /// What a process that was made did.
 #[derive(Drop)]
 pub struct Acted {
-    /// The program's name.
-    pub program: String,
+    /// The program's place in the task.
+    pub program: u8,
     /// The point before the step.
     pub point: u8,
     pub outcome: LineResult,
@@ -19,4 +37,15 @@ pub struct Acted {
 pub struct Line {
     pub process: u8,
     pub acted: Option<Acted>,
+}
+
+/// What a call came to, as a line says it.
+pub(crate) fn result_of_call(outcome: Outcome) -> LineResult
+    ensures { result_of result ≡ called.result_of outcome }
+{
+    match outcome {
+        Outcome::Value(value) => LineResult::Value(value),
+        Outcome::Error(errno, cause) => LineResult::Failed(errno, cause),
+        Outcome::Wait => LineResult::Waiting,
+    }
 }

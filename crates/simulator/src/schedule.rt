@@ -3,11 +3,11 @@
 ghost use Rattle.std.specs.Prelude.{◌≡◌, ◌<◌, ◌≤◌, ◌==◌, [], length, option_map, IfSome, None, Some};
 ghost use Rattle.simulator.specs.Schedules.{at_most, event_of_line, is_number, number_of, parts, schedule_of};
 ghost use Rattle.simulator.specs.ScheduleViews.{Begins, Reads, fault_number};
-ghost use Rattle.simulator.specs.StepViews.{event_of};
+ghost use Rattle.syscalls.specs.Views.{event_of};
 ghost use Rattle.simulator.specs.declared.schedule.ScheduleFault.TheVariants as fault;
 
-use crate::events::Event;
 use std::alloc::{AllocFailed, Global};
+use syscalls::Event;
 use thiserror::Error;
 
 /// Why a schedule isn't read.

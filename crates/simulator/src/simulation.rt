@@ -1,16 +1,19 @@
 //! Runs of a task, as text.
 
 ghost use Rattle.std.specs.Prelude.{◌≡◌, ◌<◌, ◌-◌, ◌^◌, IsErrOf, OnErr, OnOk, map};
-ghost use Rattle.simulator.specs.Plans.{first_world};
-ghost use Rattle.simulator.specs.Simulations.{NeverGains, WritesFront, WritesTrace};
-ghost use Rattle.simulator.specs.StepViews.{event_of};
+ghost use Rattle.kernel.specs.Gains.{NeverGains};
+ghost use Rattle.syscalls.specs.Views.{event_of};
+ghost use Rattle.task.specs.Begins.{first_world};
+ghost use Rattle.task.specs.Plans.{programs_of_plan};
+ghost use Rattle.simulator.specs.Simulations.{WritesFront, WritesTrace};
 
-use crate::events::Event;
 use crate::machine::Machine;
-use crate::task::Task;
 use crate::trace::text_of_line;
+use file_tree::PlaceTree;
 use rights::{Out, Stop, write_all};
 use std::alloc::Global;
+use syscalls::Event;
+use task::Task;
 
 /// Runs the task over the events, and writes a line for each. `Device` is answered only after a
 /// failure of the writer, and `Memory` after a refused growth; what was written then is a beginning
@@ -31,12 +34,12 @@ pub fn simulate<W: Out>(
     ensures not_spent { IsErrOf result Stop.Spent → ⊥ }
 
     // In every run of these events no process leaves capability mode, and no descriptor gains a right.
-    ensures gains { NeverGains task.now.programs (first_world task.now) (map event_of events.now) }
+    ensures gains { NeverGains (programs_of_plan task.now) (first_world task.now) (map event_of events.now) }
 {
-    let mut machine = Machine::start(alloc, task)?;
+    let mut machine: Machine<'_, PlaceTree> = Machine::start(alloc, task)?;
     for event in events {
         let line = machine.step(*event)?;
-        let text = text_of_line(alloc, &line)?;
+        let text = text_of_line(alloc, task, &line)?;
         write_all(out, &text)?;
     }
     Ok(())

@@ -1,74 +1,108 @@
-//! The first world of a task: point 0, registers 0, offsets 0, and the descriptors of the task.
+//! The world in which a task starts.
 
-ghost use Rattle.std.specs.Prelude.{◌≡◌, ◌<◌, ◌≤◌, nat_lt, true, map, length, IfOk, OnOk};
+ghost use Rattle.std.specs.Prelude.{◌≡◌, ◌≢◌, ◌+◌, ◌<◌, ◌≤◌, ℕ, None, IfOk, OnOk, length, map, nat_lt, true};
 ghost use Rattle.std.specs.List.{list_all};
-ghost use Rattle.simulator.specs.Kept.{world_of};
-ghost use Rattle.simulator.specs.Plans.{FirstDescriptor as FirstSeen, first_process, have_numbers, nothing_open, with_descriptors, with_starts, world_with};
-ghost use Rattle.simulator.specs.Views.{first_descriptor_of, kept_of, node_of, nodes_of, opening_of, place_of, program_of, programs_of, starts_of};
+ghost use Rattle.fd_table.specs.Kept.{open_files};
+ghost use Rattle.kernel.specs.Renamings.{DiffersInNumbers};
+ghost use Rattle.kernel.specs.WellFormed.{IsWellFormed};
+ghost use Rattle.syscalls.specs.Views.{world_with};
+ghost use Rattle.task.specs.Begins.{Opening, first_process, first_world, with_descriptor, with_descriptors, with_starts};
+ghost use Rattle.task.specs.Limits.{all_apart, are_numbered_apart, is_plan};
+ghost use Rattle.task.specs.Plans.{programs_of_plan};
+ghost use Rattle.task.specs.Views.{first_descriptor_of, starts_of};
+ghost use Rattle.simulator.specs.Starts.{AreFree, AreNumbers, AreStarts, Begins, is_usable};
 
-use crate::files::{Files, FirstDescriptor};
-use crate::nodes::Node;
-use crate::programs::Program;
-use crate::task::Start;
-use crate::world::World;
+use crate::planting::plant_all;
+use fd_table::Files;
+use file_tree::{NodeId, Tree};
 use process::Process;
-use std::alloc::{AllocError, Global};
+use rights::{Memory, OpenFlags};
+use std::alloc::Global;
+use syscalls::World;
+use task::{FirstDescriptor, Start, Task};
 
-fn copy_place(alloc: Global, place: &[Vec<u8>]) -> Result<Vec<Vec<u8>>, AllocError>
-    ensures { IfOk result (λ copy. place_of copy.items ≡ place_of place.now) }
+/// Opens a first descriptor of a process.
+fn open_first(
+    files: &mut Files,
+    numbers: &[NodeId],
+    process: u8,
+    first: FirstDescriptor,
+) -> Result<(), Memory>
+    requires few { process < 16 }
+    requires numbers { AreNumbers numbers.now }
+    requires usable { is_usable (length numbers.now) (first_descriptor_of first) ≡ true }
+    requires free { (open_files files.old).table process first.number ≡ None }
+    ensures begun { (o : Opening) → Begins (process + 1) o (open_files files.old)
+        → OnOk result (Begins (process + 1) (with_descriptor o process (first_descriptor_of first)) (open_files files.new)) }
+    ensures others { OnOk result ((q n : ℕ) → (q ≡ process → n ≢ first.number)
+        → (open_files files.new).table q n ≡ (open_files files.old).table q n) }
 {
-    let mut copy = Vec::new(alloc);
-    for name in place {
-        copy.push(Vec::from_slice(alloc, name)?)?;
+    let access = first.access;
+    match OpenFlags::new(access.readable, access.writable, false, false, false) {
+        Some(flags) => files.open_node(
+            process,
+            first.number,
+            numbers[first.node as usize],
+            flags,
+            first.rights,
+            first.fcntls,
+        ),
+        // No first descriptor is for neither.
+        None => Err(Memory),
     }
-    Ok(copy)
 }
 
-fn copy_node(alloc: Global, node: &Node) -> Result<Node, AllocError>
-    ensures { IfOk result (λ copy. node_of copy ≡ node_of node.now) }
+/// Opens the first descriptors of a process, each at a number of its own.
+fn open_all(
+    files: &mut Files,
+    numbers: &[NodeId],
+    process: u8,
+    descriptors: &[FirstDescriptor],
+) -> Result<(), Memory>
+    requires few { process < 16 }
+    requires numbers { AreNumbers numbers.now }
+    requires usable { list_all (is_usable (length numbers.now)) (map first_descriptor_of descriptors.now) ≡ true }
+    requires apart { all_apart are_numbered_apart (map first_descriptor_of descriptors.now) ≡ true }
+    requires free { AreFree (open_files files.old) process (map first_descriptor_of descriptors.now) }
+    ensures begun { (o : Opening) → Begins (process + 1) o (open_files files.old)
+        → OnOk result (Begins (process + 1) (with_descriptors o process (map first_descriptor_of descriptors.now)) (open_files files.new)) }
+    ensures others { OnOk result ((q n : ℕ) → q ≢ process → (open_files files.new).table q n ≡ (open_files files.old).table q n) }
 {
-    Ok(Node {
-        kind: node.kind,
-        place: copy_place(alloc, &node.place)?,
-        linked: node.linked,
-        content: Vec::from_slice(alloc, &node.content)?,
-    })
-}
-
-fn copy_nodes(alloc: Global, nodes: &[Node]) -> Result<Vec<Node>, AllocError>
-    ensures { IfOk result (λ copy. nodes_of copy.items ≡ nodes_of nodes.now) }
-{
-    let mut copy = Vec::new(alloc);
-    for node in nodes {
-        copy.push(copy_node(alloc, node)?)?;
+    match descriptors {
+        [] => Ok(()),
+        [first, rest @ ..] => {
+            open_first(files, numbers, process, *first)?;
+            open_all(files, numbers, process, rest)
+        }
     }
-    Ok(copy)
 }
 
-fn copy_program(alloc: Global, program: &Program) -> Result<Program, AllocError>
-    ensures { IfOk result (λ copy. program_of copy ≡ program_of program.now) }
+/// Opens the first descriptors of all processes from this one on.
+fn open_starts(
+    files: &mut Files,
+    numbers: &[NodeId],
+    process: u8,
+    starts: &[Start],
+) -> Result<(), Memory>
+    requires few { process + length starts.now ≤ 16 }
+    requires numbers { AreNumbers numbers.now }
+    requires usable { AreStarts (length numbers.now) (starts_of starts.now) }
+    requires free { (q n : ℕ) → process ≤ q → (open_files files.old).table q n ≡ None }
+    ensures begun { (o : Opening) → Begins process o (open_files files.old)
+        → OnOk result (Begins (process + length starts.now) (with_starts o process (starts_of starts.now)) (open_files files.new)) }
 {
-    Ok(Program {
-        name: program.name.clone()?,
-        code: Vec::from_slice(alloc, &program.code)?,
-    })
-}
-
-/// Programs of the machine's own.
-pub fn copy_programs(alloc: Global, programs: &[Program]) -> Result<Vec<Program>, AllocError>
-    ensures { IfOk result (λ copy. programs_of copy.items ≡ programs_of programs.now) }
-{
-    let mut copy = Vec::new(alloc);
-    for program in programs {
-        copy.push(copy_program(alloc, program)?)?;
+    match starts {
+        [] => Ok(()),
+        [first, rest @ ..] => {
+            open_all(files, numbers, process, &first.descriptors)?;
+            open_starts(files, numbers, process + 1, rest)
+        }
     }
-    Ok(copy)
 }
 
 /// The first processes, each at point 0.
-fn first_processes(alloc: Global, starts: &[Start]) -> Result<Vec<Process>, AllocError>
-    ensures { IfOk result (λ processes. processes.items
-        ≡ map first_process (starts_of starts.now)) }
+fn first_processes(alloc: Global, starts: &[Start]) -> Result<Vec<Process>, Memory>
+    ensures { IfOk result (λ processes. processes.items ≡ map first_process (starts_of starts.now)) }
 {
     let mut processes = Vec::new(alloc);
     for start in starts {
@@ -77,57 +111,21 @@ fn first_processes(alloc: Global, starts: &[Start]) -> Result<Vec<Process>, Allo
     Ok(processes)
 }
 
-/// Opens a process's first descriptors.
-fn open_all(
-    files: &mut Files,
-    process: usize,
-    descriptors: &[FirstDescriptor],
-) -> Result<(), AllocError>
-    requires room { length files.old.entries.items ≡ 256 }
-    requires process { process < 16 }
-    requires numbers { list_all (λ (d : FirstSeen). nat_lt d.number 16)
-        (map first_descriptor_of descriptors.now) ≡ true }
-    ensures opening { OnOk result (opening_of files.new
-        ≡ with_descriptors (opening_of files.old) process
-        (map first_descriptor_of descriptors.now)) }
-    ensures room { length files.new.entries.items ≡ 256 }
+/// The world in which a task starts; the numbers of its descriptions may be others than the model's.
+pub(crate) fn first_world<T: Tree>(alloc: Global, task: &Task) -> Result<World<T>, Memory>
+    ensures same { IfOk result (λ w. DiffersInNumbers (first_world task.now)
+        (world_with (T.nodes w.tree) (open_files w.files) w.processes.items)) }
+    ensures good { IfOk result (λ w. IsWellFormed (programs_of_plan task.now)
+        (world_with (T.nodes w.tree) (open_files w.files) w.processes.items)) }
+    ensures valid { OnOk result (is_plan task.now ≡ true) }
 {
-    for first in descriptors {
-        files.open(process, *first)?;
-    }
-    Ok(())
-}
-
-/// Opens the first descriptors of all processes.
-fn open_starts(files: &mut Files, starts: &[Start]) -> Result<(), AllocError>
-    requires room { length files.old.entries.items ≡ 256 }
-    requires few { length starts.now ≤ 16 }
-    requires numbers { have_numbers (starts_of starts.now) ≡ true }
-    ensures opening { OnOk result (opening_of files.new
-        ≡ with_starts (opening_of files.old) 0 (starts_of starts.now)) }
-    ensures room { length files.new.entries.items ≡ 256 }
-{
-    for (process, start) in starts.iter().enumerate() {
-        open_all(files, process, &start.descriptors)?;
-    }
-    Ok(())
-}
-
-/// The world in which a task starts.
-pub fn first_world(alloc: Global, nodes: &[Node], starts: &[Start]) -> Result<World, AllocError>
-    requires few { length starts.now ≤ 16 }
-    requires numbers { have_numbers (starts_of starts.now) ≡ true }
-    ensures world { IfOk result (λ w. world_of (kept_of w)
-        ≡ world_with (nodes_of nodes.now) (map first_process (starts_of starts.now)) (with_starts nothing_open 0 (starts_of starts.now))) }
-    ensures next { IfOk result (λ w. length w.files.descriptions.items
-        ≡ (with_starts nothing_open 0 (starts_of starts.now)).next) }
-    ensures room { IfOk result (λ w. length w.files.entries.items ≡ 256) }
-{
+    let planted = plant_all(alloc, task.nodes())?;
     let mut files = Files::new(alloc)?;
-    open_starts(&mut files, starts)?;
+    open_starts(&mut files, &planted.numbers, 0, task.starts())?;
+    let processes = first_processes(alloc, task.starts())?;
     Ok(World {
-        nodes: copy_nodes(alloc, nodes)?,
+        tree: planted.tree,
         files,
-        processes: first_processes(alloc, starts)?,
+        processes,
     })
 }

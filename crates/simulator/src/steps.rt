@@ -1,261 +1,179 @@
-//! What an instruction does to the world.
+//! The step of an event.
 
-ghost use Rattle.std.specs.Prelude.{◌≡◌, ◌<◌, ◌+◌, ◌||◌, IfOk, OnOk, length, Some, map, slice_set, false};
-ghost use Rattle.rights.specs.Views.{errno_of};
-ghost use Rattle.simulator.specs.Answers.{Answer as AnswerSeen, changed};
-ghost use Rattle.simulator.specs.AnswerViews.{IsBelow, MovesBelow, Shows, change_of};
-ghost use Rattle.simulator.specs.Kept.{IsReadable, SameSizes, world_of};
-ghost use Rattle.simulator.specs.Steps.{answered, executed, failed, given, halted, jumped, plain};
-ghost use Rattle.simulator.specs.StepViews.{CanRun, ExecutedAs, event_of};
-ghost use Rattle.simulator.specs.Views.{instruction_of, kept_of, object_of, state_at, state_of};
-ghost use Rattle.simulator.specs.World.{Choice};
+ghost use Rattle.std.specs.Prelude.{◌≡◌, ◌<◌, [], IfOk, length, option_map, slice_get, Some};
+ghost use Rattle.fd_table.specs.Kept.{open_files};
+ghost use Rattle.kernel.specs.Alike.{AlikeWorlds};
+ghost use Rattle.kernel.specs.Steps.{Halted, halted};
+ghost use Rattle.kernel.specs.WellFormed.{IsWellFormed};
+ghost use Rattle.prog_asm.specs.Views.{instruction_of};
+ghost use Rattle.syscalls.specs.Views.{effects_of, event_of, world_with};
+ghost use Rattle.task.specs.Plans.{code_in, programs_of_plan};
+ghost use Rattle.task.specs.Views.{programs_of};
+ghost use Rattle.simulator.specs.Steps.{DoesAs, Executes, StandsAt, Steps};
+ghost use Rattle.simulator.specs.Views.{line_of, result_of};
 
-use crate::answers::{Answer, Change, Effect, Moved, decide};
-use crate::events::Event;
-use crate::files::{Description, close_all};
-use crate::programs::Instruction;
-use crate::world::World;
+use crate::actions::{Action, act};
+use crate::lines::{Acted, Line, LineResult, result_of_call};
+use file_tree::Tree;
 use process::Process;
-use rights::{Cause, Errno};
-use std::alloc::{AllocError, Global};
+use prog_asm::Instruction;
+use rights::Memory;
+use std::alloc::Global;
+use syscalls::world::call;
+use syscalls::{Effect, Event, World};
+use task::{NamedProgram, Task};
 
-/// What a step comes to.
-#[derive(Clone, Copy, PartialEq, Eq, Debug)]
-pub enum LineResult {
-    /// An instruction that is no call was done.
-    Done,
-    Halted,
-    /// The call's value, in the caller.
-    Value(u32),
-    Failed(Errno, Cause),
-    Waiting,
-    /// The process had ended before.
-    Ended,
-}
-
-/// What an instruction came to, with the effects of a call.
+/// What a step came to, with its effects.
 #[derive(Drop)]
-pub struct Executed {
+pub(crate) struct Executed {
     pub outcome: LineResult,
     pub effects: Vec<Effect>,
 }
 
-/// The process at another point.
-fn moved_to(mut process: Process, point: u8) -> Process
-    ensures { result ≡ record process { point = point } }
+/// A step without effects.
+fn without_effects(alloc: Global, outcome: LineResult) -> Executed
+    ensures outcome { result_of result.outcome ≡ result_of outcome }
+    ensures effects { effects_of result.effects.items ≡ [] }
 {
-    process.point = point;
-    process
-}
-
-/// The process with a register set.
-fn with_register(mut process: Process, register: u8, value: u32) -> Process
-    requires { register < 8 }
-    ensures { result ≡ record process { registers = slice_set process.registers register value } }
-{
-    process.registers[register as usize] = value;
-    process
-}
-
-/// The process, in capability mode if it enters it now.
-fn with_mode(mut process: Process, enters: bool) -> Process
-    ensures { result ≡ record process { mode = process.mode || enters } }
-{
-    if enters {
-        process.enter();
-    }
-    process
-}
-
-/// The process after its end.
-fn ended(mut process: Process) -> Process
-    ensures { result ≡ record process { alive = false } }
-{
-    process.alive = false;
-    process
-}
-
-/// The process after a call that gave a value.
-fn given(process: Process, value: u32, change: Change) -> Process
-    requires { process.point + 1 < 256 }
-    ensures { result ≡ given process value (change_of change) }
-{
-    let point = process.point + 1;
-    with_mode(
-        moved_to(with_register(process, 0, value), point),
-        change.enters,
-    )
-}
-
-/// The process after a call that failed.
-fn failed(process: Process, errno: Errno, otherwise: u8) -> Process
-    ensures { result ≡ failed process (errno_of errno) otherwise }
-{
-    moved_to(
-        with_register(process, 7, u32::from(errno.number())),
-        otherwise,
-    )
-}
-
-/// Puts a process in the place of the one of this number.
-fn put_process(world: &mut World, number: u8, process: Process)
-    requires { number < length world.old.processes.items }
-    ensures { kept_of world.new
-        ≡ record (kept_of world.old) { processes = slice_set world.old.processes.items number process } }
-{
-    world.processes[number as usize] = process;
-}
-
-/// Moves the offset of a description.
-fn set_offset(descriptions: &mut [Description], moved: Moved)
-    requires { moved.description < length descriptions.old }
-    ensures objects { map object_of descriptions.new ≡ map object_of descriptions.old }
-    ensures states { map state_of descriptions.new
-        ≡ slice_set (map state_of descriptions.old) moved.description (state_at moved.offset) }
-{
-    let description = descriptions[moved.description];
-    descriptions[moved.description] = Description {
-        offset: moved.offset,
-        ..description
-    };
-}
-
-/// Changes what a call changes beside its process.
-fn change_world(world: &mut World, change: Change)
-    requires { IsBelow (length world.old.files.descriptions.items) change.moved }
-    ensures changed { (choice : Choice) → world_of (kept_of world.new)
-        ≡ changed (world_of (kept_of world.old)) choice (change_of change) }
-    ensures processes { world.new.processes.items ≡ world.old.processes.items }
-    ensures sizes { SameSizes (kept_of world.old) (kept_of world.new) }
-{
-    if let Some(moved) = change.moved {
-        set_offset(&mut world.files.descriptions, moved);
-    }
-}
-
-/// Ends the process and closes its table.
-fn halt(world: &mut World, number: u8, process: Process)
-    requires made { number < length world.old.processes.items }
-    requires few { number < 16 }
-    requires room { length world.old.files.entries.items ≡ 256 }
-    ensures halted { world_of (kept_of world.new)
-        ≡ halted (world_of (kept_of world.old)) number process }
-    ensures sizes { SameSizes (kept_of world.old) (kept_of world.new) }
-{
-    close_all(&mut world.files.entries, number);
-    put_process(world, number, ended(process));
-}
-
-/// Does what an answer says.
-fn apply(
-    alloc: Global,
-    world: &mut World,
-    number: u8,
-    process: Process,
-    otherwise: u8,
-    answer: Answer,
-) -> Executed
-    requires made { number < length world.old.processes.items }
-    requires point { process.point + 1 < 256 }
-    requires moves { MovesBelow (length world.old.files.descriptions.items) answer }
-    ensures done { (choice : Choice) (a : AnswerSeen) → Shows answer a
-        → ExecutedAs result (kept_of world.new) (answered (world_of (kept_of world.old)) number process choice otherwise a) }
-    ensures sizes { SameSizes (kept_of world.old) (kept_of world.new) }
-{
-    match answer {
-        Answer::Fails(errno, cause) => {
-            put_process(world, number, failed(process, errno, otherwise));
-            Executed {
-                outcome: LineResult::Failed(errno, cause),
-                effects: Vec::new(alloc),
-            }
-        }
-        Answer::Waits => Executed {
-            outcome: LineResult::Waiting,
-            effects: Vec::new(alloc),
-        },
-        Answer::Gives(value, change, effects) => {
-            change_world(world, change);
-            put_process(world, number, given(process, value, change));
-            Executed {
-                outcome: LineResult::Value(value),
-                effects,
-            }
-        }
-    }
-}
-
-/// An instruction that is no call leaves this process.
-fn plain(alloc: Global, world: &mut World, number: u8, process: Process) -> Executed
-    requires { number < length world.old.processes.items }
-    ensures done { ExecutedAs result (kept_of world.new)
-        (plain (world_of (kept_of world.old)) number process) }
-    ensures sizes { SameSizes (kept_of world.old) (kept_of world.new) }
-{
-    put_process(world, number, process);
     Executed {
-        outcome: LineResult::Done,
+        outcome,
         effects: Vec::new(alloc),
     }
 }
 
-/// The process after a jump that is taken or not.
-fn jumped(process: Process, taken: bool, target: u8) -> Process
-    requires { process.point + 1 < 256 }
-    ensures { result ≡ jumped process taken target }
+/// Ends the process, and closes its table.
+fn halt<T: Tree>(alloc: Global, world: &mut World<T>, number: u8, mut process: Process) -> Executed
+    requires made { number < length world.old.processes.items }
+    requires few { number < 16 }
+    ensures world { AlikeWorlds
+        (halted (world_with (T.nodes world.old.tree) (open_files world.old.files) world.old.processes.items) number process)
+        (world_with (T.nodes world.new.tree) (open_files world.new.files) world.new.processes.items) }
+    ensures outcome { result_of result.outcome ≡ Halted }
+    ensures effects { effects_of result.effects.items ≡ [] }
 {
-    if taken {
-        return moved_to(process, target);
-    }
-    let point = process.point + 1;
-    moved_to(process, point)
+    world.files.close_all(number);
+    process.alive = false;
+    world.processes[number as usize] = process;
+    without_effects(alloc, LineResult::Halted)
 }
 
-/// Executes an instruction of the event's process.
-pub fn execute(
+/// Does the instruction at which the process stands.
+fn execute<T: Tree>(
     alloc: Global,
-    world: &mut World,
+    world: &mut World<T>,
     event: Event,
+    input: u8,
     process: Process,
-    instruction: Instruction,
-) -> Result<Executed, AllocError>
-    requires made { event.process < length world.old.processes.items }
-    requires few { event.process < 16 }
-    requires readable { IsReadable (kept_of world.old) }
-    requires fits { CanRun process (instruction_of instruction) }
-    ensures done { (choice : Choice) → IfOk result (λ x.
-        ExecutedAs x (kept_of world.new) (executed (world_of (kept_of world.old)) (event_of event) choice process (instruction_of instruction))) }
-    ensures sizes { OnOk result (SameSizes (kept_of world.old) (kept_of world.new)) }
+    instruction: &Instruction,
+) -> Result<Executed, Memory>
+    requires byte { input ≡ event.input }
+    requires stands { StandsAt (world_with (T.nodes world.old.tree) (open_files world.old.files) world.old.processes.items) event.process process (instruction_of instruction.now) }
+    ensures { IfOk result (λ done. Executes
+        (world_with (T.nodes world.old.tree) (open_files world.old.files) world.old.processes.items) (event_of event) process (instruction_of instruction.now)
+        (result_of done.outcome) (effects_of done.effects.items)
+        (world_with (T.nodes world.new.tree) (open_files world.new.files) world.new.processes.items)) }
 {
-    let number = event.process;
-    match instruction {
-        Instruction::Set { register, value } => {
-            let point = process.point + 1;
-            Ok(plain(
+    match act(process, instruction, input) {
+        Action::Moves(moved) => {
+            world.processes[event.process as usize] = moved;
+            Ok(without_effects(alloc, LineResult::Done))
+        }
+        Action::Ends => Ok(halt(alloc, world, event.process, process)),
+        Action::Calls => {
+            let (outcome, effects) = call(
                 alloc,
                 world,
-                number,
-                moved_to(with_register(process, register, value), point),
-            ))
-        }
-        Instruction::Jeq {
-            register,
-            value,
-            target,
-        } => {
-            let taken = process.registers[register as usize] == value;
-            Ok(plain(alloc, world, number, jumped(process, taken, target)))
-        }
-        Instruction::Halt => {
-            halt(world, number, process);
+                event.process as usize,
+                instruction,
+                event,
+            )?;
             Ok(Executed {
-                outcome: LineResult::Halted,
-                effects: Vec::new(alloc),
+                outcome: result_of_call(outcome),
+                effects,
             })
         }
-        Instruction::Invoke { call, otherwise } => {
-            let answer = decide(alloc, world, number, call)?;
-            Ok(apply(alloc, world, number, process, otherwise, answer))
-        }
     }
+}
+
+/// The process of this number, if it was made.
+fn process_at(processes: &[Process], number: u8) -> Option<Process>
+    ensures { result ≡ slice_get processes.now number }
+{
+    processes.get(number as usize).copied()
+}
+
+/// The instruction at a point of a program, if both are there.
+fn instruction_at(programs: &[NamedProgram], program: u8, point: u8) -> Option<&Instruction>
+    ensures { option_map (λ i. instruction_of i.now) result ≡ slice_get (code_in (slice_get (programs_of programs.now) program)) point }
+{
+    match programs.get(program as usize) {
+        None => None,
+        Some(named) => named.program.code().get(point as usize),
+    }
+}
+
+/// The step of a process that was made: the instruction at its point, unless it has ended.
+fn step_process<T: Tree>(
+    alloc: Global,
+    task: &Task,
+    world: &mut World<T>,
+    event: Event,
+    input: u8,
+    process: Process,
+) -> Result<Executed, Memory>
+    requires byte { input ≡ event.input }
+    requires good { IsWellFormed (programs_of_plan task.now) (world_with (T.nodes world.old.tree) (open_files world.old.files) world.old.processes.items) }
+    requires made { slice_get world.old.processes.items event.process ≡ Some process }
+    ensures { IfOk result (λ done. DoesAs (programs_of_plan task.now)
+        (world_with (T.nodes world.old.tree) (open_files world.old.files) world.old.processes.items) (event_of event) process
+        (result_of done.outcome) (effects_of done.effects.items)
+        (world_with (T.nodes world.new.tree) (open_files world.new.files) world.new.processes.items)) }
+{
+    if !process.alive {
+        return Ok(without_effects(alloc, LineResult::Ended));
+    }
+    match instruction_at(task.programs(), process.program, process.point) {
+        None => Ok(without_effects(alloc, LineResult::Ended)),
+        Some(instruction) => execute(alloc, world, event, input, process, instruction),
+    }
+}
+
+/// The byte that an event gives.
+fn input_of(event: Event) -> u8
+    ensures value { result ≡ event.input }
+    ensures byte { event.input < 256 }
+{
+    event.input
+}
+
+/// The step of an event, and its line.
+pub(crate) fn step_world<T: Tree>(
+    alloc: Global,
+    task: &Task,
+    world: &mut World<T>,
+    event: Event,
+) -> Result<Line, Memory>
+    requires { IsWellFormed (programs_of_plan task.now) (world_with (T.nodes world.old.tree) (open_files world.old.files) world.old.processes.items) }
+    ensures step { IfOk result (λ line. Steps (programs_of_plan task.now)
+        (world_with (T.nodes world.old.tree) (open_files world.old.files) world.old.processes.items) (event_of event) (line_of line)
+        (world_with (T.nodes world.new.tree) (open_files world.new.files) world.new.processes.items)) }
+    ensures byte { event.input < 256 }
+{
+    let input = input_of(event);
+    let Some(process) = process_at(&world.processes, event.process) else {
+        return Ok(Line {
+            process: event.process,
+            acted: None,
+        });
+    };
+    let done = step_process(alloc, task, world, event, input, process)?;
+    Ok(Line {
+        process: event.process,
+        acted: Some(Acted {
+            program: process.program,
+            point: process.point,
+            outcome: done.outcome,
+            effects: done.effects,
+        }),
+    })
 }

@@ -1,16 +1,27 @@
 //! The text of a trace.
 
-ghost use Rattle.std.specs.Prelude.{◌≡◌, ◌++◌, IfOk, OnOk, Some};
+ghost use Rattle.std.specs.Prelude.{◌≡◌, ◌++◌, IfOk, OnOk, Some, slice_get};
 ghost use Rattle.std.specs.Fmt.{decimal};
 ghost use Rattle.std.specs.List.{flat_map};
-ghost use Rattle.simulator.specs.AnswerViews.{effect_of, effects_of};
-ghost use Rattle.simulator.specs.StepViews.{acted_of, line_of, result_of};
-ghost use Rattle.simulator.specs.Traces.{acted_text, effect_text, line_text, result_text};
+ghost use Rattle.syscalls.specs.Views.{effect_of, effects_of};
+ghost use Rattle.task.specs.Views.{programs_of};
+ghost use Rattle.simulator.specs.Traces.{acted_text, effect_text, line_text, name_in, result_text};
+ghost use Rattle.simulator.specs.Views.{acted_of, line_of, result_of};
 
-use crate::answers::Effect;
-use crate::lines::{Acted, Line};
-use crate::steps::LineResult;
+use crate::lines::{Acted, Line, LineResult};
 use std::alloc::{AllocError, Global};
+use syscalls::Effect;
+use task::{NamedProgram, Task};
+
+/// The name of a program, by its place in the task; no bytes for one that isn't there.
+fn name_at(programs: &[NamedProgram], program: u8) -> &[u8]
+    ensures { result.now ≡ name_in (slice_get (programs_of programs.now) program) }
+{
+    match programs.get(program as usize) {
+        None => b"",
+        Some(named) => named.name.as_bytes(),
+    }
+}
 
 /// Appends a number in decimal.
 fn push_number(text: &mut Vec<u8>, alloc: Global, number: u32) -> Result<(), AllocError>
@@ -64,12 +75,17 @@ fn push_effects(text: &mut Vec<u8>, effects: &[Effect]) -> Result<(), AllocError
 }
 
 /// Appends what a process that was made did.
-fn push_acted(text: &mut Vec<u8>, alloc: Global, acted: &Acted) -> Result<(), AllocError>
+fn push_acted(
+    text: &mut Vec<u8>,
+    alloc: Global,
+    task: &Task,
+    acted: &Acted,
+) -> Result<(), AllocError>
     ensures { OnOk result (text.new.items
-        ≡ text.old.items ++ acted_text (Some (acted_of acted.now))) }
+        ≡ text.old.items ++ acted_text task.now (Some (acted_of acted.now))) }
 {
     text.extend_from_slice(b" ")?;
-    text.extend_from_slice(acted.program.as_bytes())?;
+    text.extend_from_slice(name_at(task.programs(), acted.program))?;
     text.extend_from_slice(b":")?;
     push_number(text, alloc, u32::from(acted.point))?;
     text.extend_from_slice(b" ")?;
@@ -78,14 +94,14 @@ fn push_acted(text: &mut Vec<u8>, alloc: Global, acted: &Acted) -> Result<(), Al
 }
 
 /// The text of a line, with its line feed.
-pub fn text_of_line(alloc: Global, line: &Line) -> Result<Vec<u8>, AllocError>
-    ensures { IfOk result (λ text. text.items ≡ line_text (line_of line.now)) }
+pub(crate) fn text_of_line(alloc: Global, task: &Task, line: &Line) -> Result<Vec<u8>, AllocError>
+    ensures { IfOk result (λ text. text.items ≡ line_text task.now (line_of line.now)) }
 {
     let mut text = Vec::new(alloc);
     push_number(&mut text, alloc, u32::from(line.process))?;
     match &line.acted {
         None => text.extend_from_slice(b" - none")?,
-        Some(acted) => push_acted(&mut text, alloc, acted)?,
+        Some(acted) => push_acted(&mut text, alloc, task, acted)?,
     }
     text.extend_from_slice(b"\n")?;
     Ok(text)

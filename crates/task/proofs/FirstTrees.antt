@@ -45,7 +45,7 @@ placed p low = of_last (only_one (drop (length p - 1) p) (omega (arith, length-d
     }
 
 -- where nothing stands, nothing is found
-free_place : (t : List Node) (p : List (List ℕ)) → list_any (stands_at p) t ≡ false → node_at t p ≡ None
+pub free_place : (t : List Node) (p : List (List ℕ)) → list_any (stands_at p) t ≡ false → node_at t p ≡ None
 free_place t p free = by_answer (node_at t p) refl
   where
     by_answer : (o : Option ℕ) → node_at t p ≡ o → node_at t p ≡ None
@@ -53,23 +53,23 @@ free_place t p free = by_answer (node_at t p) refl
     by_answer (Some n) is = absurd (both_ways _ (none_at (stands_at p) t n refl free) (node_at_found t p n is))
 
 -- the root stands at its place
-not_the_root : (t : List Node) (p : List (List ℕ)) → IsTree t → list_any (stands_at p) t ≡ false → 0 < length p
+pub not_the_root : (t : List Node) (p : List (List ℕ)) → IsTree t → list_any (stands_at p) t ≡ false → 0 < length p
 not_the_root t [] tree free =
     absurd (both_ways _ (none_at (stands_at []) t 0 refl free) (stands_from [] (node t 0) tree.root_linked (sym tree.root_place)))
 not_the_root t (name ∷ p) tree free = omega arith
 
-no_fault : (t : List Node) (d : ℕ) (name : List ℕ) → (node t d).linked ≡ true → node_at t (at_name (node t d).place name) ≡ None → length t < most_nodes → create_fault t d name ≡ None
+pub no_fault : (t : List Node) (d : ℕ) (name : List ℕ) → (node t d).linked ≡ true → node_at t (at_name (node t d).place name) ≡ None → length t < most_nodes → create_fault t d name ≡ None
 unfolding create_fault
 no_fault t d name linked free room = rw (linked, free, lt-ltb (length t) most_nodes room) refl
 
 -- the test of a node that is made
-record CanFollow (made : List Node) (m : Node) : Type 0 where
-  linked : m.linked ≡ true
-  fits : is_within_limits m ≡ true
-  holder : Directory made (above m.place)
-  free : list_any (stands_at m.place) made ≡ false
+pub record CanFollow (made : List Node) (m : Node) : Type 0 where
+  pub linked : m.linked ≡ true
+  pub fits : is_within_limits m ≡ true
+  pub holder : Directory made (above m.place)
+  pub free : list_any (stands_at m.place) made ≡ false
 
-can : (made : List Node) (m : Node) → can_follow made m ≡ true → CanFollow made m
+pub can : (made : List Node) (m : Node) → can_follow made m ≡ true → CanFollow made m
 can made m test =
     let three = both_left _ (not (list_any (stands_at m.place) made)) test in
     let two = both_left _ (has_directory made (above m.place)) three in
@@ -81,7 +81,7 @@ can made m test =
     }
 
 -- what can follow a tree makes a tree of it
-same_node : (made : List Node) (m : Node) (d : ℕ) (name : List ℕ) → m.linked ≡ true → at_name (node made d).place name ≡ m.place → created made d name m.kind m.content ≡ made ++ m ∷ []
+pub same_node : (made : List Node) (m : Node) (d : ℕ) (name : List ℕ) → m.linked ≡ true → at_name (node made d).place name ≡ m.place → created made d name m.kind m.content ≡ made ++ m ∷ []
 unfolding created
 same_node made m d name linked place =
     λ i. made ++ record { kind = m.kind; place = place i; linked = sym linked i; content = m.content } ∷ []
@@ -137,7 +137,7 @@ each_made made (n ∷ nodes) tree room test (x ∷ front) rest m is =
     (subst (λ before. IsMadeAfter before m) (append_assoc made (n ∷ []) front)
     (each_made (made ++ n ∷ []) nodes first more (both_right (can_follow made n) _ test) front rest m others))
 
-root_is_new : (root : Node) → is_root_node root ≡ true → (root ∷ []) ≡ new_tree
+pub root_is_new : (root : Node) → is_root_node root ≡ true → (root ∷ []) ≡ new_tree
 root_is_new root test =
     let two = both_left _ (nat_eq (length root.content) 0) test in
     let stands = stands_is [] root (both_left _ (is_dir root.kind) two) in

@@ -2,33 +2,38 @@ use Rattle.std.proofs.Common.{◌≡◌, ℕ, ◌+◌, ◌<◌, ◌≤◌, ◌�
 use Rattle.std.specs.Prelude.{None}
 use Rattle.std.proofs.Math.ListN.{length-map}
 use Rattle.certificate.specs.Views.{certificate_of}
-use Rattle.simulator.specs.Views.{program_of}
-use Rattle.simulator.proofs.Tables.{lt_or_le}
-use Rattle.checker.specs.Rules.{MeetsRules, broken_at}
+use Rattle.prog_asm.specs.Views.{instruction_of}
+use Rattle.kernel.proofs.Fresh.{lt_or_le}
+use Rattle.task.specs.Views.{program_of}
+use Rattle.checker.specs.Rules.{found_at}
+use Rattle.checker.specs.Verdicts.{MeetsRules}
 use Rattle.checker.proofs.PastEnds.{few_points, past_points, past_programs}
 use Rattle.checker.proofs.Sound.{sound}
 use Rattle.checker.proofs.verdicts.check.Goals as goal
 
-pub first_broken-requires : goal.first_broken-requires
-first_broken-requires c =
-    let items = c.programs-program-items in
-    let few = few_points c.args.task.now items.result.now c.loop-number.number c.program-item.result items.ensures.valid items.ensures.programs c.loop-number-test.true c.program-item.is in
-    omega (arith, few, c.len.ensures)
+pub first_found-requires : goal.first_found-requires
+first_found-requires c =
+    let few : length c.program-item.result.program ≤ 256 = few_points c.program-item.result.program c.code.ensures.valid in
+    let many : length c.code.result.now ≡ length c.program-item.result.program = sym (length-map c.code.result.now instruction_of) ∙ ap length c.code.ensures.value in
+    omega arith
 
 pub loop-number-preserved : goal.loop-number-preserved
 loop-number-preserved c = λ p k below. at p k below (lt_or_le p c.loop-number.number)
   where
-    here : (k : ℕ) → (k < c.len.result) ⊎ (c.len.result ≤ k) → broken_at c.args.task.now (certificate_of c.args.cert.now) c.loop-number.number k ≡ None
+    many : length c.code.result.now ≡ length c.program-item.result.program
+    many = sym (length-map c.code.result.now instruction_of) ∙ ap length c.code.ensures.value
+
+    here : (k : ℕ) → (k < length c.code.result.now) ⊎ (length c.code.result.now ≤ k) → found_at c.args.task.now (certificate_of c.args.cert.now) c.loop-number.number k ≡ None
     here k (inl within) = c.in_default.ensures k within
     here k (inr past) =
         past_points c.args.task.now (certificate_of c.args.cert.now) c.programs-program-items.result.now c.loop-number.number k c.program-item.result
-        c.programs-program-items.ensures.programs c.loop-number-test.true c.program-item.is (omega (arith, past, c.len.ensures))
+        c.programs-program-items.ensures.programs c.loop-number-test.true c.program-item.is (omega (arith, past, many))
 
-    at : (p k : ℕ) → p < c.loop-number.number + 1 → (p < c.loop-number.number) ⊎ (c.loop-number.number ≤ p) → broken_at c.args.task.now (certificate_of c.args.cert.now) p k ≡ None
+    at : (p k : ℕ) → p < c.loop-number.number + 1 → (p < c.loop-number.number) ⊎ (c.loop-number.number ≤ p) → found_at c.args.task.now (certificate_of c.args.cert.now) p k ≡ None
     at p k below (inl before) = c.loop-number.invariant p k before
     at p k below (inr from) =
         let same : c.loop-number.number ≡ p = omega (arith, below, from) in
-        subst (λ n. broken_at c.args.task.now (certificate_of c.args.cert.now) n k ≡ None) same (here k (lt_or_le k c.len.result))
+        subst (λ n. found_at c.args.task.now (certificate_of c.args.cert.now) n k ≡ None) same (here k (lt_or_le k (length c.code.result.now)))
 
 meets : (c : goal.After-loop-number) → MeetsRules c.args.task.now (certificate_of c.args.cert.now)
 meets c = λ program point. at program point (lt_or_le program c.loop-number.number)
@@ -38,7 +43,7 @@ meets c = λ program point. at program point (lt_or_le program c.loop-number.num
         let same : length c.programs-program-items.result.now ≡ length c.args.task.now.programs = sym (length-map c.programs-program-items.result.now program_of) ∙ ap length c.programs-program-items.ensures.programs in
         omega (arith, same, c.loop-number-test.false)
 
-    at : (program point : ℕ) → (program < c.loop-number.number) ⊎ (c.loop-number.number ≤ program) → broken_at c.args.task.now (certificate_of c.args.cert.now) program point ≡ None
+    at : (program point : ℕ) → (program < c.loop-number.number) ⊎ (c.loop-number.number ≤ program) → found_at c.args.task.now (certificate_of c.args.cert.now) program point ≡ None
     at program point (inl before) = c.loop-number.invariant program point before
     at program point (inr from) = past_programs c.args.task.now (certificate_of c.args.cert.now) program point (omega (arith, from, many))
 

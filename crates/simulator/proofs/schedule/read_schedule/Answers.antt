@@ -3,7 +3,7 @@ use Rattle.std.specs.Prelude.{IfSome}
 use Rattle.std.proofs.lemmas.Bool.{eqb-true}
 use Rattle.std.proofs.lemmas.List.{map-append}
 use Rattle.simulator.specs.Schedules.{parts}
-use Rattle.simulator.specs.StepViews.{event_of}
+use Rattle.syscalls.specs.Views.{event_of}
 use Rattle.simulator.proofs.LinesRead.{ReadSoFar, read-kept, read-dropped, read-faulty, read-ended}
 use Rattle.simulator.proofs.Numerals.{begins_none, begins_some}
 use Rattle.simulator.proofs.schedule.read_schedule.Goals as goal

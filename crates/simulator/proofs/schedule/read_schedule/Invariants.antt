@@ -1,5 +1,5 @@
 use Rattle.std.proofs.Common.{◌+◌, ◌≤◌, length, map}
-use Rattle.simulator.specs.StepViews.{event_of}
+use Rattle.syscalls.specs.Views.{event_of}
 use Rattle.simulator.proofs.LinesRead.{ReadSoFar}
 use Rattle.simulator.proofs.schedule.read_schedule.Given as goal
 

@@ -1,9 +1,10 @@
-use Rattle.std.proofs.Common.{◌≡◌, drop, map, true, false}
-use Rattle.std.specs.List.{list_all}
+use Rattle.std.proofs.Common.{◌≡◌, drop, take, map, true, false}
+use Rattle.kernel.specs.Runs.{AreEvents}
+use Rattle.kernel.specs.WellFormed.{IsWellFormed}
+use Rattle.syscalls.specs.Views.{event_of}
+use Rattle.task.specs.Limits.{is_plan}
+use Rattle.task.specs.Plans.{programs_of_plan}
 use Rattle.simulator.specs.Kept.{world_of}
-use Rattle.simulator.specs.Programs.{is_program}
-use Rattle.simulator.specs.StepViews.{event_of}
-use Rattle.simulator.specs.WellFormed.{IsWellFormed}
 use Rattle.simulator.proofs.Tracing.{IsTraced}
 use Rattle.simulator.proofs.simulation.simulate.Given as goal
 
@@ -12,8 +13,9 @@ abbrev pub invariant-loop-event : goal.invariant-loop-event
 invariant-loop-event g l = record {
   runs_on : l.machine.spent ≡ false;
   steady : g.W.Out.faults l.out ≡ g.W.Out.faults l.fn.out;
-  programs : l.machine.programs ≡ l.task.programs;
-  valid : list_all is_program l.task.programs ≡ true;
-  well_formed : IsWellFormed l.task.programs (world_of l.machine.kept);
-  traced : IsTraced l.task (map event_of l.events) (g.W.Out.taken l.fn.out) (g.W.Out.taken l.out) (world_of l.machine.kept) (map event_of (drop l.event-index l.events));
+  plan : l.machine.plan ≡ l.task;
+  valid : is_plan l.task ≡ true;
+  well_formed : IsWellFormed (programs_of_plan l.task) (world_of l.machine);
+  bytes : AreEvents (take l.event-index (map event_of l.events));
+  traced : IsTraced l.task (map event_of l.events) (g.W.Out.taken l.fn.out) (g.W.Out.taken l.out) (world_of l.machine) (map event_of (drop l.event-index l.events));
 }

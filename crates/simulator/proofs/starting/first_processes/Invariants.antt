@@ -1,6 +1,6 @@
 use Rattle.std.proofs.Common.{◌≡◌, ◌++◌, drop, map}
-use Rattle.simulator.specs.Plans.{first_process}
-use Rattle.simulator.specs.Views.{starts_of}
+use Rattle.task.specs.Begins.{first_process}
+use Rattle.task.specs.Views.{starts_of}
 use Rattle.simulator.proofs.starting.first_processes.Given as goal
 
 -- what is copied, and then what is left

@@ -1,57 +1,43 @@
-use Rattle.std.proofs.Common.{◌≡◌, ◌+◌, refl, ap, sym, subst, ◌∙◌}
-use Rattle.std.specs.Prelude.{◌==◌}
-use Rattle.process.specs.State.{ProcessState}
-use Rattle.simulator.specs.AnswerViews.{effects_of}
-use Rattle.simulator.specs.Answers.{answer}
-use Rattle.simulator.specs.Kept.{world_of}
-use Rattle.simulator.specs.Steps.{executed, plain, jumped, moved_to, with_register, register}
-use Rattle.simulator.specs.StepViews.{ExecutedAs, event_of}
-use Rattle.simulator.specs.Views.{instruction_of, kept_of, syscall_of}
+use Rattle.std.proofs.Common.{◌<◌, ap, sym, subst, ◌∙◌}
+use Rattle.fd_table.specs.Kept.{open_files}
+use Rattle.prog_asm.specs.Views.{instruction_of}
+use Rattle.syscalls.specs.MayCall.{CallComes}
+use Rattle.syscalls.specs.Views.{effects_of, event_of, world_with}
+use Rattle.simulator.specs.Steps.{action}
+use Rattle.simulator.specs.Views.{result_of}
+use Rattle.simulator.proofs.Doing.{executes_called, executes_ended, executes_moved, made_few, made_within, may_be_called, needs_next}
 use Rattle.simulator.proofs.steps.execute.Goals as goal
 
-pub returns-in-Set-clause-done : goal.returns-in-Set-clause-done
-unfolding executed
-returns-in-Set-clause-done c = λ choice.
-    let w = world_of (kept_of c.args.world.now) in
-    let e = event_of c.args.event in
-    let s : ProcessState = c.args.process in
-    let process : c.moved_to.result ≡ moved_to (with_register s c.in-Set.register c.in-Set.value) (s.point + 1) =
-    c.moved_to.ensures
-    ∙ ap (λ (t : ProcessState). record t { point = c.process.inside.point + 1 }) c.with_register.ensures
-    ∙ ap (λ (t : ProcessState). moved_to (with_register s c.in-Set.register c.in-Set.value) (t.point + 1)) c.process.view_is
-    in
-    let is : executed w e choice s (instruction_of c.args.instruction) ≡ plain w e.process c.moved_to.result =
-    ap (λ i. executed w e choice s (instruction_of i)) c.in-Set.is ∙ ap (plain w e.process) (sym process)
-    in
-    subst (ExecutedAs c.plain.result (kept_of c.plain.new.world)) (sym is) c.plain.ensures.done
+pub act-requires : goal.act-requires
+act-requires g c = needs_next _ c.args.event.process c.args.process (instruction_of c.args.instruction.now) c.requires.stands
 
-pub returns-in-Jeq-clause-done : goal.returns-in-Jeq-clause-done
-unfolding executed
-returns-in-Jeq-clause-done c = λ choice.
-    let w = world_of (kept_of c.args.world.now) in
-    let e = event_of c.args.event in
-    let s : ProcessState = c.args.process in
-    let process : c.jumped.result ≡ jumped s (register s c.in-Jeq.register == c.in-Jeq.value) c.in-Jeq.target =
-    c.jumped.ensures ∙ ap (λ (t : ProcessState). jumped s (register t c.in-Jeq.register == c.in-Jeq.value) c.in-Jeq.target) c.process-in-Jeq.view_is
-    in
-    let is : executed w e choice s (instruction_of c.args.instruction) ≡ plain w e.process c.jumped.result =
-    ap (λ i. executed w e choice s (instruction_of i)) c.in-Jeq.is ∙ ap (plain w e.process) (sym process)
-    in
-    subst (ExecutedAs c.plain-in-Jeq.result (kept_of c.plain-in-Jeq.new.world)) (sym is) c.plain-in-Jeq.ensures.done
+pub index_mut-requires : goal.index_mut-requires
+index_mut-requires g c =
+    subst (λ n. c.args.event.process < n) (sym c.args.world.now.processes.ok.0)
+    (made_within _ c.args.event.process c.args.process (instruction_of c.args.instruction.now) c.requires.stands)
 
-pub returns-in-Halt-clause-done : goal.returns-in-Halt-clause-done
-unfolding executed
-returns-in-Halt-clause-done c = λ choice.
-    let w = world_of (kept_of c.args.world.now) in
-    let e = event_of c.args.event in
-    subst (λ i. ExecutedAs (record { outcome = _; effects = c.new.result }) (kept_of c.halt.new.world) (executed w e choice c.args.process (instruction_of i))) (sym c.in-Halt.is)
-    (record { world = c.halt.ensures.halted; outcome = refl; effects = ap effects_of c.new.ensures.items })
+pub halt-requires-clause-made : goal.halt-requires-clause-made
+halt-requires-clause-made g c = made_within _ c.args.event.process c.args.process (instruction_of c.args.instruction.now) c.requires.stands
 
-pub returns-in_ok-answer-in-Invoke-clause-done : goal.returns-in_ok-answer-in-Invoke-clause-done
-unfolding executed
-returns-in_ok-answer-in-Invoke-clause-done c = λ choice.
-    let w = world_of (kept_of c.args.world.now) in
-    let e = event_of c.args.event in
-    let a = answer w e.process e (syscall_of c.in-Invoke.call) in
-    subst (λ i. ExecutedAs c.apply.result (kept_of c.apply.new.world) (executed w e choice c.args.process (instruction_of i))) (sym c.in-Invoke.is)
-    (c.apply.ensures.done choice a (c.in_ok-answer-in-Invoke.ensures.shows e))
+pub halt-requires-clause-few : goal.halt-requires-clause-few
+halt-requires-clause-few g c = made_few _ c.args.event.process c.args.process (instruction_of c.args.instruction.now) c.requires.stands
+
+pub call-requires-clause-may : goal.call-requires-clause-may
+call-requires-clause-may g c = may_be_called _ c.args.event.process c.args.event.input c.args.process (instruction_of c.args.instruction.now) c.requires.stands (c.in-Calls.ensures ∙ ap (λ n. action c.args.process n (instruction_of c.args.instruction.now)) c.requires.byte)
+
+pub returns-in-Moves : goal.returns-in-Moves
+returns-in-Moves g c =
+    executes_moved (world_with (g.T.Tree.nodes c.args.world.now.tree) (open_files c.args.world.now.files) c.args.world.now.processes.items) (event_of c.args.event) c.args.process c.in-Moves.moved (instruction_of c.args.instruction.now)
+    (result_of c.without_effects.result.outcome) (effects_of c.without_effects.result.effects.items) c.requires.stands (c.in-Moves.ensures ∙ ap (λ n. action c.args.process n (instruction_of c.args.instruction.now)) c.requires.byte) c.without_effects.ensures.outcome c.without_effects.ensures.effects
+
+pub returns-in-Ends : goal.returns-in-Ends
+returns-in-Ends g c =
+    executes_ended (world_with (g.T.Tree.nodes c.args.world.now.tree) (open_files c.args.world.now.files) c.args.world.now.processes.items) (event_of c.args.event) c.args.process (instruction_of c.args.instruction.now)
+    (result_of c.halt.result.outcome) (effects_of c.halt.result.effects.items) _ c.requires.stands (c.in-Ends.ensures ∙ ap (λ n. action c.args.process n (instruction_of c.args.instruction.now)) c.requires.byte) c.halt.ensures.outcome c.halt.ensures.effects c.halt.ensures.world
+
+pub returns-in_ok-outcome-in-Calls : goal.returns-in_ok-outcome-in-Calls
+returns-in_ok-outcome-in-Calls g c =
+    executes_called (world_with (g.T.Tree.nodes c.args.world.now.tree) (open_files c.args.world.now.files) c.args.world.now.processes.items) (event_of c.args.event) c.args.process (instruction_of c.args.instruction.now)
+    (result_of c.result_of_call.result) (effects_of c.in_ok-outcome-in-Calls.effects.items) _
+    (subst (λ told. CallComes (world_with (g.T.Tree.nodes c.args.world.now.tree) (open_files c.args.world.now.files) c.args.world.now.processes.items) c.args.event.process c.args.process (event_of c.args.event) (instruction_of c.args.instruction.now) told (effects_of c.in_ok-outcome-in-Calls.effects.items) (world_with (g.T.Tree.nodes c.call.new.world.tree) (open_files c.call.new.world.files) c.call.new.world.processes.items))
+    (sym c.result_of_call.ensures) (c.in_ok-outcome-in-Calls.ensures c.args.process c.requires.stands.made))

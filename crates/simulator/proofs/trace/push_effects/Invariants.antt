@@ -1,6 +1,6 @@
 use Rattle.std.proofs.Common.{◌≡◌, ◌++◌, drop}
 use Rattle.std.specs.List.{flat_map}
-use Rattle.simulator.specs.AnswerViews.{effects_of}
+use Rattle.syscalls.specs.Views.{effects_of}
 use Rattle.simulator.specs.Traces.{effect_text}
 use Rattle.simulator.proofs.trace.push_effects.Given as goal
 

@@ -1,0 +1,88 @@
+//! What instructions make of the intervals of registers.
+
+ghost use Rattle.std.specs.Prelude.{◌≡◌, option_map};
+ghost use Rattle.certificate.specs.Views.{interval_of};
+ghost use Rattle.checker.specs.Intervals.{equal_part, lower_part, only, other_part, sums, upper_part};
+
+use certificate::Interval;
+
+/// One value alone.
+pub(crate) fn only(value: u32) -> Interval
+    ensures { interval_of result ≡ only value }
+{
+    Interval {
+        low: value,
+        high: value,
+    }
+}
+
+/// The sums of two values; all values, if a register can't hold the ends.
+pub(crate) fn sums(left: Interval, right: Interval) -> Interval
+    ensures { interval_of result ≡ sums (interval_of left) (interval_of right) }
+{
+    match (
+        left.low.checked_add(right.low),
+        left.high.checked_add(right.high),
+    ) {
+        (Some(low), Some(high)) => Interval { low, high },
+        _ => Interval::FULL,
+    }
+}
+
+/// The value, if the interval has it.
+pub(crate) fn equal_part(interval: Interval, value: u32) -> Option<Interval>
+    ensures { option_map interval_of result ≡ equal_part (interval_of interval) value }
+{
+    if interval.low <= value && value <= interval.high {
+        return Some(only(value));
+    }
+    None
+}
+
+/// The interval without the value at one of its ends, if it has another.
+pub(crate) fn other_part(interval: Interval, value: u32) -> Option<Interval>
+    ensures { option_map interval_of result ≡ other_part (interval_of interval) value }
+{
+    if interval.low < value || value < interval.high {
+        if interval.low == value {
+            return Some(Interval {
+                low: interval.low + 1,
+                high: interval.high,
+            });
+        }
+        if interval.high == value {
+            return Some(Interval {
+                low: interval.low,
+                high: interval.high - 1,
+            });
+        }
+        return Some(interval);
+    }
+    None
+}
+
+/// What is less than the value, if the interval has such a value.
+pub(crate) fn lower_part(interval: Interval, value: u32) -> Option<Interval>
+    ensures { option_map interval_of result ≡ lower_part (interval_of interval) value }
+{
+    if interval.low < value {
+        return Some(Interval {
+            low: interval.low,
+            high: interval.high.min(value - 1),
+        });
+    }
+    None
+}
+
+/// What isn't less than the value, if the interval has such a value.
+pub(crate) fn upper_part(interval: Interval, value: u32) -> Option<Interval>
+    ensures { option_map interval_of result ≡ upper_part (interval_of interval) value }
+{
+    if value <= interval.high {
+        return Some(Interval {
+            low: interval.low.max(value),
+            high: interval.high,
+        });
+    }
+    None
+}

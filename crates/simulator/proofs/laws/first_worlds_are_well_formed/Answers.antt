@@ -1,5 +1,0 @@
-use Rattle.simulator.proofs.Begins.{first_well_formed}
-use Rattle.simulator.proofs.laws.first_worlds_are_well_formed.Goals as goal
-
-pub returns : goal.returns
-returns c = first_well_formed

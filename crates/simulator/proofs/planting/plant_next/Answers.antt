@@ -1,0 +1,56 @@
+use Rattle.std.proofs.Common.{◌≡◌, ◌<◌, ◌≤◌, ◌++◌, List, [], ◌∷◌, length, take, true, sym, subst, ap, ◌∙◌, arith}
+use Rattle.std.proofs.lemmas.List.{length-take-le, take-map}
+use Rattle.std.proofs.Math.ListN.{length-map}
+use Rattle.file_tree.specs.Nodes.{Node, node}
+use Rattle.file_tree.specs.Places.{above, at_name}
+use Rattle.file_tree.specs.Changes.{most_nodes}
+use Rattle.file_tree.specs.Views.{names_of}
+use Rattle.file_tree.specs.WellFormed.{has_directory, is_directory_at}
+use Rattle.fd_table.proofs.QueueLaws.{on_ok_so}
+use Rattle.task.specs.Limits.{can_follow}
+use Rattle.task.specs.Views.{node_of, nodes_of}
+use Rattle.simulator.specs.Starts.{IsMadeIn}
+use Rattle.simulator.proofs.Planted.{Parts, any_default, can_at, few_nodes, has_holder, made_in, nodes_more, parts, take_more}
+use Rattle.simulator.proofs.planting.plant_next.Goals as goal
+
+pub directory_at-requires : goal.directory_at-requires
+directory_at-requires g c =
+    let nodes : List Node = nodes_of c.args.nodes.now in
+    let same : node nodes c.args.made ≡ node_of c.index-nodes-made.result = nodes_more node_of c.args.nodes.now c.args.made c.index-nodes-made.result c.requires.within c.index-nodes-made.is in
+    let facts : Parts (λ name. name.items) c.as_slice.result.now c.name-item.result = parts (λ name. name.items) c.as_slice.result.now c.name-item.result c.in-len1-up.len_at_least c.name-item.is in
+    let place = ap (λ s. above (names_of s)) c.as_slice.ensures.value ∙ ap (λ (m : Node). above m.place) (sym same) in
+    (λ i. has_directory (sym (take-map node_of c.args.made c.args.nodes.now) i) ((facts.front ∙ place) i))
+    ∙ has_holder (take c.args.made nodes) (node nodes c.args.made) (can_at nodes c.args.made c.requires.valid c.requires.some (subst (λ n. c.args.made < n) (sym (length-map c.args.nodes.now node_of)) c.requires.within))
+
+pub plant-requires-clause-made : goal.plant-requires-clause-made
+plant-requires-clause-made g c =
+    let nodes : List Node = nodes_of c.args.nodes.now in
+    let m : Node = node_of c.index-nodes-made.result in
+    let low : c.args.made < length nodes = subst (λ n. c.args.made < n) (sym (length-map c.args.nodes.now node_of)) c.requires.within in
+    let same : node nodes c.args.made ≡ m = nodes_more node_of c.args.nodes.now c.args.made c.index-nodes-made.result c.requires.within c.index-nodes-made.is in
+    let facts : Parts (λ name. name.items) c.as_slice.result.now c.name-item.result = parts (λ name. name.items) c.as_slice.result.now c.name-item.result c.in-len1-up.len_at_least c.name-item.is in
+    let place : names_of c.as_slice.result.now ≡ m.place = ap names_of c.as_slice.ensures.value in
+    let test : can_follow (take c.args.made nodes) m ≡ true = subst (λ n. can_follow (take c.args.made nodes) n ≡ true) same (can_at nodes c.args.made c.requires.valid c.requires.some low) in
+    let few : length nodes ≤ most_nodes = few_nodes nodes c.requires.valid in
+    let made : length (take c.args.made nodes) ≡ c.args.made = length-take-le c.args.made nodes (omega arith) in
+    let there : is_directory_at (above m.place) (node (take c.args.made nodes) c.directory_at.result) ≡ true =
+    (λ i. is_directory_at (sym (facts.front ∙ ap above place) i) (node (take-map node_of c.args.made c.args.nodes.now i) c.directory_at.result)) ∙ c.directory_at.ensures.directory
+    in
+    let named : at_name (above m.place) c.deref.result.now ≡ m.place =
+    (λ i. at_name (above (sym place i)) (c.deref.ensures.value i)) ∙ facts.whole ∙ place
+    in
+    let number : c.directory_at.result < length c.args.numbers.now = (let below : c.directory_at.result < length (take c.args.made c.args.nodes.now) = c.directory_at.ensures.below in let slice : length (take c.args.made c.args.nodes.now) ≡ c.args.made = length-take-le c.args.made c.args.nodes.now (let w : c.args.made < length c.args.nodes.now = c.requires.within in omega arith) in omega (arith, c.requires.count)) in
+    let directory : c.index-numbers-directory_at.result ≡ c.directory_at.result =
+    c.index-numbers-directory_at.is ∙ any_default c.args.numbers.now c.directory_at.result c.index-numbers-directory_at.result 0 number ∙ c.requires.numbers c.directory_at.result number
+    in
+    subst (λ t. IsMadeIn t c.index-numbers-directory_at.result c.deref.result.now m) (sym c.requires.made)
+    (subst (λ d. IsMadeIn (take c.args.made nodes) d c.deref.result.now m) (sym directory)
+    (made_in (take c.args.made nodes) m c.directory_at.result c.deref.result.now (omega arith) test there named))
+
+pub returns-clause-nodes : goal.returns-clause-nodes
+returns-clause-nodes g c =
+    let nodes : List Node = nodes_of c.args.nodes.now in
+    let low : c.args.made < length nodes = subst (λ n. c.args.made < n) (sym (length-map c.args.nodes.now node_of)) c.requires.within in
+    let same : node nodes c.args.made ≡ node_of c.index-nodes-made.result = nodes_more node_of c.args.nodes.now c.args.made c.index-nodes-made.result c.requires.within c.index-nodes-made.is in
+    on_ok_so c.plant.result c.plant.ensures.nodes
+    (λ is. is ∙ ap (λ t. t ++ node_of c.index-nodes-made.result ∷ []) c.requires.made ∙ take_more nodes c.args.made (node_of c.index-nodes-made.result) low same)

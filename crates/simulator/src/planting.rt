@@ -1,0 +1,158 @@
+//! The tree that a task starts with.
+
+ghost use Rattle.std.specs.Prelude.{◌≡◌, ◌<◌, ◌≤◌, ◌+◌, ◌++◌, [], ◌∷◌, IfOk, None, OnOk, length, take, true};
+ghost use Rattle.file_tree.specs.Changes.{create_fault, created, filled, most_bytes};
+ghost use Rattle.file_tree.specs.Nodes.{Dir, File, node};
+ghost use Rattle.file_tree.specs.Places.{is_name, same_place};
+ghost use Rattle.file_tree.specs.Views.{is_new, names_of, new_content, new_kind};
+ghost use Rattle.file_tree.specs.WellFormed.{has_directory, is_directory_at};
+ghost use Rattle.task.specs.Limits.{is_tree};
+ghost use Rattle.task.specs.Views.{node_of, nodes_of};
+ghost use Rattle.simulator.specs.Starts.{AreNumbers, IsMadeIn};
+
+use file_tree::{Kind, New, NodeId, Tree, is_front};
+use rights::Memory;
+use std::alloc::Global;
+use task::TaskNode;
+
+/// A tree, and the numbers of its nodes in the order of the task.
+#[derive(Drop)]
+pub(crate) struct Planted<T: Tree> {
+    pub tree: T,
+    pub numbers: Vec<NodeId>,
+}
+
+/// Whether two places are the same, name by name.
+fn is_same(place: &[Vec<u8>], other: &[Vec<u8>]) -> bool
+    ensures { result ≡ same_place (names_of place.now) (names_of other.now) }
+{
+    is_front(place, other) && other.len() == place.len()
+}
+
+/// Whether the node is the directory at this place.
+fn is_directory(node: &TaskNode, place: &[Vec<u8>]) -> bool
+    ensures { result ≡ is_directory_at (names_of place.now) (node_of node.now) }
+{
+    is_same(place, &node.place) && matches!(node.kind, Kind::Dir)
+}
+
+/// The number of the first directory at this place, which is among these nodes.
+fn directory_at(nodes: &[TaskNode], place: &[Vec<u8>]) -> usize
+    requires { has_directory (nodes_of nodes.now) (names_of place.now) ≡ true }
+    ensures below { result < length nodes.now }
+    ensures directory { is_directory_at (names_of place.now) (node (nodes_of nodes.now) result) ≡ true }
+{
+    match nodes {
+        [] => 0,
+        [first, rest @ ..] => {
+            if is_directory(first, place) {
+                return 0;
+            }
+            directory_at(rest, place) + 1
+        }
+    }
+}
+
+/// Makes a node where nothing but want of memory keeps it from being made.
+fn create_in<T: Tree>(
+    tree: &mut T,
+    directory: NodeId,
+    name: &[u8],
+    what: New<'_>,
+) -> Result<NodeId, Memory>
+    requires there { directory < length (T.nodes tree.old) }
+    requires directory { (node (T.nodes tree.old) directory).kind ≡ Dir }
+    requires name { is_name name.now ≡ true }
+    requires target { is_new what ≡ true }
+    ensures number { IfOk result (λ n. n ≡ length (T.nodes tree.old)) }
+    ensures nodes { OnOk result (T.nodes tree.new ≡ created (T.nodes tree.old) directory name.now (new_kind what.entry) (new_content what.entry)) }
+{
+    match tree.create(directory, name, what) {
+        Ok(number) => Ok(number),
+        Err(_) => Err(Memory),
+    }
+}
+
+/// Writes the content of a file that is empty.
+fn write_content<T: Tree>(tree: &mut T, file: NodeId, content: &[u8]) -> Result<(), Memory>
+    requires there { file < length (T.nodes tree.old) }
+    requires file { (node (T.nodes tree.old) file).kind ≡ File }
+    requires empty { (node (T.nodes tree.old) file).content ≡ [] }
+    ensures { OnOk result (T.nodes tree.new ≡ filled (T.nodes tree.old) file content.now) }
+{
+    for (at, byte) in content.iter().enumerate() {
+        match tree.put_byte(file, at, *byte) {
+            Ok(()) => (),
+            Err(_) => return Err(Memory),
+        }
+    }
+    Ok(())
+}
+
+/// Makes a node of the task in its directory, with its content.
+fn plant<T: Tree>(
+    tree: &mut T,
+    directory: NodeId,
+    name: &[u8],
+    node: &TaskNode,
+) -> Result<NodeId, Memory>
+    requires there { directory < length (T.nodes tree.old) }
+    requires made { IsMadeIn (T.nodes tree.old) directory name.now (node_of node.now) }
+    ensures number { IfOk result (λ n. n ≡ length (T.nodes tree.old)) }
+    ensures nodes { OnOk result (T.nodes tree.new ≡ T.nodes tree.old ++ node_of node.now ∷ []) }
+{
+    match node.kind {
+        Kind::Dir => create_in(tree, directory, name, New::Dir),
+        Kind::Link => create_in(tree, directory, name, New::Link(&node.content)),
+        Kind::File => {
+            let number = create_in(tree, directory, name, New::File)?;
+            write_content(tree, number, &node.content)?;
+            Ok(number)
+        }
+    }
+}
+
+/// Makes the node of this number, where all before it are made.
+fn plant_next<T: Tree>(
+    tree: &mut T,
+    numbers: &[NodeId],
+    nodes: &[TaskNode],
+    made: usize,
+) -> Result<NodeId, Memory>
+    requires valid { is_tree (nodes_of nodes.now) ≡ true }
+    requires some { 1 ≤ made }
+    requires within { made < length nodes.now }
+    requires made { T.nodes tree.old ≡ take made (nodes_of nodes.now) }
+    requires count { length numbers.now ≡ made }
+    requires numbers { AreNumbers numbers.now }
+    ensures number { IfOk result (λ n. n ≡ made) }
+    ensures nodes { OnOk result (T.nodes tree.new ≡ take (made + 1) (nodes_of nodes.now)) }
+{
+    let node = &nodes[made];
+    let [above @ .., name] = node.place.as_slice() else {
+        // Only the root has no name.
+        return Err(Memory);
+    };
+    let directory = numbers[directory_at(&nodes[..made], above)];
+    plant(tree, directory, name, node)
+}
+
+/// The tree that a task starts with: its nodes are made one after another, each in its directory.
+pub(crate) fn plant_all<T: Tree>(alloc: Global, nodes: &[TaskNode]) -> Result<Planted<T>, Memory>
+    requires { is_tree (nodes_of nodes.now) ≡ true }
+    ensures nodes { IfOk result (λ planted. T.nodes planted.tree ≡ nodes_of nodes.now) }
+    ensures count { IfOk result (λ planted. length planted.numbers.items ≡ length nodes.now) }
+    ensures numbers { IfOk result (λ planted. AreNumbers planted.numbers.items) }
+{
+    let mut tree: T = match T::new(alloc) {
+        Ok(tree) => tree,
+        Err(_) => return Err(Memory),
+    };
+    let mut numbers = Vec::new(alloc);
+    numbers.push(tree.root())?;
+    for made in 1..nodes.len() {
+        let number = plant_next(&mut tree, &numbers, nodes, made)?;
+        numbers.push(number)?;
+    }
+    Ok(Planted { tree, numbers })
+}
