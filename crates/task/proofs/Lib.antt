@@ -1,3 +1,5 @@
+pub mod Documents
+pub mod Rows
 pub mod FirstTrees
 pub mod Openings
 pub mod FirstWorlds

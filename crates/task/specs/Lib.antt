@@ -4,4 +4,8 @@ pub mod Policies
 pub mod Begins
 pub mod Kept
 pub mod Laws
+pub mod Documents
+pub mod Written
+pub mod Paths
+pub mod Reading
 pub mod Views
