@@ -1,4 +1,4 @@
-pub mod Documents
+pub mod BaseTask
 pub mod Rows
 pub mod FirstTrees
 pub mod Openings

@@ -19,7 +19,7 @@ use Rattle.task.specs.Documents.{document_of}
 use Rattle.task.specs.Written.{written_task}
 use Rattle.task.specs.Paths.{place_of}
 use Rattle.task.specs.Reading.{Mistake, Not_toml, Wrong_field, Wrong_node, Wrong_grant, Wrong_descriptor, Wrong_program, Past_limit, plan_of, plan_in, task_of}
-use Rattle.task.proofs.Documents.{base_text, base_document, document, directory, file, link, grant, on, process, program, words, base_nodes, base_grants, base_process, base_program, base_is_read}
+use Rattle.task.proofs.BaseTask.{base_text, base_document, document, directory, file, link, grant, on, process, program, words, base_nodes, base_grants, base_process, base_program, base_is_read}
 
 abbrev on_node : ℕ → ℕ → FirstDescriptor
 on_node number n =

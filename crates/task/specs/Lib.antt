@@ -8,4 +8,6 @@ pub mod Documents
 pub mod Written
 pub mod Paths
 pub mod Reading
+pub mod WrittenViews
+pub mod Faults
 pub mod Views

@@ -1,6 +1,8 @@
 //! Tasks: a file tree, a policy, programs and first processes as one value, and the world that they start in.
 #![tactic(auto)]
 
+mod documents;
+pub mod faults;
 pub mod grants;
 pub mod laws;
 pub mod nodes;
@@ -8,7 +10,10 @@ pub mod policies;
 pub mod programs;
 pub mod starts;
 pub mod tasks;
+mod words;
+mod written;
 
+pub use faults::TaskFault;
 pub use grants::Grant;
 pub use nodes::TaskNode;
 pub use policies::{grant_holds, grant_lists, grant_named};
