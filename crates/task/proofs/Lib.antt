@@ -1,4 +1,5 @@
 pub mod BaseTask
+pub mod FieldFaults
 pub mod Rows
 pub mod FirstTrees
 pub mod Openings

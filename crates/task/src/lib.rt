@@ -3,6 +3,7 @@
 
 mod documents;
 pub mod faults;
+mod fields;
 pub mod grants;
 pub mod laws;
 pub mod nodes;
