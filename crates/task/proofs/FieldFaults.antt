@@ -1,10 +1,11 @@
 -- A field that isn't read makes its table one that isn't.
-use Rattle.std.proofs.Common.{◌≡◌, List, ℕ, Option, Some, None, Result, Ok, Err, ℤ, Bool, true, false, cond, string_bytes, codes, refl, ap, ◌∙◌}
+use Rattle.std.proofs.Common.{◌≡◌, List, [], ◌∷◌, ℕ, Option, Some, None, Result, Ok, Err, ℤ, Bool, true, false, cond, string_bytes, codes, refl, ap, ◌∙◌}
 use Rattle.rights.specs.Sets.{all_rights, all_commands, right_names, command_names}
 use Rattle.fd_table.specs.Descriptions.{Access}
 use Rattle.toml.specs.Data.{Members, get_member}
 use Rattle.task.specs.Documents.{only_keys, read_or}
-use Rattle.task.specs.Written.{access_in, descriptor_in, descriptor_keys, descriptor_with, reading, set_in}
+use Rattle.task.specs.Written.{access_in, descriptor_in, descriptor_keys, descriptor_with, reading, set_in, WrittenNode, WrittenGrant, WrittenProgram, WrittenStart, task_with, written_nodes, written_grants, written_programs, written_starts, written_task}
+use Rattle.std.specs.Prelude.{option_and_then}
 use Rattle.prog_asm.specs.Assembly.{Fault}
 use Rattle.task.specs.declared.faults.TaskFault.{TaskFault}
 use Rattle.task.specs.declared.faults.TaskFault.TheVariants as code
@@ -64,3 +65,30 @@ without-rights ms none = none_if (only_keys descriptor_keys ms) _ (rw none (no_r
 
 pub without-fcntls : (ms : Members) → read_or all_commands (set_in command_names) (get_member (codes "fcntls") ms) ≡ None → descriptor_in ms ≡ None
 without-fcntls ms none = none_if (only_keys descriptor_keys ms) _ (rw none (no_fcntls _ _ _ _))
+
+-- A task needs all its parts.
+no_starts : (nodes : Option (List WrittenNode)) (grants : Option (List WrittenGrant)) (programs : Option (List WrittenProgram)) → task_with nodes grants programs None ≡ None
+no_starts None grants programs = refl
+no_starts (Some n) None programs = refl
+no_starts (Some n) (Some g) None = refl
+no_starts (Some n) (Some g) (Some p) = refl
+
+pub without-starts : (ms : Members) (programs : List WrittenProgram) → written_programs ms ≡ Some programs → written_starts ms programs ≡ None → written_task ms ≡ None
+unfolding written_task
+without-starts ms programs is none =
+    let gone : option_and_then (written_starts ms) (written_programs ms) ≡ None = ap (option_and_then (written_starts ms)) is ∙ none in
+    none_if (only_keys (codes "node" ∷ codes "grant" ∷ codes "program" ∷ codes "process" ∷ []) ms) _
+    (ap (task_with (written_nodes ms) (written_grants ms) (written_programs ms)) gone ∙ no_starts (written_nodes ms) (written_grants ms) (written_programs ms))
+
+pub all-parts : (ms : Members) (nodes : List WrittenNode) (grants : List WrittenGrant) (programs : List WrittenProgram) (starts : List WrittenStart)
+    → only_keys (codes "node" ∷ codes "grant" ∷ codes "program" ∷ codes "process" ∷ []) ms ≡ true
+    → written_nodes ms ≡ Some nodes → written_grants ms ≡ Some grants → written_programs ms ≡ Some programs → written_starts ms programs ≡ Some starts
+    → written_task ms ≡ Some (record { nodes = nodes; grants = grants; programs = programs; starts = starts })
+unfolding written_task
+all-parts ms nodes grants programs starts keys n g p s =
+    let there : option_and_then (written_starts ms) (written_programs ms) ≡ Some starts = ap (option_and_then (written_starts ms)) p ∙ s in
+    ap (λ b. cond b (task_with (written_nodes ms) (written_grants ms) (written_programs ms) (option_and_then (written_starts ms) (written_programs ms))) None) keys
+    ∙ ap (λ x. task_with x (written_grants ms) (written_programs ms) (option_and_then (written_starts ms) (written_programs ms))) n
+    ∙ ap (λ x. task_with (Some nodes) x (written_programs ms) (option_and_then (written_starts ms) (written_programs ms))) g
+    ∙ ap (λ x. task_with (Some nodes) (Some grants) (written_programs ms) x) there
+    ∙ ap (λ x. task_with (Some nodes) (Some grants) x (Some starts)) p

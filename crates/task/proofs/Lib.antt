@@ -1,5 +1,6 @@
 pub mod BaseTask
 pub mod FieldFaults
+pub mod EachItem
 pub mod Rows
 pub mod FirstTrees
 pub mod Openings

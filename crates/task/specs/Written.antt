@@ -1,5 +1,5 @@
 -- A task as a document writes it: its words are read, and its paths and programs are texts still. (own)
-use Rattle.std.specs.Prelude.{ℕ, ◌+◌, ℤ, Bool, true, false, ◌&&◌, ◌||◌, not, nat_eq, nat_lt, List, [], ◌∷◌, length, map, codes, Option, Some, None, option_map, option_and_then, bit_or, if◌then◌else◌}
+use Rattle.std.specs.Prelude.{◌==◌, ℕ, ◌+◌, ℤ, Bool, true, false, ◌&&◌, ◌||◌, not, nat_eq, nat_lt, List, [], ◌∷◌, length, map, codes, Option, Some, None, option_map, option_and_then, bit_or, if◌then◌else◌}
 use Rattle.std.specs.List.{list_all}
 use Rattle.std.specs.Str.{bytes_eq}
 use Rattle.rights.specs.Sets.{all_rights, all_commands, right_names, command_names}
@@ -203,6 +203,12 @@ start_with (Some program) (Some mode) (Some descriptors) =
     Some (record { program = program; mode = mode; descriptors = descriptors })
 start_with _ _ _ = None
 
+abbrev pub program_place : List (List ℕ) → Members → Option ℕ
+program_place names ms = option_and_then (place_among names) (text_at (codes "program") ms)
+
+abbrev pub descriptors_in : Members → Option (List WrittenDescriptor)
+descriptors_in ms = option_and_then (each_item written_descriptor) (items_at (codes "fd") ms)
+
 abbrev pub start_in : List (List ℕ) → Members → Option WrittenStart
 start_in names ms =
     if only_keys (codes "program" ∷ codes "mode" ∷ codes "fd" ∷ []) ms
@@ -228,8 +234,7 @@ abbrev pub programs_once : List WrittenProgram → Option (List WrittenProgram)
 programs_once programs = if are_once (names_of_programs programs) then Some programs else None
 
 abbrev pub some_start : List WrittenStart → Option (List WrittenStart)
-some_start [] = None
-some_start (start ∷ starts) = Some (start ∷ starts)
+some_start starts = if length starts == 0 then None else Some starts
 
 abbrev pub written_nodes : Members → Option (List WrittenNode)
 written_nodes ms = option_and_then (each_item written_node) (items_at (codes "node") ms)
@@ -242,10 +247,11 @@ abbrev pub written_programs : Members → Option (List WrittenProgram)
 written_programs ms =
     option_and_then programs_once (option_and_then (each_item written_program) (items_at (codes "program") ms))
 
+abbrev pub listed_starts : List (List ℕ) → Members → Option (List WrittenStart)
+listed_starts names ms = option_and_then (each_item (written_start names)) (items_at (codes "process") ms)
+
 abbrev pub written_starts : Members → List WrittenProgram → Option (List WrittenStart)
-written_starts ms programs =
-    option_and_then some_start
-    (option_and_then (each_item (written_start (names_of_programs programs))) (items_at (codes "process") ms))
+written_starts ms programs = option_and_then some_start (listed_starts (names_of_programs programs) ms)
 
 abbrev pub task_with :
     Option (List WrittenNode) → Option (List WrittenGrant) → Option (List WrittenProgram) → Option (List WrittenStart)

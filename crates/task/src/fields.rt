@@ -84,7 +84,7 @@ fn node(table: &Table) -> Option<WrittenNode<'_>>
 }
 
 /// A node.
-fn written_node(value: &Value) -> Option<WrittenNode<'_>>
+pub(crate) fn written_node(value: &Value) -> Option<WrittenNode<'_>>
     ensures { option_map node_seen result ≡ written_node (view value.now) }
 {
     match value.as_table() {
@@ -117,7 +117,7 @@ fn program(table: &Table) -> Option<WrittenProgram<'_>>
 }
 
 /// A program.
-fn written_program(value: &Value) -> Option<WrittenProgram<'_>>
+pub(crate) fn written_program(value: &Value) -> Option<WrittenProgram<'_>>
     ensures { option_map program_seen result ≡ written_program (view value.now) }
 {
     match value.as_table() {
@@ -161,7 +161,7 @@ fn grant<'a>(alloc: Global, table: &'a Table) -> Result<WrittenGrant<'a>, TaskFa
 }
 
 /// A grant.
-fn written_grant<'a>(alloc: Global, value: &'a Value) -> Result<WrittenGrant<'a>, TaskFault>
+pub(crate) fn written_grant<'a>(alloc: Global, value: &'a Value) -> Result<WrittenGrant<'a>, TaskFault>
     ensures { Reads grant_seen result (or_mistake Wrong_field (written_grant (view value.now))) }
 {
     match value.as_table() {
@@ -243,7 +243,7 @@ fn descriptor<'a>(alloc: Global, table: &'a Table) -> Result<WrittenDescriptor<'
 }
 
 /// A first descriptor.
-fn written_descriptor<'a>(
+pub(crate) fn written_descriptor<'a>(
     alloc: Global,
     value: &'a Value,
 ) -> Result<WrittenDescriptor<'a>, TaskFault>

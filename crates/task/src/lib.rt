@@ -9,6 +9,7 @@ pub mod laws;
 pub mod nodes;
 pub mod policies;
 pub mod programs;
+mod readers;
 pub mod starts;
 pub mod tasks;
 mod words;
