@@ -36,7 +36,7 @@ abbrev pub ◌>>=◌ : {A B : Type 0} → Result A Mistake → (A → Result B M
 (Err mistake) >>= f = Err mistake
 
 -- A node stands in a directory that is listed before it, at a place where nothing stands yet.
-abbrev pub can_stand : List Node → List (List ℕ) → Bool
+unfoldable pub can_stand : List Node → List (List ℕ) → Bool
 can_stand made place = has_directory made (above place) && not (list_any (stands_at place) made)
 
 abbrev pub node_placed : WrittenNode → List (List ℕ) → Node

@@ -7,11 +7,13 @@ mod fields;
 pub mod grants;
 pub mod laws;
 pub mod nodes;
+mod paths;
 pub mod policies;
 pub mod programs;
 mod readers;
 pub mod starts;
 pub mod tasks;
+mod trees;
 mod words;
 mod written;
 
