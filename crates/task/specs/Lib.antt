@@ -9,5 +9,6 @@ pub mod Written
 pub mod Paths
 pub mod Reading
 pub mod WrittenViews
+pub mod Placed
 pub mod Faults
 pub mod Views

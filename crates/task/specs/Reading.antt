@@ -1,16 +1,17 @@
 -- The task that a TOML document stands for, or the least of what is wrong with it. (own)
-use Rattle.std.specs.Prelude.{ℕ, ℤ, pos, negsuc, Bool, true, false, ◌&&◌, not, nat_le, nat_lt, List, [], ◌∷◌, ◌++◌, length, Option, Some, None, option_map, option_and_then, Result, Ok, Err, if◌then◌else◌}
+use Rattle.std.specs.Prelude.{ℕ, ℤ, pos, negsuc, Bool, true, false, ◌&&◌, ◌||◌, not, nat_le, nat_lt, List, [], ◌∷◌, ◌++◌, length, Option, Some, None, option_map, option_and_then, Result, Ok, Err, if◌then◌else◌}
 use Rattle.std.specs.List.{list_all, list_any}
 use Rattle.file_tree.specs.Places.{begins, above}
-use Rattle.file_tree.specs.Nodes.{Node, node, node_at, stands_at}
+use Rattle.file_tree.specs.Nodes.{Node, node, node_at, is_dir, is_link, stands_at}
 use Rattle.file_tree.specs.Changes.{most_nodes, new_tree}
 use Rattle.file_tree.specs.WellFormed.{has_directory, is_within_limits}
 use Rattle.prog_asm.specs.Programs.{Instruction}
 use Rattle.prog_asm.specs.Assembly.{Fault, assembly_of}
+use Rattle.fd_table.specs.Descriptions.{Access}
 use Rattle.kernel.specs.Calls.{most_processes}
 use Rattle.toml.specs.Data.{Members}
 use Rattle.task.specs.Plans.{Grant, NamedProgram, FirstDescriptor, Start, Plan, plan_with}
-use Rattle.task.specs.Limits.{most_grants, most_programs, all_apart, are_numbered_apart, is_accessed}
+use Rattle.task.specs.Limits.{most_grants, most_programs, all_apart, are_numbered_apart}
 use Rattle.task.specs.Documents.{document_of}
 use Rattle.task.specs.Paths.{place_of}
 use Rattle.task.specs.Written.{WrittenNode, WrittenGrant, WrittenProgram, WrittenDescriptor, WrittenStart, WrittenTask, written_task}
@@ -56,9 +57,12 @@ abbrev pub tree_of : List WrittenNode → Option (List Node)
 tree_of nodes = tree_from new_tree nodes
 
 -- A grant is of a directory that is there, and no place is in two of them.
+unfoldable pub can_grant : List Node → List (List ℕ) → Bool
+can_grant tree place = has_directory tree place
+
 abbrev pub grant_at : List Node → WrittenGrant → List (List ℕ) → Option Grant
 grant_at tree g place =
-    if has_directory tree place then Some (record { name = g.name; path = place; operations = g.operations }) else None
+    if can_grant tree place then Some (record { name = g.name; path = place; operations = g.operations }) else None
 
 abbrev pub grant_placed : List Node → WrittenGrant → Option Grant
 grant_placed tree g = option_and_then (grant_at tree g) (place_of g.path)
@@ -87,16 +91,22 @@ abbrev pub descriptor_on : WrittenDescriptor → ℕ → ℕ → FirstDescriptor
 descriptor_on d number n =
     record { number = number; node = n; access = d.access; rights = d.rights; fcntls = d.fcntls }
 
-abbrev pub accessed : List Node → FirstDescriptor → Option FirstDescriptor
-accessed tree d = if is_accessed (node tree d.node) d then Some d else None
+abbrev pub can_access : Node → Access → Bool
+can_access m access = not (is_link m.kind) && (access.readable || access.writable) && not (is_dir m.kind && access.writable)
+
+unfoldable pub can_open : List Node → ℕ → Access → Bool
+can_open tree n access = can_access (node tree n) access
+
+abbrev pub number_of_path : List Node → List ℕ → Option ℕ
+number_of_path tree path = option_and_then (node_at tree) (place_of path)
 
 abbrev pub descriptor_at : List Node → WrittenDescriptor → Option ℕ → Option ℕ → Option FirstDescriptor
-descriptor_at tree d (Some number) (Some n) = accessed tree (descriptor_on d number n)
+descriptor_at tree d (Some number) (Some n) =
+    if can_open tree n d.access then Some (descriptor_on d number n) else None
 descriptor_at tree d _ _ = None
 
 abbrev pub descriptor_placed : List Node → WrittenDescriptor → Option FirstDescriptor
-descriptor_placed tree d =
-    descriptor_at tree d (descriptor_number d.number) (option_and_then (node_at tree) (place_of d.path))
+descriptor_placed tree d = descriptor_at tree d (descriptor_number d.number) (number_of_path tree d.path)
 
 abbrev pub descriptors_placed : List Node → List WrittenDescriptor → Option (List FirstDescriptor)
 descriptors_placed tree [] = Some []
@@ -112,27 +122,27 @@ table_of tree descriptors = option_and_then numbered_apart (descriptors_placed t
 abbrev pub start_from : WrittenStart → List FirstDescriptor → Start
 start_from s descriptors = record { program = s.program; mode = s.mode; descriptors = descriptors }
 
-abbrev pub start_of : List Node → WrittenStart → Option Start
-start_of tree s = option_map (start_from s) (table_of tree s.descriptors)
+abbrev pub start_placed : List Node → WrittenStart → Option Start
+start_placed tree s = option_map (start_from s) (table_of tree s.descriptors)
 
-abbrev pub starts_of : List Node → List WrittenStart → Option (List Start)
-starts_of tree [] = Some []
-starts_of tree (s ∷ starts) =
-    option_and_then (λ x. option_map (λ rest. x ∷ rest) (starts_of tree starts)) (start_of tree s)
+abbrev pub starts_placed : List Node → List WrittenStart → Option (List Start)
+starts_placed tree [] = Some []
+starts_placed tree (s ∷ starts) =
+    option_and_then (λ x. option_map (λ rest. x ∷ rest) (starts_placed tree starts)) (start_placed tree s)
 
 -- The programs are assembled in the order of the task.
 abbrev pub program_from : List ℕ → Result (List Instruction) Fault → Result NamedProgram Mistake
 program_from name (Ok code) = Ok (record { name = name; code = code })
 program_from name (Err fault) = Err (Wrong_program name fault)
 
-abbrev pub program_of : WrittenProgram → Result NamedProgram Mistake
-program_of p = program_from p.name (assembly_of p.text)
+abbrev pub assembled : WrittenProgram → Result NamedProgram Mistake
+assembled p = program_from p.name (assembly_of p.text)
 
-abbrev pub programs_of : List WrittenProgram → Result (List NamedProgram) Mistake
-programs_of [] = Ok []
-programs_of (p ∷ programs) = do
-  first ← program_of p
-  rest ← programs_of programs
+abbrev pub all_assembled : List WrittenProgram → Result (List NamedProgram) Mistake
+all_assembled [] = Ok []
+all_assembled (p ∷ programs) = do
+  first ← assembled p
+  rest ← all_assembled programs
   Ok (first ∷ rest)
 
 -- What is limited: the length of a node's path, of its names, and of what it holds; and how many nodes, grants, programs
@@ -157,8 +167,8 @@ unfoldable pub plan_of : WrittenTask → Result Plan Mistake
 plan_of task = do
   tree ← or_mistake Wrong_node (tree_of task.nodes)
   grants ← or_mistake Wrong_grant (policy_of tree task.grants)
-  starts ← or_mistake Wrong_descriptor (starts_of tree task.starts)
-  programs ← programs_of task.programs
+  starts ← or_mistake Wrong_descriptor (starts_placed tree task.starts)
+  programs ← all_assembled task.programs
   within_limits task (plan_with tree grants programs starts)
 
 -- What a document stands for.

@@ -8,6 +8,8 @@ pub mod grants;
 pub mod laws;
 pub mod nodes;
 mod paths;
+mod placed_grants;
+mod placed_starts;
 pub mod policies;
 pub mod programs;
 mod readers;

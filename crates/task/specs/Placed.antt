@@ -1,0 +1,16 @@
+-- What the code's values of placed processes stand for.
+use Rattle.std.specs.Prelude.{List, map}
+use Rattle.fd_table.specs.Views.{access_seen}
+use Rattle.task.specs.declared.placed_starts.PlacedDescriptor.{PlacedDescriptor}
+use Rattle.task.specs.declared.placed_starts.PlacedStart.{PlacedStart}
+use Rattle.task.specs.Plans.{FirstDescriptor, Start}
+
+abbrev pub placed_descriptor : PlacedDescriptor → FirstDescriptor
+placed_descriptor d =
+    record { number = d.number; node = d.node; access = access_seen d.access; rights = d.rights.0; fcntls = d.fcntls.0 }
+
+abbrev pub placed_start : PlacedStart → Start
+placed_start s = record { program = s.program; mode = s.mode; descriptors = map placed_descriptor s.descriptors.items }
+
+abbrev pub placed_starts : List PlacedStart → List Start
+placed_starts starts = map placed_start starts
