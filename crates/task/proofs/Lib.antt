@@ -1,5 +1,6 @@
 pub mod BaseTask
 pub mod FieldFaults
+pub mod Passing
 pub mod EachItem
 pub mod Rows
 pub mod FirstTrees
@@ -7,5 +8,5 @@ pub mod Openings
 pub mod FirstWorlds
 pub mod AsGiven
 pub mod Allowances
-pub mod Limits
+pub mod KeptLimits
 pub mod Samples

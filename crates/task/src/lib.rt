@@ -2,10 +2,12 @@
 #![tactic(auto)]
 
 mod documents;
+mod assembling;
 pub mod faults;
 mod fields;
 pub mod grants;
 pub mod laws;
+pub mod limits;
 pub mod nodes;
 mod paths;
 mod placed_grants;
