@@ -1,6 +1,7 @@
 pub mod BaseTask
 pub mod FieldFaults
 pub mod Passing
+pub mod WrittenLaws
 pub mod EachItem
 pub mod Rows
 pub mod FirstTrees
