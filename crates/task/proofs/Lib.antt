@@ -2,6 +2,7 @@ pub mod BaseTask
 pub mod FieldFaults
 pub mod Passing
 pub mod WrittenLaws
+pub mod ValidPlans
 pub mod EachItem
 pub mod Rows
 pub mod FirstTrees
