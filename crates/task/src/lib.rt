@@ -15,6 +15,7 @@ mod placed_starts;
 pub mod policies;
 pub mod programs;
 mod readers;
+pub mod reading;
 pub mod starts;
 pub mod tasks;
 mod trees;
@@ -26,6 +27,7 @@ pub use grants::Grant;
 pub use nodes::TaskNode;
 pub use policies::{grant_holds, grant_lists, grant_named};
 pub use programs::NamedProgram;
+pub use reading::read_task;
 pub use starts::{FirstDescriptor, Start};
 pub use tasks::Task;
 
