@@ -1,7 +1,6 @@
 -- The items of a list are read one by one.
-use Rattle.std.proofs.Common.{◌≡◌, ℕ, ◌+◌, ◌<◌, List, [], ◌∷◌, ◌++◌, map, length, get_or, drop, Option, Some, None, option_map, Ok, Err, refl, ap, sym, ◌∙◌, append_assoc}
-use Rattle.std.specs.Prelude.{option_and_then}
-use Rattle.toml.specs.Data.{Data, Items}
+use Rattle.std.proofs.Common.{◌≡◌, ℕ, ◌+◌, ◌<◌, List, [], ◌∷◌, ◌++◌, length, get_or, drop, Option, Some, None, option_map, Ok, refl, ap, sym, append_assoc}
+use Rattle.toml.specs.Data.{Data}
 use Rattle.toml.specs.View.{view, items_view}
 use Rattle.toml.specs.declared.value.Value.{Value}
 use Rattle.toml.proofs.Views.{items_view-drop}
@@ -20,7 +19,7 @@ pub each-read :
     {A : Type 0} (read : Data → Option A) (vs : List Value) (i : ℕ) (d : Value) (so_far : List A) (x : A) → i < length vs
     → read (view (get_or vs i d)) ≡ Some x
     → option_map (λ rest. so_far ++ rest) (each_item read (items_view (drop i vs)))
-      ≡ option_map (λ rest. (so_far ++ x ∷ []) ++ rest) (each_item read (items_view (drop (i + 1) vs)))
+    ≡ option_map (λ rest. (so_far ++ x ∷ []) ++ rest) (each_item read (items_view (drop (i + 1) vs)))
 each-read read vs i d so_far x within is =
     rw (items_view-drop vs i d within, is) (behind so_far x (each_item read (items_view (drop (i + 1) vs))))
 

@@ -1,5 +1,5 @@
 -- A field that isn't read makes its table one that isn't.
-use Rattle.std.proofs.Common.{◌≡◌, List, [], ◌∷◌, ℕ, Option, Some, None, Result, Ok, Err, ℤ, Bool, true, false, cond, string_bytes, codes, refl, ap, ◌∙◌}
+use Rattle.std.proofs.Common.{◌≡◌, List, [], ◌∷◌, ℕ, Option, Some, None, Err, ℤ, Bool, true, false, cond, string_bytes, codes, refl, ap, ◌∙◌}
 use Rattle.rights.specs.Sets.{all_rights, all_commands, right_names, command_names}
 use Rattle.fd_table.specs.Descriptions.{Access}
 use Rattle.toml.specs.Data.{Members, get_member}
@@ -9,7 +9,7 @@ use Rattle.std.specs.Prelude.{option_and_then}
 use Rattle.prog_asm.specs.Assembly.{Fault}
 use Rattle.task.specs.declared.faults.TaskFault.{TaskFault}
 use Rattle.task.specs.declared.faults.TaskFault.TheVariants as code
-use Rattle.task.specs.Reading.{Mistake, Not_toml, Wrong_field, Wrong_node, Wrong_grant, Wrong_descriptor, Wrong_program, Past_limit, or_mistake}
+use Rattle.task.specs.Reading.{Mistake, Wrong_field, or_mistake}
 use Rattle.task.specs.Faults.{FaultIs, IsProgramFault, text_fault}
 
 none_from : {X : Type 0} (m : Mistake) (x : Option X) → or_mistake m x ≡ Err m → x ≡ None

@@ -1,18 +1,17 @@
 -- A mistake of a first part is the whole's, and programs are assembled one by one.
-use Rattle.std.proofs.Common.{◌≡◌, ℕ, ◌+◌, ◌<◌, List, [], ◌∷◌, ◌++◌, length, get_or, map, drop, Option, Some, None, Result, Ok, Err, string_bytes, refl, ap, sym, ◌∙◌, append_assoc}
+use Rattle.std.proofs.Common.{◌≡◌, ℕ, ◌+◌, ◌<◌, List, [], ◌∷◌, ◌++◌, length, get_or, drop, Option, Some, None, Result, Ok, Err, string_bytes, refl, ap, sym, ◌∙◌, append_assoc}
 use Rattle.std.proofs.lemmas.List.{drop_more}
 use Rattle.prog_asm.specs.declared.faults.AsmFault.{AsmFault}
 use Rattle.prog_asm.specs.declared.faults.AsmFault.TheVariants as asm
 use Rattle.prog_asm.specs.Programs.{Instruction}
-use Rattle.prog_asm.specs.Assembly.{Fault, assembly_of}
+use Rattle.prog_asm.specs.Assembly.{Fault}
 use Rattle.prog_asm.specs.Faults as texts
 use Rattle.task.specs.declared.faults.TaskFault.{TaskFault}
 use Rattle.task.specs.declared.faults.TaskFault.TheVariants as code
 use Rattle.task.specs.declared.written.WrittenProgram.{WrittenProgram as ProgramCode}
 use Rattle.task.specs.Plans.{NamedProgram}
-use Rattle.task.specs.Written.{WrittenProgram}
 use Rattle.task.specs.WrittenViews.{program_seen, programs_seen}
-use Rattle.task.specs.Reading.{Mistake, Wrong_program, ◌>>=◌, assembled, all_assembled, program_from}
+use Rattle.task.specs.Reading.{Mistake, ◌>>=◌, assembled, all_assembled, program_from}
 use Rattle.task.specs.Faults.{FaultIs, IsProgramFault, text_fault}
 
 program-passes : {A : Type 0} {B : Type 0} (name : List ℕ) (why : Option Fault) (r : Result A Mistake) (f : A → Result B Mistake) → IsProgramFault name why r → IsProgramFault name why (r >>= f)

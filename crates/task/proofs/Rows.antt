@@ -1,6 +1,6 @@
 -- The base task, and changes of it: what each document stands for.
-use Rattle.std.proofs.Common.{◌≡◌, ℕ, true, false, List, [], ◌∷◌, codes, refl, Some, None, Ok, Err}
-use Rattle.std.specs.Prelude.{pos, replicate, Result}
+use Rattle.std.proofs.Common.{◌≡◌, ℕ, true, false, List, [], ◌∷◌, codes, refl, Ok, Err}
+use Rattle.std.specs.Prelude.{pos, replicate}
 use Rattle.std.specs.Str.{is_utf8, chars}
 use Rattle.rights.specs.Sets.{all_rights, all_commands}
 use Rattle.rights.specs.Operations.{Look, Read, Write, Create, Remove}
@@ -12,13 +12,12 @@ use Rattle.prog_asm.specs.Programs.{Halt}
 use Rattle.prog_asm.specs.Forms as forms
 use Rattle.prog_asm.specs.Assembly.{assembly_of, line_of, fault, Word, FallsOff}
 use Rattle.kernel.proofs.Samples.{base}
-use Rattle.toml.specs.Data.{Data, string, integer, boolean, array, table, Members, no_members, member}
+use Rattle.toml.specs.Data.{Data, string, integer, array, table, Members, no_members, member}
 use Rattle.toml.proofs.OnLiterals.{toml_on_literals}
 use Rattle.task.specs.Plans.{Grant, FirstDescriptor, Plan, plan_with}
-use Rattle.task.specs.Documents.{document_of}
 use Rattle.task.specs.Written.{written_task}
 use Rattle.task.specs.Paths.{place_of}
-use Rattle.task.specs.Reading.{can_stand, can_grant, can_open, Mistake, Not_toml, Wrong_field, Wrong_node, Wrong_grant, Wrong_descriptor, Wrong_program, Past_limit, plan_of, plan_in, task_of}
+use Rattle.task.specs.Reading.{can_stand, can_grant, can_open, Not_toml, Wrong_field, Wrong_node, Wrong_grant, Wrong_descriptor, Wrong_program, Past_limit, plan_of, plan_in, task_of}
 use Rattle.task.proofs.BaseTask.{base_text, base_document, document, directory, file, link, grant, on, process, program, words, base_nodes, base_grants, base_process, base_program, base_is_read}
 
 abbrev on_node : ℕ → ℕ → FirstDescriptor

@@ -1,15 +1,14 @@
 -- A task is read stage by stage.
-use Rattle.std.proofs.Common.{◌≡◌, ◌≢◌, ℕ, zero, suc, ◌<◌, ◌≤◌, List, [], ◌∷◌, Option, Some, None, Result, Ok, Err, Bool, true, false, cond, length, map, get_or, refl, ap, sym, subst, ◌∙◌, arith}
-use Rattle.std.specs.Prelude.{◌&&◌, ◌^◌, nat_lt}
+use Rattle.std.proofs.Common.{◌≡◌, ℕ, zero, suc, ◌<◌, ◌≤◌, List, [], ◌∷◌, Some, Result, Ok, Err, Bool, true, false, cond, length, map, get_or, refl, ap, sym, subst, ◌∙◌, arith}
+use Rattle.std.specs.Prelude.{◌^◌, nat_lt}
 use Rattle.std.specs.List.{list_all, slice_get}
 use Rattle.std.specs.Cmp.Derive.{both_true}
 use Rattle.std.proofs.lemmas.Bool.{lt-ltb, ltb-true}
 use Rattle.rights.proofs.Tests.{both_left, both_right}
 use Rattle.file_tree.specs.Nodes.{Node}
 use Rattle.task.specs.declared.faults.TaskFault.{TaskFault}
-use Rattle.task.specs.Plans.{Grant, NamedProgram, FirstDescriptor, Start, Plan, plan_with}
+use Rattle.task.specs.Plans.{Grant, NamedProgram, Start, Plan, plan_with}
 use Rattle.task.specs.Limits.{is_plan}
-use Rattle.task.specs.Kept.{KeepsLimits, KeepsStarts, KeepsPrograms, IsUsable}
 use Rattle.task.specs.Written.{WrittenTask}
 use Rattle.task.specs.Reading.{Mistake, Wrong_node, Wrong_grant, Wrong_descriptor, Past_limit, ◌>>=◌, or_mistake, tree_of, policy_of, starts_placed, all_assembled, keeps_limits, within_limits, plan_of}
 use Rattle.task.specs.Faults.{FaultIs}
@@ -76,16 +75,16 @@ plan-small plan valid =
     let keeps = plans_keep_limits plan valid in
     all-from is_small plan.starts
     (λ p s at.
-      let below : s.program < length plan.programs = keeps.starts.program p s at in
-      let few : length plan.programs ≤ 8 = keeps.programs.few in
-      let program : s.program < 2 ^ 8 = omega arith in
-      both_true (lt-ltb s.program (2 ^ 8) program)
-      (all-from is_near s.descriptors
-        (λ i d at_d.
-          let there : d.node < length plan.nodes = (keeps.starts.usable p i s d at at_d).there in
-          let nodes : length plan.nodes ≤ 1024 = keeps.tree.few in
-          let near : d.node < 2 ^ 16 = omega arith in
-          lt-ltb d.node (2 ^ 16) near)))
+    let below : s.program < length plan.programs = keeps.starts.program p s at in
+    let few : length plan.programs ≤ 8 = keeps.programs.few in
+    let program : s.program < 2 ^ 8 = omega arith in
+    both_true (lt-ltb s.program (2 ^ 8) program)
+    (all-from is_near s.descriptors
+    (λ i d at_d.
+    let there : d.node < length plan.nodes = (keeps.starts.usable p i s d at at_d).there in
+    let nodes : length plan.nodes ≤ 1024 = keeps.tree.few in
+    let near : d.node < 2 ^ 16 = omega arith in
+    lt-ltb d.node (2 ^ 16) near)))
 
 pub small-at : {A : Type 0} {B : Type 0} (seen : A → B) (test : B → Bool) (xs : List A) (i : ℕ) (d : A) → list_all test (map seen xs) ≡ true → i < length xs → test (seen (get_or xs i d)) ≡ true
 small-at seen test [] i d all within = absurd (omega arith)

@@ -1,6 +1,6 @@
 -- A plan that is read is valid.
-use Rattle.std.proofs.Common.{◌≡◌, ℕ, suc, ◌+◌, ◌<◌, ◌≤◌, List, [], ◌∷◌, ◌++◌, Option, Some, None, Result, Ok, Err, option_map, Bool, true, false, cond, length, map, refl, ap, sym, subst, ◌∙◌, arith, append_assoc, append-nil, ℤ, pos, negsuc}
-use Rattle.std.specs.Prelude.{◌&&◌, ◌||◌, not, nat_le, nat_lt, option_and_then}
+use Rattle.std.proofs.Common.{◌≡◌, ℕ, suc, ◌<◌, List, [], ◌∷◌, ◌++◌, Option, Some, None, Result, Ok, Err, option_map, Bool, true, false, cond, length, map, refl, ap, sym, subst, ◌∙◌, arith, append_assoc, append-nil, ℤ, pos, negsuc}
+use Rattle.std.specs.Prelude.{◌&&◌, ◌||◌, not, nat_le, nat_lt}
 use Rattle.std.specs.List.{list_all, list_any}
 use Rattle.std.specs.Str.{bytes_eq}
 use Rattle.std.specs.Cmp.Derive.{both_true}
@@ -9,20 +9,20 @@ use Rattle.std.proofs.lemmas.Bool.{lt-ltb, leb-true}
 use Rattle.rights.specs.Sets.{is_within, all_rights, all_commands}
 use Rattle.rights.proofs.Tests.{both_left, both_right}
 use Rattle.file_tree.specs.Places.{begins, above}
-use Rattle.file_tree.specs.Nodes.{Dir, Node, node, node_at, stands_at}
+use Rattle.file_tree.specs.Nodes.{Dir, Node, stands_at}
 use Rattle.file_tree.specs.Changes.{most_nodes, new_tree}
 use Rattle.file_tree.specs.WellFormed.{has_directory, is_within_limits}
-use Rattle.prog_asm.specs.Programs.{Instruction, is_program}
+use Rattle.prog_asm.specs.Programs.{Instruction}
 use Rattle.prog_asm.specs.Assembly.{Fault, assembly_of}
 use Rattle.prog_asm.proofs.GoodPrograms.{assembly-good}
 use Rattle.kernel.specs.Calls.{most_processes}
 use Rattle.toml.specs.Data.{Members}
 use Rattle.task.specs.Plans.{Grant, NamedProgram, FirstDescriptor, Start, Plan}
-use Rattle.task.specs.Limits.{most_grants, most_programs, all_apart, is_word, can_follow, are_made, is_tree, is_grant, are_apart, are_grants, is_named, are_named_apart, are_programs, is_accessed, is_descriptor, are_numbered_apart, are_descriptors, is_start, are_starts, is_plan}
+use Rattle.task.specs.Limits.{most_grants, most_programs, all_apart, is_word, can_follow, are_made, is_tree, is_grant, are_apart, are_grants, is_named, are_named_apart, are_programs, is_descriptor, are_numbered_apart, are_descriptors, is_start, are_starts, is_plan}
 use Rattle.task.specs.Documents.{is_among, are_once}
 use Rattle.task.specs.Paths.{place_of}
 use Rattle.task.specs.Written.{WrittenNode, WrittenGrant, WrittenProgram, WrittenDescriptor, WrittenStart, WrittenTask, names_of_grants, names_of_programs, written_task}
-use Rattle.task.specs.Reading.{Mistake, Wrong_field, Wrong_node, Wrong_grant, Wrong_descriptor, ◌>>=◌, or_mistake, can_stand, node_placed, node_behind, node_made, tree_from, tree_of, can_grant, grant_at, grant_placed, grants_placed, are_disjoint, disjoint, policy_of, descriptor_number, descriptor_on, can_access, can_open, number_of_path, descriptor_at, descriptor_placed, descriptors_placed, numbered_apart, table_of, start_from, start_placed, starts_placed, program_from, assembled, all_assembled, is_short, keeps_limits, within_limits, plan_of, plan_in}
+use Rattle.task.specs.Reading.{Mistake, Wrong_field, Wrong_node, Wrong_grant, Wrong_descriptor, ◌>>=◌, or_mistake, can_stand, node_placed, node_behind, node_made, tree_from, tree_of, can_grant, grant_at, grant_placed, grants_placed, are_disjoint, disjoint, policy_of, descriptor_number, descriptor_on, can_open, number_of_path, descriptor_at, descriptor_placed, descriptors_placed, numbered_apart, table_of, start_from, start_placed, starts_placed, program_from, assembled, all_assembled, is_short, keeps_limits, plan_of, plan_in}
 use Rattle.task.proofs.WrittenLaws.{some-equal, and_then-some, map-some, if-some, is_named_grant, is_named_program, is_bounded, is_given, IsWritten, task-written}
 
 ok-equal : {A : Type 0} (x y : A) → or_mistake Wrong_field (Some x) ≡ Ok y → x ≡ y
@@ -66,8 +66,8 @@ grown made (n ∷ nodes) tree is =
       rest = p.0 ∷ more.rest;
       whole = more.whole ∙ append_assoc made (p.0 ∷ []) more.rest;
       follows = λ all. both_true
-        (made-follows made n p.0 p.1 (both_left (is_within_limits p.0) (list_all is_within_limits more.rest) all))
-        (more.follows (both_right (is_within_limits p.0) (list_all is_within_limits more.rest) all));
+          (made-follows made n p.0 p.1 (both_left (is_within_limits p.0) (list_all is_within_limits more.rest) all))
+          (more.follows (both_right (is_within_limits p.0) (list_all is_within_limits more.rest) all));
     }
 
 below-most : (root : Node) (rest : List Node) → nat_le (length (root ∷ rest)) most_nodes ≡ true → nat_lt (length rest) most_nodes ≡ true
@@ -112,11 +112,11 @@ granted tree (g ∷ written) grants is =
     let more = granted tree written rest q.1 in
     let facts = grant-is tree g x p.1 in
     let whole : Granted tree (g ∷ written) (x ∷ rest) = record {
-          named = ap (λ name. name ∷ names rest) facts.0 ∙ ap (λ others. g.name ∷ others) more.named;
-          are = λ all. both_true
-            (both_true (subst (λ name. is_word name ≡ true) (sym facts.0) (both_left (is_named_grant g) (list_all is_named_grant written) all)) facts.1)
-            (more.are (both_right (is_named_grant g) (list_all is_named_grant written) all));
-        } in
+      named = ap (λ name. name ∷ names rest) facts.0 ∙ ap (λ others. g.name ∷ others) more.named;
+      are = λ all. both_true
+          (both_true (subst (λ name. is_word name ≡ true) (sym facts.0) (both_left (is_named_grant g) (list_all is_named_grant written) all)) facts.1)
+          (more.are (both_right (is_named_grant g) (list_all is_named_grant written) all));
+    } in
     subst (Granted tree (g ∷ written)) q.2 whole
 
 apart-from : (g : Grant) (others : List Grant) → is_among g.name (names others) ≡ false → list_all (are_disjoint g) others ≡ true → list_all (are_apart g) others ≡ true
@@ -152,7 +152,7 @@ grants-valid tree written grants words once is few =
     let count : length p.0 ≡ length written = few-named (λ (g : Grant). g.name) (λ (g : WrittenGrant). g.name) p.0 written all.named in
     subst (λ gs. are_grants tree gs ≡ true) same
     (both_true (both_true (subst (λ n. nat_le n most_grants ≡ true) (sym count) few) (all.are words))
-      (all-apart p.0 (subst (λ ns. are_once ns ≡ true) (sym all.named) once) q.0))
+    (all-apart p.0 (subst (λ ns. are_once ns ≡ true) (sym all.named) once) q.0))
 
 -- the programs
 program-is : (name : List ℕ) (read : Result (List Instruction) Fault) (q : NamedProgram) → program_from name read ≡ Ok q → (q.name ≡ name) × (read ≡ Ok q.code)
@@ -177,11 +177,11 @@ all-assembled (p ∷ written) programs is =
     let more = all-assembled written b.0 b.1 in
     let facts = program-is p.name (assembly_of p.text) a.0 a.1 in
     let whole : Assembled (p ∷ written) (a.0 ∷ b.0) = record {
-          named = ap (λ name. name ∷ program_names b.0) facts.0 ∙ ap (λ others. p.name ∷ others) more.named;
-          are = λ all. both_true
-            (both_true (subst (λ name. is_word name ≡ true) (sym facts.0) (both_left (is_named_program p) (list_all is_named_program written) all)) (assembly-good p.text a.0.code facts.1))
-            (more.are (both_right (is_named_program p) (list_all is_named_program written) all));
-        } in
+      named = ap (λ name. name ∷ program_names b.0) facts.0 ∙ ap (λ others. p.name ∷ others) more.named;
+      are = λ all. both_true
+          (both_true (subst (λ name. is_word name ≡ true) (sym facts.0) (both_left (is_named_program p) (list_all is_named_program written) all)) (assembly-good p.text a.0.code facts.1))
+          (more.are (both_right (is_named_program p) (list_all is_named_program written) all));
+    } in
     subst (Assembled (p ∷ written)) (ok-equal (a.0 ∷ b.0) programs b.2) whole
 
 named-from : (p : NamedProgram) (others : List NamedProgram) → is_among p.name (program_names others) ≡ false → list_all (are_named_apart p) others ≡ true
@@ -242,7 +242,7 @@ descriptors-valid tree (d ∷ written) xs bounded is =
     let q = map-some (λ rest. p.0 ∷ rest) (descriptors_placed tree written) xs p.2 in
     subst (λ ys. list_all (is_descriptor tree) ys ≡ true) q.2
     (both_true (descriptor-valid tree d p.0 (both_left (is_bounded d) (list_all is_bounded written) bounded) p.1)
-      (descriptors-valid tree written q.0 (both_right (is_bounded d) (list_all is_bounded written) bounded) q.1))
+    (descriptors-valid tree written q.0 (both_right (is_bounded d) (list_all is_bounded written) bounded) q.1))
 
 table-valid : (tree : List Node) (written : List WrittenDescriptor) (xs : List FirstDescriptor) → list_all is_bounded written ≡ true → table_of tree written ≡ Some xs → are_descriptors tree xs ≡ true
 table-valid tree written xs bounded is =
@@ -268,11 +268,11 @@ started tree programs (s ∷ written) starts is =
     let q = map-some (λ rest. p.0 ∷ rest) (starts_placed tree written) starts p.2 in
     let more = started tree programs written q.0 q.1 in
     let whole : Started tree programs (s ∷ written) (p.0 ∷ q.0) = record {
-          count = ap suc more.count;
-          are = λ all. both_true
-            (start-valid tree programs s p.0 (both_left (is_given programs s) (list_all (is_given programs) written) all) p.1)
-            (more.are (both_right (is_given programs s) (list_all (is_given programs) written) all));
-        } in
+      count = ap suc more.count;
+      are = λ all. both_true
+          (start-valid tree programs s p.0 (both_left (is_given programs s) (list_all (is_given programs) written) all) p.1)
+          (more.are (both_right (is_given programs s) (list_all (is_given programs) written) all));
+    } in
     subst (Started tree programs (s ∷ written)) q.2 whole
 
 starts-valid : (tree : List Node) (programs : ℕ) (written : List WrittenStart) (starts : List Start) → nat_le 1 (length written) ≡ true → list_all (is_given programs) written ≡ true → starts_placed tree written ≡ Some starts → nat_le (length written) most_processes ≡ true → are_starts tree programs starts ≡ true
@@ -326,11 +326,11 @@ plan-valid task plan written is =
     let limits = limited task tree l.0 in
     subst (λ x. is_plan x ≡ true) l.1
     (both_true
-      (both_true
-        (both_true (tree-valid task.nodes tree t.1 limits.within limits.nodes) (grants-valid tree task.grants g.0 written.grants_named written.grants_once g.1 limits.grants))
-        (programs-valid task.programs p.0 written.programs_named written.programs_once p.1 limits.programs))
-      (subst (λ n. are_starts tree n s.0 ≡ true) (sym (programs-count task.programs p.0 p.1))
-        (starts-valid tree (length task.programs) task.starts s.0 written.some written.given s.1 limits.starts)))
+    (both_true
+    (both_true (tree-valid task.nodes tree t.1 limits.within limits.nodes) (grants-valid tree task.grants g.0 written.grants_named written.grants_once g.1 limits.grants))
+    (programs-valid task.programs p.0 written.programs_named written.programs_once p.1 limits.programs))
+    (subst (λ n. are_starts tree n s.0 ≡ true) (sym (programs-count task.programs p.0 p.1))
+    (starts-valid tree (length task.programs) task.starts s.0 written.some written.given s.1 limits.starts)))
 
 pub read-valid : (ms : Members) (plan : Plan) → plan_in ms ≡ Ok plan → is_plan plan ≡ true
 unfolding plan_in

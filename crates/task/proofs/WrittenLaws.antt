@@ -1,5 +1,5 @@
 -- What a written task keeps.
-use Rattle.std.proofs.Common.{◌≡◌, ℕ, zero, suc, ◌+◌, ◌<◌, ◌≤◌, List, [], ◌∷◌, Option, Some, None, option_map, Bool, true, false, cond, length, map, refl, ap, sym, subst, ◌∙◌, arith, codes, bit_or, ℤ}
+use Rattle.std.proofs.Common.{◌≡◌, ℕ, zero, suc, ◌+◌, ◌<◌, List, [], ◌∷◌, Option, Some, None, option_map, Bool, true, false, cond, length, refl, ap, sym, subst, ◌∙◌, arith, codes, bit_or, ℤ}
 use Rattle.std.specs.Prelude.{◌==◌, ◌&&◌, nat_le, nat_lt, option_and_then}
 use Rattle.std.specs.List.{list_all}
 use Rattle.std.specs.Str.{bytes_eq}
@@ -13,9 +13,9 @@ use Rattle.rights.proofs.Tests.{both_left, both_right}
 use Rattle.fd_table.specs.Descriptions.{Access}
 use Rattle.prog_asm.specs.Fields.{named}
 use Rattle.toml.specs.Data.{Data, Items, no_items, item, Members, get_member, as_table}
-use Rattle.task.specs.Documents.{are_once, each_item, words_in, read_or, only_keys, text_at, integer_at, items_at}
+use Rattle.task.specs.Documents.{are_once, each_item, words_in, read_or, only_keys, text_at, items_at}
 use Rattle.task.specs.Limits.{is_word}
-use Rattle.task.specs.Written.{WrittenNode, WrittenGrant, WrittenProgram, WrittenDescriptor, WrittenStart, WrittenTask, access_in, grant_in, grant_with, grants_once, descriptor_in, descriptor_keys, descriptor_with, descriptors_in, listed_starts, mode_in, name_at, names_of_grants, names_of_programs, operations_in, place_among, place_from, program_in, program_place, program_with, programs_once, reading, set_from, set_in, set_named, some_start, start_in, start_with, task_with, word_if, written_descriptor, written_grant, written_grants, written_nodes, written_program, written_programs, written_start, written_starts, written_task}
+use Rattle.task.specs.Written.{WrittenNode, WrittenGrant, WrittenProgram, WrittenDescriptor, WrittenStart, WrittenTask, grant_in, grant_with, grants_once, descriptor_in, descriptor_keys, descriptor_with, listed_starts, name_at, names_of_grants, names_of_programs, place_among, place_from, program_in, program_with, programs_once, set_from, set_in, set_named, some_start, start_in, start_with, task_with, word_if, written_descriptor, written_grant, written_program, written_programs, written_start, written_starts, written_task}
 
 pub some-equal : {A : Type 0} (x y : A) → Some x ≡ Some y → x ≡ y
 some-equal x y is = cc
@@ -226,5 +226,5 @@ task-written ms task is =
       programs_once = subst (λ xs. are_once (names_of_programs xs) ≡ true) p_same po.0;
       some = subst (λ xs. nat_le 1 (length xs) ≡ true) ss.1 (some-length (length sl.0) ss.0);
       given = subst (λ xs. list_all (is_given (length task.programs)) xs ≡ true) ss.1
-        (subst (λ n. list_all (is_given n) sl.0 ≡ true) count (each-passes (written_start names) (is_given (length names)) (start-given names) each.0 sl.0 each.2));
+          (subst (λ n. list_all (is_given n) sl.0 ≡ true) count (each-passes (written_start names) (is_given (length names)) (start-given names) each.0 sl.0 each.2));
     }

@@ -1,5 +1,5 @@
 -- A task as a document writes it: its words are read, and its paths and programs are texts still. (own)
-use Rattle.std.specs.Prelude.{◌==◌, ℕ, ◌+◌, ℤ, Bool, true, false, ◌&&◌, ◌||◌, not, nat_eq, nat_lt, List, [], ◌∷◌, length, map, codes, Option, Some, None, option_map, option_and_then, bit_or, if◌then◌else◌}
+use Rattle.std.specs.Prelude.{◌==◌, ℕ, ◌+◌, ℤ, Bool, true, false, ◌||◌, List, [], ◌∷◌, length, map, codes, Option, Some, None, option_map, option_and_then, bit_or, if◌then◌else◌}
 use Rattle.std.specs.List.{list_all}
 use Rattle.std.specs.Str.{bytes_eq}
 use Rattle.rights.specs.Sets.{all_rights, all_commands, right_names, command_names}
@@ -7,7 +7,7 @@ use Rattle.rights.specs.Operations.{Operation, Look, Read, Write, Create, Remove
 use Rattle.file_tree.specs.Nodes.{Kind, File, Dir, Link}
 use Rattle.fd_table.specs.Descriptions.{Access}
 use Rattle.prog_asm.specs.Fields.{named}
-use Rattle.toml.specs.Data.{Data, Items, Members, get_member, as_str, as_array, as_table}
+use Rattle.toml.specs.Data.{Data, Members, get_member, as_str, as_table}
 use Rattle.task.specs.Documents.{is_among, are_once, only_keys, text_at, integer_at, items_at, each_item, words_in, read_or}
 use Rattle.task.specs.Limits.{is_word}
 

@@ -98,7 +98,13 @@ fn name_at<'a>(table: &'a Table, key: &str) -> Option<&'a str>
     ensures { option_map (λ name. name.now) result ≡ name_at key.now (table_view table.now) }
 {
     match text_at(table, key) {
-        Some(name) => { if is_name(name.as_bytes()) { Some(name) } else { None } }
+        Some(name) => {
+            if is_name(name.as_bytes()) {
+                Some(name)
+            } else {
+                None
+            }
+        }
         None => None,
     }
 }
@@ -161,7 +167,10 @@ fn grant<'a>(alloc: Global, table: &'a Table) -> Result<WrittenGrant<'a>, TaskFa
 }
 
 /// A grant.
-pub(crate) fn written_grant<'a>(alloc: Global, value: &'a Value) -> Result<WrittenGrant<'a>, TaskFault>
+pub(crate) fn written_grant<'a>(
+    alloc: Global,
+    value: &'a Value,
+) -> Result<WrittenGrant<'a>, TaskFault>
     ensures { Reads grant_seen result (or_mistake Wrong_field (written_grant (view value.now))) }
 {
     match value.as_table() {

@@ -1,8 +1,8 @@
 //! Tasks: a file tree, a policy, programs and first processes as one value, and the world that they start in.
 #![tactic(auto)]
 
-mod documents;
 mod assembling;
+mod documents;
 pub mod faults;
 mod fields;
 pub mod grants;

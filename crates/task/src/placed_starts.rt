@@ -55,7 +55,11 @@ fn node_number(nodes: &[TaskNode], place: &[Vec<u8>]) -> Option<usize>
 }
 
 /// The number of the node at a path.
-fn number_of_path(alloc: Global, nodes: &[TaskNode], path: &[u8]) -> Result<Option<usize>, AllocError>
+fn number_of_path(
+    alloc: Global,
+    nodes: &[TaskNode],
+    path: &[u8],
+) -> Result<Option<usize>, AllocError>
     ensures value { IfOk result (λ number. number ≡ number_of_path (nodes_of nodes.now) path.now) }
     ensures within { IfOk result (λ number. IfSome number (λ n. n < length nodes.now)) }
 {

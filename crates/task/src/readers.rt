@@ -121,10 +121,7 @@ fn program_names<'a>(
 }
 
 /// A document's programs: each name is given once.
-fn read_programs<'a>(
-    alloc: Global,
-    table: &'a Table,
-) -> Result<Vec<WrittenProgram<'a>>, TaskFault>
+fn read_programs<'a>(alloc: Global, table: &'a Table) -> Result<Vec<WrittenProgram<'a>>, TaskFault>
     ensures { Reads (λ programs. programs_seen programs.items) result
         (or_mistake Wrong_field (written_programs (table_view table.now))) }
 {
@@ -193,11 +190,7 @@ fn read_descriptors<'a>(
 }
 
 /// A first process.
-fn start<'a>(
-    alloc: Global,
-    names: &[&str],
-    table: &'a Table,
-) -> Result<WrittenStart<'a>, TaskFault>
+fn start<'a>(alloc: Global, names: &[&str], table: &'a Table) -> Result<WrittenStart<'a>, TaskFault>
     ensures { Reads start_seen result
         (or_mistake Wrong_field (start_in (map (λ n. n.now) names.now) (table_view table.now))) }
 {

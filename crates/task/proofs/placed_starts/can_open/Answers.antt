@@ -12,4 +12,4 @@ returns c =
     let m = c.index-nodes-number.result in
     c.can_access.ensures
     ∙ ap (λ x. can_access x (access_seen c.args.access))
-      (sym (get_or-map node_of c.args.nodes.now c.args.number m nowhere c.requires ∙ ap node_of (sym c.index-nodes-number.is)))
+    (sym (get_or-map node_of c.args.nodes.now c.args.number m nowhere c.requires ∙ ap node_of (sym c.index-nodes-number.is)))

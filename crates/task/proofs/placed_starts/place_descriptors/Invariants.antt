@@ -10,4 +10,4 @@ abbrev pub invariant-loop-descriptor : goal.invariant-loop-descriptor
 invariant-loop-descriptor l =
     descriptors_placed (nodes_of l.nodes) (map descriptor_seen l.written)
     ≡ option_map (λ rest. map placed_descriptor l.descriptors.items ++ rest)
-      (descriptors_placed (nodes_of l.nodes) (map descriptor_seen (drop l.descriptor-index l.written)))
+    (descriptors_placed (nodes_of l.nodes) (map descriptor_seen (drop l.descriptor-index l.written)))

@@ -1,4 +1,4 @@
-use Rattle.std.proofs.Common.{◌≡◌, ◌++◌, ℕ, ◌+◌, List, Option, None, Some, map, drop, option_map, ap, sym, subst, refl, ◌∙◌}
+use Rattle.std.proofs.Common.{◌≡◌, ◌++◌, ◌+◌, None, Some, map, drop, option_map, ap, sym, ◌∙◌}
 use Rattle.std.proofs.lemmas.List.{map-append}
 use Rattle.std.proofs.lemmas.Result.{err_from_is_err_and}
 use Rattle.toml.specs.View.{items_view, view}
@@ -18,8 +18,8 @@ returns-in_err-written_grant c =
     let i = c.loop-value.value-index in
     let v = c.value-item.result in
     let none : written_grant (view v) ≡ None → each_item written_grant (items_view vs) ≡ None =
-        λ refused. c.loop-value.invariant ∙ ap (option_map (λ rest. map grant_seen c.loop-value.grants.items ++ rest))
-            (each-refused written_grant vs i v c.loop-value-test.true (ap (λ x. written_grant (view x)) (sym c.value-item.is) ∙ refused)) in
+    λ refused. c.loop-value.invariant ∙ ap (option_map (λ rest. map grant_seen c.loop-value.grants.items ++ rest))
+    (each-refused written_grant vs i v c.loop-value-test.true (ap (λ x. written_grant (view x)) (sym c.value-item.is) ∙ refused)) in
     rw (p.1, p.2) (field-fault error (written_grant (view v)) (each_item written_grant (items_view vs)) none c.in_err-written_grant.ensures)
 
 pub loop-value-preserved : goal.loop-value-preserved
@@ -33,4 +33,4 @@ loop-value-preserved c =
     c.loop-value.invariant
     ∙ each-read written_grant vs i v (map grant_seen grants) (grant_seen g) c.loop-value-test.true (ap (λ x. written_grant (view x)) (sym c.value-item.is) ∙ is)
     ∙ ap (λ items. option_map (λ rest. items ++ rest) (each_item written_grant (items_view (drop (i + 1) vs))))
-      (sym (ap (map grant_seen) c.in_ok-push.ensures.items ∙ map-append grant_seen grants _))
+    (sym (ap (map grant_seen) c.in_ok-push.ensures.items ∙ map-append grant_seen grants _))

@@ -1,4 +1,4 @@
-use Rattle.std.proofs.Common.{◌≡◌, ◌==◌, ℕ, Bool, List, Option, Some, None, cond, map, length, ap, sym, subst, ◌∙◌}
+use Rattle.std.proofs.Common.{◌≡◌, ◌==◌, ℕ, Bool, List, Some, None, cond, map, length, ap, sym, subst, ◌∙◌}
 use Rattle.std.specs.Prelude.{option_and_then, true, false}
 use Rattle.std.proofs.lemmas.List.{length-map}
 use Rattle.std.proofs.lemmas.Result.{err_from_is_err_and}
@@ -27,7 +27,7 @@ returns-in_err-starts c =
     let programs = programs_seen c.args.programs.now in
     let same : map (λ n. n.now) c.deref.result.now ≡ names_of_programs programs = ap (map (λ n. n.now)) c.deref.ensures.value ∙ c.in_ok-names.ensures in
     let told : FaultIs error (or_mistake Wrong_field (listed_starts (names_of_programs programs) ms)) =
-        subst (λ n. FaultIs error (or_mistake Wrong_field (listed_starts n ms))) same c.in_err-starts.ensures in
+    subst (λ n. FaultIs error (or_mistake Wrong_field (listed_starts n ms))) same c.in_err-starts.ensures in
     rw (p.1, p.2) (field-fault error (listed_starts (names_of_programs programs) ms) (written_starts ms programs) (λ none. ap (option_and_then some_start) none) told)
 
 pub returns-then-is_empty : goal.returns-then-is_empty
@@ -37,7 +37,7 @@ returns-then-is_empty c =
     let starts = c.in_ok-starts.starts in
     let same : map (λ n. n.now) c.deref.result.now ≡ names_of_programs programs = ap (map (λ n. n.now)) c.deref.ensures.value ∙ c.in_ok-names.ensures in
     let empty : (length (starts_seen starts.items) == 0) ≡ true =
-        ap (λ n. n == 0) (length-map starts.items start_seen ∙ sym starts.ok.0) ∙ sym c.is_empty.ensures ∙ c.if-is_empty.true in
+    ap (λ n. n == 0) (length-map starts.items start_seen ∙ sym starts.ok.0) ∙ sym c.is_empty.ensures ∙ c.if-is_empty.true in
     ap (or_mistake Wrong_field) (listed ms programs _ _ same (some_from Wrong_field _ _ c.in_ok-starts.ensures) ∙ decided _ _ empty)
 
 pub returns : goal.returns
@@ -47,5 +47,5 @@ returns c =
     let starts = c.in_ok-starts.starts in
     let same : map (λ n. n.now) c.deref.result.now ≡ names_of_programs programs = ap (map (λ n. n.now)) c.deref.ensures.value ∙ c.in_ok-names.ensures in
     let some : (length (starts_seen starts.items) == 0) ≡ false =
-        ap (λ n. n == 0) (length-map starts.items start_seen ∙ sym starts.ok.0) ∙ sym c.is_empty.ensures ∙ c.if-is_empty.false in
+    ap (λ n. n == 0) (length-map starts.items start_seen ∙ sym starts.ok.0) ∙ sym c.is_empty.ensures ∙ c.if-is_empty.false in
     ap (or_mistake Wrong_field) (listed ms programs _ _ same (some_from Wrong_field _ _ c.in_ok-starts.ensures) ∙ decided _ _ some)

@@ -1,9 +1,9 @@
-use Rattle.std.proofs.Common.{◌≡◌, Some, None, true, ap, sym, ◌∙◌}
+use Rattle.std.proofs.Common.{◌≡◌, Some, ap, sym, ◌∙◌}
 use Rattle.std.proofs.lemmas.Result.{err_from_is_err_and}
 use Rattle.toml.specs.View.{table_view}
 use Rattle.task.specs.Reading.{Wrong_field, or_mistake}
 use Rattle.task.specs.Written.{written_programs, written_starts, written_task}
-use Rattle.task.specs.WrittenViews.{nodes_seen, grants_seen, programs_seen, starts_seen}
+use Rattle.task.specs.WrittenViews.{programs_seen}
 use Rattle.task.proofs.EachItem.{some_from}
 use Rattle.task.proofs.FieldFaults.{field-fault, without-starts, all-parts}
 use Rattle.task.proofs.readers.read_written.Goals as goal
@@ -23,5 +23,5 @@ returns c =
     let programs = programs_seen c.deref.result.now in
     let same = ap programs_seen c.deref.ensures.value in
     ap (or_mistake Wrong_field) (all-parts ms _ _ _ _ (sym c.has_only.ensures ∙ c.if-not-has_only.false)
-        (some_from Wrong_field _ _ c.in_ok-nodes.ensures) (some_from Wrong_field _ _ c.in_ok-grants.ensures) (some_from Wrong_field _ _ c.in_ok-programs.ensures)
-        (ap (written_starts ms) (sym same) ∙ some_from Wrong_field _ _ c.in_ok-starts.ensures))
+    (some_from Wrong_field _ _ c.in_ok-nodes.ensures) (some_from Wrong_field _ _ c.in_ok-grants.ensures) (some_from Wrong_field _ _ c.in_ok-programs.ensures)
+    (ap (written_starts ms) (sym same) ∙ some_from Wrong_field _ _ c.in_ok-starts.ensures))

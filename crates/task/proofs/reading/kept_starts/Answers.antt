@@ -1,4 +1,4 @@
-use Rattle.std.proofs.Common.{◌≡◌, true, ap, sym, subst}
+use Rattle.std.proofs.Common.{◌≡◌, true, sym, subst}
 use Rattle.task.specs.Placed.{is_small, placed_start}
 use Rattle.task.proofs.Stages.{small-at}
 use Rattle.task.proofs.reading.kept_starts.Goals as goal

@@ -1,11 +1,11 @@
-use Rattle.std.proofs.Common.{◌≡◌, Some, None, Ok, true, false, ap, sym, subst, ◌∙◌}
+use Rattle.std.proofs.Common.{◌≡◌, Some, Ok, true, ap, sym, subst, ◌∙◌}
 use Rattle.std.specs.List.{list_all}
 use Rattle.std.proofs.lemmas.Result.{err_from_is_err_and}
 use Rattle.task.specs.Plans.{Plan, plan_with}
 use Rattle.task.specs.Limits.{is_plan}
 use Rattle.task.specs.Faults.{FaultIs}
 use Rattle.task.specs.Placed.{is_small, placed_starts}
-use Rattle.task.specs.Reading.{Wrong_node, Wrong_grant, Wrong_descriptor, or_mistake, tree_of, policy_of, starts_placed, all_assembled, keeps_limits, plan_of}
+use Rattle.task.specs.Reading.{Wrong_node, Wrong_grant, Wrong_descriptor, or_mistake, tree_of, policy_of, starts_placed, all_assembled, keeps_limits}
 use Rattle.task.specs.Views.{nodes_of, grants_of, programs_of, starts_of}
 use Rattle.task.specs.WrittenViews.{nodes_seen, grants_seen, programs_seen, starts_seen, task_seen}
 use Rattle.task.proofs.EachItem.{some_from}
@@ -20,7 +20,7 @@ returns-in_err-nodes c =
     let error = c.in_err-nodes.field-0.0 in
     let task = task_seen c.args.written.now in
     let told : FaultIs error (or_mistake Wrong_node (tree_of task.nodes)) =
-        subst (λ ns. FaultIs error (or_mistake Wrong_node (tree_of (nodes_seen ns)))) c.deref.ensures.value c.in_err-nodes.ensures in
+    subst (λ ns. FaultIs error (or_mistake Wrong_node (tree_of (nodes_seen ns)))) c.deref.ensures.value c.in_err-nodes.ensures in
     rw (p.1, p.2) (fails-tree task error told)
 
 pub returns-in_err-grants : goal.returns-in_err-grants
@@ -31,8 +31,8 @@ returns-in_err-grants c =
     let nodes = nodes_of c.in_ok-nodes.nodes.items in
     let made : tree_of task.nodes ≡ Some nodes = ap (λ ns. tree_of (nodes_seen ns)) (sym c.deref.ensures.value) ∙ some_from Wrong_node _ _ c.in_ok-nodes.ensures in
     let told : FaultIs error (or_mistake Wrong_grant (policy_of nodes task.grants)) =
-        subst (λ ns. FaultIs error (or_mistake Wrong_grant (policy_of (nodes_of ns) task.grants))) c.deref-2.ensures.value
-        (subst (λ gs. FaultIs error (or_mistake Wrong_grant (policy_of (nodes_of c.deref-2.result.now) (grants_seen gs)))) c.deref-3.ensures.value c.in_err-grants.ensures) in
+    subst (λ ns. FaultIs error (or_mistake Wrong_grant (policy_of (nodes_of ns) task.grants))) c.deref-2.ensures.value
+    (subst (λ gs. FaultIs error (or_mistake Wrong_grant (policy_of (nodes_of c.deref-2.result.now) (grants_seen gs)))) c.deref-3.ensures.value c.in_err-grants.ensures) in
     rw (p.1, p.2) (fails-grants task nodes made error told)
 
 pub returns-in_err-placed : goal.returns-in_err-placed
@@ -44,10 +44,10 @@ returns-in_err-placed c =
     let made : tree_of task.nodes ≡ Some nodes = ap (λ ns. tree_of (nodes_seen ns)) (sym c.deref.ensures.value) ∙ some_from Wrong_node _ _ c.in_ok-nodes.ensures in
     let grants = grants_of c.in_ok-grants.grants.items in
     let granted : policy_of nodes task.grants ≡ Some grants =
-        ap2 (λ ns gs. policy_of (nodes_of ns) (grants_seen gs)) _ _ _ _ (sym c.deref-2.ensures.value) (sym c.deref-3.ensures.value) ∙ some_from Wrong_grant _ _ c.in_ok-grants.ensures in
+    ap2 (λ ns gs. policy_of (nodes_of ns) (grants_seen gs)) _ _ _ _ (sym c.deref-2.ensures.value) (sym c.deref-3.ensures.value) ∙ some_from Wrong_grant _ _ c.in_ok-grants.ensures in
     let told : FaultIs error (or_mistake Wrong_descriptor (starts_placed nodes task.starts)) =
-        subst (λ ns. FaultIs error (or_mistake Wrong_descriptor (starts_placed (nodes_of ns) task.starts))) c.deref-4.ensures.value
-        (subst (λ ss. FaultIs error (or_mistake Wrong_descriptor (starts_placed (nodes_of c.deref-4.result.now) (starts_seen ss)))) c.deref-5.ensures.value c.in_err-placed.ensures) in
+    subst (λ ns. FaultIs error (or_mistake Wrong_descriptor (starts_placed (nodes_of ns) task.starts))) c.deref-4.ensures.value
+    (subst (λ ss. FaultIs error (or_mistake Wrong_descriptor (starts_placed (nodes_of c.deref-4.result.now) (starts_seen ss)))) c.deref-5.ensures.value c.in_err-placed.ensures) in
     rw (p.1, p.2) (fails-starts task nodes made grants granted error told)
 
 pub returns-in_err-programs : goal.returns-in_err-programs
@@ -59,12 +59,12 @@ returns-in_err-programs c =
     let made : tree_of task.nodes ≡ Some nodes = ap (λ ns. tree_of (nodes_seen ns)) (sym c.deref.ensures.value) ∙ some_from Wrong_node _ _ c.in_ok-nodes.ensures in
     let grants = grants_of c.in_ok-grants.grants.items in
     let granted : policy_of nodes task.grants ≡ Some grants =
-        ap2 (λ ns gs. policy_of (nodes_of ns) (grants_seen gs)) _ _ _ _ (sym c.deref-2.ensures.value) (sym c.deref-3.ensures.value) ∙ some_from Wrong_grant _ _ c.in_ok-grants.ensures in
+    ap2 (λ ns gs. policy_of (nodes_of ns) (grants_seen gs)) _ _ _ _ (sym c.deref-2.ensures.value) (sym c.deref-3.ensures.value) ∙ some_from Wrong_grant _ _ c.in_ok-grants.ensures in
     let starts = placed_starts c.in_ok-placed.placed.items in
     let started : starts_placed nodes task.starts ≡ Some starts =
-        ap2 (λ ns ss. starts_placed (nodes_of ns) (starts_seen ss)) _ _ _ _ (sym c.deref-4.ensures.value) (sym c.deref-5.ensures.value) ∙ some_from Wrong_descriptor _ _ c.in_ok-placed.ensures in
+    ap2 (λ ns ss. starts_placed (nodes_of ns) (starts_seen ss)) _ _ _ _ (sym c.deref-4.ensures.value) (sym c.deref-5.ensures.value) ∙ some_from Wrong_descriptor _ _ c.in_ok-placed.ensures in
     let told : FaultIs error (all_assembled task.programs) =
-        subst (λ ps. FaultIs error (all_assembled (programs_seen ps))) c.deref-6.ensures.value c.in_err-programs.ensures in
+    subst (λ ps. FaultIs error (all_assembled (programs_seen ps))) c.deref-6.ensures.value c.in_err-programs.ensures in
     rw (p.1, p.2) (fails-programs task nodes made grants granted starts started error told)
 
 pub returns-then-not-keeps_limits : goal.returns-then-not-keeps_limits
@@ -74,10 +74,10 @@ returns-then-not-keeps_limits c =
     let made : tree_of task.nodes ≡ Some nodes = ap (λ ns. tree_of (nodes_seen ns)) (sym c.deref.ensures.value) ∙ some_from Wrong_node _ _ c.in_ok-nodes.ensures in
     let grants = grants_of c.in_ok-grants.grants.items in
     let granted : policy_of nodes task.grants ≡ Some grants =
-        ap2 (λ ns gs. policy_of (nodes_of ns) (grants_seen gs)) _ _ _ _ (sym c.deref-2.ensures.value) (sym c.deref-3.ensures.value) ∙ some_from Wrong_grant _ _ c.in_ok-grants.ensures in
+    ap2 (λ ns gs. policy_of (nodes_of ns) (grants_seen gs)) _ _ _ _ (sym c.deref-2.ensures.value) (sym c.deref-3.ensures.value) ∙ some_from Wrong_grant _ _ c.in_ok-grants.ensures in
     let starts = placed_starts c.in_ok-placed.placed.items in
     let started : starts_placed nodes task.starts ≡ Some starts =
-        ap2 (λ ns ss. starts_placed (nodes_of ns) (starts_seen ss)) _ _ _ _ (sym c.deref-4.ensures.value) (sym c.deref-5.ensures.value) ∙ some_from Wrong_descriptor _ _ c.in_ok-placed.ensures in
+    ap2 (λ ns ss. starts_placed (nodes_of ns) (starts_seen ss)) _ _ _ _ (sym c.deref-4.ensures.value) (sym c.deref-5.ensures.value) ∙ some_from Wrong_descriptor _ _ c.in_ok-placed.ensures in
     let programs = programs_of c.in_ok-programs.programs.items in
     let assembled : all_assembled task.programs ≡ Ok programs = ap (λ ps. all_assembled (programs_seen ps)) (sym c.deref-6.ensures.value) ∙ c.in_ok-programs.ensures in
     let keeps = ap (λ ns. keeps_limits task (nodes_of ns)) (sym c.deref-7.ensures.value) ∙ sym c.keeps_limits.ensures in
@@ -90,10 +90,10 @@ kept_starts-requires c =
     let made : tree_of task.nodes ≡ Some nodes = ap (λ ns. tree_of (nodes_seen ns)) (sym c.deref.ensures.value) ∙ some_from Wrong_node _ _ c.in_ok-nodes.ensures in
     let grants = grants_of c.in_ok-grants.grants.items in
     let granted : policy_of nodes task.grants ≡ Some grants =
-        ap2 (λ ns gs. policy_of (nodes_of ns) (grants_seen gs)) _ _ _ _ (sym c.deref-2.ensures.value) (sym c.deref-3.ensures.value) ∙ some_from Wrong_grant _ _ c.in_ok-grants.ensures in
+    ap2 (λ ns gs. policy_of (nodes_of ns) (grants_seen gs)) _ _ _ _ (sym c.deref-2.ensures.value) (sym c.deref-3.ensures.value) ∙ some_from Wrong_grant _ _ c.in_ok-grants.ensures in
     let starts = placed_starts c.in_ok-placed.placed.items in
     let started : starts_placed nodes task.starts ≡ Some starts =
-        ap2 (λ ns ss. starts_placed (nodes_of ns) (starts_seen ss)) _ _ _ _ (sym c.deref-4.ensures.value) (sym c.deref-5.ensures.value) ∙ some_from Wrong_descriptor _ _ c.in_ok-placed.ensures in
+    ap2 (λ ns ss. starts_placed (nodes_of ns) (starts_seen ss)) _ _ _ _ (sym c.deref-4.ensures.value) (sym c.deref-5.ensures.value) ∙ some_from Wrong_descriptor _ _ c.in_ok-placed.ensures in
     let programs = programs_of c.in_ok-programs.programs.items in
     let assembled : all_assembled task.programs ≡ Ok programs = ap (λ ps. all_assembled (programs_seen ps)) (sym c.deref-6.ensures.value) ∙ c.in_ok-programs.ensures in
     let keeps = ap (λ ns. keeps_limits task (nodes_of ns)) (sym c.deref-7.ensures.value) ∙ sym c.keeps_limits.ensures in
@@ -109,10 +109,10 @@ new-requires c =
     let made : tree_of task.nodes ≡ Some nodes = ap (λ ns. tree_of (nodes_seen ns)) (sym c.deref.ensures.value) ∙ some_from Wrong_node _ _ c.in_ok-nodes.ensures in
     let grants = grants_of c.in_ok-grants.grants.items in
     let granted : policy_of nodes task.grants ≡ Some grants =
-        ap2 (λ ns gs. policy_of (nodes_of ns) (grants_seen gs)) _ _ _ _ (sym c.deref-2.ensures.value) (sym c.deref-3.ensures.value) ∙ some_from Wrong_grant _ _ c.in_ok-grants.ensures in
+    ap2 (λ ns gs. policy_of (nodes_of ns) (grants_seen gs)) _ _ _ _ (sym c.deref-2.ensures.value) (sym c.deref-3.ensures.value) ∙ some_from Wrong_grant _ _ c.in_ok-grants.ensures in
     let starts = placed_starts c.in_ok-placed.placed.items in
     let started : starts_placed nodes task.starts ≡ Some starts =
-        ap2 (λ ns ss. starts_placed (nodes_of ns) (starts_seen ss)) _ _ _ _ (sym c.deref-4.ensures.value) (sym c.deref-5.ensures.value) ∙ some_from Wrong_descriptor _ _ c.in_ok-placed.ensures in
+    ap2 (λ ns ss. starts_placed (nodes_of ns) (starts_seen ss)) _ _ _ _ (sym c.deref-4.ensures.value) (sym c.deref-5.ensures.value) ∙ some_from Wrong_descriptor _ _ c.in_ok-placed.ensures in
     let programs = programs_of c.in_ok-programs.programs.items in
     let assembled : all_assembled task.programs ≡ Ok programs = ap (λ ps. all_assembled (programs_seen ps)) (sym c.deref-6.ensures.value) ∙ c.in_ok-programs.ensures in
     let keeps = ap (λ ns. keeps_limits task (nodes_of ns)) (sym c.deref-7.ensures.value) ∙ sym c.keeps_limits.ensures in
@@ -129,10 +129,10 @@ returns c =
     let made : tree_of task.nodes ≡ Some nodes = ap (λ ns. tree_of (nodes_seen ns)) (sym c.deref.ensures.value) ∙ some_from Wrong_node _ _ c.in_ok-nodes.ensures in
     let grants = grants_of c.in_ok-grants.grants.items in
     let granted : policy_of nodes task.grants ≡ Some grants =
-        ap2 (λ ns gs. policy_of (nodes_of ns) (grants_seen gs)) _ _ _ _ (sym c.deref-2.ensures.value) (sym c.deref-3.ensures.value) ∙ some_from Wrong_grant _ _ c.in_ok-grants.ensures in
+    ap2 (λ ns gs. policy_of (nodes_of ns) (grants_seen gs)) _ _ _ _ (sym c.deref-2.ensures.value) (sym c.deref-3.ensures.value) ∙ some_from Wrong_grant _ _ c.in_ok-grants.ensures in
     let starts = placed_starts c.in_ok-placed.placed.items in
     let started : starts_placed nodes task.starts ≡ Some starts =
-        ap2 (λ ns ss. starts_placed (nodes_of ns) (starts_seen ss)) _ _ _ _ (sym c.deref-4.ensures.value) (sym c.deref-5.ensures.value) ∙ some_from Wrong_descriptor _ _ c.in_ok-placed.ensures in
+    ap2 (λ ns ss. starts_placed (nodes_of ns) (starts_seen ss)) _ _ _ _ (sym c.deref-4.ensures.value) (sym c.deref-5.ensures.value) ∙ some_from Wrong_descriptor _ _ c.in_ok-placed.ensures in
     let programs = programs_of c.in_ok-programs.programs.items in
     let assembled : all_assembled task.programs ≡ Ok programs = ap (λ ps. all_assembled (programs_seen ps)) (sym c.deref-6.ensures.value) ∙ c.in_ok-programs.ensures in
     let keeps = ap (λ ns. keeps_limits task (nodes_of ns)) (sym c.deref-7.ensures.value) ∙ sym c.keeps_limits.ensures in

@@ -1,4 +1,4 @@
-use Rattle.std.proofs.Common.{◌≡◌, ◌-◌, length, map, take, ap, sym, ◌∙◌}
+use Rattle.std.proofs.Common.{◌-◌, length, map, take, ap, sym, ◌∙◌}
 use Rattle.std.specs.List.{take-map}
 use Rattle.std.proofs.lemmas.List.{length-map}
 use Rattle.task.proofs.trees.above.Goals as goal
