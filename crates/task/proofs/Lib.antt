@@ -3,6 +3,7 @@ pub mod FieldFaults
 pub mod Passing
 pub mod WrittenLaws
 pub mod ValidPlans
+pub mod PathTexts
 pub mod Stages
 pub mod EachItem
 pub mod Rows

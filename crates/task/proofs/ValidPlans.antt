@@ -28,7 +28,7 @@ use Rattle.task.proofs.WrittenLaws.{some-equal, and_then-some, map-some, if-some
 ok-equal : {A : Type 0} (x y : A) → or_mistake Wrong_field (Some x) ≡ Ok y → x ≡ y
 ok-equal x y is = cc
 
-ok-some : {A : Type 0} {B : Type 0} (m : Mistake) (o : Option A) (f : A → Result B Mistake) (y : B) → (or_mistake m o >>= f) ≡ Ok y → (x : A) × (o ≡ Some x) × (f x ≡ Ok y)
+pub ok-some : {A : Type 0} {B : Type 0} (m : Mistake) (o : Option A) (f : A → Result B Mistake) (y : B) → (or_mistake m o >>= f) ≡ Ok y → (x : A) × (o ≡ Some x) × (f x ≡ Ok y)
 ok-some m None f y is = absurd cc
 ok-some m (Some x) f y is = (x, refl, is)
 
