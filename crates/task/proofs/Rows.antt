@@ -1,5 +1,5 @@
 -- The base task, and changes of it: what each document stands for.
-use Rattle.std.proofs.Common.{◌≡◌, ℕ, true, false, List, [], ◌∷◌, codes, refl, Ok, Err}
+use Rattle.std.proofs.Common.{◌++◌, Bool, ◌≡◌, ℕ, true, false, List, [], ◌∷◌, codes, refl, Result, Ok, Err}
 use Rattle.std.specs.Prelude.{pos, replicate}
 use Rattle.std.specs.Str.{is_utf8, chars}
 use Rattle.rights.specs.Sets.{all_rights, all_commands}
@@ -17,8 +17,8 @@ use Rattle.toml.proofs.OnLiterals.{toml_on_literals}
 use Rattle.task.specs.Plans.{Grant, FirstDescriptor, Plan, plan_with}
 use Rattle.task.specs.Written.{written_task}
 use Rattle.task.specs.Paths.{place_of}
-use Rattle.task.specs.Reading.{can_stand, can_grant, can_open, Not_toml, Wrong_field, Wrong_node, Wrong_grant, Wrong_descriptor, Wrong_program, Past_limit, plan_of, plan_in, task_of}
-use Rattle.task.proofs.BaseTask.{base_text, base_document, document, directory, file, link, grant, on, process, program, words, base_nodes, base_grants, base_process, base_program, base_is_read}
+use Rattle.task.specs.Reading.{Mistake, can_stand, can_grant, can_open, Not_toml, Wrong_field, Wrong_node, Wrong_grant, Wrong_descriptor, Wrong_program, Past_limit, plan_of, plan_in, task_of}
+use Rattle.task.proofs.BaseTask.{base_text, base_document, document, directory, file, link, grant, on, process, program, words, base_nodes, base_grants, base_process, base_program, base_is_read, list}
 
 abbrev on_node : ℕ → ℕ → FirstDescriptor
 on_node number n =
@@ -257,3 +257,53 @@ a_node_before_a_grant = refl
 a_field_before_a_node : plan_in (document (work_directory ∷ work_directory ∷ owned ∷ []) base_grants (base_process ∷ []) (base_program ∷ [])) ≡ Err Wrong_field
 unfolding base created can_stand can_grant can_open written_task plan_of plan_in place_of node_at is_within_limits is_name is_target assembly_of line_of forms.written_at
 a_field_before_a_node = refl
+
+-- A process in capability mode, with a descriptor of which all is said.
+abbrev said : Data
+said =
+    table (member (codes "fcntls") (array (words []))
+    (member (codes "flags") (array (words (codes "write" ∷ codes "read" ∷ [])))
+    (member (codes "number") (integer (pos 15))
+    (member (codes "path") (string (codes "/work/in"))
+    (member (codes "rights") (array (words (codes "SEND" ∷ codes "READ" ∷ codes "RECV" ∷ []))) no_members)))))
+
+abbrev capable : Data
+capable =
+    table (member (codes "fd") (array (list (said ∷ on 0 (codes "/") ∷ [])))
+    (member (codes "mode") (string (codes "cap")) (member (codes "program") (string (codes "main")) no_members)))
+
+abbrev said_plan : Plan
+said_plan =
+    plan_with base [] (record { name = codes "main"; code = Halt ∷ [] } ∷ [])
+    (record {
+      program = 0;
+      mode = true;
+      descriptors = record { number = 15; node = 2; access = record { readable = true; writable = true }; rights = 3; fcntls = 0 } ∷ on_node 0 0 ∷ [];
+    } ∷ [])
+
+all_said : plan_in (document base_nodes [] (capable ∷ []) (base_program ∷ [])) ≡ Ok said_plan
+unfolding base created can_stand can_grant can_open written_task plan_of plan_in place_of node_at is_within_limits is_name is_target assembly_of line_of forms.written_at
+all_said = refl
+
+-- Paths of 1023 and of 1024 bytes.
+abbrev deep : ℕ → List Data
+deep last =
+    let a = long_path 255 in
+    let b = a ++ long_path 255 in
+    let c = b ++ long_path 255 in
+    directory a ∷ directory b ∷ directory c ∷ directory (c ++ long_path last) ∷ []
+
+abbrev alone : List Data → Members
+alone nodes = document nodes [] (process [] ∷ []) (base_program ∷ [])
+
+abbrev is_read : Result Plan Mistake → Bool
+is_read (Ok plan) = true
+is_read (Err mistake) = false
+
+a_path_of_1023_bytes : is_read (plan_in (alone (deep 254))) ≡ true
+unfolding base created can_stand can_grant can_open written_task plan_of plan_in place_of node_at is_within_limits is_name is_target assembly_of line_of forms.written_at
+a_path_of_1023_bytes = refl
+
+a_path_of_1024_bytes : plan_in (alone (deep 255)) ≡ Err Past_limit
+unfolding base created can_stand can_grant can_open written_task plan_of plan_in place_of node_at is_within_limits is_name is_target assembly_of line_of forms.written_at
+a_path_of_1024_bytes = refl

@@ -1,4 +1,5 @@
-//! Tasks: a file tree, a policy, programs and first processes as one value, and the world that they start in.
+//! Tasks: a file tree, a policy, programs and first processes as one value, how it is read from a TOML document, and the
+//! world that it starts in.
 #![tactic(auto)]
 
 mod assembling;
