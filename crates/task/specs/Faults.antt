@@ -1,6 +1,6 @@
 -- The faults of the reader: their numbers, and what its answers say of a definition's. Want of memory may come in place of
 -- any answer.
-use Rattle.std.specs.Prelude.{◌≡◌, ℕ, List, Option, Some, None, Result, Ok, Err, string_bytes}
+use Rattle.std.specs.Prelude.{◌≡◌, ℕ, List, Option, Some, None, Result, Ok, Err, codes, string_bytes}
 use Rattle.prog_asm.specs.declared.faults.AsmFault.{AsmFault}
 use Rattle.prog_asm.specs.declared.faults.AsmFault.TheVariants as asm
 use Rattle.prog_asm.specs.Assembly.{Fault, fault}
@@ -18,6 +18,16 @@ fault_number code.Descriptor = 5
 fault_number (code.Asm program why) = 6
 fault_number code.Limit = 7
 fault_number code.Memory = 8
+
+abbrev pub fault_name : TaskFault → List ℕ
+fault_name code.NotToml = codes "NotToml"
+fault_name code.Field = codes "Field"
+fault_name code.Node = codes "Node"
+fault_name code.Grant = codes "Grant"
+fault_name code.Descriptor = codes "Descriptor"
+fault_name (code.Asm program why) = codes "Asm"
+fault_name code.Limit = codes "Limit"
+fault_name code.Memory = codes "Memory"
 
 -- the fault of a text, want of memory aside
 abbrev pub text_fault : AsmFault → Option Fault

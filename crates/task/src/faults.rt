@@ -1,7 +1,7 @@
 //! Why some bytes are no task.
 
 ghost use Rattle.std.specs.Prelude.{◌≡◌};
-ghost use Rattle.task.specs.Faults.{fault_number};
+ghost use Rattle.task.specs.Faults.{fault_name, fault_number};
 ghost use Rattle.task.specs.declared.faults.TaskFault.TheVariants as task;
 
 use prog_asm::AsmFault;
@@ -52,6 +52,22 @@ impl TaskFault {
             TaskFault::Asm { .. } => 6,
             TaskFault::Limit => 7,
             TaskFault::Memory => 8,
+        }
+    }
+
+    /// The fault's name, as `NotToml`.
+    pub fn name(&self) -> &'static str
+        ensures { result.now ≡ fault_name self.now }
+    {
+        match self {
+            TaskFault::NotToml => "NotToml",
+            TaskFault::Field => "Field",
+            TaskFault::Node => "Node",
+            TaskFault::Grant => "Grant",
+            TaskFault::Descriptor => "Descriptor",
+            TaskFault::Asm { .. } => "Asm",
+            TaskFault::Limit => "Limit",
+            TaskFault::Memory => "Memory",
         }
     }
 }

@@ -83,7 +83,7 @@ fn node(table: &Table) -> Option<WrittenNode<'_>>
     }
 }
 
-/// A node.
+/// The node that a value is, if it is one.
 pub(crate) fn written_node(value: &Value) -> Option<WrittenNode<'_>>
     ensures { option_map node_seen result ≡ written_node (view value.now) }
 {
@@ -122,7 +122,7 @@ fn program(table: &Table) -> Option<WrittenProgram<'_>>
     }
 }
 
-/// A program.
+/// The program that a value is, if it is one.
 pub(crate) fn written_program(value: &Value) -> Option<WrittenProgram<'_>>
     ensures { option_map program_seen result ≡ written_program (view value.now) }
 {
@@ -146,7 +146,7 @@ fn operations(alloc: Global, value: Option<&Value>) -> Result<Vec<Op>, TaskFault
     }
 }
 
-/// A grant.
+/// A grant, with its operations.
 fn grant<'a>(alloc: Global, table: &'a Table) -> Result<WrittenGrant<'a>, TaskFault>
     ensures { Reads grant_seen result (or_mistake Wrong_field (grant_in (table_view table.now))) }
 {
@@ -166,7 +166,7 @@ fn grant<'a>(alloc: Global, table: &'a Table) -> Result<WrittenGrant<'a>, TaskFa
     }
 }
 
-/// A grant.
+/// The grant that a value is.
 pub(crate) fn written_grant<'a>(
     alloc: Global,
     value: &'a Value,
@@ -232,7 +232,7 @@ fn read_fcntls(alloc: Global, value: Option<&Value>) -> Result<Fcntls, TaskFault
     }
 }
 
-/// A first descriptor.
+/// A first descriptor, with its access, rights and commands.
 fn descriptor<'a>(alloc: Global, table: &'a Table) -> Result<WrittenDescriptor<'a>, TaskFault>
     ensures { Reads descriptor_seen result (or_mistake Wrong_field (descriptor_in (table_view table.now))) }
 {
@@ -251,7 +251,7 @@ fn descriptor<'a>(alloc: Global, table: &'a Table) -> Result<WrittenDescriptor<'
     }
 }
 
-/// A first descriptor.
+/// The first descriptor that a value is.
 pub(crate) fn written_descriptor<'a>(
     alloc: Global,
     value: &'a Value,

@@ -25,6 +25,7 @@ mod written;
 
 pub use faults::TaskFault;
 pub use grants::Grant;
+pub use limits::{MAX_GRANTS, MAX_PATH, MAX_PROCESSES, MAX_PROGRAMS};
 pub use nodes::TaskNode;
 pub use policies::{grant_holds, grant_lists, grant_named};
 pub use programs::NamedProgram;

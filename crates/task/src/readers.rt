@@ -189,7 +189,7 @@ fn read_descriptors<'a>(
     }
 }
 
-/// A first process.
+/// A first process of one of these programs.
 fn start<'a>(alloc: Global, names: &[&str], table: &'a Table) -> Result<WrittenStart<'a>, TaskFault>
     ensures { Reads start_seen result
         (or_mistake Wrong_field (start_in (map (λ n. n.now) names.now) (table_view table.now))) }
@@ -210,7 +210,7 @@ fn start<'a>(alloc: Global, names: &[&str], table: &'a Table) -> Result<WrittenS
     }
 }
 
-/// A first process.
+/// The first process that a value is.
 fn written_start<'a>(
     alloc: Global,
     names: &[&str],

@@ -200,16 +200,43 @@ fn a_long_file_is_past_a_limit(rt: HostRuntime) -> Result<(), Fail> {
 /// The program that isn't assembled is told, and why.
 #[test]
 fn a_wrong_program_is_named(rt: HostRuntime) -> Result<(), Fail> {
-    let text = match changed(rt.alloc(), BASE, "\nhalt\n", "\nhalt\nfrob\n")? {
-        Some(text) => text,
-        None => panic!(rt; "no program"),
-    };
-    match read_task(rt.alloc(), text.as_bytes()) {
-        Err(TaskFault::Asm { program, fault }) => {
-            assert_eq!(rt; program.as_str(), "main");
-            assert_eq!(rt; fault, AsmFault::Word(2));
+    for (code, fault) in [
+        ("\njmp x\n", AsmFault::NoLabel(1)),
+        ("\nhalt\nfrob\n", AsmFault::Word(2)),
+    ] {
+        let text = match changed(rt.alloc(), BASE, "\nhalt\n", code)? {
+            Some(text) => text,
+            None => panic!(rt; "no program"),
+        };
+        match read_task(rt.alloc(), text.as_bytes()) {
+            Err(
+                TaskFault::Asm {
+                    program,
+                    fault: told,
+                },
+            ) => {
+                assert_eq!(rt; program.as_str(), "main");
+                assert_eq!(rt; told, fault);
+            }
+            _ => panic!(rt; "no fault of a program"),
         }
-        _ => panic!(rt; "no fault of a program"),
     }
     Ok(())
+}
+
+/// The line of each fault has its number and its name.
+#[test]
+fn faults_have_names(rt: HostRuntime) {
+    for (fault, number, name) in [
+        (TaskFault::NotToml, 1, "NotToml"),
+        (TaskFault::Field, 2, "Field"),
+        (TaskFault::Node, 3, "Node"),
+        (TaskFault::Grant, 4, "Grant"),
+        (TaskFault::Descriptor, 5, "Descriptor"),
+        (TaskFault::Limit, 7, "Limit"),
+        (TaskFault::Memory, 8, "Memory"),
+    ] {
+        assert_eq!(rt; fault.number(), number);
+        assert_eq!(rt; fault.name(), name);
+    }
 }
