@@ -1,7 +1,16 @@
+pub mod BaseTask
+pub mod FieldFaults
+pub mod Passing
+pub mod WrittenLaws
+pub mod ValidPlans
+pub mod PathTexts
+pub mod Stages
+pub mod EachItem
+pub mod Rows
 pub mod FirstTrees
 pub mod Openings
 pub mod FirstWorlds
 pub mod AsGiven
 pub mod Allowances
-pub mod Limits
+pub mod KeptLimits
 pub mod Samples

@@ -1,5 +1,7 @@
 //! What no clause says: that a task can be made where memory is there, and that its parts are read back.
 
+mod reading;
+
 ghost use Rattle.std.specs.Prelude.{◌≡◌, [], ◌∷◌, codes, true, false, IfOk};
 ghost use Rattle.rights.specs.Sets.{all_commands, all_rights};
 ghost use Rattle.rights.specs.Operations.{Look, Read};

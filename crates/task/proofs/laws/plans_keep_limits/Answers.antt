@@ -1,4 +1,4 @@
-use Rattle.task.proofs.Limits.{plans_keep_limits}
+use Rattle.task.proofs.KeptLimits.{plans_keep_limits}
 use Rattle.task.proofs.laws.plans_keep_limits.Goals as goal
 
 pub returns : goal.returns

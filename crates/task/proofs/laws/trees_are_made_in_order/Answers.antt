@@ -1,4 +1,4 @@
-use Rattle.task.proofs.Limits.{trees_are_made_in_order}
+use Rattle.task.proofs.KeptLimits.{trees_are_made_in_order}
 use Rattle.task.proofs.laws.trees_are_made_in_order.Goals as goal
 
 pub returns : goal.returns

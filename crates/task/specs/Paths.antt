@@ -1,0 +1,22 @@
+-- The place that a task's path is. (own)
+use Rattle.std.specs.Prelude.{ℕ, ◌==◌, Bool, ◌&&◌, not, nat_eq, List, [], ◌∷◌, length, Option, Some, None, option_map, if◌then◌else◌}
+use Rattle.std.specs.List.{list_all}
+use Rattle.file_tree.specs.Places.{is_name_byte, is_dots}
+use Rattle.prog_asm.specs.Lines.{parts}
+
+-- A name of a path: a node's name of any length.
+abbrev pub is_path_name : List ℕ → Bool
+is_path_name name = not (nat_eq (length name) 0) && list_all is_name_byte name && not (is_dots name)
+
+abbrev pub path_names : List (List ℕ) → Option (List (List ℕ))
+path_names [] = Some []
+path_names (name ∷ names) = if is_path_name name then option_map (λ rest. name ∷ rest) (path_names names) else None
+
+-- A path is `/`, or each name after a `/`.
+abbrev pub names_behind : List ℕ → Option (List (List ℕ))
+names_behind [] = Some []
+names_behind (b ∷ text) = path_names (parts 47 (b ∷ text))
+
+unfoldable pub place_of : List ℕ → Option (List (List ℕ))
+place_of [] = None
+place_of (b ∷ text) = if b == 47 then names_behind text else None

@@ -1,0 +1,55 @@
+//! A task as a document writes it: its words are read, and its paths and programs are texts still.
+
+use fd_table::Access;
+use file_tree::Kind;
+use rights::{Fcntls, Op, Rights};
+
+/// A node. A directory's content is empty.
+#[derive(Clone, Copy)]
+pub(crate) struct WrittenNode<'a> {
+    pub(crate) path: &'a str,
+    pub(crate) kind: Kind,
+    pub(crate) content: &'a str,
+}
+
+/// A grant.
+#[derive(Drop)]
+pub(crate) struct WrittenGrant<'a> {
+    pub(crate) name: &'a str,
+    pub(crate) path: &'a str,
+    pub(crate) operations: Vec<Op>,
+}
+
+/// A program.
+#[derive(Clone, Copy)]
+pub(crate) struct WrittenProgram<'a> {
+    pub(crate) name: &'a str,
+    pub(crate) text: &'a str,
+}
+
+/// A first descriptor, of any number.
+#[derive(Clone, Copy)]
+pub(crate) struct WrittenDescriptor<'a> {
+    pub(crate) number: i64,
+    pub(crate) path: &'a str,
+    pub(crate) access: Access,
+    pub(crate) rights: Rights,
+    pub(crate) fcntls: Fcntls,
+}
+
+/// A first process, with its program's place among the programs.
+#[derive(Drop)]
+pub(crate) struct WrittenStart<'a> {
+    pub(crate) program: usize,
+    pub(crate) mode: bool,
+    pub(crate) descriptors: Vec<WrittenDescriptor<'a>>,
+}
+
+/// A task.
+#[derive(Drop)]
+pub(crate) struct WrittenTask<'a> {
+    pub(crate) nodes: Vec<WrittenNode<'a>>,
+    pub(crate) grants: Vec<WrittenGrant<'a>>,
+    pub(crate) programs: Vec<WrittenProgram<'a>>,
+    pub(crate) starts: Vec<WrittenStart<'a>>,
+}
