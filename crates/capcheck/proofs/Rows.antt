@@ -1,10 +1,8 @@
 -- The worked rows, by computation.
-use Rattle.std.proofs.Common.{◌≡◌, ℕ, zero, suc, ◌+◌, List, [], ◌∷◌, ◌++◌, codes, refl, ap, sym, ◌∙◌}
-use Rattle.std.specs.Prelude.{true, Option}
+use Rattle.std.proofs.Common.{◌≡◌, ℕ, zero, suc, List, [], ◌∷◌, ◌++◌, codes, refl, sym, ◌∙◌}
+use Rattle.std.specs.Prelude.{Option}
 use Rattle.std.proofs.Math.Decide.{ℕ_discrete}
 use Rattle.std.specs.Fmt.{digits}
-use Rattle.file_tree.specs.Places.{is_name}
-use Rattle.file_tree.specs.WellFormed.{is_within_limits}
 use Rattle.kernel.specs.World.{World, Choice}
 use Rattle.kernel.specs.Answers.{Event, unless, held, at_object}
 use Rattle.kernel.specs.Calls.{answer}
@@ -12,7 +10,6 @@ use Rattle.kernel.specs.Changes.{files_after, changed}
 use Rattle.kernel.specs.Runs.{Runs}
 use Rattle.kernel.specs.Steps.{Acted, answered, jumped, executed, stepped_at, stepped_by, stepped, step}
 use Rattle.task.specs.Begins.{first_world}
-use Rattle.task.specs.Limits.{is_plan}
 use Rattle.task.specs.Plans.{Plan, programs_of_plan}
 use Rattle.simulator.specs.Lines.{line_at}
 use Rattle.simulator.specs.Traces.{line_text, trace_text}

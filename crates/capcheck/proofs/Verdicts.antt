@@ -1,5 +1,5 @@
 -- The verdicts on the named tasks with the named certificates, by computation.
-use Rattle.std.proofs.Common.{◌≡◌, ℕ, zero, suc, ◌<◌, List, [], ◌∷◌, codes, refl, arith, lit<}
+use Rattle.std.proofs.Common.{◌≡◌, ℕ, zero, suc, ◌<◌, List, codes, refl, arith, lit<}
 use Rattle.std.specs.Prelude.{Option, Some, None, true}
 use Rattle.certificate.specs.Bounds.{Certificate, bound_in}
 use Rattle.file_tree.specs.Places.{is_name}

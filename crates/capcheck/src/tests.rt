@@ -223,7 +223,7 @@ fn checks_the_named_certificates(rt: HostRuntime) -> Result<(), Fail> {
     Ok(())
 }
 
-/// A task that enters the mode, and makes then a pair of sockets, which the rules don't cover.
+/// A task that enters the mode and then makes a pair of sockets, which the rules don't cover.
 #[tactic(auto, unfolding(file_tree::specs::WellFormed::is_within_limits, file_tree::specs::Places::is_name))]
 fn paired(alloc: Global) -> Result<Task, AllocError> {
     let mut code = Vec::new(alloc);
