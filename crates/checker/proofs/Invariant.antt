@@ -19,12 +19,12 @@ use Rattle.task.specs.Policies.{grant_holds}
 use Rattle.checker.specs.Points.{name_at}
 use Rattle.checker.proofs.Describing.{described, from_described, slots_go_on}
 
--- A descriptor of a world, as a bound sees it.
 -- a class of pairs, with the name of its program
 abbrev pub class_of : Plan → Class → NamedClass
 class_of plan (Initial pair) = classes.Initial pair
 class_of plan (Made_at program point) = classes.Made_at (name_at plan program) point
 
+-- a descriptor of a world, as a bound sees it
 abbrev pub subject_of : Plan → List Node → Object → Subject
 subject_of plan tree (At_node n access) = Node_at (node tree n).place
 subject_of plan tree (At_end pair side class) = End_of (class_of plan class) side

@@ -343,6 +343,17 @@ fn was_not_made(rt: HostRuntime) -> Result<(), Fail> {
     Ok(())
 }
 
+#[test]
+fn opens_outside_the_mode(rt: HostRuntime) -> Result<(), Fail> {
+    let alloc = rt.alloc();
+    let text = "open \"/work/in\" read else e\nread 2 else e\ne: halt\n";
+    let shown = trace_of(alloc, text, None, &times(alloc, 3)?)?;
+    assert!(rt;
+        shown.as_slice() == b"0 main:0 = 2\n0 main:1 = 65 read /work/in\n0 main:2 halt\n".as_slice()
+    );
+    Ok(())
+}
+
 /// A machine gives a line for each event.
 #[test]
 fn a_machine_steps(rt: HostRuntime) -> Result<(), Fail> {
