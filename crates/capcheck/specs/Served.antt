@@ -3,11 +3,10 @@ use Rattle.std.specs.Prelude.{◌≡◌, ◌==◌, ◌||◌, ◌⊎◌, ◌++◌
 use Rattle.std.specs.Fmt.{decimal}
 use Rattle.rights.specs.Output.{Took}
 use Rattle.certificate.specs.Bounds.{Certificate}
-use Rattle.checker.specs.Points.{name_at}
 use Rattle.checker.specs.Verdicts.{Verdict, Yes, No, Uncovered, IsVerdict}
 use Rattle.kernel.specs.Answers.{Event}
 use Rattle.kernel.specs.Steps.{Acted}
-use Rattle.task.specs.Plans.{Plan}
+use Rattle.task.specs.Plans.{Plan, program_name}
 use Rattle.simulator.specs.Sandboxed.{IsSandboxed}
 use Rattle.simulator.specs.Simulations.{IsRun, WritesTrace}
 use Rattle.simulator.specs.Traces.{trace_text}
@@ -40,7 +39,7 @@ pub record RunsNamed (task : List ℕ) (before after : Option (List ℕ)) : Type
 
 -- `no main:4`
 abbrev pub no_at : Plan → ℕ → ℕ → List ℕ
-no_at plan program point = codes "no " ++ name_at plan program ++ codes ":" ++ decimal point
+no_at plan program point = codes "no " ++ program_name plan program ++ codes ":" ++ decimal point
 
 -- `yes`; or a no, with the rule that is broken, as `no main:4 K7`, or with word that the rules don't cover the
 -- instruction yet, as `no main:4 uncovered`

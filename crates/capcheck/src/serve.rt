@@ -5,7 +5,6 @@ ghost use Rattle.capcheck.specs.Named.{first_plan, plan_named};
 ghost use Rattle.capcheck.specs.NamedCertificates.{certificate_named};
 ghost use Rattle.capcheck.specs.Served.{ChecksNamed, Judges, RunsNamed, Serves, ServesTwo, example_events, is_done_status, is_fault_status, is_status, no_at, verdict_status, verdict_text};
 ghost use Rattle.certificate.specs.Views.{certificate_of};
-ghost use Rattle.checker.specs.Points.{name_at};
 ghost use Rattle.checker.specs.Views.{verdict_of};
 ghost use Rattle.simulator.specs.Simulations.{WritesTrace};
 
@@ -193,22 +192,12 @@ fn status_of_verdict(verdict: Verdict) -> u8
     }
 }
 
-/// The name of a program, by its place in the task; no bytes for one that isn't there.
-fn name_at(task: &Task, program: u8) -> &[u8]
-    ensures { result.now ≡ name_at task.now program }
-{
-    match task.programs().get(program as usize) {
-        None => b"",
-        Some(named) => named.name.as_bytes(),
-    }
-}
-
 /// The beginning of the line of a no: the program's name, and the point.
 fn no_at(alloc: Global, task: &Task, program: u8, point: u8) -> Result<Vec<u8>, AllocError>
     ensures { IfOk result (λ text. text.items ≡ no_at task.now program point) }
 {
     let mut text = Vec::from_slice(alloc, b"no ")?;
-    text.extend_from_slice(name_at(task, program))?;
+    text.extend_from_slice(task.program_name(program))?;
     text.extend_from_slice(b":")?;
     text.extend_from_slice(point.to_string(alloc)?.as_bytes())?;
     Ok(text)

@@ -9,7 +9,8 @@ use Rattle.certificate.specs.Bounds.{Bound, Certificate, bound_at}
 use Rattle.certificate.specs.Order.{bound_within}
 use Rattle.prog_asm.specs.Programs.{Instruction}
 use Rattle.task.specs.Plans.{Plan}
-use Rattle.checker.specs.Points.{instruction_at, name_at}
+use Rattle.checker.specs.Points.{instruction_at}
+use Rattle.task.specs.Plans.{program_name}
 use Rattle.checker.specs.Outcomes.{Outcome, is_covered, outcomes, error_outcomes}
 use Rattle.checker.specs.Rules.{Test, starts_within, within_if_there, all_within, is_there, all_there, keeps_rights, keeps_known, keeps_policy, is_started, tests, tests_without, least_broken, Broken, Uncovered, found_with, found_at}
 
@@ -34,13 +35,13 @@ none_told (Some rule) none = absurd cc
 pub record Asked (plan : Plan) (certificate : Certificate) (program point : ℕ) (i : Instruction) (b : Bound) : Type 0 where
   pub covered : is_covered i ≡ true
   pub starts : starts_within plan program point b ≡ true
-  pub successes : all_within certificate (name_at plan program) (outcomes point b i) ≡ true
-  pub errors : all_within certificate (name_at plan program) (error_outcomes b i) ≡ true
+  pub successes : all_within certificate (program_name plan program) (outcomes point b i) ≡ true
+  pub errors : all_within certificate (program_name plan program) (error_outcomes b i) ≡ true
   pub rights : keeps_rights b i ≡ true
   pub known : keeps_known b i ≡ true
   pub policy : keeps_policy plan b i ≡ true
-  pub successes_there : all_there certificate (name_at plan program) (outcomes point b i) ≡ true
-  pub errors_there : all_there certificate (name_at plan program) (error_outcomes b i) ≡ true
+  pub successes_there : all_there certificate (program_name plan program) (outcomes point b i) ≡ true
+  pub errors_there : all_there certificate (program_name plan program) (error_outcomes b i) ≡ true
 
 asked_of : (plan : Plan) (certificate : Certificate) (program point : ℕ) (i : Instruction) (b : Bound) → is_covered i ≡ true → least_broken (tests plan certificate program point i b) ≡ None → Asked plan certificate program point i b
 unfolding tests
@@ -55,8 +56,8 @@ asked_of plan certificate program point i b covered none =
       rights = all.1.1.1.0;
       known = all.1.1.1.1.0;
       policy = all.1.1.1.1.1.0;
-      successes_there = both_left _ (all_there certificate (name_at plan program) (error_outcomes b i)) there;
-      errors_there = both_right (all_there certificate (name_at plan program) (outcomes point b i)) _ there;
+      successes_there = both_left _ (all_there certificate (program_name plan program) (error_outcomes b i)) there;
+      errors_there = both_right (all_there certificate (program_name plan program) (outcomes point b i)) _ there;
     }
 
 asked_with : (plan : Plan) (certificate : Certificate) (program point : ℕ) (i : Instruction) (b : Bound) → found_with plan certificate program point (Some i) (Some b) ≡ None → Asked plan certificate program point i b
@@ -67,25 +68,25 @@ asked_with plan certificate program point i b none = go (is_covered i) refl none
     go true covered none = asked_of plan certificate program point i b covered (none_told (least_broken (tests plan certificate program point i b)) none)
     go false other none = absurd cc
 
-pub asked : (plan : Plan) (certificate : Certificate) (program point : ℕ) (i : Instruction) (b : Bound) → instruction_at plan program point ≡ Some i → bound_at certificate (name_at plan program) point ≡ Some b → found_at plan certificate program point ≡ None → Asked plan certificate program point i b
+pub asked : (plan : Plan) (certificate : Certificate) (program point : ℕ) (i : Instruction) (b : Bound) → instruction_at plan program point ≡ Some i → bound_at certificate (program_name plan program) point ≡ Some b → found_at plan certificate program point ≡ None → Asked plan certificate program point i b
 unfolding found_at
 asked plan certificate program point i b here bounded none =
     asked_with plan certificate program point i b
     (subst (λ o. found_with plan certificate program point (Some i) o ≡ None) bounded
-    (subst (λ o. found_with plan certificate program point o (bound_at certificate (name_at plan program) point) ≡ None) here none))
+    (subst (λ o. found_with plan certificate program point o (bound_at certificate (program_name plan program) point) ≡ None) here none))
 
 -- a program that a process starts has a bound at point 0
-pub started : (plan : Plan) (certificate : Certificate) (program : ℕ) (i : Instruction) → instruction_at plan program 0 ≡ Some i → is_started plan program ≡ true → found_at plan certificate program 0 ≡ None → (b : Bound) × (bound_at certificate (name_at plan program) 0 ≡ Some b)
+pub started : (plan : Plan) (certificate : Certificate) (program : ℕ) (i : Instruction) → instruction_at plan program 0 ≡ Some i → is_started plan program ≡ true → found_at plan certificate program 0 ≡ None → (b : Bound) × (bound_at certificate (program_name plan program) 0 ≡ Some b)
 unfolding found_at found_with tests_without
-started plan certificate program i here is none = go (bound_at certificate (name_at plan program) 0) refl
+started plan certificate program i here is none = go (bound_at certificate (program_name plan program) 0) refl
   where
-    at : found_with plan certificate program 0 (Some i) (bound_at certificate (name_at plan program) 0) ≡ None
-    at = subst (λ o. found_with plan certificate program 0 o (bound_at certificate (name_at plan program) 0) ≡ None) here none
+    at : found_with plan certificate program 0 (Some i) (bound_at certificate (program_name plan program) 0) ≡ None
+    at = subst (λ o. found_with plan certificate program 0 o (bound_at certificate (program_name plan program) 0) ≡ None) here none
 
     no_bound : is_started plan program ≡ false → ⊥
     no_bound none_starts = let wrong : true ≡ false = sym is ∙ none_starts in cc
 
-    go : (o : Option Bound) → bound_at certificate (name_at plan program) 0 ≡ o → (b : Bound) × (bound_at certificate (name_at plan program) 0 ≡ Some b)
+    go : (o : Option Bound) → bound_at certificate (program_name plan program) 0 ≡ o → (b : Bound) × (bound_at certificate (program_name plan program) 0 ≡ Some b)
     go (Some b) bounded = (b, bounded)
     go None bounded =
         let without : option_map Broken (least_broken (tests_without plan program 0)) ≡ None = subst (λ o. found_with plan certificate program 0 (Some i) o ≡ None) bounded at in

@@ -31,7 +31,7 @@ use Rattle.task.specs.Policies.{allows, is_allowed, grant_named, holds_in, grant
 use Rattle.task.specs.Laws.{Allowed}
 use Rattle.task.proofs.Allowances.{allowed_is_tested}
 use Rattle.simulator.specs.Sandboxed.{AreAllowed}
-use Rattle.checker.specs.Points.{name_at}
+use Rattle.task.specs.Plans.{program_name}
 use Rattle.checker.specs.Intervals.{only}
 use Rattle.checker.specs.Outcomes.{read_interval, error_interval, read_outcomes, outcomes, error_outcomes}
 use Rattle.checker.specs.Rules.{all_within, all_there, may_be_on, has_need, is_known, goes_known, target_lists, goes_listed}
@@ -114,7 +114,7 @@ module _ (plan : Plan) (certificate : Certificate) (w : World) (e : Event) (s : 
         is = refl;
         allowed = λ on. tt;
         bound = bound;
-        leads_on = leads certificate (name_at plan s.program) (record { point = s.point + 1; bound = bound }) known.asked.successes known.asked.successes_there;
+        leads_on = leads certificate (program_name plan s.program) (record { point = s.point + 1; bound = bound }) known.asked.successes known.asked.successes_there;
         lies = record {
           mode = turned_on s.mode;
           registers = register_set known.bound.registers s.registers 0 0 (only 0) refl known.lies.registers;
@@ -128,13 +128,13 @@ module _ (plan : Plan) (certificate : Certificate) (w : World) (e : Event) (s : 
 
     fails_to : FailsTo plan certificate w e.process s (Invoke (Read (Number n)) otherwise) known otherwise
     unfolding error_outcomes
-    fails_to = leads certificate (name_at plan s.program) (record { point = otherwise; bound = with_interval known.bound 7 error_interval }) known.asked.errors known.asked.errors_there
+    fails_to = leads certificate (program_name plan s.program) (record { point = otherwise; bound = with_interval known.bound 7 error_interval }) known.asked.errors known.asked.errors_there
 
     -- a value up to 256 through an open slot
     given_read : (h : Held) (value : ℕ) (queue : QueueChange) (state : StateChange) (effects : List Effect) → held_in (slot known.bound.slots n) ≡ Some h → value ≤ 256 → (s.mode ≡ true → AreAllowed plan.grants effects) → Given plan certificate w e.process s (Invoke (Read (Number n)) otherwise) known value (quiet queue state false) effects
     unfolding outcomes
     given_read h value queue state effects is small allowed =
-        let name = name_at plan s.program in
+        let name = program_name plan s.program in
         let bound : Bound = with_interval known.bound 0 read_interval in
         record {
           queue = queue;

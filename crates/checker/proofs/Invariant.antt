@@ -16,13 +16,13 @@ use Rattle.kernel.specs.World.{World}
 use Rattle.kernel.specs.WellFormed.{IsWellFormed}
 use Rattle.task.specs.Plans.{Plan, programs_of_plan}
 use Rattle.task.specs.Policies.{grant_holds}
-use Rattle.checker.specs.Points.{name_at}
+use Rattle.task.specs.Plans.{program_name}
 use Rattle.checker.proofs.Describing.{described, from_described, slots_go_on}
 
 -- a class of pairs, with the name of its program
 abbrev pub class_of : Plan → Class → NamedClass
 class_of plan (Initial pair) = classes.Initial pair
-class_of plan (Made_at program point) = classes.Made_at (name_at plan program) point
+class_of plan (Made_at program point) = classes.Made_at (program_name plan program) point
 
 -- a descriptor of a world, as a bound sees it
 abbrev pub subject_of : Plan → List Node → Object → Subject
@@ -38,7 +38,7 @@ table_of plan w p n = option_map (seen_of plan w) (w.files.table p n)
 -- A process lies in the bound of its point.
 pub record Lies (plan : Plan) (certificate : Certificate) (w : World) (p : ℕ) (s : ProcessState) : Type 0 where
   pub bound : Bound
-  pub at : bound_at certificate (name_at plan s.program) s.point ≡ Some bound
+  pub at : bound_at certificate (program_name plan s.program) s.point ≡ Some bound
   pub is : describes (grant_holds plan.grants) bound s.mode s.registers (table_of plan w p) ≡ true
 
 -- each living one does

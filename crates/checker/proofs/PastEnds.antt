@@ -11,13 +11,14 @@ use Rattle.prog_asm.specs.Programs.{Instruction, is_program, is_instruction, end
 use Rattle.task.specs.declared.programs.NamedProgram.{NamedProgram as NamedProgramCode}
 use Rattle.task.specs.Plans.{Plan, code_in, programs_of_plan}
 use Rattle.task.specs.Views.{program_of, programs_of}
-use Rattle.checker.specs.Points.{instruction_at, name_at}
+use Rattle.checker.specs.Points.{instruction_at}
+use Rattle.task.specs.Plans.{program_name}
 use Rattle.checker.specs.Rules.{found_with, found_at}
 
 no_instruction : (plan : Plan) (certificate : Certificate) (program point : ℕ) → instruction_at plan program point ≡ None → found_at plan certificate program point ≡ None
 unfolding found_at found_with
 no_instruction plan certificate program point none =
-    ap (λ o. found_with plan certificate program point o (bound_at certificate (name_at plan program) point)) none
+    ap (λ o. found_with plan certificate program point o (bound_at certificate (program_name plan program) point)) none
 
 pub past_programs : (plan : Plan) (certificate : Certificate) (program point : ℕ) → length plan.programs ≤ program → found_at plan certificate program point ≡ None
 past_programs plan certificate program point past =

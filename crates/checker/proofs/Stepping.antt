@@ -18,7 +18,7 @@ use Rattle.kernel.specs.WellFormed.{Numbering, IsWorld}
 use Rattle.task.specs.Plans.{Plan, programs_of_plan}
 use Rattle.task.specs.Policies.{grant_holds}
 use Rattle.simulator.specs.Sandboxed.{AreAllowed, IsOtherCause, IsUnrefused}
-use Rattle.checker.specs.Points.{name_at}
+use Rattle.task.specs.Plans.{program_name}
 use Rattle.checker.specs.Outcomes.{Outcome, outcome_to, outcomes_in, error_interval, outcomes}
 use Rattle.checker.specs.Rules.{all_within, all_there}
 use Rattle.checker.proofs.Describing.{Described, from_described, register_at, register_set, interval_set, error_fits}
@@ -34,7 +34,7 @@ pub record Standing (plan : Plan) (certificate : Certificate) (w : World) (p : �
   pub world : IsWorld (programs_of_plan plan) numbering w
   pub made : slice_get w.processes p ≡ Some s
   pub bound : Bound
-  pub at : bound_at certificate (name_at plan s.program) s.point ≡ Some bound
+  pub at : bound_at certificate (program_name plan s.program) s.point ≡ Some bound
   pub lies : Described (grant_holds plan.grants) bound s.mode s.registers (table_of plan w p)
   pub asked : Asked plan certificate s.program s.point i bound
 
@@ -54,7 +54,7 @@ put_there plan certificate w v p s t made is lies =
 
 module _ (plan : Plan) (certificate : Certificate) (w : World) (p : ℕ) (s : ProcessState) (i : Instruction) (known : Standing plan certificate w p s i) where
   -- The process comes to a point, in a mode and with registers that an outcome describes.
-  arrives : (v : World) (o : Outcome) (on : Bool) (values : List ℕ) → Leads certificate (name_at plan s.program) o → Described (grant_holds plan.grants) o.bound on values (table_of plan v p) → Lies plan certificate v p (record s { point = o.point; registers = values; mode = on })
+  arrives : (v : World) (o : Outcome) (on : Bool) (values : List ℕ) → Leads certificate (program_name plan s.program) o → Described (grant_holds plan.grants) o.bound on values (table_of plan v p) → Lies plan certificate v p (record s { point = o.point; registers = values; mode = on })
   arrives v o on values there is = record {
     bound = there.bound;
     at = there.at;
@@ -68,7 +68,7 @@ module _ (plan : Plan) (certificate : Certificate) (w : World) (p : ℕ) (s : Pr
   moves t lies = put_there plan certificate w (with_process w p t) p s t known.made refl lies
 
   -- an instruction that changes registers and the point alone
-  comes : (point : ℕ) (bound : Bound) (values : List ℕ) → Leads certificate (name_at plan s.program) (record { point = point; bound = bound }) → Described (grant_holds plan.grants) bound s.mode values (table_of plan w p) → Owed plan certificate w p s (plain w p (record s { point = point; registers = values }))
+  comes : (point : ℕ) (bound : Bound) (values : List ℕ) → Leads certificate (program_name plan s.program) (record { point = point; bound = bound }) → Described (grant_holds plan.grants) bound s.mode values (table_of plan w p) → Owed plan certificate w p s (plain w p (record s { point = point; registers = values }))
   comes point bound values there is =
       let t : ProcessState = record s { point = point; registers = values } in
       record {
@@ -99,10 +99,10 @@ module _ (plan : Plan) (certificate : Certificate) (w : World) (p : ℕ) (s : Pr
   register_lies r = register_at known.bound.registers s.registers known.lies.registers r
 
   -- what the rules say of outcomes that are these
-  all_lead : (os : List Outcome) → outcomes s.point known.bound i ≡ os → (all_within certificate (name_at plan s.program) os ≡ true) × (all_there certificate (name_at plan s.program) os ≡ true)
+  all_lead : (os : List Outcome) → outcomes s.point known.bound i ≡ os → (all_within certificate (program_name plan s.program) os ≡ true) × (all_there certificate (program_name plan s.program) os ≡ true)
   all_lead os is = (
-    subst (λ xs. all_within certificate (name_at plan s.program) xs ≡ true) is known.asked.successes,
-    subst (λ xs. all_there certificate (name_at plan s.program) xs ≡ true) is known.asked.successes_there,
+    subst (λ xs. all_within certificate (program_name plan s.program) xs ≡ true) is known.asked.successes,
+    subst (λ xs. all_there certificate (program_name plan s.program) xs ≡ true) is known.asked.successes_there,
   )
 
   -- an instruction that sets a register to a value of an interval
@@ -110,7 +110,7 @@ module _ (plan : Plan) (certificate : Certificate) (w : World) (p : ℕ) (s : Pr
   owed_set r v n is fits =
       let lead = all_lead (outcome_to (s.point + 1) (with_interval known.bound r n)) is in
       comes (s.point + 1) (with_interval known.bound r n) (slice_set s.registers r v)
-      (leads certificate (name_at plan s.program) (record { point = s.point + 1; bound = with_interval known.bound r n }) lead.0 lead.1)
+      (leads certificate (program_name plan s.program) (record { point = s.point + 1; bound = with_interval known.bound r n }) lead.0 lead.1)
       (set_lies r v n fits)
 
   -- `jmp`
@@ -118,13 +118,13 @@ module _ (plan : Plan) (certificate : Certificate) (w : World) (p : ℕ) (s : Pr
   owed_jump target is =
       let lead = all_lead (outcome_to target known.bound) is in
       comes target known.bound s.registers
-      (leads certificate (name_at plan s.program) (record { point = target; bound = known.bound }) lead.0 lead.1)
+      (leads certificate (program_name plan s.program) (record { point = target; bound = known.bound }) lead.0 lead.1)
       known.lies
 
   -- a jump to a point where the register is in a part of its interval
-  comes_in : (point r : ℕ) (part : Option Interval) → HasPart part (register s r) → all_within certificate (name_at plan s.program) (outcomes_in point known.bound r part) ≡ true → all_there certificate (name_at plan s.program) (outcomes_in point known.bound r part) ≡ true → Owed plan certificate w p s (plain w p (moved_to s point))
+  comes_in : (point r : ℕ) (part : Option Interval) → HasPart part (register s r) → all_within certificate (program_name plan s.program) (outcomes_in point known.bound r part) ≡ true → all_there certificate (program_name plan s.program) (outcomes_in point known.bound r part) ≡ true → Owed plan certificate w p s (plain w p (moved_to s point))
   comes_in point r part has within there =
-      let name = name_at plan s.program in
+      let name = program_name plan s.program in
       let bound : Bound = with_interval known.bound r has.interval in
       comes point bound s.registers
       (leads certificate name (record { point = point; bound = bound })
@@ -160,11 +160,11 @@ module _ (plan : Plan) (certificate : Certificate) (w : World) (p : ℕ) (s : Pr
     pub is : change ≡ quiet queue state change.enters
     pub allowed : s.mode ≡ true → AreAllowed plan.grants effects
     pub bound : Bound
-    pub leads_on : Leads certificate (name_at plan s.program) (record { point = s.point + 1; bound = bound })
+    pub leads_on : Leads certificate (program_name plan s.program) (record { point = s.point + 1; bound = bound })
     pub lies : Described (grant_holds plan.grants) bound (s.mode || change.enters) (slice_set s.registers 0 value) (table_of plan w p)
 
   abbrev pub FailsTo : ℕ → Type 0
-  FailsTo otherwise = Leads certificate (name_at plan s.program) (record { point = otherwise; bound = with_interval known.bound 7 error_interval })
+  FailsTo otherwise = Leads certificate (program_name plan s.program) (record { point = otherwise; bound = with_interval known.bound 7 error_interval })
 
   unfoldable pub OwedBy : ℕ → Answer → Type 0
   OwedBy otherwise (Fails errno cause) = IsOtherCause cause × FailsTo otherwise
@@ -180,7 +180,7 @@ module _ (plan : Plan) (certificate : Certificate) (w : World) (p : ℕ) (s : Pr
   table_same t choice queue state enters bound value lies = lies
 
   -- a success that changes neither the tree nor a table
-  owed_quiet : (choice : Choice) (otherwise value : ℕ) (queue : QueueChange) (state : StateChange) (enters : Bool) (effects : List Effect) (bound : Bound) → (s.mode ≡ true → AreAllowed plan.grants effects) → Leads certificate (name_at plan s.program) (record { point = s.point + 1; bound = bound }) → Described (grant_holds plan.grants) bound (s.mode || enters) (slice_set s.registers 0 value) (table_of plan w p) → Owed plan certificate w p s (answered w p s choice otherwise (Gives value (quiet queue state enters) effects))
+  owed_quiet : (choice : Choice) (otherwise value : ℕ) (queue : QueueChange) (state : StateChange) (enters : Bool) (effects : List Effect) (bound : Bound) → (s.mode ≡ true → AreAllowed plan.grants effects) → Leads certificate (program_name plan s.program) (record { point = s.point + 1; bound = bound }) → Described (grant_holds plan.grants) bound (s.mode || enters) (slice_set s.registers 0 value) (table_of plan w p) → Owed plan certificate w p s (answered w p s choice otherwise (Gives value (quiet queue state enters) effects))
   unfolding answered
   owed_quiet choice otherwise value queue state enters effects bound allowed leads_on lies =
       let change : Change = quiet queue state enters in

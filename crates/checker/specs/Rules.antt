@@ -13,7 +13,8 @@ use Rattle.prog_asm.specs.Programs.{Number, Read, Instruction, Invoke}
 use Rattle.task.specs.Plans.{FirstDescriptor, Start, Plan}
 use Rattle.task.specs.Policies.{grant_holds, grant_lists}
 use Rattle.task.specs.Laws.{with_number}
-use Rattle.checker.specs.Points.{instruction_at, name_at}
+use Rattle.checker.specs.Points.{instruction_at}
+use Rattle.task.specs.Plans.{program_name}
 use Rattle.checker.specs.Outcomes.{Outcome, is_covered, outcomes, error_outcomes}
 
 -- A rule, by its number, and whether it is kept at a point.
@@ -115,16 +116,16 @@ keeps_policy plan b i = not (may_be_on b.mode) || goes_listed plan operations.Re
 unfoldable pub tests : Plan → Certificate → ℕ → ℕ → Instruction → Bound → List Test
 tests plan certificate program point i b =
     record { rule = 1; kept = starts_within plan program point b }
-    ∷ record { rule = 2; kept = all_within certificate (name_at plan program) (outcomes point b i) }
-    ∷ record { rule = 3; kept = all_within certificate (name_at plan program) (error_outcomes b i) }
+    ∷ record { rule = 2; kept = all_within certificate (program_name plan program) (outcomes point b i) }
+    ∷ record { rule = 3; kept = all_within certificate (program_name plan program) (error_outcomes b i) }
     ∷ record { rule = 7; kept = keeps_rights b i }
     ∷ record { rule = 10; kept = keeps_known b i }
     ∷ record { rule = 11; kept = keeps_policy plan b i }
     ∷ record {
       rule = 16;
       kept =
-          all_there certificate (name_at plan program) (outcomes point b i)
-          && all_there certificate (name_at plan program) (error_outcomes b i);
+          all_there certificate (program_name plan program) (outcomes point b i)
+          && all_there certificate (program_name plan program) (error_outcomes b i);
     }
     ∷ []
 
@@ -153,4 +154,4 @@ found_with plan certificate program point (Some i) (Some b) =
 -- at a point of a program; nothing past a program's end
 unfoldable pub found_at : Plan → Certificate → ℕ → ℕ → Option Finding
 found_at plan certificate program point =
-    found_with plan certificate program point (instruction_at plan program point) (bound_at certificate (name_at plan program) point)
+    found_with plan certificate program point (instruction_at plan program point) (bound_at certificate (program_name plan program) point)

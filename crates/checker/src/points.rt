@@ -1,7 +1,7 @@
 //! The points of a task's programs.
 
 ghost use Rattle.std.specs.Prelude.{◌≡◌, option_map};
-ghost use Rattle.checker.specs.Points.{instruction_at, name_at};
+ghost use Rattle.checker.specs.Points.{instruction_at};
 ghost use Rattle.prog_asm.specs.Views.{instruction_of};
 
 use prog_asm::Instruction;
@@ -14,15 +14,5 @@ pub(crate) fn instruction_at(task: &Task, program: u8, point: u8) -> Option<&Ins
     match task.programs().get(program as usize) {
         None => None,
         Some(program) => program.program.code().get(point as usize),
-    }
-}
-
-/// The name of a program, by its place in the task; no bytes for one that isn't there.
-pub(crate) fn name_at(task: &Task, program: u8) -> &[u8]
-    ensures { result.now ≡ name_at task.now program }
-{
-    match task.programs().get(program as usize) {
-        None => b"",
-        Some(program) => program.name.as_bytes(),
     }
 }

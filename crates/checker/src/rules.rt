@@ -2,14 +2,14 @@
 
 ghost use Rattle.std.specs.Prelude.{◌≡◌, Some, option_map};
 ghost use Rattle.certificate.specs.Views.{bound_of, certificate_of, held_of, mode_of, target_of};
-ghost use Rattle.checker.specs.Points.{instruction_at, name_at};
+ghost use Rattle.checker.specs.Points.{instruction_at};
 ghost use Rattle.checker.specs.Rules.{all_there, all_within, found_at, found_with, is_known, keeps_known, keeps_policy, keeps_rights, least_broken, may_be_on, read_through, target_lists, tests};
 ghost use Rattle.checker.specs.Views.{finding_of, listed, successes_of};
 ghost use Rattle.prog_asm.specs.Views.{instruction_of};
 ghost use Rattle.rights.specs.Views.{operation_of};
 
 use crate::outcomes::{NextPoints, Outcome, failure, is_covered, successes};
-use crate::points::{instruction_at, name_at};
+use crate::points::instruction_at;
 use crate::starts::{is_started, starts_within};
 use certificate::{Bound, Cert, Held, ModeBound, Target};
 use prog_asm::{Instruction, Operand, Syscall};
@@ -139,7 +139,7 @@ fn broken_with(
     ensures { result ≡ least_broken (tests task.now (certificate_of cert.now) program point
         (instruction_of instruction.now) (bound_of bound.now)) }
 {
-    let name = name_at(task, program);
+    let name = task.program_name(program);
     let successes = successes(point, bound, instruction);
     let failure = failure(bound, instruction);
     if !starts_within(task, program, point, bound) {
@@ -206,7 +206,7 @@ pub(crate) fn found_at(task: &Task, cert: &Cert, program: u8, point: u8) -> Opti
     ensures { option_map finding_of result ≡ found_at task.now (certificate_of cert.now) program point }
 {
     let instruction = instruction_at(task, program, point)?;
-    match cert.bound_at(name_at(task, program), point as usize) {
+    match cert.bound_at(task.program_name(program), point as usize) {
         Some(bound) => found_with(task, cert, program, point, instruction, bound),
         None => {
             if point == 0 && is_started(task, program) {

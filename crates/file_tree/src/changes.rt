@@ -10,7 +10,7 @@ ghost use Rattle.file_tree.specs.Views.{Tells, kind_of, names_of, new_content, n
 use crate::entries::{Entry, child_in, holds_below};
 use crate::faults::TreeFault;
 use crate::nodes::{Kind, New, NodeId};
-use crate::places::{append_names, child_place, copy_of, is_child, is_front, is_same};
+use crate::places::{append_names, child_place, copy_of, is_child, is_front, is_same_place};
 use crate::tree::{MAX_BYTES, MAX_NODES};
 use std::alloc::{AllocError, Global};
 
@@ -138,7 +138,7 @@ fn moved_entry(
     let stands = entry.place.as_slice();
     let content = Vec::from_slice(alloc, entry.content.as_slice())?;
     if entry.linked {
-        if is_same(to, stands) {
+        if is_same_place(to, stands) {
             return Ok(Entry {
                 kind: entry.kind,
                 linked: false,

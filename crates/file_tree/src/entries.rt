@@ -7,7 +7,7 @@ ghost use Rattle.file_tree.specs.Nodes.{child_of, has_below, node_at, parent_of,
 ghost use Rattle.file_tree.specs.Views.{names_of, nodes_of};
 
 use crate::nodes::Kind;
-use crate::places::{is_child, is_front, is_same};
+use crate::places::{is_child, is_front, is_same_place};
 
 /// A node of the plain list, with its whole place.
 #[derive(Drop)]
@@ -26,7 +26,7 @@ pub(crate) fn find_place(entries: &[Entry], place: &[Vec<u8>]) -> Option<usize>
 {
     for (i, entry) in entries.iter().enumerate() {
         if entry.linked {
-            if is_same(place, entry.place.as_slice()) {
+            if is_same_place(place, entry.place.as_slice()) {
                 return Some(i);
             }
         }
@@ -57,7 +57,7 @@ pub(crate) fn holds_below(entries: &[Entry], place: &[Vec<u8>]) -> bool
     for entry in entries {
         if entry.linked {
             if is_front(place, entry.place.as_slice()) {
-                if !is_same(place, entry.place.as_slice()) {
+                if !is_same_place(place, entry.place.as_slice()) {
                     return true;
                 }
             }

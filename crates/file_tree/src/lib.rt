@@ -18,7 +18,7 @@ pub use faults::TreeFault;
 pub use names::{MAX_NAME, MAX_TARGET, is_valid_name, is_valid_target};
 pub use nodes::{Kind, New, NodeId};
 pub use place_tree::PlaceTree;
-pub use places::is_front;
+pub use places::{is_front, is_same_place};
 pub use tree::{MAX_BYTES, MAX_NODES, Tree};
 
 #[cfg(test)]

@@ -6,8 +6,8 @@ ghost use Rattle.file_tree.specs.Views.{names_of};
 
 use std::alloc::{AllocError, Global};
 
-/// Whether two places are the same.
-pub(crate) fn is_same(left: &[Vec<u8>], right: &[Vec<u8>]) -> bool
+/// Whether two places are the same, name by name. (own)
+pub fn is_same_place(left: &[Vec<u8>], right: &[Vec<u8>]) -> bool
     ensures { result ≡ same_place (names_of left.now) (names_of right.now) }
 {
     match left {
@@ -21,7 +21,7 @@ pub(crate) fn is_same(left: &[Vec<u8>], right: &[Vec<u8>]) -> bool
                 if x.as_slice() != y.as_slice() {
                     return false;
                 }
-                is_same(lefts, rights)
+                is_same_place(lefts, rights)
             }
         },
     }

@@ -4,7 +4,8 @@
 ghost use Rattle.std.specs.Prelude.{◌≡◌, ◌<◌, ◌≤◌, length, IfOk};
 
 use crate::{
-    Kind, MAX_BYTES, New, NodeId, PlaceTree, Tree, TreeFault, is_valid_name, is_valid_target,
+    Kind, MAX_BYTES, New, NodeId, PlaceTree, Tree, TreeFault, is_same_place, is_valid_name,
+    is_valid_target,
 };
 use std::alloc::Global;
 use std::process::Abort;
@@ -397,4 +398,17 @@ fn place_tree_has_the_rows(rt: HostRuntime) -> Result<(), Fail> {
 #[test]
 fn place_tree_meets_refused_growths(rt: HostRuntime) {
     growths::<PlaceTree>(&rt, rt.alloc())
+}
+
+#[test]
+fn places_go_by_names(rt: HostRuntime) -> Result<(), Fail> {
+    let alloc = rt.alloc();
+    let mut place = Vec::new(alloc);
+    place.push(Vec::from_slice(alloc, b"work")?)?;
+    let mut other = Vec::new(alloc);
+    other.push(Vec::from_slice(alloc, b"workshop")?)?;
+    assert!(rt; is_same_place(&place, &place));
+    assert!(rt; !is_same_place(&place, &other));
+    assert!(rt; !is_same_place(&[], &other));
+    Ok(())
 }

@@ -22,8 +22,8 @@ fn has_name_bytes(bytes: &[u8]) -> bool
     true
 }
 
-/// Whether the word is a name: a letter from a to z, and up to 15 of a to z, 0 to 9 and `_`.
-pub(crate) fn is_name(word: &[u8]) -> bool
+/// Whether the word is a name: a letter from a to z, and up to 15 of a to z, 0 to 9 and `_`. (own)
+pub fn is_name(word: &[u8]) -> bool
     ensures { result ≡ is_name word.now }
 {
     match word {

@@ -4,11 +4,11 @@
 mod assembler;
 mod drafts;
 pub mod faults;
-mod fields;
+pub mod fields;
 mod forms;
 pub mod instructions;
 mod labels;
-mod lines;
+pub mod lines;
 mod lists;
 mod mistakes;
 mod mnemonics;
@@ -19,7 +19,9 @@ mod statements;
 pub use assembler::assemble;
 pub use drafts::MAX_INSTRUCTIONS;
 pub use faults::AsmFault;
+pub use fields::is_name;
 pub use instructions::{Instruction, Syscall};
+pub use lines::first_part;
 pub use operands::{Operand, Path, Register, is_valid_path};
 pub use programs::Program;
 

@@ -6,8 +6,8 @@ ghost use Rattle.prog_asm.specs.Readings.{Begins};
 
 use std::alloc::{AllocFailed, Global};
 
-/// The first part of a text before a byte that separates, and the text behind that byte if it is there.
-pub(crate) fn first_part(text: &[u8], separator: u8) -> (&[u8], Option<&[u8]>)
+/// The first part of a text before a byte that separates, and the text behind that byte if it is there. (own)
+pub fn first_part(text: &[u8], separator: u8) -> (&[u8], Option<&[u8]>)
     ensures parts { Begins (parts separator text.now) separator result.0.now
         (option_map (λ rest. rest.now) result.1) }
     ensures shorter { IfSome result.1 (λ rest. length rest.now < length text.now) }

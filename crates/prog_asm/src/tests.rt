@@ -3,7 +3,7 @@
 
 use crate::{
     AsmFault, Instruction, MAX_INSTRUCTIONS, Operand, Path, Register, Syscall, assemble,
-    is_valid_path,
+    first_part, is_name, is_valid_path,
 };
 use bitflags::Flags;
 use std::alloc::{AllocError, Global};
@@ -353,4 +353,16 @@ fn makes_registers_and_paths(rt: HostRuntime) -> Result<(), Fail> {
     let path = Path::new(Vec::from_slice(rt.alloc(), b"../x")?);
     assert_eq!(rt; path.bytes(), b"../x".as_slice());
     Ok(())
+}
+
+#[test]
+fn parts_texts_and_knows_names(rt: HostRuntime) {
+    assert_eq!(rt;
+        first_part(b"work/in", b'/'),
+        (b"work".as_slice(), Some(b"in".as_slice()))
+    );
+    assert_eq!(rt; first_part(b"work", b'/'), (b"work".as_slice(), None));
+    assert!(rt; is_name(b"main_2"));
+    assert!(rt; !is_name(b"2main"));
+    assert!(rt; !is_name(b""));
 }

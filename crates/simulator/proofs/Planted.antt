@@ -1,37 +1,23 @@
 -- Trees that are made node by node.
-use Rattle.std.proofs.Common.{◌≡◌, ◌≢◌, ◌⊎◌, inl, inr, ℕ, zero, suc, ◌<◌, ◌≤◌, ◌+◌, ◌-◌, true, false, List, [], ◌∷◌, ◌++◌, length, take, drop, map, refl, ap, sym, subst, ◌∙◌, arith, append_assoc, length-append}
-use Rattle.std.specs.Prelude.{◌&&◌, ◌==◌, Bool, nat_eq, nat_lt, replicate, slice_set, slice_index_or, Some}
+use Rattle.std.proofs.Common.{◌≡◌, ℕ, zero, suc, ◌<◌, ◌≤◌, ◌+◌, ◌-◌, true, List, [], ◌∷◌, ◌++◌, length, take, drop, map, refl, ap, sym, subst, ◌∙◌, arith, append_assoc, length-append}
+use Rattle.std.specs.Prelude.{◌&&◌, Bool, nat_lt, replicate, slice_set, slice_index_or, Some}
 use Rattle.std.specs.List.{list_all}
 use Rattle.std.proofs.Math.ListN.{drop_of_length-le, length-map}
 use Rattle.std.proofs.Math.Seq.{set-append_seam, get_or-append_seam, take-length, take-suc}
-use Rattle.std.proofs.lemmas.Bool.{both_ways, ltb-true}
+use Rattle.std.proofs.lemmas.Bool.{ltb-true}
 use Rattle.std.proofs.lemmas.Option.{slice_get-get_or}
-use Rattle.std.proofs.lemmas.Bool.Decides.{eqb_tells}
 use Rattle.std.proofs.lemmas.List.{append-nil, get_or-map, get_or-set_same, length-take-le, map-append, take-map, set-get_or, set-set}
 use Rattle.rights.proofs.Tests.{both_left, both_right}
-use Rattle.file_tree.specs.Places.{is_name, above, at_name, begins, same_place}
+use Rattle.file_tree.specs.Places.{is_name, above, at_name}
 use Rattle.file_tree.specs.Nodes.{Kind, File, Dir, Link, Node, node, is_dir, node_at, stands_at, nowhere}
 use Rattle.file_tree.specs.Changes.{created, filled, most_nodes, new_tree, resized, written}
 use Rattle.file_tree.specs.WellFormed.{has_directory, is_directory_at}
 use Rattle.file_tree.proofs.KeptByCreate.{limits_of}
 use Rattle.file_tree.proofs.NodeLaws.{directory_from, stands_is}
-use Rattle.file_tree.proofs.PlaceLaws.{begins_from, begins_same, other_place, same_place_from}
 use Rattle.file_tree.proofs.TreeLaws.{filled_same}
 use Rattle.task.specs.Limits.{are_made, can_follow, is_root_node, is_tree}
 use Rattle.task.proofs.FirstTrees.{can, free_place, no_fault, root_is_new, same_node}
 use Rattle.simulator.specs.Starts.{IsMadeIn}
-
--- ## Places
--- a place that begins with another of its length is the same
-pub same_then : (p q : List (List ℕ)) (m n : ℕ) → length q ≡ n → length p ≡ m → begins p q ≡ true → nat_eq n m ≡ same_place p q
-same_then p q m n one two front = by_length (eqb_tells n m)
-  where
-    by_length : (((n == m) ≡ true) × (n ≡ m)) ⊎ (((n == m) ≡ false) × (n ≢ m)) → nat_eq n m ≡ same_place p q
-    by_length (inl same) = same.0 ∙ sym (same_place_from p q (begins_same p q front (omega (arith, one, two, same.1))))
-    by_length (inr other) = other.0 ∙ sym (other_place p q (λ same. other.1 (sym one ∙ ap length (sym same) ∙ two)))
-
-pub same_else : (p q : List (List ℕ)) → begins p q ≡ false → false ≡ same_place p q
-same_else p q front = sym (other_place p q (λ same. both_ways (begins p q) front (begins_from p q [] (sym same ∙ sym (append-nil p)))))
 
 -- ## Contents
 pub filled_own : (t : List Node) (n : ℕ) (content : List ℕ) → (node t n).content ≡ content → t ≡ filled t n content

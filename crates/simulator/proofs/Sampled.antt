@@ -1,7 +1,7 @@
 -- The task to try is one.
-use Rattle.std.proofs.Common.{◌≡◌, ℕ, true, false, List, [], ◌∷◌, refl}
+use Rattle.std.proofs.Common.{◌≡◌, ℕ, true, false, List, refl}
 use Rattle.std.specs.Prelude.{◌&&◌, not, Option, Some, None}
-use Rattle.file_tree.specs.Nodes.{Dir, File, Kind, Link, is_dir, is_link, node}
+use Rattle.file_tree.specs.Nodes.{Dir, File, Kind, Link, is_dir, node}
 use Rattle.file_tree.specs.Places.{is_name, is_target}
 use Rattle.file_tree.specs.WellFormed.{is_within_limits}
 use Rattle.prog_asm.specs.Programs.{Instruction, is_program}

@@ -1,13 +1,13 @@
 -- The text of a trace: a line for each event. (own)
 use Rattle.std.specs.Prelude.{ℕ, List, [], ◌∷◌, ◌++◌, codes, Option, Some, None}
-use Rattle.std.specs.List.{flat_map, slice_get}
+use Rattle.std.specs.List.{flat_map}
 use Rattle.std.specs.Fmt.{decimal}
 use Rattle.rights.specs.Errors.{errno_name, cause_name}
 use Rattle.rights.specs.Operations.{operation_name}
 use Rattle.kernel.specs.Answers.{Event}
 use Rattle.kernel.specs.Steps.{LineResult, Done, Halted, Value, Failed, Waiting, Ended, Acted}
 use Rattle.syscalls.specs.Shows.{Shown}
-use Rattle.task.specs.Plans.{NamedProgram, Plan}
+use Rattle.task.specs.Plans.{Plan, program_name}
 use Rattle.simulator.specs.Lines.{Line, ShownStep, line_at}
 
 abbrev pub result_text : LineResult → List ℕ
@@ -21,14 +21,6 @@ result_text Ended = codes "ended"
 -- ` read /work/in`
 abbrev pub effect_text : Shown → List ℕ
 effect_text e = codes " " ++ operation_name e.operation ++ codes " " ++ e.place
-
--- the name of a program, by its number; no bytes for one that isn't there
-abbrev pub name_in : Option NamedProgram → List ℕ
-name_in None = []
-name_in (Some p) = p.name
-
-abbrev pub program_name : Plan → ℕ → List ℕ
-program_name plan n = name_in (slice_get plan.programs n)
 
 -- ` main:1 = 65 read /work/in`, or ` - none`
 abbrev pub acted_text : Plan → Option ShownStep → List ℕ

@@ -3,14 +3,14 @@
 ghost use Rattle.std.specs.Prelude.{◌≡◌, ◌<◌, ◌≤◌, ◌+◌, ◌++◌, [], ◌∷◌, IfOk, None, OnOk, length, take, true};
 ghost use Rattle.file_tree.specs.Changes.{create_fault, created, filled, most_bytes};
 ghost use Rattle.file_tree.specs.Nodes.{Dir, File, node};
-ghost use Rattle.file_tree.specs.Places.{is_name, same_place};
+ghost use Rattle.file_tree.specs.Places.{is_name};
 ghost use Rattle.file_tree.specs.Views.{is_new, names_of, new_content, new_kind};
 ghost use Rattle.file_tree.specs.WellFormed.{has_directory, is_directory_at};
 ghost use Rattle.task.specs.Limits.{is_tree};
 ghost use Rattle.task.specs.Views.{node_of, nodes_of};
 ghost use Rattle.simulator.specs.Starts.{AreNumbers, IsMadeIn};
 
-use file_tree::{Kind, New, NodeId, Tree, is_front};
+use file_tree::{Kind, New, NodeId, Tree, is_same_place};
 use rights::Memory;
 use std::alloc::Global;
 use task::TaskNode;
@@ -22,18 +22,11 @@ pub(crate) struct Planted<T: Tree> {
     pub numbers: Vec<NodeId>,
 }
 
-/// Whether two places are the same, name by name.
-fn is_same(place: &[Vec<u8>], other: &[Vec<u8>]) -> bool
-    ensures { result ≡ same_place (names_of place.now) (names_of other.now) }
-{
-    is_front(place, other) && other.len() == place.len()
-}
-
 /// Whether the node is the directory at this place.
 fn is_directory(node: &TaskNode, place: &[Vec<u8>]) -> bool
     ensures { result ≡ is_directory_at (names_of place.now) (node_of node.now) }
 {
-    is_same(place, &node.place) && matches!(node.kind, Kind::Dir)
+    is_same_place(place, &node.place) && matches!(node.kind, Kind::Dir)
 }
 
 /// The number of the first directory at this place, which is among these nodes.

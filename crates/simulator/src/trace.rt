@@ -1,27 +1,17 @@
 //! The text of a trace.
 
-ghost use Rattle.std.specs.Prelude.{◌≡◌, ◌++◌, IfOk, OnOk, Some, slice_get};
+ghost use Rattle.std.specs.Prelude.{◌≡◌, ◌++◌, IfOk, OnOk, Some};
 ghost use Rattle.std.specs.Fmt.{decimal};
 ghost use Rattle.std.specs.List.{flat_map};
 ghost use Rattle.syscalls.specs.Views.{effect_of, effects_of};
 ghost use Rattle.task.specs.Views.{programs_of};
-ghost use Rattle.simulator.specs.Traces.{acted_text, effect_text, line_text, name_in, result_text};
+ghost use Rattle.simulator.specs.Traces.{acted_text, effect_text, line_text, result_text};
 ghost use Rattle.simulator.specs.Views.{acted_of, line_of, result_of};
 
 use crate::lines::{Acted, Line, LineResult};
 use std::alloc::{AllocError, Global};
 use syscalls::Effect;
-use task::{NamedProgram, Task};
-
-/// The name of a program, by its place in the task; no bytes for one that isn't there.
-fn name_at(programs: &[NamedProgram], program: u8) -> &[u8]
-    ensures { result.now ≡ name_in (slice_get (programs_of programs.now) program) }
-{
-    match programs.get(program as usize) {
-        None => b"",
-        Some(named) => named.name.as_bytes(),
-    }
-}
+use task::Task;
 
 /// Appends a number in decimal.
 fn push_number(text: &mut Vec<u8>, alloc: Global, number: u32) -> Result<(), AllocError>
@@ -85,7 +75,7 @@ fn push_acted(
         ≡ text.old.items ++ acted_text task.now (Some (acted_of acted.now))) }
 {
     text.extend_from_slice(b" ")?;
-    text.extend_from_slice(name_at(task.programs(), acted.program))?;
+    text.extend_from_slice(task.program_name(acted.program))?;
     text.extend_from_slice(b":")?;
     push_number(text, alloc, u32::from(acted.point))?;
     text.extend_from_slice(b" ")?;

@@ -5,12 +5,13 @@ use Rattle.std.specs.List.{slice_get, list_all}
 use Rattle.std.proofs.lemmas.Bool.{ltb-true, leb-true}
 use Rattle.std.proofs.Math.ListN.{length-map}
 use Rattle.rights.proofs.Tests.{both_left, both_right}
+use Rattle.prog_asm.specs.Fields.{is_name}
 use Rattle.prog_asm.specs.Programs.{Instruction, is_program, is_instruction, ends_well}
 use Rattle.fd_table.specs.Descriptions.{Descriptor}
 use Rattle.kernel.specs.Calls.{most_processes}
 use Rattle.kernel.specs.WellFormed.{IsCode, IsPoint, IsMade, HasNone, FitsRegister, EachMessage, IsWorld}
 use Rattle.task.specs.Plans.{NamedProgram, Start, Plan, code_in, programs_of_plan}
-use Rattle.task.specs.Limits.{is_word, are_grants, most_programs, is_named, are_named_apart, all_apart, are_programs, are_descriptors, is_start, are_starts, is_tree, is_plan}
+use Rattle.task.specs.Limits.{are_grants, most_programs, is_named, are_named_apart, all_apart, are_programs, are_descriptors, is_start, are_starts, is_tree, is_plan}
 use Rattle.task.specs.Begins.{nothing_open, first_opening, first_process, first_world}
 use Rattle.task.specs.Laws.{FirstWorldsAreWellFormed}
 use Rattle.task.proofs.FirstTrees.{tested_tree}
@@ -47,7 +48,7 @@ whole_code (i ∷ code) good = good
 
 valid_code : (programs : List NamedProgram) (n : ℕ) → list_all is_named programs ≡ true → IsCode (code_in (slice_get programs n))
 valid_code [] n good = tt
-valid_code (p ∷ programs) zero good = whole_code p.code (both_right (is_word p.name) _ (both_left _ (list_all is_named programs) good))
+valid_code (p ∷ programs) zero good = whole_code p.code (both_right (is_name p.name) _ (both_left _ (list_all is_named programs) good))
 valid_code (p ∷ programs) (suc n) good = valid_code programs n (both_right (is_named p) _ good)
 
 pub named_programs : (programs : List NamedProgram) → are_programs programs ≡ true → list_all is_named programs ≡ true
@@ -63,7 +64,7 @@ has_point code good = go code (both_right (nat_le (length code) 256 && list_all 
 
 starts_at_point : (programs : List NamedProgram) (n : ℕ) → list_all is_named programs ≡ true → n < length programs → IsPoint (slice_get (code_in (slice_get programs n)) 0)
 starts_at_point [] n good below = absurd (omega arith)
-starts_at_point (p ∷ programs) zero good below = has_point p.code (both_right (is_word p.name) _ (both_left _ (list_all is_named programs) good))
+starts_at_point (p ∷ programs) zero good below = has_point p.code (both_right (is_name p.name) _ (both_left _ (list_all is_named programs) good))
 starts_at_point (p ∷ programs) (suc n) good below = starts_at_point programs n (both_right (is_named p) _ good) (omega arith)
 
 -- first processes

@@ -12,8 +12,10 @@ use Rattle.file_tree.specs.Places.{begins, above}
 use Rattle.file_tree.specs.Nodes.{Kind, Dir, Link, Node, node, is_dir, is_link, stands_at}
 use Rattle.file_tree.specs.WellFormed.{has_directory, is_within_limits}
 use Rattle.prog_asm.specs.Programs.{is_program}
+use Rattle.prog_asm.specs.Lines.{is_lower, is_digit}
+use Rattle.prog_asm.specs.Fields.{is_name, is_name_byte}
 use Rattle.task.specs.Plans.{Grant, NamedProgram, FirstDescriptor, Start, Plan, code_in}
-use Rattle.task.specs.Limits.{most_grants, most_programs, is_letter, is_digit, is_word_byte, is_word, can_follow, are_made, is_tree, is_grant, are_apart, are_grants, is_named, are_named_apart, are_programs, all_apart, is_descriptor, are_numbered_apart, are_descriptors, is_start, is_plan}
+use Rattle.task.specs.Limits.{most_grants, most_programs, can_follow, are_made, is_tree, is_grant, are_apart, are_grants, is_named, are_named_apart, are_programs, all_apart, is_descriptor, are_numbered_apart, are_descriptors, is_start, is_plan}
 use Rattle.task.specs.Policies.{grant_named}
 use Rattle.task.specs.Kept.{IsLetter, IsNameByte, IsShortName, IsUsable, KeepsGrants, KeepsPrograms, KeepsStarts, PlansKeepLimits, TreesAreMadeInOrder}
 use Rattle.task.proofs.FirstTrees.{tested_tree, made_in_order}
@@ -44,35 +46,35 @@ one_of (inl a) not = a
 one_of (inr b) not = absurd (not b)
 
 -- names
-letter : (b : ℕ) → is_letter b ≡ true → IsLetter b
+letter : (b : ℕ) → is_lower b ≡ true → IsLetter b
 letter b test = (leb-true _ _ (both_left _ (nat_le b 122) test), leb-true _ _ (both_right (nat_le 97 b) _ test))
 
-name_byte : (b : ℕ) → is_word_byte b ≡ true → IsNameByte b
+name_byte : (b : ℕ) → is_name_byte b ≡ true → IsNameByte b
 name_byte b test =
-    elim (either_one (is_letter b || is_digit b) (b == 95) test) [
-      | inl small ↦ elim (either_one (is_letter b) (is_digit b) small) [
+    elim (either_one (is_lower b || is_digit b) (b == 95) test) [
+      | inl small ↦ elim (either_one (is_lower b) (is_digit b) small) [
         | inl first ↦ inl (letter b first)
         | inr digit ↦ inr (inl (leb-true _ _ (both_left _ (nat_le b 57) digit), leb-true _ _ (both_right (nat_le 48 b) _ digit)))
       ]
       | inr line ↦ inr (inr (eqb-true b 95 line))
     ]
 
-short_name : (name : List ℕ) → is_word name ≡ true → IsShortName name
+short_name : (name : List ℕ) → is_name name ≡ true → IsShortName name
 short_name [] test = absurd cc
 short_name (b ∷ bytes) test =
-    let two = both_left _ (list_all is_word_byte bytes) test in
+    let two = both_left _ (list_all is_name_byte bytes) test in
     let first = letter b (both_left _ (nat_le (length bytes) 15) two) in
-    let few : length bytes ≤ 15 = leb-true _ _ (both_right (is_letter b) _ two) in
+    let few : length bytes ≤ 15 = leb-true _ _ (both_right (is_lower b) _ two) in
     record {
       some = omega arith;
       short = omega arith;
       first = λ c is. let same : b ≡ c = cc in subst IsLetter same first;
-      bytes = at first (both_right (is_letter b && nat_le (length bytes) 15) _ test);
+      bytes = at first (both_right (is_lower b && nat_le (length bytes) 15) _ test);
     }
   where
-    at : IsLetter b → list_all is_word_byte bytes ≡ true → (k c : ℕ) → slice_get (b ∷ bytes) k ≡ Some c → IsNameByte c
+    at : IsLetter b → list_all is_name_byte bytes ≡ true → (k c : ℕ) → slice_get (b ∷ bytes) k ≡ Some c → IsNameByte c
     at first all zero c is = let same : b ≡ c = cc in subst IsNameByte same (inl first)
-    at first all (suc k) c is = name_byte c (all_at is_word_byte bytes all k c is)
+    at first all (suc k) c is = name_byte c (all_at is_name_byte bytes all k c is)
 
 other_names : (p q : List ℕ) → bytes_eq p q ≡ false → p ≢ q
 other_names p q other same = both_ways _ other ((bytes_eq-Decides p q).1 same)
@@ -136,7 +138,7 @@ keeps_grants plan test =
     record {
       few = leb-true _ _ (both_left _ (list_all (is_grant plan.nodes) plan.grants) two);
       named = λ i g is. short_name g.name (both_left _ (has_directory plan.nodes g.path) (at i g is));
-      directory = λ i g is. both_right (is_word g.name) _ (at i g is);
+      directory = λ i g is. both_right (is_name g.name) _ (at i g is);
       names = λ i j g h at_g at_h same.
           one_of (apart_at are_apart Apart grants_apart (λ g h test. turned g h (grants_apart g h test)) plan.grants apart i j g h at_g at_h) (λ other. other.names same);
       found = finds plan.grants apart;
@@ -157,7 +159,7 @@ keeps_programs plan test =
       few = leb-true _ _ (both_left _ (list_all is_named plan.programs) two);
       named = λ i p is. short_name p.name (both_left _ (is_program p.code) (all_at is_named plan.programs all i p is));
       code = λ i p is. ap code_in is;
-      valid = λ i p is. both_right (is_word p.name) _ (all_at is_named plan.programs all i p is);
+      valid = λ i p is. both_right (is_name p.name) _ (all_at is_named plan.programs all i p is);
       names = λ i j p q at_p at_q same.
           one_of
           (apart_at are_named_apart OtherNames (λ p q test. other_names p.name q.name (not_true _ test)) (λ p q test is. other_names p.name q.name (not_true _ test) (sym is)) plan.programs apart i j p q at_p at_q)

@@ -1,12 +1,3 @@
-pub mod BaseTask
-pub mod FieldFaults
-pub mod Passing
-pub mod WrittenLaws
-pub mod ValidPlans
-pub mod PathTexts
-pub mod Stages
-pub mod EachItem
-pub mod Rows
 pub mod FirstTrees
 pub mod Openings
 pub mod FirstWorlds

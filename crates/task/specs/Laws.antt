@@ -1,7 +1,6 @@
 -- Laws of tasks.
-use Rattle.std.specs.Prelude.{◌≡◌, ◌≢◌, ◌==◌, ◌++◌, ◌↔◌, ℕ, true, false, List, [], ◌∷◌, codes, replicate, Option, Some, None, Ok, if◌then◌else◌}
-use Rattle.std.specs.List.{list_all, slice_get, Contains}
-use Rattle.file_tree.specs.Places.{place_text}
+use Rattle.std.specs.Prelude.{◌≡◌, ◌≢◌, ◌==◌, ◌++◌, ◌↔◌, ℕ, true, false, List, [], ◌∷◌, codes, replicate, Option, Some, None, if◌then◌else◌}
+use Rattle.std.specs.List.{slice_get, Contains}
 use Rattle.rights.specs.Operations.{Operation, Read}
 use Rattle.process.specs.State.{ProcessState}
 use Rattle.fd_table.specs.Descriptions.{At_node, Descriptor}
@@ -12,8 +11,6 @@ use Rattle.task.specs.Plans.{Grant, FirstDescriptor, Start, Plan, programs_of_pl
 use Rattle.task.specs.Limits.{is_plan}
 use Rattle.task.specs.Policies.{is_allowed}
 use Rattle.task.specs.Begins.{first_world}
-use Rattle.task.specs.Paths.{is_path_name, place_of}
-use Rattle.task.specs.Reading.{task_of}
 
 -- A task starts in a well-formed world of its programs.
 abbrev pub FirstWorldsAreWellFormed : Type 0
@@ -87,13 +84,3 @@ PlanExists =
     × (given_to (slice_get plan.starts 0) 0 ≢ None)
     × (is_allowed plan.grants Read (codes "work" ∷ codes "in" ∷ []) ≡ true)
     × (is_allowed plan.grants Read (codes "workshop" ∷ []) ≡ false)
-
--- What is read as a task is one.
-abbrev pub TasksReadAreValid : Type 0
-TasksReadAreValid = (bytes : List ℕ) (plan : Plan) → task_of bytes ≡ Ok plan → is_plan plan ≡ true
-
--- A path is the text of the place that it is, and the text of each place of path names is a path.
-abbrev pub PathsAreTexts : Type 0
-PathsAreTexts =
-    ((path : List ℕ) (place : List (List ℕ)) → place_of path ≡ Some place → place_text place ≡ path)
-    × ((place : List (List ℕ)) → list_all is_path_name place ≡ true → place_of (place_text place) ≡ Some place)

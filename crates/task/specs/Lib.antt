@@ -3,12 +3,5 @@ pub mod Limits
 pub mod Policies
 pub mod Begins
 pub mod Kept
-pub mod Documents
-pub mod Written
-pub mod Paths
-pub mod Reading
 pub mod Laws
-pub mod WrittenViews
-pub mod Placed
-pub mod Faults
 pub mod Views

@@ -8,6 +8,7 @@ use Rattle.file_tree.specs.Nodes.{Node, node, is_dir, is_link, stands_at}
 use Rattle.file_tree.specs.Changes.{most_nodes}
 use Rattle.file_tree.specs.WellFormed.{has_directory, is_within_limits}
 use Rattle.prog_asm.specs.Programs.{is_program}
+use Rattle.prog_asm.specs.Fields.{is_name}
 use Rattle.kernel.specs.Calls.{most_processes}
 use Rattle.task.specs.Plans.{Grant, NamedProgram, FirstDescriptor, Start, Plan}
 
@@ -17,20 +18,6 @@ most_grants = 8
 
 abbrev pub most_programs : ℕ
 most_programs = 8
-
--- A word: a letter from a to z, then up to 15 of these letters, of digits and of `_`.
-abbrev pub is_letter : ℕ → Bool
-is_letter b = nat_le 97 b && nat_le b 122
-
-abbrev pub is_digit : ℕ → Bool
-is_digit b = nat_le 48 b && nat_le b 57
-
-abbrev pub is_word_byte : ℕ → Bool
-is_word_byte b = is_letter b || is_digit b || (b == 95)
-
-abbrev pub is_word : List ℕ → Bool
-is_word [] = false
-is_word (b ∷ bytes) = is_letter b && nat_le (length bytes) 15 && list_all is_word_byte bytes
 
 -- each passes the test with those after it
 abbrev pub all_apart : {A : Type 0} → (A → A → Bool) → List A → Bool
@@ -56,7 +43,7 @@ is_tree (root ∷ nodes) = is_root_node root && nat_lt (length nodes) most_nodes
 
 -- Grants are of directories, and no place is in two of them. Each name is given once.
 abbrev pub is_grant : List Node → Grant → Bool
-is_grant tree g = is_word g.name && has_directory tree g.path
+is_grant tree g = is_name g.name && has_directory tree g.path
 
 abbrev pub are_apart : Grant → Grant → Bool
 are_apart g h = not (bytes_eq g.name h.name) && not (begins g.path h.path) && not (begins h.path g.path)
@@ -66,7 +53,7 @@ are_grants tree grants = nat_le (length grants) most_grants && list_all (is_gran
 
 -- Each program is valid, and has a name of its own.
 abbrev pub is_named : NamedProgram → Bool
-is_named p = is_word p.name && is_program p.code
+is_named p = is_name p.name && is_program p.code
 
 abbrev pub are_named_apart : NamedProgram → NamedProgram → Bool
 are_named_apart p q = not (bytes_eq p.name q.name)

@@ -49,3 +49,11 @@ code_in (Some p) = p.code
 
 abbrev pub programs_of_plan : Plan → ℕ → List Instruction
 programs_of_plan plan n = code_in (slice_get plan.programs n)
+
+-- the name of a program by its number; no bytes where a task has none
+abbrev pub name_in : Option NamedProgram → List ℕ
+name_in None = []
+name_in (Some p) = p.name
+
+abbrev pub program_name : Plan → ℕ → List ℕ
+program_name plan n = name_in (slice_get plan.programs n)

@@ -1,7 +1,7 @@
 //! Laws of tasks. Each is the contract of a function that does nothing.
 
 ghost use Rattle.task.specs.Kept.{PlansKeepLimits, TreesAreMadeInOrder};
-ghost use Rattle.task.specs.Laws.{AllowedIsTested, FirstWorldsAreFirst, FirstWorldsAreWellFormed, PathsAreTexts, PlanExists, TasksReadAreValid};
+ghost use Rattle.task.specs.Laws.{AllowedIsTested, FirstWorldsAreFirst, FirstWorldsAreWellFormed, PlanExists};
 
 /// What is tested of a plan, fact by fact: its tree is one, with no removed node; names are words that are given once; no
 /// place is in two grants; programs are valid; and first descriptors can be used, each at a number of its own.
@@ -34,15 +34,4 @@ pub fn allowed_operations_are_tested()
 /// Some plan is valid, of a dozen nodes, two grants and two processes: so the laws speak of something.
 pub fn a_valid_plan_exists()
     ensures { PlanExists }
-{}
-
-/// What some bytes are read as is a valid plan, by the definitions alone.
-pub fn tasks_read_are_valid()
-    ensures { TasksReadAreValid }
-{}
-
-/// A path is the text of the place that it is read as, and each place whose names are path names is read back from its
-/// text: `/` for the root, else each name after a `/`.
-pub fn paths_are_texts()
-    ensures { PathsAreTexts }
 {}

@@ -34,7 +34,7 @@ impl Model for Task {
 
 impl Task {
     ghost use Rattle.std.specs.Prelude.{◌≡◌, true};
-    ghost use Rattle.task.specs.Plans.{plan_with};
+    ghost use Rattle.task.specs.Plans.{plan_with, program_name};
     ghost use Rattle.task.specs.Limits.{is_plan};
     ghost use Rattle.task.specs.Views.{grants_of, nodes_of, programs_of, starts_of};
 
@@ -79,6 +79,16 @@ impl Task {
         ensures valid { is_plan self.now ≡ true }
     {
         &self.programs
+    }
+
+    /// The name of a program, by its place in the task; no bytes for one that isn't there.
+    pub fn program_name(&self, program: u8) -> &[u8]
+        ensures { result.now ≡ program_name self.now program }
+    {
+        match self.programs.get(program as usize) {
+            None => b"",
+            Some(named) => named.name.as_bytes(),
+        }
     }
 
     /// The first processes, by number.

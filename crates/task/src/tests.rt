@@ -1,7 +1,5 @@
 //! What no clause says: that a task can be made where memory is there, and that its parts are read back.
 
-mod reading;
-
 ghost use Rattle.std.specs.Prelude.{◌≡◌, [], ◌∷◌, codes, true, false, IfOk};
 ghost use Rattle.rights.specs.Sets.{all_commands, all_rights};
 ghost use Rattle.rights.specs.Operations.{Look, Read};
@@ -155,6 +153,8 @@ fn a_task_has_its_parts(rt: HostRuntime) -> Result<(), Fail> {
         }
         _ => panic!(rt; "not one process"),
     }
+    assert_eq!(rt; task.program_name(0), b"main".as_slice());
+    assert!(rt; task.program_name(1).is_empty());
     match task.programs() {
         [main] => assert!(rt; matches!(main.program.code(), [Instruction::Halt])),
         _ => panic!(rt; "not one program"),

@@ -1,5 +1,0 @@
-use Rattle.std.proofs.Common.{length}
-use Rattle.file_tree.proofs.places.+is_same.Given as goal
-
-abbrev pub decreases-is_same : goal.decreases-is_same
-decreases-is_same l = length l.left.now

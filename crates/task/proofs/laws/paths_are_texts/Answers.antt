@@ -1,5 +1,0 @@
-use Rattle.task.proofs.PathTexts.{path-text, text-path}
-use Rattle.task.proofs.laws.paths_are_texts.Goals as goal
-
-pub returns : goal.returns
-returns c = (path-text, text-path)

@@ -1,8 +1,0 @@
-use Rattle.std.proofs.Common.{◌≡◌, take}
-use Rattle.task.specs.Placed.{placed_starts}
-use Rattle.task.specs.Views.{starts_of}
-use Rattle.task.proofs.reading.kept_starts.Given as goal
-
--- those before this one are kept
-abbrev pub invariant-loop-start : goal.invariant-loop-start
-invariant-loop-start l = starts_of l.kept.items ≡ placed_starts (take l.start-index l.placed)

@@ -1,0 +1,94 @@
+-- A field that isn't read makes its table one that isn't.
+use Rattle.std.proofs.Common.{◌≡◌, List, [], ◌∷◌, ℕ, Option, Some, None, Err, ℤ, Bool, true, false, cond, string_bytes, codes, refl, ap, ◌∙◌}
+use Rattle.rights.specs.Sets.{all_rights, all_commands, right_names, command_names}
+use Rattle.fd_table.specs.Descriptions.{Access}
+use Rattle.toml.specs.Data.{Members, get_member}
+use Rattle.task_reader.specs.Documents.{only_keys, read_or}
+use Rattle.task_reader.specs.Written.{access_in, descriptor_in, descriptor_keys, descriptor_with, reading, set_in, WrittenNode, WrittenGrant, WrittenProgram, WrittenStart, task_with, written_nodes, written_grants, written_programs, written_starts, written_task}
+use Rattle.std.specs.Prelude.{option_and_then}
+use Rattle.prog_asm.specs.Assembly.{Fault}
+use Rattle.task_reader.specs.declared.faults.TaskFault.{TaskFault}
+use Rattle.task_reader.specs.declared.faults.TaskFault.TheVariants as code
+use Rattle.task_reader.specs.Reading.{Mistake, Wrong_field, or_mistake}
+use Rattle.task_reader.specs.Faults.{FaultIs, IsProgramFault, text_fault}
+
+none_from : {X : Type 0} (m : Mistake) (x : Option X) → or_mistake m x ≡ Err m → x ≡ None
+none_from m None is = refl
+none_from m (Some x) is = absurd cc
+
+no_other : {X : Type 0} {Y : Type 0} (m n : Mistake) (x : Option X) (y : Option Y) → (m ≡ n → ⊥) → or_mistake m x ≡ Err n → or_mistake m y ≡ Err n
+no_other m n None y differs is = absurd (differs cc)
+no_other m n (Some x) y differs is = absurd cc
+
+no_program : {X : Type 0} {Y : Type 0} (name : List ℕ) (w : Option Fault) (x : Option X) (y : Option Y) → IsProgramFault name w (or_mistake Wrong_field x) → IsProgramFault name w (or_mistake Wrong_field y)
+no_program name None x y is = is
+no_program name (Some w) x y is = no_other Wrong_field _ x y (λ same. absurd cc) is
+
+pub field-fault : {X : Type 0} {Y : Type 0} (e : TaskFault) (x : Option X) (y : Option Y) → (x ≡ None → y ≡ None) → FaultIs e (or_mistake Wrong_field x) → FaultIs e (or_mistake Wrong_field y)
+field-fault code.NotToml x y none is = no_other Wrong_field _ x y (λ same. absurd cc) is
+field-fault code.Field x y none is = rw (none (none_from Wrong_field x is)) refl
+field-fault code.Node x y none is = no_other Wrong_field _ x y (λ same. absurd cc) is
+field-fault code.Grant x y none is = no_other Wrong_field _ x y (λ same. absurd cc) is
+field-fault code.Descriptor x y none is = no_other Wrong_field _ x y (λ same. absurd cc) is
+field-fault (code.Asm program why) x y none is = no_program (string_bytes program) (text_fault why) x y is
+field-fault code.Limit x y none is = no_other Wrong_field _ x y (λ same. absurd cc) is
+field-fault code.Memory x y none is = is
+
+-- A descriptor needs its flags, its rights and its commands.
+no_access : (number : Option ℤ) (path : Option (List ℕ)) (rights fcntls : Option ℕ) → descriptor_with number path None rights fcntls ≡ None
+no_access None path rights fcntls = refl
+no_access (Some n) None rights fcntls = refl
+no_access (Some n) (Some p) rights fcntls = refl
+
+no_rights : (number : Option ℤ) (path : Option (List ℕ)) (access : Option Access) (fcntls : Option ℕ) → descriptor_with number path access None fcntls ≡ None
+no_rights None path access fcntls = refl
+no_rights (Some n) None access fcntls = refl
+no_rights (Some n) (Some p) None fcntls = refl
+no_rights (Some n) (Some p) (Some a) fcntls = refl
+
+no_fcntls : (number : Option ℤ) (path : Option (List ℕ)) (access : Option Access) (rights : Option ℕ) → descriptor_with number path access rights None ≡ None
+no_fcntls None path access rights = refl
+no_fcntls (Some n) None access rights = refl
+no_fcntls (Some n) (Some p) None rights = refl
+no_fcntls (Some n) (Some p) (Some a) None = refl
+no_fcntls (Some n) (Some p) (Some a) (Some r) = refl
+
+none_if : {A : Type 0} (b : Bool) (x : Option A) → x ≡ None → cond b x None ≡ None
+none_if true x none = none
+none_if false x none = refl
+
+pub without-flags : (ms : Members) → read_or reading access_in (get_member (codes "flags") ms) ≡ None → descriptor_in ms ≡ None
+without-flags ms none = none_if (only_keys descriptor_keys ms) _ (rw none (no_access _ _ _ _))
+
+pub without-rights : (ms : Members) → read_or all_rights (set_in right_names) (get_member (codes "rights") ms) ≡ None → descriptor_in ms ≡ None
+without-rights ms none = none_if (only_keys descriptor_keys ms) _ (rw none (no_rights _ _ _ _))
+
+pub without-fcntls : (ms : Members) → read_or all_commands (set_in command_names) (get_member (codes "fcntls") ms) ≡ None → descriptor_in ms ≡ None
+without-fcntls ms none = none_if (only_keys descriptor_keys ms) _ (rw none (no_fcntls _ _ _ _))
+
+-- A task needs all its parts.
+no_starts : (nodes : Option (List WrittenNode)) (grants : Option (List WrittenGrant)) (programs : Option (List WrittenProgram)) → task_with nodes grants programs None ≡ None
+no_starts None grants programs = refl
+no_starts (Some n) None programs = refl
+no_starts (Some n) (Some g) None = refl
+no_starts (Some n) (Some g) (Some p) = refl
+
+pub without-starts : (ms : Members) (programs : List WrittenProgram) → written_programs ms ≡ Some programs → written_starts ms programs ≡ None → written_task ms ≡ None
+unfolding written_task
+without-starts ms programs is none =
+    let gone : option_and_then (written_starts ms) (written_programs ms) ≡ None = ap (option_and_then (written_starts ms)) is ∙ none in
+    none_if (only_keys (codes "node" ∷ codes "grant" ∷ codes "program" ∷ codes "process" ∷ []) ms) _
+    (ap (task_with (written_nodes ms) (written_grants ms) (written_programs ms)) gone ∙ no_starts (written_nodes ms) (written_grants ms) (written_programs ms))
+
+pub all-parts : (ms : Members) (nodes : List WrittenNode) (grants : List WrittenGrant) (programs : List WrittenProgram) (starts : List WrittenStart)
+    → only_keys (codes "node" ∷ codes "grant" ∷ codes "program" ∷ codes "process" ∷ []) ms ≡ true
+    → written_nodes ms ≡ Some nodes → written_grants ms ≡ Some grants → written_programs ms ≡ Some programs → written_starts ms programs ≡ Some starts
+    → written_task ms ≡ Some (record { nodes = nodes; grants = grants; programs = programs; starts = starts })
+unfolding written_task
+all-parts ms nodes grants programs starts keys n g p s =
+    let there : option_and_then (written_starts ms) (written_programs ms) ≡ Some starts = ap (option_and_then (written_starts ms)) p ∙ s in
+    ap (λ b. cond b (task_with (written_nodes ms) (written_grants ms) (written_programs ms) (option_and_then (written_starts ms) (written_programs ms))) None) keys
+    ∙ ap (λ x. task_with x (written_grants ms) (written_programs ms) (option_and_then (written_starts ms) (written_programs ms))) n
+    ∙ ap (λ x. task_with (Some nodes) x (written_programs ms) (option_and_then (written_starts ms) (written_programs ms))) g
+    ∙ ap (λ x. task_with (Some nodes) (Some grants) (written_programs ms) x) there
+    ∙ ap (λ x. task_with (Some nodes) (Some grants) x (Some starts)) p

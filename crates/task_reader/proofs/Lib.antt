@@ -1,0 +1,9 @@
+pub mod BaseTask
+pub mod FieldFaults
+pub mod Passing
+pub mod WrittenLaws
+pub mod ValidPlans
+pub mod PathTexts
+pub mod Stages
+pub mod EachItem
+pub mod Rows

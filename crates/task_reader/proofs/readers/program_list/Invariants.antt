@@ -1,0 +1,12 @@
+use Rattle.std.proofs.Common.{◌≡◌, ◌++◌, map, drop, option_map}
+use Rattle.toml.specs.View.{items_view}
+use Rattle.task_reader.specs.Documents.{each_item}
+use Rattle.task_reader.specs.Written.{written_program}
+use Rattle.task_reader.specs.WrittenViews.{program_seen}
+use Rattle.task_reader.proofs.readers.program_list.Given as goal
+
+-- what was read so far, and then what is left
+abbrev pub invariant-loop-value : goal.invariant-loop-value
+invariant-loop-value l =
+    each_item written_program (items_view l.values)
+    ≡ option_map (λ rest. map program_seen l.programs.items ++ rest) (each_item written_program (items_view (drop l.value-index l.values)))

@@ -1,0 +1,187 @@
+-- The task that a TOML document stands for, or the least of what is wrong with it. (own)
+use Rattle.std.specs.Prelude.{ℕ, ℤ, pos, negsuc, Bool, true, ◌&&◌, ◌||◌, not, nat_le, nat_lt, List, [], ◌∷◌, ◌++◌, length, Option, Some, None, option_map, option_and_then, Result, Ok, Err, if◌then◌else◌}
+use Rattle.std.specs.List.{list_all, list_any}
+use Rattle.file_tree.specs.Places.{begins, above}
+use Rattle.file_tree.specs.Nodes.{Node, node, node_at, is_dir, is_link, stands_at}
+use Rattle.file_tree.specs.Changes.{most_nodes, new_tree}
+use Rattle.file_tree.specs.WellFormed.{has_directory, is_within_limits}
+use Rattle.prog_asm.specs.Programs.{Instruction}
+use Rattle.prog_asm.specs.Assembly.{Fault, assembly_of}
+use Rattle.fd_table.specs.Descriptions.{Access}
+use Rattle.toml.specs.Data.{Members}
+use Rattle.task.specs.Plans.{Grant, NamedProgram, FirstDescriptor, Start, Plan, plan_with}
+use Rattle.task.specs.Limits.{most_grants, most_programs, all_apart, are_numbered_apart}
+use Rattle.task_reader.specs.Documents.{document_of}
+use Rattle.task_reader.specs.Paths.{place_of}
+use Rattle.task_reader.specs.Written.{WrittenNode, WrittenGrant, WrittenProgram, WrittenDescriptor, WrittenStart, WrittenTask, written_task}
+
+-- What can be wrong. Where more than one applies, the first of these is told.
+pub data Mistake : Type 0 where
+  Not_toml : Mistake  -- the bytes are no TOML document
+  Wrong_field : Mistake  -- a key, a value's type, a word or a name is wrong
+  Wrong_node : Mistake  -- a node's path isn't one, is given twice, or comes before its directory
+  Wrong_grant : Mistake  -- a grant isn't a directory's, or is in another
+  Wrong_descriptor : Mistake  -- a number is none or is given twice, there is no such node, or a directory is written
+  Wrong_program : List ℕ → Fault → Mistake  -- the named program isn't assembled
+  Past_limit : Mistake  -- something is too long, empty, or too many
+
+-- what is there, or the mistake that it isn't
+abbrev pub or_mistake : {A : Type 0} → Mistake → Option A → Result A Mistake
+or_mistake mistake None = Err mistake
+or_mistake mistake (Some a) = Ok a
+
+infixl 10 ◌>>=◌
+abbrev pub ◌>>=◌ : {A B : Type 0} → Result A Mistake → (A → Result B Mistake) → Result B Mistake
+(Ok a) >>= f = f a
+(Err mistake) >>= f = Err mistake
+
+-- A node stands in a directory that is listed before it, at a place where nothing stands yet.
+unfoldable pub can_stand : List Node → List (List ℕ) → Bool
+can_stand made place = has_directory made (above place) && not (list_any (stands_at place) made)
+
+abbrev pub node_placed : WrittenNode → List (List ℕ) → Node
+node_placed n place = record { kind = n.kind; place = place; linked = true; content = n.content }
+
+abbrev pub node_behind : List Node → WrittenNode → List (List ℕ) → Option Node
+node_behind made n place = if can_stand made place then Some (node_placed n place) else None
+
+abbrev pub node_made : List Node → WrittenNode → Option Node
+node_made made n = option_and_then (node_behind made n) (place_of n.path)
+
+abbrev pub tree_from : List Node → List WrittenNode → Option (List Node)
+tree_from made [] = Some made
+tree_from made (n ∷ nodes) = option_and_then (λ m. tree_from (made ++ m ∷ []) nodes) (node_made made n)
+
+abbrev pub tree_of : List WrittenNode → Option (List Node)
+tree_of nodes = tree_from new_tree nodes
+
+-- A grant is of a directory that is there, and no place is in two of them.
+unfoldable pub can_grant : List Node → List (List ℕ) → Bool
+can_grant tree place = has_directory tree place
+
+abbrev pub grant_at : List Node → WrittenGrant → List (List ℕ) → Option Grant
+grant_at tree g place =
+    if can_grant tree place then Some (record { name = g.name; path = place; operations = g.operations }) else None
+
+abbrev pub grant_placed : List Node → WrittenGrant → Option Grant
+grant_placed tree g = option_and_then (grant_at tree g) (place_of g.path)
+
+abbrev pub grants_placed : List Node → List WrittenGrant → Option (List Grant)
+grants_placed tree [] = Some []
+grants_placed tree (g ∷ grants) =
+    option_and_then (λ x. option_map (λ rest. x ∷ rest) (grants_placed tree grants)) (grant_placed tree g)
+
+abbrev pub are_disjoint : Grant → Grant → Bool
+are_disjoint g h = not (begins g.path h.path) && not (begins h.path g.path)
+
+abbrev pub disjoint : List Grant → Option (List Grant)
+disjoint grants = if all_apart are_disjoint grants then Some grants else None
+
+abbrev pub policy_of : List Node → List WrittenGrant → Option (List Grant)
+policy_of tree grants = option_and_then disjoint (grants_placed tree grants)
+
+-- A descriptor has a number from 0 to 15, which no other of the process has, and is on a file or a directory. A directory
+-- isn't written. (open(2))
+abbrev pub descriptor_number : ℤ → Option ℕ
+descriptor_number (pos n) = if nat_lt n 16 then Some n else None
+descriptor_number (negsuc n) = None
+
+abbrev pub descriptor_on : WrittenDescriptor → ℕ → ℕ → FirstDescriptor
+descriptor_on d number n =
+    record { number = number; node = n; access = d.access; rights = d.rights; fcntls = d.fcntls }
+
+abbrev pub can_access : Node → Access → Bool
+can_access m access = not (is_link m.kind) && (access.readable || access.writable) && not (is_dir m.kind && access.writable)
+
+unfoldable pub can_open : List Node → ℕ → Access → Bool
+can_open tree n access = can_access (node tree n) access
+
+abbrev pub number_of_path : List Node → List ℕ → Option ℕ
+number_of_path tree path = option_and_then (node_at tree) (place_of path)
+
+abbrev pub descriptor_at : List Node → WrittenDescriptor → Option ℕ → Option ℕ → Option FirstDescriptor
+descriptor_at tree d (Some number) (Some n) =
+    if can_open tree n d.access then Some (descriptor_on d number n) else None
+descriptor_at tree d _ _ = None
+
+abbrev pub descriptor_placed : List Node → WrittenDescriptor → Option FirstDescriptor
+descriptor_placed tree d = descriptor_at tree d (descriptor_number d.number) (number_of_path tree d.path)
+
+abbrev pub descriptors_placed : List Node → List WrittenDescriptor → Option (List FirstDescriptor)
+descriptors_placed tree [] = Some []
+descriptors_placed tree (d ∷ descriptors) =
+    option_and_then (λ x. option_map (λ rest. x ∷ rest) (descriptors_placed tree descriptors)) (descriptor_placed tree d)
+
+abbrev pub numbered_apart : List FirstDescriptor → Option (List FirstDescriptor)
+numbered_apart descriptors = if all_apart are_numbered_apart descriptors then Some descriptors else None
+
+abbrev pub table_of : List Node → List WrittenDescriptor → Option (List FirstDescriptor)
+table_of tree descriptors = option_and_then numbered_apart (descriptors_placed tree descriptors)
+
+abbrev pub start_from : WrittenStart → List FirstDescriptor → Start
+start_from s descriptors = record { program = s.program; mode = s.mode; descriptors = descriptors }
+
+abbrev pub start_placed : List Node → WrittenStart → Option Start
+start_placed tree s = option_map (start_from s) (table_of tree s.descriptors)
+
+abbrev pub starts_placed : List Node → List WrittenStart → Option (List Start)
+starts_placed tree [] = Some []
+starts_placed tree (s ∷ starts) =
+    option_and_then (λ x. option_map (λ rest. x ∷ rest) (starts_placed tree starts)) (start_placed tree s)
+
+-- The programs are assembled in the order of the task.
+abbrev pub program_from : List ℕ → Result (List Instruction) Fault → Result NamedProgram Mistake
+program_from name (Ok code) = Ok (record { name = name; code = code })
+program_from name (Err fault) = Err (Wrong_program name fault)
+
+abbrev pub assembled : WrittenProgram → Result NamedProgram Mistake
+assembled p = program_from p.name (assembly_of p.text)
+
+abbrev pub all_assembled : List WrittenProgram → Result (List NamedProgram) Mistake
+all_assembled [] = Ok []
+all_assembled (p ∷ programs) = do
+  first ← assembled p
+  rest ← all_assembled programs
+  Ok (first ∷ rest)
+
+-- What is limited: the length of a node's path, of its names, and of what it holds; and how many nodes, grants, programs
+-- and processes there are.
+abbrev pub most_path : ℕ
+most_path = 1023
+
+-- a document lists one process, until programs can make more
+abbrev pub most_starts : ℕ
+most_starts = 1
+
+abbrev pub is_short : WrittenNode → Bool
+is_short n = nat_le (length n.path) most_path
+
+abbrev pub keeps_limits : WrittenTask → List Node → Bool
+keeps_limits task tree =
+    list_all is_short task.nodes && list_all is_within_limits tree && nat_le (length tree) most_nodes
+    && nat_le (length task.grants) most_grants && nat_le (length task.programs) most_programs
+    && nat_le (length task.starts) most_starts
+
+abbrev pub within_limits : WrittenTask → Plan → Result Plan Mistake
+within_limits task plan = if keeps_limits task plan.nodes then Ok plan else Err Past_limit
+
+-- The task that is written, if it is one.
+unfoldable pub plan_of : WrittenTask → Result Plan Mistake
+plan_of task = do
+  tree ← or_mistake Wrong_node (tree_of task.nodes)
+  grants ← or_mistake Wrong_grant (policy_of tree task.grants)
+  starts ← or_mistake Wrong_descriptor (starts_placed tree task.starts)
+  programs ← all_assembled task.programs
+  within_limits task (plan_with tree grants programs starts)
+
+-- What a document stands for.
+unfoldable pub plan_in : Members → Result Plan Mistake
+plan_in document = do
+  task ← or_mistake Wrong_field (written_task document)
+  plan_of task
+
+-- What some bytes stand for.
+unfoldable pub task_of : List ℕ → Result Plan Mistake
+task_of bytes = do
+  document ← or_mistake Not_toml (document_of bytes)
+  plan_in document

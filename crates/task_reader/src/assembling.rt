@@ -1,0 +1,42 @@
+//! The programs of a task, assembled.
+
+ghost use Rattle.std.specs.Prelude.{◌≡◌};
+ghost use Rattle.task_reader.specs.Faults.{Reads};
+ghost use Rattle.task_reader.specs.Reading.{all_assembled, assembled};
+ghost use Rattle.task.specs.Views.{program_of, programs_of};
+ghost use Rattle.task_reader.specs.WrittenViews.{program_seen, programs_seen};
+
+use crate::faults::TaskFault;
+use crate::written::WrittenProgram;
+use prog_asm::{AsmFault, assemble};
+use std::alloc::Global;
+use task::NamedProgram;
+
+/// The program that a text stands for.
+fn assemble_one(alloc: Global, written: &WrittenProgram<'_>) -> Result<NamedProgram, TaskFault>
+    ensures { Reads program_of result (assembled (program_seen written.now)) }
+{
+    let name = String::from_str(alloc, written.name)?;
+    match assemble(alloc, written.text) {
+        Ok(program) => Ok(NamedProgram { name, program }),
+        Err(AsmFault::Memory) => Err(TaskFault::Memory),
+        Err(fault) => Err(TaskFault::Asm {
+            program: name,
+            fault,
+        }),
+    }
+}
+
+/// The programs of a task, in their order, or the first that isn't assembled, and why. (own)
+pub(crate) fn assemble_all(
+    alloc: Global,
+    written: &[WrittenProgram<'_>],
+) -> Result<Vec<NamedProgram>, TaskFault>
+    ensures { Reads (λ programs. programs_of programs.items) result (all_assembled (programs_seen written.now)) }
+{
+    let mut programs = Vec::new(alloc);
+    for program in written {
+        programs.push(assemble_one(alloc, program)?)?;
+    }
+    Ok(programs)
+}

@@ -1,0 +1,266 @@
+//! The tables of a task's document: nodes, grants, programs and processes.
+
+ghost use Rattle.std.specs.Prelude.{◌≡◌, map, option_and_then, option_map};
+ghost use Rattle.rights.specs.Sets.{all_commands, all_rights, command_names, right_names};
+ghost use Rattle.rights.specs.Views.{operation_of};
+ghost use Rattle.fd_table.specs.Views.{access_seen};
+ghost use Rattle.toml.specs.Data.{as_table};
+ghost use Rattle.toml.specs.View.{table_view, view};
+ghost use Rattle.task_reader.specs.Documents.{each_item, items_at, read_or};
+ghost use Rattle.task_reader.specs.Faults.{Reads};
+ghost use Rattle.task_reader.specs.Reading.{Wrong_field, or_mistake};
+ghost use Rattle.task_reader.specs.Written.{access_in, descriptor_in, directory_in, file_in, grant_in, link_in, mode_in, name_at, node_in, operations_in, program_in, reading, set_in, start_in, written_descriptor, written_grant, written_node, written_program, written_start};
+ghost use Rattle.task_reader.specs.WrittenViews.{descriptor_seen, grant_seen, node_seen, program_seen, start_seen};
+
+use crate::documents::{has_only, integer_at, items_at, read_words, text_at, value_at};
+use crate::faults::TaskFault;
+use crate::words::{access, mode, place_among, read_operations, set};
+use crate::written::{WrittenDescriptor, WrittenGrant, WrittenNode, WrittenProgram, WrittenStart};
+use fd_table::Access;
+use file_tree::Kind;
+use prog_asm::is_name;
+use rights::{Fcntls, Op, Rights};
+use std::alloc::Global;
+use toml::{Table, Value};
+
+/// A directory.
+fn directory(table: &Table) -> Option<WrittenNode<'_>>
+    ensures { option_map node_seen result ≡ directory_in (table_view table.now) }
+{
+    if !has_only(table, &["path", "kind"]) {
+        return None;
+    }
+    let path = text_at(table, "path")?;
+    Some(WrittenNode {
+        path,
+        kind: Kind::Dir,
+        content: "",
+    })
+}
+
+/// A file, with its content.
+fn file(table: &Table) -> Option<WrittenNode<'_>>
+    ensures { option_map node_seen result ≡ file_in (table_view table.now) }
+{
+    if !has_only(table, &["path", "kind", "content"]) {
+        return None;
+    }
+    match (text_at(table, "path"), text_at(table, "content")) {
+        (Some(path), Some(content)) => Some(WrittenNode {
+            path,
+            kind: Kind::File,
+            content,
+        }),
+        _ => None,
+    }
+}
+
+/// A link, with its target.
+fn link(table: &Table) -> Option<WrittenNode<'_>>
+    ensures { option_map node_seen result ≡ link_in (table_view table.now) }
+{
+    if !has_only(table, &["path", "kind", "target"]) {
+        return None;
+    }
+    match (text_at(table, "path"), text_at(table, "target")) {
+        (Some(path), Some(content)) => Some(WrittenNode {
+            path,
+            kind: Kind::Link,
+            content,
+        }),
+        _ => None,
+    }
+}
+
+/// A node of the kind that its table says.
+fn node(table: &Table) -> Option<WrittenNode<'_>>
+    ensures { option_map node_seen result ≡ node_in (table_view table.now) }
+{
+    match text_at(table, "kind") {
+        Some("dir") => directory(table),
+        Some("file") => file(table),
+        Some("link") => link(table),
+        _ => None,
+    }
+}
+
+/// The node that a value is, if it is one.
+pub(crate) fn written_node(value: &Value) -> Option<WrittenNode<'_>>
+    ensures { option_map node_seen result ≡ written_node (view value.now) }
+{
+    match value.as_table() {
+        Some(table) => node(table),
+        None => None,
+    }
+}
+
+/// The name of a grant or a program.
+fn name_at<'a>(table: &'a Table, key: &str) -> Option<&'a str>
+    ensures { option_map (λ name. name.now) result ≡ name_at key.now (table_view table.now) }
+{
+    match text_at(table, key) {
+        Some(name) => {
+            if is_name(name.as_bytes()) {
+                Some(name)
+            } else {
+                None
+            }
+        }
+        None => None,
+    }
+}
+
+/// A program, with its text.
+fn program(table: &Table) -> Option<WrittenProgram<'_>>
+    ensures { option_map program_seen result ≡ program_in (table_view table.now) }
+{
+    if !has_only(table, &["name", "code"]) {
+        return None;
+    }
+    match (name_at(table, "name"), text_at(table, "code")) {
+        (Some(name), Some(text)) => Some(WrittenProgram { name, text }),
+        _ => None,
+    }
+}
+
+/// The program that a value is, if it is one.
+pub(crate) fn written_program(value: &Value) -> Option<WrittenProgram<'_>>
+    ensures { option_map program_seen result ≡ written_program (view value.now) }
+{
+    match value.as_table() {
+        Some(table) => program(table),
+        None => None,
+    }
+}
+
+/// A list of operations.
+fn operations(alloc: Global, value: Option<&Value>) -> Result<Vec<Op>, TaskFault>
+    ensures { Reads (λ operations. map operation_of operations.items) result
+        (or_mistake Wrong_field (option_and_then operations_in (option_map (λ v. view v.now) value.entry))) }
+{
+    match value {
+        Some(value) => {
+            let words = read_words(alloc, value)?;
+            read_operations(alloc, &words)
+        }
+        None => Err(TaskFault::Field),
+    }
+}
+
+/// A grant, with its operations.
+fn grant<'a>(alloc: Global, table: &'a Table) -> Result<WrittenGrant<'a>, TaskFault>
+    ensures { Reads grant_seen result (or_mistake Wrong_field (grant_in (table_view table.now))) }
+{
+    if !has_only(table, &["name", "path", "ops"]) {
+        return Err(TaskFault::Field);
+    }
+    match (name_at(table, "name"), text_at(table, "path")) {
+        (Some(name), Some(path)) => {
+            let operations = operations(alloc, value_at(table, "ops"))?;
+            Ok(WrittenGrant {
+                name,
+                path,
+                operations,
+            })
+        }
+        _ => Err(TaskFault::Field),
+    }
+}
+
+/// The grant that a value is.
+pub(crate) fn written_grant<'a>(
+    alloc: Global,
+    value: &'a Value,
+) -> Result<WrittenGrant<'a>, TaskFault>
+    ensures { Reads grant_seen result (or_mistake Wrong_field (written_grant (view value.now))) }
+{
+    match value.as_table() {
+        Some(table) => grant(alloc, table),
+        None => Err(TaskFault::Field),
+    }
+}
+
+/// What a descriptor's node is opened for: reading, where no list of flags says it. (open(2))
+fn read_access(alloc: Global, value: Option<&Value>) -> Result<Access, TaskFault>
+    ensures { Reads access_seen result
+        (or_mistake Wrong_field (read_or reading access_in (option_map (λ v. view v.now) value.entry))) }
+{
+    let value = match value {
+        Some(value) => value,
+        None => {
+            return Ok(Access {
+                readable: true,
+                writable: false,
+            });
+        }
+    };
+    let words = read_words(alloc, value)?;
+    match access(&words) {
+        Some(access) => Ok(access),
+        None => Err(TaskFault::Field),
+    }
+}
+
+/// A descriptor's rights: all, where no list says which. (rights(4))
+fn read_rights(alloc: Global, value: Option<&Value>) -> Result<Rights, TaskFault>
+    ensures { Reads (λ rights. rights.0) result
+        (or_mistake Wrong_field (read_or all_rights (set_in right_names) (option_map (λ v. view v.now) value.entry))) }
+{
+    let value = match value {
+        Some(value) => value,
+        None => return Ok(Rights::all()),
+    };
+    let words = read_words(alloc, value)?;
+    match set(&words) {
+        Some(rights) => Ok(rights),
+        None => Err(TaskFault::Field),
+    }
+}
+
+/// A descriptor's fcntl commands: all, where no list says which. (cap_fcntls_limit(2))
+fn read_fcntls(alloc: Global, value: Option<&Value>) -> Result<Fcntls, TaskFault>
+    ensures { Reads (λ fcntls. fcntls.0) result
+        (or_mistake Wrong_field (read_or all_commands (set_in command_names) (option_map (λ v. view v.now) value.entry))) }
+{
+    let value = match value {
+        Some(value) => value,
+        None => return Ok(Fcntls::all()),
+    };
+    let words = read_words(alloc, value)?;
+    match set(&words) {
+        Some(fcntls) => Ok(fcntls),
+        None => Err(TaskFault::Field),
+    }
+}
+
+/// A first descriptor, with its access, rights and commands.
+fn descriptor<'a>(alloc: Global, table: &'a Table) -> Result<WrittenDescriptor<'a>, TaskFault>
+    ensures { Reads descriptor_seen result (or_mistake Wrong_field (descriptor_in (table_view table.now))) }
+{
+    if !has_only(table, &["number", "path", "flags", "rights", "fcntls"]) {
+        return Err(TaskFault::Field);
+    }
+    match (integer_at(table, "number"), text_at(table, "path")) {
+        (Some(number), Some(path)) => Ok(WrittenDescriptor {
+            number,
+            path,
+            access: read_access(alloc, value_at(table, "flags"))?,
+            rights: read_rights(alloc, value_at(table, "rights"))?,
+            fcntls: read_fcntls(alloc, value_at(table, "fcntls"))?,
+        }),
+        _ => Err(TaskFault::Field),
+    }
+}
+
+/// The first descriptor that a value is.
+pub(crate) fn written_descriptor<'a>(
+    alloc: Global,
+    value: &'a Value,
+) -> Result<WrittenDescriptor<'a>, TaskFault>
+    ensures { Reads descriptor_seen result (or_mistake Wrong_field (written_descriptor (view value.now))) }
+{
+    match value.as_table() {
+        Some(table) => descriptor(alloc, table),
+        None => Err(TaskFault::Field),
+    }
+}

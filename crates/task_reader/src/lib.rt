@@ -1,0 +1,24 @@
+//! How a task is read from a TOML document.
+#![tactic(auto)]
+
+mod assembling;
+mod documents;
+pub mod faults;
+mod fields;
+pub mod laws;
+pub mod limits;
+mod paths;
+mod placed_grants;
+mod placed_starts;
+mod readers;
+pub mod reading;
+mod trees;
+mod words;
+mod written;
+
+pub use faults::TaskFault;
+pub use limits::{MAX_GRANTS, MAX_PATH, MAX_PROCESSES, MAX_PROGRAMS};
+pub use reading::read_task;
+
+#[cfg(test)]
+mod tests;

@@ -1,0 +1,89 @@
+//! The limits of a task.
+
+ghost use Rattle.std.specs.Prelude.{◌≡◌, true};
+ghost use Rattle.std.specs.List.{list_all};
+ghost use Rattle.file_tree.specs.Places.{is_name};
+ghost use Rattle.file_tree.specs.Views.{kind_of, names_of};
+ghost use Rattle.file_tree.specs.WellFormed.{is_byte, is_content, is_within_limits};
+ghost use Rattle.task_reader.specs.Reading.{is_short, keeps_limits};
+ghost use Rattle.task.specs.Views.{node_of, nodes_of};
+ghost use Rattle.task_reader.specs.WrittenViews.{node_seen, nodes_seen, task_seen};
+
+use crate::written::{WrittenNode, WrittenTask};
+use file_tree::{Kind, MAX_BYTES, MAX_NODES, is_valid_name, is_valid_target};
+use task::TaskNode;
+
+/// How many bytes the path of a node may have. (own)
+pub const MAX_PATH: usize = 1023;
+
+/// How many grants a task may have. (own)
+pub const MAX_GRANTS: usize = 8;
+
+/// How many programs a task may have. (own)
+pub const MAX_PROGRAMS: usize = 8;
+
+/// How many first processes a task may have, until programs can make more. (own)
+pub const MAX_PROCESSES: usize = 1;
+
+/// Whether each name is one of a node's.
+fn are_names(place: &[Vec<u8>]) -> bool
+    ensures { result ≡ list_all is_name (names_of place.now) }
+{
+    match place {
+        [] => true,
+        [name, rest @ ..] => is_valid_name(name) && are_names(rest),
+    }
+}
+
+/// Whether a content is one of a node of that kind.
+fn is_content(kind: Kind, content: &[u8]) -> bool
+    ensures value { result ≡ is_content (kind_of kind) content.now }
+    ensures bytes { list_all is_byte content.now ≡ true }
+{
+    match kind {
+        Kind::File => content.len() <= MAX_BYTES,
+        Kind::Dir => content.is_empty(),
+        Kind::Link => is_valid_target(content),
+    }
+}
+
+/// Whether a node keeps the limits of its names and of what it holds.
+fn is_within_limits(node: &TaskNode) -> bool
+    ensures { result ≡ is_within_limits (node_of node.now) }
+{
+    let content = is_content(node.kind, &node.content);
+    are_names(&node.place) && content
+}
+
+/// Whether each node does.
+fn are_within_limits(nodes: &[TaskNode]) -> bool
+    ensures { result ≡ list_all is_within_limits (nodes_of nodes.now) }
+{
+    match nodes {
+        [] => true,
+        [node, rest @ ..] => is_within_limits(node) && are_within_limits(rest),
+    }
+}
+
+/// Whether the path of each node is short enough.
+fn are_short(nodes: &[WrittenNode<'_>]) -> bool
+    ensures { result ≡ list_all is_short (nodes_seen nodes.now) }
+{
+    match nodes {
+        [] => true,
+        [node, rest @ ..] => node.path.len() <= MAX_PATH && are_short(rest),
+    }
+}
+
+/// Whether a task and its tree keep the limits: of the length of a node's path, of its names, and of what it holds; and of
+/// how many nodes, grants, programs and processes there are. (own)
+pub(crate) fn keeps_limits(task: &WrittenTask<'_>, nodes: &[TaskNode]) -> bool
+    ensures { result ≡ keeps_limits (task_seen task.now) (nodes_of nodes.now) }
+{
+    are_short(&task.nodes)
+        && are_within_limits(nodes)
+        && nodes.len() <= MAX_NODES
+        && task.grants.len() <= MAX_GRANTS
+        && task.programs.len() <= MAX_PROGRAMS
+        && task.starts.len() <= MAX_PROCESSES
+}

@@ -1,0 +1,78 @@
+//! The places that a task's paths are.
+
+ghost use Rattle.std.specs.Prelude.{◌≡◌, ◌<◌, IfOk, IfSome, length, option_map};
+ghost use Rattle.std.specs.List.{list_all};
+ghost use Rattle.file_tree.specs.Places.{is_dots, is_name_byte};
+ghost use Rattle.file_tree.specs.Views.{names_of};
+ghost use Rattle.prog_asm.specs.Lines.{parts};
+ghost use Rattle.prog_asm.specs.Readings.{Begins};
+ghost use Rattle.task_reader.specs.Paths.{is_path_name, names_behind, path_names, place_of};
+
+use prog_asm::first_part;
+use std::alloc::{AllocError, Global};
+
+/// Whether a byte may stand in a node's name.
+fn may_stand_in_name(byte: u8) -> bool
+    ensures { result ≡ is_name_byte byte }
+{
+    byte >= 33 && byte <= 126 && !(byte == b'"' || byte == b'/' || byte == b'\\')
+}
+
+/// Whether each byte may stand in a node's name.
+fn has_name_bytes(name: &[u8]) -> bool
+    ensures { result ≡ list_all is_name_byte name.now }
+{
+    for byte in name {
+        if !may_stand_in_name(*byte) {
+            return false;
+        }
+    }
+    true
+}
+
+/// Whether a name is `.` or `..`.
+fn is_dot_name(name: &[u8]) -> bool
+    ensures { result ≡ is_dots name.now }
+{
+    name == b".".as_slice() || name == b"..".as_slice()
+}
+
+/// Whether a text is a name of a path: a node's name of any length. (own)
+fn is_path_name(name: &[u8]) -> bool
+    ensures { result ≡ is_path_name name.now }
+{
+    let has_name_bytes = has_name_bytes(name);
+    let is_dot_name = is_dot_name(name);
+    !name.is_empty() && has_name_bytes && !is_dot_name
+}
+
+/// The names that a `/` parts, if each is one.
+fn read_names(alloc: Global, text: &[u8]) -> Result<Option<Vec<Vec<u8>>>, AllocError>
+    ensures { IfOk result (λ place. option_map (λ p. names_of p.items) place ≡ path_names (parts 47 text.now)) }
+{
+    let mut names = Vec::new(alloc);
+    let mut text = text;
+    loop {
+        let (name, behind) = first_part(text, b'/');
+        if !is_path_name(name) {
+            return Ok(None);
+        }
+        names.push(Vec::from_slice(alloc, name)?)?;
+        let Some(behind) = behind else {
+            return Ok(Some(names));
+        };
+        text = behind;
+    }
+}
+
+/// The place that a path is: `/`, or each name after a `/`. (own)
+#[tactic(auto, unfolding(crate::specs::Paths::place_of))]
+pub(crate) fn read_place(alloc: Global, path: &[u8]) -> Result<Option<Vec<Vec<u8>>>, AllocError>
+    ensures { IfOk result (λ place. option_map (λ p. names_of p.items) place ≡ place_of path.now) }
+{
+    match path {
+        [b'/'] => Ok(Some(Vec::new(alloc))),
+        [b'/', names @ ..] => read_names(alloc, names),
+        _ => Ok(None),
+    }
+}

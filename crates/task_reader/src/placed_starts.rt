@@ -1,0 +1,220 @@
+//! The first processes, with their descriptors on the nodes of the tree.
+
+ghost use Rattle.std.specs.Prelude.{◌≡◌, ◌<◌, IfOk, IfSome, length, map, option_map};
+ghost use Rattle.std.specs.List.{list_all};
+ghost use Rattle.fd_table.specs.Views.{access_seen};
+ghost use Rattle.file_tree.specs.Nodes.{node, node_at};
+ghost use Rattle.file_tree.specs.Views.{names_of};
+ghost use Rattle.task_reader.specs.Faults.{Reads};
+ghost use Rattle.task.specs.Limits.{all_apart, are_numbered_apart};
+ghost use Rattle.task_reader.specs.Placed.{placed_descriptor, placed_start, placed_starts};
+ghost use Rattle.task_reader.specs.Reading.{Wrong_descriptor, can_access, can_open, descriptor_number, descriptor_placed, descriptors_placed, number_of_path, or_mistake, start_placed, starts_placed, table_of};
+ghost use Rattle.task.specs.Views.{node_of, nodes_of};
+ghost use Rattle.task_reader.specs.WrittenViews.{descriptor_seen, start_seen, starts_seen};
+
+use crate::faults::TaskFault;
+use crate::paths::read_place;
+use crate::written::{WrittenDescriptor, WrittenStart};
+use fd_table::Access;
+use file_tree::{Kind, is_same_place};
+use rights::{Fcntls, Rights};
+use std::alloc::{AllocError, Global};
+use task::TaskNode;
+
+/// A first descriptor on a node of a tree of any size.
+#[derive(Clone, Copy)]
+pub(crate) struct PlacedDescriptor {
+    pub(crate) number: u8,
+    pub(crate) node: usize,
+    pub(crate) access: Access,
+    pub(crate) rights: Rights,
+    pub(crate) fcntls: Fcntls,
+}
+
+/// A first process of a program among any number.
+#[derive(Drop)]
+pub(crate) struct PlacedStart {
+    pub(crate) program: usize,
+    pub(crate) mode: bool,
+    pub(crate) descriptors: Vec<PlacedDescriptor>,
+}
+
+/// The number of the node at a place.
+#[tactic(auto, unfolding(file_tree::specs::Nodes::node_at))]
+fn node_number(nodes: &[TaskNode], place: &[Vec<u8>]) -> Option<usize>
+    ensures value { result ≡ node_at (nodes_of nodes.now) (names_of place.now) }
+    ensures within { IfSome result (λ number. number < length nodes.now) }
+{
+    for (number, node) in nodes.iter().enumerate() {
+        if is_same_place(place, &node.place) {
+            return Some(number);
+        }
+    }
+    None
+}
+
+/// The number of the node at a path.
+fn number_of_path(
+    alloc: Global,
+    nodes: &[TaskNode],
+    path: &[u8],
+) -> Result<Option<usize>, AllocError>
+    ensures value { IfOk result (λ number. number ≡ number_of_path (nodes_of nodes.now) path.now) }
+    ensures within { IfOk result (λ number. IfSome number (λ n. n < length nodes.now)) }
+{
+    match read_place(alloc, path)? {
+        Some(place) => Ok(node_number(nodes, &place)),
+        None => Ok(None),
+    }
+}
+
+/// The number, if it is one of a descriptor's.
+fn descriptor_number(number: i64) -> Option<u8>
+    ensures { result ≡ descriptor_number number }
+{
+    match u8::try_from(number) {
+        Ok(number) if number < 16 => Some(number),
+        _ => None,
+    }
+}
+
+/// Whether a node can be opened so: no link, for reading or writing, and a directory not for writing. (open(2))
+fn can_access(node: &TaskNode, access: Access) -> bool
+    ensures { result ≡ can_access (node_of node.now) (access_seen access) }
+{
+    match node.kind {
+        Kind::Link => false,
+        Kind::Dir => access.readable && !access.writable,
+        Kind::File => access.readable || access.writable,
+    }
+}
+
+/// Whether the node of a number can be opened so.
+fn can_open(nodes: &[TaskNode], number: usize, access: Access) -> bool
+    requires { number < length nodes.now }
+    ensures { result ≡ can_open (nodes_of nodes.now) number (access_seen access) }
+{
+    can_access(&nodes[number], access)
+}
+
+/// The descriptor on its node, if it can be opened so.
+fn place_descriptor(
+    alloc: Global,
+    nodes: &[TaskNode],
+    descriptor: &WrittenDescriptor<'_>,
+) -> Result<Option<PlacedDescriptor>, AllocError>
+    ensures { IfOk result (λ placed. option_map placed_descriptor placed
+        ≡ descriptor_placed (nodes_of nodes.now) (descriptor_seen descriptor.now)) }
+{
+    let number = descriptor_number(descriptor.number);
+    let node = number_of_path(alloc, nodes, descriptor.path.as_bytes())?;
+    match (number, node) {
+        (Some(number), Some(node)) => {
+            if !can_open(nodes, node, descriptor.access) {
+                return Ok(None);
+            }
+            Ok(Some(PlacedDescriptor {
+                number,
+                node,
+                access: descriptor.access,
+                rights: descriptor.rights,
+                fcntls: descriptor.fcntls,
+            }))
+        }
+        _ => Ok(None),
+    }
+}
+
+/// The descriptors on their nodes, if each can be opened so.
+fn place_descriptors(
+    alloc: Global,
+    nodes: &[TaskNode],
+    written: &[WrittenDescriptor<'_>],
+) -> Result<Option<Vec<PlacedDescriptor>>, AllocError>
+    ensures { IfOk result (λ placed. option_map (λ descriptors. map placed_descriptor descriptors.items) placed
+        ≡ descriptors_placed (nodes_of nodes.now) (map descriptor_seen written.now)) }
+{
+    let mut descriptors = Vec::new(alloc);
+    for descriptor in written {
+        match place_descriptor(alloc, nodes, descriptor)? {
+            Some(placed) => descriptors.push(placed)?,
+            None => return Ok(None),
+        }
+    }
+    Ok(Some(descriptors))
+}
+
+/// Whether none of the others has the descriptor's number.
+fn is_apart(descriptor: PlacedDescriptor, others: &[PlacedDescriptor]) -> bool
+    ensures { result ≡ list_all (are_numbered_apart (placed_descriptor descriptor)) (map placed_descriptor others.now) }
+{
+    match others {
+        [] => true,
+        [other, rest @ ..] => descriptor.number != other.number && is_apart(descriptor, rest),
+    }
+}
+
+/// Whether each descriptor has a number of its own.
+fn are_apart(descriptors: &[PlacedDescriptor]) -> bool
+    ensures { result ≡ all_apart are_numbered_apart (map placed_descriptor descriptors.now) }
+{
+    match descriptors {
+        [] => true,
+        [descriptor, rest @ ..] => is_apart(*descriptor, rest) && are_apart(rest),
+    }
+}
+
+/// A process's descriptors, if each can be opened so and has a number of its own.
+fn make_table(
+    alloc: Global,
+    nodes: &[TaskNode],
+    written: &[WrittenDescriptor<'_>],
+) -> Result<Option<Vec<PlacedDescriptor>>, AllocError>
+    ensures { IfOk result (λ placed. option_map (λ descriptors. map placed_descriptor descriptors.items) placed
+        ≡ table_of (nodes_of nodes.now) (map descriptor_seen written.now)) }
+{
+    let Some(descriptors) = place_descriptors(alloc, nodes, written)? else {
+        return Ok(None);
+    };
+    if !are_apart(&descriptors) {
+        return Ok(None);
+    }
+    Ok(Some(descriptors))
+}
+
+/// The process with its descriptors on the nodes of the tree.
+fn place_start(
+    alloc: Global,
+    nodes: &[TaskNode],
+    start: &WrittenStart<'_>,
+) -> Result<Option<PlacedStart>, AllocError>
+    ensures { IfOk result (λ placed. option_map placed_start placed ≡ start_placed (nodes_of nodes.now) (start_seen start.now)) }
+{
+    let Some(descriptors) = make_table(alloc, nodes, &start.descriptors)? else {
+        return Ok(None);
+    };
+    Ok(Some(PlacedStart {
+        program: start.program,
+        mode: start.mode,
+        descriptors,
+    }))
+}
+
+/// The first processes, with their descriptors on the nodes of the tree. (own)
+pub(crate) fn place_starts(
+    alloc: Global,
+    nodes: &[TaskNode],
+    written: &[WrittenStart<'_>],
+) -> Result<Vec<PlacedStart>, TaskFault>
+    ensures { Reads (λ starts. placed_starts starts.items) result
+        (or_mistake Wrong_descriptor (starts_placed (nodes_of nodes.now) (starts_seen written.now))) }
+{
+    let mut starts = Vec::new(alloc);
+    for start in written {
+        match place_start(alloc, nodes, start)? {
+            Some(placed) => starts.push(placed)?,
+            None => return Err(TaskFault::Descriptor),
+        }
+    }
+    Ok(starts)
+}

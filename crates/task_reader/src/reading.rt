@@ -1,0 +1,111 @@
+//! TOML documents to tasks.
+
+ghost use Rattle.std.specs.Prelude.{◌≡◌, ◌^◌, ◌<◌, true, IfOk, map};
+ghost use Rattle.std.specs.List.{list_all};
+ghost use Rattle.toml.specs.Data.{Members};
+ghost use Rattle.task_reader.specs.Faults.{Reads};
+ghost use Rattle.task_reader.specs.Placed.{is_near, is_small, placed_descriptor, placed_start, placed_starts};
+ghost use Rattle.task_reader.specs.Reading.{plan_of, task_of};
+ghost use Rattle.task.specs.Views.{first_descriptor_of, start_of, starts_of};
+ghost use Rattle.task_reader.specs.Written.{written_task};
+ghost use Rattle.task_reader.specs.WrittenViews.{task_seen};
+
+use crate::assembling::assemble_all;
+use crate::documents::read_document;
+use crate::faults::TaskFault;
+use crate::limits::keeps_limits;
+use crate::placed_grants::make_policy;
+use crate::placed_starts::{PlacedDescriptor, PlacedStart, place_starts};
+use crate::readers::read_written;
+use crate::trees::make_tree;
+use crate::written::WrittenTask;
+use std::alloc::{AllocError, Global};
+use task::{FirstDescriptor, Start, Task};
+
+/// A task's descriptors: the tree is so small that their nodes' numbers fit.
+fn kept_descriptors(
+    alloc: Global,
+    placed: &[PlacedDescriptor],
+) -> Result<Vec<FirstDescriptor>, AllocError>
+    requires { list_all is_near (map placed_descriptor placed.now) ≡ true }
+    ensures { IfOk result (λ kept. map first_descriptor_of kept.items ≡ map placed_descriptor placed.now) }
+{
+    let mut kept = Vec::new(alloc);
+    for descriptor in placed {
+        kept.push(FirstDescriptor {
+            number: descriptor.number,
+            node: descriptor.node as u16,
+            access: descriptor.access,
+            rights: descriptor.rights,
+            fcntls: descriptor.fcntls,
+        })?;
+    }
+    Ok(kept)
+}
+
+/// A task's first process: there are so few programs that its program's place fits.
+fn kept_start(alloc: Global, placed: &PlacedStart) -> Result<Start, AllocError>
+    requires { is_small (placed_start placed.now) ≡ true }
+    ensures { IfOk result (λ kept. start_of kept ≡ placed_start placed.now) }
+{
+    Ok(Start {
+        program: placed.program as u8,
+        mode: placed.mode,
+        descriptors: kept_descriptors(alloc, &placed.descriptors)?,
+    })
+}
+
+/// A task's first processes.
+fn kept_starts(alloc: Global, placed: &[PlacedStart]) -> Result<Vec<Start>, AllocError>
+    requires { list_all is_small (placed_starts placed.now) ≡ true }
+    ensures { IfOk result (λ kept. starts_of kept.items ≡ placed_starts placed.now) }
+{
+    let mut kept = Vec::new(alloc);
+    for start in placed {
+        kept.push(kept_start(alloc, start)?)?;
+    }
+    Ok(kept)
+}
+
+/// The task that is written in a document.
+fn make_task(alloc: Global, written: &WrittenTask<'_>) -> Result<Task, TaskFault>
+    requires { (document : Members) × (written_task document ≡ Some (task_seen written.now)) }
+    ensures { Reads (λ task. task) result (plan_of (task_seen written.now)) }
+{
+    let nodes = make_tree(alloc, &written.nodes)?;
+    let grants = make_policy(alloc, &nodes, &written.grants)?;
+    let placed = place_starts(alloc, &nodes, &written.starts)?;
+    let programs = assemble_all(alloc, &written.programs)?;
+    if !keeps_limits(written, &nodes) {
+        return Err(TaskFault::Limit);
+    }
+    let starts = kept_starts(alloc, &placed)?;
+    Ok(Task::new(nodes, grants, programs, starts))
+}
+
+/// Reads a task from a TOML document. (own; descriptors after open(2), rights(4) and cap_fcntls_limit(2))
+///
+/// A document has the lists `node`, `grant`, `program` and `process`, and no other key. A node has `path`, `kind` (`dir`,
+/// `file` or `link`), and a file its `content`, a link its `target`. A grant has `name`, `path` and `ops` (`look`, `read`,
+/// `write`, `create`, `remove`), a program `name` and `code`. A process has `program`, the name of one, `fd`, and `mode`
+/// (`free`, which is the default, or `cap`). A descriptor of `fd` has `number`, `path`, and maybe `flags` (`read`, the
+/// default, and `write`), `rights` and `fcntls` (all by default). Descriptors on sockets aren't read yet: the keys `pair` and
+/// `side` are unknown. A path is `/`, or each name after a `/`. The root is there and isn't listed.
+///
+/// # Errors
+///
+/// Where several apply, the first of these: `NotToml`; `Field`, for a key that is missing or unknown, a value of a wrong type,
+/// a word that is unknown or twice in a list, a name that isn't a word or is given twice, an empty `flags`, a program that
+/// isn't there, and where there is no process; `Node`, for a path that isn't one, is given twice, or comes before its
+/// directory; `Grant`, for one that isn't of a directory, or is in another; `Descriptor`, for a number past 15 or given twice,
+/// a path where no file or directory is, and a directory that is to be written; `Asm`, for the first program whose text isn't
+/// one; `Limit`, for a path of more than 1023 bytes, a name of more than 255, a target that is empty or of more than 1023
+/// bytes or has a name of more than 255, a file of more than 4096, and more than 1024 nodes, the root counted, 8 grants, 8
+/// programs, and, until programs can make more, one process. `Memory`, want of memory, may come in place of any answer.
+pub fn read_task(alloc: Global, bytes: &[u8]) -> Result<Task, TaskFault>
+    ensures { Reads (λ task. task) result (task_of bytes.now) }
+{
+    let document = read_document(alloc, bytes)?;
+    let written = read_written(alloc, &document)?;
+    make_task(alloc, &written)
+}
