@@ -10,6 +10,7 @@ use std::alloc::{AllocFailed, Global};
 pub fn first_part(text: &[u8], separator: u8) -> (&[u8], Option<&[u8]>)
     ensures parts { Begins (parts separator text.now) separator result.0.now
         (option_map (λ rest. rest.now) result.1) }
+    ensures within { length result.0.now ≤ length text.now }
     ensures shorter { IfSome result.1 (λ rest. length rest.now < length text.now) }
 {
     for (at, byte) in text.iter().enumerate() {

@@ -4,7 +4,8 @@ use Rattle.std.specs.Prelude.{Option, Some, None, Result, Ok, Err, cond, nat_le,
 use Rattle.std.proofs.lemmas.Bool.{leb-true, le-leb}
 use Rattle.std.proofs.lemmas.List.{take-append-le, take_all}
 use Rattle.kernel.specs.Answers.{Event}
-use Rattle.simulator.specs.Schedules.{Faulty, Too_many, parts, parts_from, event_of_line, with_event, events_from, limited, schedule_of}
+use Rattle.prog_asm.specs.Lines.{parts, parts_from}
+use Rattle.simulator.specs.Schedules.{Faulty, Too_many, event_of_line, with_event, events_from, limited, schedule_of}
 
 -- events, and then what comes of the rest
 abbrev pub behind : List Event → Result (List Event) ℕ → Result (List Event) ℕ

@@ -3,8 +3,9 @@ use Rattle.std.proofs.Common.{◌≡◌, ℕ, ◌+◌, ◌-◌, ◌*◌, ◌<◌
 use Rattle.std.specs.Prelude.{Option, Some, None, nat_le, cond, is_some, option_map, ◌==◌, ◌++◌}
 use Rattle.std.specs.Char.{is_ascii_digit}
 use Rattle.std.proofs.lemmas.Bool.{leb-true}
-use Rattle.simulator.specs.ScheduleViews.{Begins}
-use Rattle.simulator.specs.Schedules.{parts, parts_from, event_of_words, event_of_line, number_from, at_most}
+use Rattle.prog_asm.specs.Readings.{Begins}
+use Rattle.prog_asm.specs.Lines.{parts, parts_from}
+use Rattle.simulator.specs.Schedules.{event_of_words, event_of_line, number_from, at_most}
 
 pub past_limit : (limit n : ℕ) (digits : List ℕ) → limit < n → at_most limit (number_from n digits) ≡ None
 past_limit limit n [] past = go (nat_le n limit) refl

@@ -1,18 +1,13 @@
 -- What the code's reading of a schedule comes to.
-use Rattle.std.specs.Prelude.{◌≡◌, ℕ, List, [], ◌∷◌, map, Option, Some, None, Result, Ok, Err}
+use Rattle.std.specs.Prelude.{◌≡◌, ℕ, List, map, Result, Ok, Err}
 use Rattle.std.specs.declared.vec.Vec.{Vec}
 use Rattle.std.specs.declared.alloc.Global.{Global}
 use Rattle.syscalls.specs.declared.events.Event.{Event as EventCode}
 use Rattle.simulator.specs.declared.schedule.ScheduleFault.{ScheduleFault}
 use Rattle.simulator.specs.declared.schedule.ScheduleFault.TheVariants.{Line, Limit, Memory}
 use Rattle.kernel.specs.Answers.{Event}
-use Rattle.simulator.specs.Schedules.{Fault, Faulty, Too_many, parts}
+use Rattle.simulator.specs.Schedules.{Fault, Faulty, Too_many}
 use Rattle.syscalls.specs.Views.{event_of}
-
--- The parts are the first one, and those of the rest where there is any.
-abbrev pub Begins : List (List ℕ) → ℕ → List ℕ → Option (List ℕ) → Type 0
-Begins all separator first None = all ≡ first ∷ []
-Begins all separator first (Some rest) = all ≡ first ∷ parts separator rest
 
 abbrev pub fault_number : ScheduleFault → ℕ
 fault_number (Line n) = 1

@@ -1,23 +1,15 @@
 -- The text of a schedule: lines `PROCESS BYTE` or `PROCESS BYTE refuse`, in decimal without leading
 -- zeros, each ended by a line feed. (own)
-use Rattle.std.specs.Prelude.{◌+◌, ◌*◌, ◌-◌, ◌==◌, ℕ, Bool, true, false, ◌&&◌, not, nat_le, List, [], ◌∷◌, ◌++◌, codes, length, Option, Some, None, Result, Ok, Err, if◌then◌else◌}
+use Rattle.std.specs.Prelude.{◌+◌, ◌*◌, ◌-◌, ◌==◌, ℕ, Bool, true, false, ◌&&◌, not, nat_le, List, [], ◌∷◌, codes, length, Option, Some, None, Result, Ok, Err, if◌then◌else◌}
 use Rattle.std.specs.Char.{is_ascii_digit}
 use Rattle.std.specs.Str.{bytes_eq}
+use Rattle.prog_asm.specs.Lines.{parts}
 use Rattle.kernel.specs.Answers.{Event}
 
 -- the first faulty line, counted from 1, or more than 65536 events
 pub data Fault : Type 0 where
   Faulty : (line : ℕ) → Fault
   Too_many : Fault
-
--- The parts of a text between the bytes that separate them, behind what has begun already.
-abbrev pub parts_from : ℕ → List ℕ → List ℕ → List (List ℕ)
-parts_from separator [] begun = begun ∷ []
-parts_from separator (b ∷ text) begun =
-    if b == separator then begun ∷ parts_from separator text [] else parts_from separator text (begun ++ b ∷ [])
-
-abbrev pub parts : ℕ → List ℕ → List (List ℕ)
-parts separator text = parts_from separator text []
 
 -- A number in decimal digits, without a leading zero.
 abbrev pub number_from : ℕ → List ℕ → Option ℕ

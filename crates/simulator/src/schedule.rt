@@ -1,11 +1,12 @@
 //! Schedules: who runs, step by step.
 
-ghost use Rattle.std.specs.Prelude.{◌≡◌, ◌<◌, ◌≤◌, ◌==◌, [], length, option_map, IfSome, None, Some};
-ghost use Rattle.simulator.specs.Schedules.{at_most, event_of_line, is_number, number_of, parts, schedule_of};
-ghost use Rattle.simulator.specs.ScheduleViews.{Begins, Reads, fault_number};
+ghost use Rattle.std.specs.Prelude.{◌≡◌, ◌==◌, [], None, Some, option_map};
+ghost use Rattle.simulator.specs.Schedules.{at_most, event_of_line, is_number, number_of, schedule_of};
+ghost use Rattle.simulator.specs.ScheduleViews.{Reads, fault_number};
 ghost use Rattle.syscalls.specs.Views.{event_of};
 ghost use Rattle.simulator.specs.declared.schedule.ScheduleFault.TheVariants as fault;
 
+use prog_asm::first_part;
 use std::alloc::{AllocFailed, Global};
 use syscalls::Event;
 use thiserror::Error;
@@ -46,21 +47,6 @@ impl<T: Drop> From<AllocFailed<T>> for ScheduleFault {
     fn from(_failed: AllocFailed<T>) -> ScheduleFault {
         ScheduleFault::Memory
     }
-}
-
-/// The first part of a text before a byte that separates, and the text behind that byte if it is there.
-fn first_part(text: &[u8], separator: u8) -> (&[u8], Option<&[u8]>)
-    ensures parts { Begins (parts separator text.now) separator result.0.now
-        (option_map (λ rest. rest.now) result.1) }
-    ensures within { length result.0.now ≤ length text.now }
-    ensures shorter { IfSome result.1 (λ rest. length rest.now < length text.now) }
-{
-    for (at, byte) in text.iter().enumerate() {
-        if *byte == separator {
-            return (&text[..at], Some(&text[at + 1..]));
-        }
-    }
-    (text, None)
 }
 
 /// Whether the word can be a number: it isn't empty, and has no leading zero.

@@ -1,5 +1,5 @@
 use Rattle.std.proofs.Common.{◌≡◌, ◌∷◌, ap, sym, ◌∙◌}
-use Rattle.simulator.specs.Schedules.{parts}
+use Rattle.prog_asm.specs.Lines.{parts}
 use Rattle.simulator.proofs.Numerals.{begins_some, begins_more, four_words}
 use Rattle.simulator.proofs.schedule.read_event.Goals as goal
 

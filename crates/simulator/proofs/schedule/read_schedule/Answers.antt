@@ -2,7 +2,7 @@ use Rattle.std.proofs.Common.{◌≡◌, ◌+◌, ◌≤◌, ◌<◌, [], ◌∷
 use Rattle.std.specs.Prelude.{IfSome}
 use Rattle.std.proofs.lemmas.Bool.{eqb-true}
 use Rattle.std.proofs.lemmas.List.{map-append}
-use Rattle.simulator.specs.Schedules.{parts}
+use Rattle.prog_asm.specs.Lines.{parts}
 use Rattle.syscalls.specs.Views.{event_of}
 use Rattle.simulator.proofs.LinesRead.{ReadSoFar, read-kept, read-dropped, read-faulty, read-ended}
 use Rattle.simulator.proofs.Numerals.{begins_none, begins_some}
