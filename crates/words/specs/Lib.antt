@@ -1,0 +1,2 @@
+pub mod OrderViews
+pub mod Orders
