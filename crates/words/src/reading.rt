@@ -1,9 +1,11 @@
 //! The program's words, read as an order.
 
-ghost use Rattle.std.specs.Prelude.{◌≡◌, IfOk, map, string_bytes};
+ghost use Rattle.std.specs.Prelude.{◌≡◌, map, option_map, string_bytes};
 ghost use Rattle.std.specs.List.{list_any};
-ghost use Rattle.words.specs.Orders.{AsksFor, is_dashed};
-ghost use Rattle.words.specs.OrderViews.{order_of};
+ghost use Rattle.clap.specs.Words.{first_of, found_of, rows_of, subcommand_rows_of};
+ghost use Rattle.words.specs.Commands.{named_order, parsed_order};
+ghost use Rattle.words.specs.Orders.{is_dashed};
+ghost use Rattle.words.specs.OrderViews.{Reads, order_of};
 
 use crate::commands::program;
 use crate::faults::WordsFault;
@@ -30,22 +32,34 @@ fn has_dashed(words: &[String]) -> bool
     false
 }
 
-/// The order that the words were parsed as.
-fn parsed_order<'a>(matches: &ArgMatches<'a>) -> Option<Order<'a>> {
-    let Some((command, inner)) = matches.subcommand() else {
-        return Some(Order::Example);
-    };
-    let task = inner.get_str("TASK")?;
-    match command {
-        "run" => Some(Order::Run {
-            task,
-            schedule: inner.get_str("SCHEDULE")?,
-        }),
-        "check" => Some(Order::Check {
-            task,
-            cert: inner.get_str("CERT")?,
-        }),
+/// The value of this name.
+fn value_named<'a>(values: &ArgMatches<'a>, name: &str) -> Option<&'a str>
+    ensures { option_map (λ value. value.now) result ≡ first_of name.now (rows_of (found_of values.now)) }
+{
+    values.get_str(name)
+}
+
+/// The order of a command of this name with these values.
+fn named_order<'a>(command: &str, values: &ArgMatches<'a>) -> Option<Order<'a>>
+    ensures { option_map order_of result ≡ named_order command.now (rows_of (found_of values.now)) }
+{
+    let task = value_named(values, "TASK");
+    let schedule = value_named(values, "SCHEDULE");
+    let cert = value_named(values, "CERT");
+    match (command, task, schedule, cert) {
+        ("run", Some(task), Some(schedule), _) => Some(Order::Run { task, schedule }),
+        ("check", Some(task), _, Some(cert)) => Some(Order::Check { task, cert }),
         _ => None,
+    }
+}
+
+/// The order that the words were parsed as.
+fn parsed_order<'a>(matches: &ArgMatches<'a>) -> Option<Order<'a>>
+    ensures { option_map order_of result ≡ parsed_order (subcommand_rows_of matches.now) }
+{
+    match matches.subcommand() {
+        Some((command, values)) => named_order(command, values),
+        None => Some(Order::Example),
     }
 }
 
@@ -54,17 +68,24 @@ fn parsed_order<'a>(matches: &ArgMatches<'a>) -> Option<Order<'a>> {
 ///
 /// # Errors
 ///
-/// `Words`, where the words are none of these lines, or one of them begins with `-`; `Memory`, where a growth
-/// was refused. That a right line is read where memory is there is tested, and not proved.
+/// `Words`, where the words are none of these lines, or one of them begins with `-`, and nowhere else; `Memory`,
+/// where a growth was refused, may come in place of any answer.
 pub fn read_order<'a>(alloc: Global, words: &'a [String]) -> Result<Order<'a>, WordsFault>
-    ensures { IfOk result (λ order. AsksFor (map string_bytes words.now) (order_of order)) }
+    ensures { Reads result (map string_bytes words.now) }
 {
     if has_dashed(words) {
         return Err(WordsFault::Words);
     }
-    let matches = program(alloc)?.try_get_matches_from(words)?;
-    match parsed_order(&matches) {
-        Some(order) if is_line_of(words, order) => Ok(order),
-        _ => Err(WordsFault::Words),
+    let matches = match program(alloc)?.try_get_matches_from(words) {
+        Ok(matches) => matches,
+        Err(error) => return Err(WordsFault::from(error)),
+    };
+    let order = match parsed_order(&matches) {
+        Some(order) => order,
+        None => return Err(WordsFault::Words),
+    };
+    if !is_line_of(words, order) {
+        return Err(WordsFault::Words);
     }
+    Ok(order)
 }

@@ -1,4 +1,4 @@
-//! What no clause says: that each right line is read, and that no other is.
+//! What no clause says: that there is an answer where memory is there, and that the definitions mean these lines.
 
 use crate::{Order, WordsFault, read_order};
 use std::alloc::{AllocError, Global};
