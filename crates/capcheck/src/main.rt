@@ -1,18 +1,25 @@
-//! Capcheck, the program: without words the trace of an example; with `run TASK SCHEDULE` the trace of a
-//! task that it knows by name over the events of a file; with `check TASK CERT` the verdict on a task with
-//! a certificate that it knows by name.
+//! Capcheck, the program: without words the trace of an example; with `run TASK SCHEDULE` the trace of the
+//! task of a file over the events of another; with `check TASK CERT` the verdict on a task with a certificate,
+//! both of which it knows by name.
 #![tactic(auto)]
+
+ghost use Rattle.std.specs.Prelude.{None};
 
 mod certificates;
 mod console;
+mod faults;
+mod judging;
 mod laws;
 mod named;
 mod serve;
+mod sources;
+mod statuses;
 #[cfg(test)]
 mod tests;
 
 use crate::console::Console;
-use crate::serve::{Source, Unread, serve};
+use crate::serve::serve;
+use crate::sources::{Source, Unread};
 use rights::write_all;
 use std::io::{BufWriter, ErrorKind};
 use std::process::ExitCode;
@@ -25,6 +32,8 @@ struct Disk<'a> {
 }
 
 impl<'a> Source for Disk<'a> {
+    ghost files = { λ _. None };
+
     fn fetch(&mut self, name: &str) -> Result<Vec<u8>, Unread> {
         match fs::read(self.rt, name) {
             Ok(bytes) => Ok(bytes),
