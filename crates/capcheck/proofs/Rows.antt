@@ -14,7 +14,7 @@ use Rattle.task.specs.Plans.{Plan, programs_of_plan}
 use Rattle.simulator.specs.Lines.{line_at}
 use Rattle.simulator.specs.Traces.{line_text, trace_text}
 use Rattle.capcheck.specs.Named.{first_plan, bare_plan, loop_plan}
-use Rattle.capcheck.specs.Served.{AlwaysShows, absent_event, events_of_first, example_events}
+use Rattle.capcheck.specs.Examples.{AlwaysShows, absent_event, events_of_first, example_events}
 
 -- The trace of these events, under the numbers that are chosen at each step.
 abbrev trace : Plan → World → List Event → (ℕ → Choice) → List ℕ

@@ -20,7 +20,7 @@ use Rattle.checker.specs.Verdicts.{MeetsRules, IsFirstFound}
 use Rattle.checker.proofs.Sound.{sound}
 use Rattle.capcheck.specs.Named.{first_plan, bare_plan}
 use Rattle.capcheck.specs.NamedCertificates.{good_certificate, thin_certificate, anyw_certificate, wrong_certificate, short_certificate}
-use Rattle.capcheck.specs.Served.{example_events}
+use Rattle.capcheck.specs.Examples.{example_events}
 use Rattle.capcheck.proofs.Rows.{every_example}
 
 pub good : MeetsRules first_plan good_certificate

@@ -4,7 +4,7 @@
 ghost use Rattle.std.specs.Prelude.{◌≡◌, ◌∷◌, codes, List, Option};
 ghost use Rattle.capcheck.specs.Named.{bare_plan, first_plan, loop_plan};
 ghost use Rattle.capcheck.specs.NamedCertificates.{anyw_certificate, good_certificate, short_certificate, thin_certificate, wrong_certificate};
-ghost use Rattle.capcheck.specs.Served.{AlwaysShows, absent_event, events_of_first, example_events};
+ghost use Rattle.capcheck.specs.Examples.{AlwaysShows, absent_event, events_of_first, example_events};
 ghost use Rattle.checker.specs.Rules.{Broken};
 ghost use Rattle.checker.specs.Verdicts.{IsFirstFound, MeetsRules};
 ghost use Rattle.kernel.specs.Steps.{Acted};

@@ -1,18 +1,26 @@
-//! Capcheck, the program: without words the trace of an example; with `run TASK SCHEDULE` the trace of a
-//! task that it knows by name over the events of a file; with `check TASK CERT` the verdict on a task with
-//! a certificate that it knows by name.
+//! Capcheck, the program: without words the trace of an example; with `run TASK SCHEDULE` the trace of the
+//! task of a file over the events of another; with `check TASK CERT` the verdict on a task with a certificate,
+//! both of which it knows by name.
 #![tactic(auto)]
+
+ghost use Rattle.std.specs.Prelude.{None};
 
 mod certificates;
 mod console;
+mod faults;
+mod judging;
 mod laws;
 mod named;
 mod serve;
+mod sources;
+mod statuses;
 #[cfg(test)]
 mod tests;
 
 use crate::console::Console;
-use crate::serve::{Source, Unread, serve};
+use crate::serve::serve;
+use crate::sources::{Source, Unread};
+use crate::statuses::{REFUSED, STOPPED};
 use rights::write_all;
 use std::io::{BufWriter, ErrorKind};
 use std::process::ExitCode;
@@ -25,6 +33,8 @@ struct Disk<'a> {
 }
 
 impl<'a> Source for Disk<'a> {
+    ghost files = { λ _. None };
+
     fn fetch(&mut self, name: &str) -> Result<Vec<u8>, Unread> {
         match fs::read(self.rt, name) {
             Ok(bytes) => Ok(bytes),
@@ -61,16 +71,16 @@ fn run(rt: &HostRuntime) -> u8 {
         Ok(words) => words,
         Err(Unread::NotThere) => {
             let _ = write_all(&mut err, b"capcheck: words\n");
-            return 2;
+            return REFUSED;
         }
         Err(Unread::Memory) => {
             let _ = write_all(&mut err, b"capcheck: memory\n");
-            return 3;
+            return STOPPED;
         }
     };
     let Ok(stream) = BufWriter::new(rt.alloc(), rt.stdout()) else {
         let _ = write_all(&mut err, b"capcheck: memory\n");
-        return 3;
+        return STOPPED;
     };
     let mut out = Console::new(stream);
     let mut disk = Disk { rt };
@@ -78,11 +88,11 @@ fn run(rt: &HostRuntime) -> u8 {
     if out.flush() {
         return status;
     }
-    if status < 2 {
+    if status < REFUSED {
         let mut err = Console::new(rt.stderr());
         let _ = write_all(&mut err, b"capcheck: output\n");
     }
-    3
+    STOPPED
 }
 
 fn main(rt: HostRuntime) -> ExitCode {

@@ -1,0 +1,68 @@
+//! The base task, and texts like it.
+
+use std::alloc::{AllocError, Global};
+
+/// The base task: a tree, two grants, and a program that only ends.
+pub(super) const BASE: &str = "node = [
+ {path=\"/work\", kind=\"dir\"},
+ {path=\"/work/in\", kind=\"file\", content=\"AB\"},
+ {path=\"/work/out\", kind=\"dir\"},
+ {path=\"/work/same\", kind=\"link\", target=\"out/../in\"},
+ {path=\"/work/up\", kind=\"link\", target=\"../etc/passwd\"},
+ {path=\"/work/abs\", kind=\"link\", target=\"/etc/passwd\"},
+ {path=\"/workshop\", kind=\"dir\"},
+ {path=\"/workshop/x\", kind=\"file\", content=\"w\"},
+ {path=\"/log\", kind=\"dir\"},
+ {path=\"/etc\", kind=\"dir\"},
+ {path=\"/etc/passwd\", kind=\"file\", content=\"x\"}]
+grant = [
+ {name=\"work\", path=\"/work\", ops=[\"look\",\"read\"]},
+ {name=\"log\", path=\"/log\", ops=[\"create\",\"write\",\"remove\"]}]
+process = [{program=\"main\", fd=[
+ {number=0, path=\"/work\"}, {number=1, path=\"/log\"}]}]
+[[program]]
+name = \"main\"
+code = '''
+halt
+'''
+";
+
+/// Parts of a text, each with what stands in its place.
+pub(super) type Changes<'a> = &'a [(&'a str, &'a str)];
+
+/// The text with each change made, in turn, at the first place; nothing where a part isn't there.
+pub(super) fn changed(
+    alloc: Global,
+    text: &str,
+    changes: Changes<'_>,
+) -> Result<Option<String>, AllocError> {
+    let mut text = String::from_str(alloc, text)?;
+    for (old, new) in changes {
+        let made = match text.split_once(*old) {
+            Some((before, behind)) => format!(in alloc; "{before}{new}{behind}")?,
+            None => return Ok(None),
+        };
+        text = made;
+    }
+    Ok(Some(text))
+}
+
+/// A text so many times.
+pub(super) fn times(alloc: Global, text: &str, count: usize) -> Result<String, AllocError> {
+    let mut all = String::new(alloc);
+    for _ in 0..count {
+        all.push_str(text)?;
+    }
+    Ok(all)
+}
+
+/// An event of process 0 for each line of a trace.
+pub(super) fn schedule_of(alloc: Global, trace: &str) -> Result<String, AllocError> {
+    let mut schedule = String::new(alloc);
+    for byte in trace.as_bytes() {
+        if *byte == b'\n' {
+            schedule.push_str("0 0\n")?;
+        }
+    }
+    Ok(schedule)
+}

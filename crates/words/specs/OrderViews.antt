@@ -1,0 +1,19 @@
+-- What the code's orders ask for, and what its reading of words comes to.
+use Rattle.std.specs.Prelude.{ℕ, List, Result, Ok, Err}
+use Rattle.words.specs.declared.faults.WordsFault.{WordsFault}
+use Rattle.words.specs.declared.faults.WordsFault.TheVariants.{Words, Memory}
+use Rattle.words.specs.declared.orders.Order.{Order as OrderCode}
+use Rattle.words.specs.declared.orders.Order.TheVariants as code
+use Rattle.words.specs.Orders.{Order, Example, Run, Check, AsksFor}
+
+abbrev pub order_of : OrderCode → Order
+order_of code.Example = Example
+order_of (code.Run task schedule) = Run task.now schedule.now
+order_of (code.Check task cert) = Check task.now cert.now
+
+-- The words ask for the order that is read, and for none where the fault is theirs. Want of memory may come in place of
+-- any answer.
+abbrev pub Reads : Result OrderCode WordsFault → List (List ℕ) → Type 0
+Reads (Ok order) words = AsksFor words (order_of order)
+Reads (Err Words) words = (order : Order) → AsksFor words order → ⊥
+Reads (Err Memory) words = Unit {0}

@@ -1,0 +1,25 @@
+-- The program's words, and what they ask for. (own)
+use Rattle.std.specs.Prelude.{◌≡◌, ◌==◌, ℕ, Bool, false, List, [], ◌∷◌, codes}
+use Rattle.std.specs.List.{list_any}
+
+-- the example; to run a task over a schedule; to check a task's certificate
+pub data Order : Type 0 where
+  Example : Order
+  Run : (task schedule : List ℕ) → Order
+  Check : (task certificate : List ℕ) → Order
+
+-- the words that ask for it: none; `run TASK SCHEDULE`; `check TASK CERT`
+abbrev pub line_of : Order → List (List ℕ)
+line_of Example = []
+line_of (Run task schedule) = codes "run" ∷ task ∷ schedule ∷ []
+line_of (Check task certificate) = codes "check" ∷ task ∷ certificate ∷ []
+
+-- the word begins with `-`
+abbrev pub is_dashed : List ℕ → Bool
+is_dashed [] = false
+is_dashed (b ∷ word) = b == 45
+
+-- The words ask for it, and none begins with `-`.
+pub record AsksFor (words : List (List ℕ)) (order : Order) : Type 0 where
+  pub line : words ≡ line_of order
+  pub undashed : list_any is_dashed words ≡ false

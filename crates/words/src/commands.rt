@@ -1,0 +1,47 @@
+//! The program's commands, as `clap` reads them.
+
+ghost use Rattle.std.specs.Prelude.{◌≡◌, IfOk, false};
+ghost use Rattle.clap.specs.Words.{app_of, rule_of};
+ghost use Rattle.clap.specs.declared.builder.command.Command.TheViews.{out-Command};
+ghost use Rattle.words.specs.Commands.{command_of_two, program, required_rule};
+
+use clap::{Arg, Command};
+use std::alloc::{AllocError, Global};
+
+/// A word that has to be there.
+fn required<'a>(alloc: Global, name: &'a str) -> Arg<'a>
+    ensures rule { rule_of result ≡ required_rule name.entry.now }
+    ensures local { result.global ≡ false }
+{
+    Arg::new(alloc, name).required(true)
+}
+
+/// A command of two words, each of which has to be there.
+fn command_of_two<'a>(
+    alloc: Global,
+    name: &'a str,
+    first: &'a str,
+    second: &'a str,
+) -> Result<Command<'a>, AllocError>
+    ensures shape { IfOk result (λ command. app_of command ≡ command_of_two name.entry.now first.entry.now second.entry.now) }
+    ensures local { IfOk result (λ command. (out-Command command).has_globals ≡ false) }
+{
+    let bare = Command::new(alloc, name).disable_help_flag(true);
+    let with_first = bare.arg(required(alloc, first))?;
+    with_first.arg(required(alloc, second))
+}
+
+/// The program: with no command the example, and the commands `run` and `check`. It has no help and no flags.
+pub(crate) fn program<'a>(alloc: Global) -> Result<Command<'a>, AllocError>
+    ensures { IfOk result (λ command. app_of command ≡ program) }
+{
+    let bare = Command::new(alloc, "capcheck")
+        .no_binary_name(true)
+        .disable_help_flag(true)
+        .disable_version_flag(true)
+        .disable_help_subcommand(true);
+    let run = command_of_two(alloc, "run", "TASK", "SCHEDULE")?;
+    let with_run = bare.subcommand(run)?;
+    let check = command_of_two(alloc, "check", "TASK", "CERT")?;
+    with_run.subcommand(check)
+}

@@ -1,0 +1,43 @@
+//! What the program can be asked to do.
+
+ghost use Rattle.std.specs.Prelude.{◌≡◌, ◌↔◌, ◌∷◌, [], IsTrue, map, string_bytes};
+ghost use Rattle.words.specs.Orders.{line_of};
+ghost use Rattle.words.specs.OrderViews.{order_of};
+
+/// What the program is asked to do. It borrows the names from the words.
+#[derive(Clone, Copy, Debug, PartialEq, Eq)]
+pub enum Order<'a> {
+    /// The example: no words at all.
+    Example,
+    /// `run TASK SCHEDULE`: to run a task over the events of a schedule.
+    Run { task: &'a str, schedule: &'a str },
+    /// `check TASK CERT`: to check a task's certificate.
+    Check { task: &'a str, cert: &'a str },
+}
+
+/// Whether three words are the line of this order.
+fn is_command(command: &str, first: &str, second: &str, order: Order<'_>) -> bool
+    ensures { IsTrue result ↔ (command.now ∷ first.now ∷ second.now ∷ [] ≡ line_of (order_of order.entry)) }
+{
+    match order {
+        Order::Example => false,
+        Order::Run { task, schedule } => command == "run" && first == task && second == schedule,
+        Order::Check { task, cert } => command == "check" && first == task && second == cert,
+    }
+}
+
+/// Whether the words are the line of this order.
+pub(crate) fn is_line_of(words: &[String], order: Order<'_>) -> bool
+    ensures { IsTrue result ↔ (map string_bytes words.now ≡ line_of (order_of order.entry)) }
+{
+    match words {
+        [] => matches!(order, Order::Example),
+        [command, first, second] => is_command(
+            command.as_str(),
+            first.as_str(),
+            second.as_str(),
+            order,
+        ),
+        _ => false,
+    }
+}
