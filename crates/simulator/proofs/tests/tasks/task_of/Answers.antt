@@ -5,7 +5,7 @@ use Rattle.file_tree.specs.Nodes.{Node}
 use Rattle.task.specs.declared.programs.NamedProgram.{NamedProgram as ProgramCode}
 use Rattle.task.specs.declared.starts.Start.{Start as StartCode}
 use Rattle.task.specs.Limits.{is_plan}
-use Rattle.task.specs.Views.{grants_of, nodes_of, programs_of, starts_of, start_of}
+use Rattle.task.specs.Views.{grants_of, programs_of, starts_of}
 use Rattle.simulator.specs.Samples.{base, base_start, log_grant, work_grant}
 use Rattle.simulator.proofs.Sampled.{base_is_plan}
 use Rattle.simulator.proofs.tests.tasks.task_of.Goals as goal
