@@ -1,27 +1,11 @@
-//! Capcheck, the program: without words the trace of an example; with `run TASK SCHEDULE` the trace of the
-//! task of a file over the events of another; with `check TASK CERT` the verdict on a task with a certificate,
-//! both of which it knows by name.
+//! Capcheck, the program: it does what its words say with the files of the system, standard output and standard error.
 #![tactic(auto)]
 
 ghost use Rattle.std.specs.Prelude.{None};
 
-mod certificates;
-mod console;
-mod faults;
-mod judging;
-mod laws;
-mod named;
-mod serve;
-mod sources;
-mod statuses;
-#[cfg(test)]
-mod tests;
-
-use crate::console::Console;
-use crate::serve::serve;
-use crate::sources::{Source, Unread};
-use crate::statuses::{REFUSED, STOPPED};
 use rights::write_all;
+use service::statuses::{REFUSED, STOPPED};
+use service::{Console, Source, Unread, serve};
 use std::io::{BufWriter, ErrorKind};
 use std::process::ExitCode;
 use std::{env, fs};

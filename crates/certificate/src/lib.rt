@@ -11,6 +11,3 @@ pub use bounds::{
     Bound, Cert, FcntlsRange, Held, Interval, ModeBound, Point, RightsRange, Slot, Target,
 };
 pub use names::{MAX_NAME, Name};
-
-#[cfg(test)]
-mod tests;

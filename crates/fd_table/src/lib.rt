@@ -16,6 +16,3 @@ pub use ends::{End, Front, PairId, Side};
 pub use faults::SendFault;
 pub use files::Files;
 pub use status::Status;
-
-#[cfg(test)]
-mod tests;

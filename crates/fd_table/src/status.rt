@@ -26,17 +26,3 @@ impl Status {
         }
     }
 }
-
-#[cfg(test)]
-mod tests {
-    use super::*;
-
-    #[test]
-    fn both_flags_are_3(rt: HostRuntime) {
-        let both = Status {
-            append: true,
-            nonblock: true,
-        };
-        assert_eq!(rt; both.number(), 3);
-    }
-}

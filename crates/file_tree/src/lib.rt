@@ -20,6 +20,3 @@ pub use nodes::{Kind, New, NodeId};
 pub use place_tree::PlaceTree;
 pub use places::{is_front, is_same_place};
 pub use tree::{MAX_BYTES, MAX_NODES, Tree};
-
-#[cfg(test)]
-mod tests;

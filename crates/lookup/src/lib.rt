@@ -14,6 +14,3 @@ pub use faults::PathFault;
 pub use lookups::find;
 pub use paths::last_name;
 pub use ways::{Found, Last, Way};
-
-#[cfg(test)]
-mod tests;

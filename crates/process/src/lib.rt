@@ -70,26 +70,3 @@ impl Process {
         Process { registers, ..*self }
     }
 }
-
-#[cfg(test)]
-mod tests {
-    use super::*;
-
-    #[test]
-    fn a_child_has_its_parents_mode(rt: HostRuntime) {
-        let mut parent = Process::new(3, false);
-        assert!(rt; parent.alive && !parent.mode());
-        assert_eq!(rt; (parent.program, parent.point), (3, 0));
-        assert_eq!(rt; parent.registers, [0; REGISTERS]);
-        parent.point = 7;
-        parent.registers = [1, 2, 3, 4, 5, 6, 7, 8];
-        assert!(rt; !parent.fork_of().mode());
-        parent.enter();
-        parent.enter();
-        let child = parent.fork_of();
-        assert!(rt; child.mode() && child.alive);
-        assert_eq!(rt; (child.program, child.point), (3, 7));
-        assert_eq!(rt; child.registers, [0, 2, 3, 4, 5, 6, 7, 8]);
-        assert_eq!(rt; parent.registers[0], 1);
-    }
-}

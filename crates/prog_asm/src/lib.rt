@@ -24,6 +24,3 @@ pub use instructions::{Instruction, Syscall};
 pub use lines::first_part;
 pub use operands::{Operand, Path, Register, is_valid_path};
 pub use programs::Program;
-
-#[cfg(test)]
-mod tests;

@@ -88,29 +88,3 @@ impl OpenFlags {
         self.trunc
     }
 }
-
-#[cfg(test)]
-mod tests {
-    use super::*;
-
-    #[test]
-    fn valid_flags(rt: HostRuntime) {
-        for (read, write, append, create, trunc, valid) in [
-            (true, false, false, false, false, true),
-            (true, false, false, true, false, true),
-            (false, true, true, true, true, true),
-            (false, false, false, true, false, false),
-            (true, false, true, false, false, false),
-            (true, false, false, false, true, false),
-        ] {
-            let made = OpenFlags::new(read, write, append, create, trunc);
-            assert_eq!(rt; made.is_some(), valid);
-            let Some(flags) = made else { continue };
-            assert_eq!(rt; (flags.read(), flags.write()), (read, write));
-            assert_eq!(rt;
-                (flags.append(), flags.create(), flags.trunc()),
-                (append, create, trunc)
-            );
-        }
-    }
-}

@@ -57,28 +57,3 @@ impl Op {
         }
     }
 }
-
-#[cfg(test)]
-mod tests {
-    use super::*;
-
-    #[test]
-    fn names_of_operations(rt: HostRuntime) {
-        for (operation, name) in [
-            (Op::Look, "look"),
-            (Op::Read, "read"),
-            (Op::Write, "write"),
-            (Op::Create, "create"),
-            (Op::Remove, "remove"),
-        ] {
-            assert_eq!(rt; operation.name(), name);
-        }
-    }
-
-    #[test]
-    fn a_list_of_operations(rt: HostRuntime) {
-        let operations = [Op::Look, Op::Remove];
-        assert!(rt; Op::Remove.is_listed(&operations));
-        assert!(rt; !Op::Create.is_listed(&operations));
-    }
-}

@@ -54,6 +54,3 @@ pub fn write_all<W: Out>(out: &mut W, bytes: &[u8]) -> Result<(), Stop>
     }
     Ok(())
 }
-
-#[cfg(test)]
-mod tests;

@@ -70,16 +70,3 @@ impl From<Memory> for Stop {
         Stop::Memory
     }
 }
-
-#[cfg(test)]
-mod tests {
-    use super::*;
-
-    #[test]
-    fn numbers_of_stops(rt: HostRuntime) {
-        for (stop, number) in [(Stop::Memory, 1), (Stop::Device, 2), (Stop::Spent, 3)] {
-            assert_eq!(rt; stop.number(), number);
-        }
-        assert_eq!(rt; Stop::from(Memory), Stop::Memory);
-    }
-}

@@ -3,7 +3,6 @@ pub mod Planted
 pub mod Begun
 pub mod Started
 pub mod Tracing
-pub mod Sampled
 pub mod ScheduleRows
 pub mod Splitting
 pub mod Numerals

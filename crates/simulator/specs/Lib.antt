@@ -8,4 +8,3 @@ pub mod Kept
 pub mod Starts
 pub mod Schedules
 pub mod ScheduleViews
-pub mod Samples

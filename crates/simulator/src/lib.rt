@@ -18,6 +18,3 @@ pub use lines::{Acted, Line, LineResult};
 pub use machine::Machine;
 pub use schedule::{ScheduleFault, read_schedule};
 pub use simulation::simulate;
-
-#[cfg(test)]
-mod tests;

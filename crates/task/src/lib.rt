@@ -15,6 +15,3 @@ pub use policies::{grant_holds, grant_lists, grant_named};
 pub use programs::NamedProgram;
 pub use starts::{FirstDescriptor, Start};
 pub use tasks::Task;
-
-#[cfg(test)]
-mod tests;

@@ -19,6 +19,3 @@ mod written;
 pub use faults::TaskFault;
 pub use limits::{MAX_GRANTS, MAX_PATH, MAX_PROCESSES, MAX_PROGRAMS};
 pub use reading::read_task;
-
-#[cfg(test)]
-mod tests;

@@ -9,6 +9,3 @@ pub mod reading;
 pub use faults::WordsFault;
 pub use orders::Order;
 pub use reading::read_order;
-
-#[cfg(test)]
-mod tests;

@@ -1,0 +1,9 @@
+pub mod Examples
+pub mod Fails
+pub mod FaultViews
+pub mod Faults
+pub mod Files
+pub mod Judged
+pub mod Named
+pub mod NamedCertificates
+pub mod Served

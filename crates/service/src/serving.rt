@@ -1,0 +1,157 @@
+//! What the program does with its words, and with the files that they name.
+
+ghost use Rattle.std.specs.Prelude.{◌≡◌, ◌<◌, ◌⊎◌, ◌-◌, ◌^◌, IfErr, IfOk, IsTrue, None, OnOk, map, string_bytes};
+ghost use Rattle.service.specs.Examples.{example_events};
+ghost use Rattle.service.specs.Fails.{Fails, Refuses, WordsFail};
+ghost use Rattle.service.specs.Faults.{No_file, No_memory, Refused};
+ghost use Rattle.service.specs.FaultViews.{fault_of};
+ghost use Rattle.service.specs.Files.{IsFile, IsMissing};
+ghost use Rattle.service.specs.Named.{first_plan};
+ghost use Rattle.service.specs.Served.{Does, RunsFiles, Serves, is_done_status, is_fault_status, is_status};
+ghost use Rattle.simulator.specs.Simulations.{WritesTrace};
+ghost use Rattle.words.specs.Orders.{Example, Run};
+ghost use Rattle.words.specs.OrderViews.{order_of};
+
+use crate::faults::{Fault, tell};
+use crate::judging::{judge_named, named};
+use crate::sources::{Source, Unread};
+use crate::statuses::DONE;
+use rights::Out;
+use simulator::{read_schedule, simulate};
+use std::alloc::Global;
+use syscalls::Event;
+use task_reader::read_task;
+use words::{Order, WordsFault, read_order};
+
+/// Two events of the first process.
+const EXAMPLE: [Event; 2] = [
+    Event {
+        process: 0,
+        input: 0,
+        refuse: false,
+    },
+    Event {
+        process: 0,
+        input: 0,
+        refuse: false,
+    },
+];
+
+/// The trace of the task `first` on two events.
+fn example<'a, W: Out>(alloc: Global, out: &mut W) -> Result<(), Fault<'a>>
+    requires { W.faults out.old < 2 ^ 64 - 1 }
+    ensures done { OnOk result
+        (WritesTrace first_plan example_events (W.taken out.old) (W.taken out.new)) }
+    ensures fails { IfErr result (λ fault. Fails None Example
+        (W.taken out.old) (W.taken out.new) (W.faults out.old) (W.faults out.new) (fault_of fault)) }
+{
+    let task = named(alloc, "first")?;
+    simulate(alloc, &task, &EXAMPLE, out)?;
+    Ok(())
+}
+
+/// The bytes of a file.
+fn fetch<'a, S: Source>(files: &mut S, name: &'a str) -> Result<Vec<u8>, Fault<'a>>
+    ensures text { IfOk result (λ bytes. IsFile (S.files files.old) name.now bytes.items) }
+    ensures missing { IfErr result (λ fault. (fault_of fault ≡ No_memory) ⊎ ((fault_of fault ≡ Refused (No_file name.now)) × IsMissing (S.files files.old) name.now)) }
+    ensures same { S.files files.new ≡ S.files files.old }
+{
+    match files.fetch(name) {
+        Ok(bytes) => Ok(bytes),
+        Err(Unread::NotThere) => Err(Fault::File(name)),
+        Err(Unread::Memory) => Err(Fault::Memory),
+    }
+}
+
+/// Runs the task of a file over the events of another. Both are fetched before either is read.
+fn run<'a, S: Source, W: Out>(
+    alloc: Global,
+    task: &'a str,
+    schedule: &'a str,
+    files: &mut S,
+    out: &mut W,
+) -> Result<(), Fault<'a>>
+    requires { W.faults out.old < 2 ^ 64 - 1 }
+    ensures done { OnOk result (RunsFiles (S.files files.old) task.now schedule.now (W.taken out.old) (W.taken out.new)) }
+    ensures fails { IfErr result (λ fault. Fails (S.files files.old) (Run task.now schedule.now)
+        (W.taken out.old) (W.taken out.new) (W.faults out.old) (W.faults out.new) (fault_of fault)) }
+{
+    let task_text = fetch(files, task)?;
+    let schedule_text = fetch(files, schedule)?;
+    let plan = read_task(alloc, &task_text)?;
+    let events = read_schedule(alloc, &schedule_text)?;
+    simulate(alloc, &plan, &events, out)?;
+    Ok(())
+}
+
+/// Does what is asked for, and gives the status.
+fn perform<'a, S: Source, W: Out>(
+    alloc: Global,
+    order: Order<'a>,
+    files: &mut S,
+    out: &mut W,
+) -> Result<u8, Fault<'a>>
+    requires { W.faults out.old < 2 ^ 64 - 1 }
+    ensures done { IfOk result (λ status. Does (S.files files.old) (order_of order.entry) status (W.taken out.old) (W.taken out.new)) }
+    ensures fails { IfErr result (λ fault. Fails (S.files files.old) (order_of order.entry)
+        (W.taken out.old) (W.taken out.new) (W.faults out.old) (W.faults out.new) (fault_of fault)) }
+{
+    match order {
+        Order::Example => {
+            example(alloc, out)?;
+            Ok(DONE)
+        }
+        Order::Run { task, schedule } => {
+            run(alloc, task, schedule, files, out)?;
+            Ok(DONE)
+        }
+        Order::Check { task, cert } => judge_named(alloc, task, cert, out),
+    }
+}
+
+/// Does what the words say, and gives the status.
+fn serve_words<'a, S: Source, W: Out>(
+    alloc: Global,
+    words: &'a [String],
+    files: &mut S,
+    out: &mut W,
+) -> Result<u8, Fault<'a>>
+    requires { W.faults out.old < 2 ^ 64 - 1 }
+    ensures done { IfOk result (λ status. Serves (S.files files.old) (map string_bytes words.now) status (W.taken out.old) (W.taken out.new)) }
+    ensures fails { IfErr result (λ fault. WordsFail (S.files files.old) (map string_bytes words.now)
+        (W.taken out.old) (W.taken out.new) (W.faults out.old) (W.faults out.new) (fault_of fault)) }
+{
+    match read_order(alloc, words) {
+        Ok(order) => perform(alloc, order, files, out),
+        Err(WordsFault::Words) => Err(Fault::Words),
+        Err(WordsFault::Memory) => Err(Fault::Memory),
+    }
+}
+
+/// The program: does what its words say, or tells the fault on the error stream, and gives the status: 0, or
+/// 1 where it answers no, or 2 for a fault in words or files, or 3 for want of memory or a failed output.
+///
+/// A file that can't be read is told before either text is parsed, in the order of the words; the task is parsed first.
+/// Where it is refused nothing is written to the output. A failure of the error stream changes nothing. `err` takes
+/// nothing else.
+pub fn serve<S: Source, W: Out, V: Out>(
+    alloc: Global,
+    words: &[String],
+    files: &mut S,
+    out: &mut W,
+    err: &mut V,
+) -> u8
+    requires out { W.faults out.old < 2 ^ 64 - 1 }
+    requires err { V.faults err.old < 2 ^ 64 - 1 }
+    ensures done { IsTrue (is_done_status result) → Serves (S.files files.old) (map string_bytes words.now) result (W.taken out.old) (W.taken out.new)
+        × (V.taken err.new ≡ V.taken err.old) }
+    ensures refused { IsTrue (is_fault_status result) → Refuses (S.files files.old) (map string_bytes words.now) result
+        (W.taken out.old) (W.taken out.new) (W.faults out.old) (W.faults out.new)
+        (V.taken err.old) (V.taken err.new) (V.faults err.old) (V.faults err.new) }
+    ensures known { IsTrue (is_status result) }
+{
+    match serve_words(alloc, words, files, out) {
+        Ok(status) => status,
+        Err(fault) => tell(alloc, &fault, err),
+    }
+}

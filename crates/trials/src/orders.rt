@@ -1,0 +1,122 @@
+//! What no clause says: that there is an answer where memory is there, and that the definitions mean these lines.
+
+use std::alloc::{AllocError, Global};
+use std::test::Fail;
+use words::{Order, WordsFault, read_order};
+
+/// The words, each as a text of its own.
+fn texts(alloc: Global, words: &[&str]) -> Result<Vec<String>, AllocError> {
+    let mut texts = Vec::new(alloc);
+    for word in words {
+        texts.push(String::from_str(alloc, *word)?)?;
+    }
+    Ok(texts)
+}
+
+#[test]
+fn right_lines_are_read(rt: HostRuntime) -> Result<(), Fail> {
+    let rows: [(&[&str], Order<'_>); 9] = [
+        (&[], Order::Example),
+        (
+            &["run", "t.toml", "s.txt"],
+            Order::Run {
+                task: "t.toml",
+                schedule: "s.txt",
+            },
+        ),
+        (
+            &["check", "first", "good"],
+            Order::Check {
+                task: "first",
+                cert: "good",
+            },
+        ),
+        (
+            &["run", "", ""],
+            Order::Run {
+                task: "",
+                schedule: "",
+            },
+        ),
+        (
+            &["run", "a=b", "a b"],
+            Order::Run {
+                task: "a=b",
+                schedule: "a b",
+            },
+        ),
+        (
+            &["run", "run", "check"],
+            Order::Run {
+                task: "run",
+                schedule: "check",
+            },
+        ),
+        (
+            &["check", "help", "x-y"],
+            Order::Check {
+                task: "help",
+                cert: "x-y",
+            },
+        ),
+        (
+            &["run", "/a/b.toml", "/a/-b"],
+            Order::Run {
+                task: "/a/b.toml",
+                schedule: "/a/-b",
+            },
+        ),
+        (
+            &["check", "\u{e9}", "\n"],
+            Order::Check {
+                task: "\u{e9}",
+                cert: "\n",
+            },
+        ),
+    ];
+    for (words, order) in rows {
+        let texts = texts(rt.alloc(), words)?;
+        assert!(rt; read_order(rt.alloc(), &texts) == Ok(order), "{words:?}");
+    }
+    Ok(())
+}
+
+#[test]
+fn other_lines_are_refused(rt: HostRuntime) -> Result<(), Fail> {
+    let rows: [&[&str]; 26] = [
+        &[""],
+        &["run"],
+        &["run", "t.toml"],
+        &["run", "t.toml", "s.txt", "more"],
+        &["run", "t.toml", "s.txt", ""],
+        &["check"],
+        &["check", "first"],
+        &["check", "first", "good", "more"],
+        &["help"],
+        &["help", "run"],
+        &["run", "help"],
+        &["--help"],
+        &["-h"],
+        &["--version"],
+        &["run", "--help"],
+        &["-"],
+        &["--"],
+        &["run", "-", "s.txt"],
+        &["run", "t.toml", "--"],
+        &["--", "run", "t.toml", "s.txt"],
+        &["run", "--", "t.toml", "s.txt"],
+        &["walk", "t.toml", "s.txt"],
+        &["Run", "t.toml", "s.txt"],
+        &["ru", "t.toml", "s.txt"],
+        &["", "t.toml", "s.txt"],
+        &["search", "t.toml"],
+    ];
+    for words in rows {
+        let texts = texts(rt.alloc(), words)?;
+        assert!(rt;
+            read_order(rt.alloc(), &texts) == Err(WordsFault::Words),
+            "{words:?}"
+        );
+    }
+    Ok(())
+}

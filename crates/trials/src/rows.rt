@@ -1,0 +1,253 @@
+//! The worked programs as task files, each the base task with changes.
+
+use crate::base::{BASE, Changes, changed, schedule_of, times};
+use crate::serving::runs;
+use std::alloc::{AllocError, Global};
+use std::test::Fail;
+
+/// Whether the changed base task shows this trace, by one event of process 0 a line.
+fn shows(alloc: Global, changes: Changes<'_>, trace: &str) -> Result<bool, AllocError> {
+    let schedule = schedule_of(alloc, trace)?;
+    shows_on(alloc, changes, schedule.as_str(), trace)
+}
+
+/// Whether it shows this trace on these events.
+fn shows_on(
+    alloc: Global,
+    changes: Changes<'_>,
+    schedule: &str,
+    trace: &str,
+) -> Result<bool, AllocError> {
+    match changed(alloc, BASE, changes)? {
+        Some(task) => {
+            let said = runs(alloc, task.as_bytes(), schedule.as_bytes())?;
+            Ok(said.is(0, trace.as_bytes(), b""))
+        }
+        None => Ok(false),
+    }
+}
+
+/// `/work/out` as descriptor 2.
+const OUT: (&str, &str) = (
+    "{number=1, path=\"/log\"}",
+    "{number=1, path=\"/log\"}, {number=2, path=\"/work/out\"}",
+);
+
+/// `/workshop/x` as descriptor 2.
+const WORKSHOP: (&str, &str) = (
+    "{number=1, path=\"/log\"}",
+    "{number=1, path=\"/log\"}, {number=2, path=\"/workshop/x\"}",
+);
+
+/// A program that closes descriptor 2 where its input isn't 0.
+const CLOSES_ON_INPUT: (&str, &str) = (
+    "halt",
+    "in r0\njeq r0 0 k\nclose 2 else e\nk: openat 0 \"in\" read else e\ne: halt",
+);
+
+#[test]
+fn calls_answer_in_the_mode(rt: HostRuntime) -> Result<(), Fail> {
+    let rows: [(Changes<'_>, &str); 7] = [
+        (&[], ""),
+        (
+            &[(
+                "halt",
+                "cap_enter else e\nopen \"/etc/passwd\" read else e\ne: halt",
+            )],
+            "0 main:0 = 0\n0 main:1 ! ECAPMODE CapMode\n0 main:2 halt\n",
+        ),
+        (
+            &[(
+                "halt",
+                "cap_enter else e\nopenat 0 \"up\" read else e\ne: halt",
+            )],
+            "0 main:0 = 0\n0 main:1 ! ENOTCAPABLE Escape\n0 main:2 halt\n",
+        ),
+        (
+            &[(
+                "halt",
+                "cap_enter else e\nopenat 0 \"same\" read else e\nread 2 else e\nread 2 else e\nread 2 else e\ne: halt",
+            )],
+            "0 main:0 = 0\n0 main:1 = 2\n0 main:2 = 65 read /work/in\n0 main:3 = 66 read /work/in\n0 main:4 = 256 read /work/in\n0 main:5 halt\n",
+        ),
+        (
+            &[(
+                "halt",
+                "cap_enter else e\nrenameat 0 \"in\" 1 \"in\" else e\ne: halt",
+            )],
+            "0 main:0 = 0\n0 main:1 = 0 remove /work/in create /log/in\n0 main:2 halt\n",
+        ),
+        (
+            &[
+                WORKSHOP,
+                ("halt", "cap_enter else e\nread 2 else e\ne: halt"),
+            ],
+            "0 main:0 = 0\n0 main:1 = 119 read /workshop/x\n0 main:2 halt\n",
+        ),
+        (&[], "0 main:0 halt\n0 main:0 ended\n"),
+    ];
+    for (changes, trace) in rows {
+        assert!(rt; shows(rt.alloc(), changes, trace)?, "{trace}");
+    }
+    Ok(())
+}
+
+#[test]
+fn calls_answer_outside_the_mode(rt: HostRuntime) -> Result<(), Fail> {
+    let rows: [(Changes<'_>, &str); 4] = [
+        (
+            &[(
+                "halt",
+                "openat 0 \"abs\" read else a\na: openat 0 \"/work/in\" read else e\ne: halt",
+            )],
+            "0 main:0 ! ENOTCAPABLE Escape\n0 main:1 ! ENOTCAPABLE Escape\n0 main:2 halt\n",
+        ),
+        (
+            &[(
+                "halt",
+                "cap_rights_limit 0 LOOKUP,READ else e\nopenat 0 \"in\" write else e\ne: halt",
+            )],
+            "0 main:0 = 0\n0 main:1 ! ENOTCAPABLE MissingRight\n0 main:2 halt\n",
+        ),
+        (
+            &[(
+                "halt",
+                "cap_rights_limit 0 LOOKUP,READ else e\ncap_rights_limit 0 LOOKUP,READ,WRITE else e\ne: halt",
+            )],
+            "0 main:0 = 0\n0 main:1 ! ENOTCAPABLE MissingRight\n0 main:2 halt\n",
+        ),
+        (
+            &[
+                OUT,
+                (
+                    "halt",
+                    "unlinkat 0 \"out\" dir else e\nmkdirat 0 \"out\" else e\nopenat 2 \".\" read else e\ne: halt",
+                ),
+            ],
+            "0 main:0 = 0 remove /work/out\n0 main:1 = 0 create /work/out\n0 main:2 ! ENOENT Path\n0 main:3 halt\n",
+        ),
+    ];
+    for (changes, trace) in rows {
+        assert!(rt; shows(rt.alloc(), changes, trace)?, "{trace}");
+    }
+    Ok(())
+}
+
+#[test]
+fn files_are_changed(rt: HostRuntime) -> Result<(), Fail> {
+    let rows: [(&str, &str); 6] = [
+        (
+            "openat 1 \"f\" read,write,create else e\nwrite 2 321 else e\nlseek 2 0 else e\nread 2 else e\nopenat 1 \"f\" write,trunc else e\nread 2 else e\nlseek 2 4096 else e\nwrite 2 0 else e\ne: halt",
+            "0 main:0 = 2 create /log/f\n0 main:1 = 1 write /log/f\n0 main:2 = 0\n0 main:3 = 65 read /log/f\n0 main:4 = 3 write /log/f\n0 main:5 = 256 read /log/f\n0 main:6 = 4096\n0 main:7 ! EFBIG Full\n",
+        ),
+        (
+            "dup 0 else e\ncap_fcntls_limit 2 GETFL else e\nfcntl_setfl 2 1 else f\nf: fcntl_getfl 2 else e\nfcntl_setfl 0 1 else e\nfcntl_getfl 2 else e\ne: halt",
+            "0 main:0 = 2\n0 main:1 = 0\n0 main:2 ! ENOTCAPABLE MissingRight\n0 main:3 = 0\n0 main:4 = 0\n0 main:5 = 1\n",
+        ),
+        (
+            "renameat 0 \"in\" 0 \"in\" else a\na: renameat 0 \"out\" 0 \"out/x\" else b\nb: renameat 0 \"in\" 0 \"out\" else c\nc: renameat 0 \"out\" 0 \"in\" else e\ne: halt",
+            "0 main:0 = 0\n0 main:1 ! EINVAL Path\n0 main:2 ! EISDIR Path\n0 main:3 ! ENOTDIR Path\n",
+        ),
+        (
+            "openat 1 \"in\" write,create else e\ncap_rights_limit 1 LOOKUP,RENAMEAT_TARGET else e\nrenameat 0 \"in\" 1 \"in\" else a\na: renameat 0 \"in\" 1 \"new\" else e\ne: halt",
+            "0 main:0 = 2 create /log/in\n0 main:1 = 0\n0 main:2 ! ENOTCAPABLE MissingRight\n0 main:3 = 0 remove /work/in create /log/new\n",
+        ),
+        (
+            "cap_getmode else e\nstat \"/work\" else e\nfstat 0 else e\nfstatat 0 \"in\" else e\nmkdir \"/d\" else e\nunlink \"/d\" dir else e\nopenat 1 \"f\" write,create else e\nftruncate 2 3 else e\nfsync 2 else e\ne: halt",
+            "0 main:0 = 0\n0 main:1 = 2 look /work\n0 main:2 = 2 look /work\n0 main:3 = 1 look /work/in\n0 main:4 = 0 create /d\n0 main:5 = 0 remove /d\n0 main:6 = 2 create /log/f\n0 main:7 = 0 write /log/f\n0 main:8 = 0\n",
+        ),
+        (
+            "open \"/work/in\" read else e\nread 2 else e\ne: halt",
+            "0 main:0 = 2\n0 main:1 = 65 read /work/in\n0 main:2 halt\n",
+        ),
+    ];
+    for (program, trace) in rows {
+        assert!(rt; shows(rt.alloc(), &[("halt", program)], trace)?, "{trace}");
+    }
+    Ok(())
+}
+
+#[test]
+fn events_name_processes_and_refusals(rt: HostRuntime) -> Result<(), Fail> {
+    let rows: [(Changes<'_>, &str, &str); 4] = [
+        (
+            &[(
+                "halt",
+                "openat 0 \"in\" read else a\na: openat 0 \"in\" read else e\ne: halt",
+            )],
+            "0 0 refuse\n0 0\n",
+            "0 main:0 ! ENFILE Refused\n0 main:1 = 2\n",
+        ),
+        (
+            &[OUT, CLOSES_ON_INPUT],
+            "0 0\n0 0\n0 0\n",
+            "0 main:0 ok\n0 main:1 ok\n0 main:3 = 3\n",
+        ),
+        (
+            &[OUT, CLOSES_ON_INPUT],
+            "0 5\n0 0\n0 0\n0 0\n",
+            "0 main:0 ok\n0 main:1 ok\n0 main:2 = 0\n0 main:3 = 2\n",
+        ),
+        (
+            &[],
+            "5 0\n0 0\n0 0\n",
+            "5 - none\n0 main:0 halt\n0 main:0 ended\n",
+        ),
+    ];
+    for (changes, schedule, trace) in rows {
+        assert!(rt; shows_on(rt.alloc(), changes, schedule, trace)?, "{trace}");
+    }
+    Ok(())
+}
+
+/// The nodes of links `/work/l1` to `in`, and from each of `/work/l2` to `/work/l33` to the one before it.
+fn links(alloc: Global) -> Result<String, AllocError> {
+    let mut nodes = String::from_str(alloc, "{path=\"/work/l1\", kind=\"link\", target=\"in\"},")?;
+    for number in 2..=33u32 {
+        let node = format!(in alloc;
+            "\n {{path=\"/work/l{number}\", kind=\"link\", target=\"l{}\"}},",
+            number - 1
+        )?;
+        nodes.push_str(node.as_str())?;
+    }
+    Ok(nodes)
+}
+
+#[test]
+fn thirty_two_links_are_followed(rt: HostRuntime) -> Result<(), Fail> {
+    let links = links(rt.alloc())?;
+    let after_work = "{path=\"/work\", kind=\"dir\"},";
+    let nodes = format!(in rt.alloc(); "{after_work}{links}")?;
+    let changes = [
+        (after_work, nodes.as_str()),
+        (
+            "halt",
+            "openat 0 \"l32\" read else e\nopenat 0 \"l33\" read else e\ne: halt",
+        ),
+    ];
+    let trace = "0 main:0 = 2\n0 main:1 ! ELOOP Path\n0 main:2 halt\n";
+    assert!(rt; shows(rt.alloc(), &changes, trace)?);
+    Ok(())
+}
+
+#[test]
+fn sixteen_descriptors_are_all(rt: HostRuntime) -> Result<(), Fail> {
+    let mut trace = String::new(rt.alloc());
+    for number in 2..=15u32 {
+        let lines = format!(in rt.alloc(); "0 main:0 = {number}\n0 main:1 ok\n")?;
+        trace.push_str(lines.as_str())?;
+    }
+    trace.push_str("0 main:0 ! EMFILE Full\n0 main:2 halt\n")?;
+    let changes: Changes<'_> = &[("halt", "l: dup 0 else e\njmp l\ne: halt")];
+    assert!(rt; shows(rt.alloc(), changes, trace.as_str())?);
+    Ok(())
+}
+
+#[test]
+fn a_long_schedule_is_read(rt: HostRuntime) -> Result<(), Fail> {
+    let alloc = rt.alloc();
+    let schedule = times(alloc, "5 0\n", 65_536)?;
+    let trace = times(alloc, "5 - none\n", 65_536)?;
+    assert!(rt; shows_on(alloc, &[], schedule.as_str(), trace.as_str())?);
+    Ok(())
+}
