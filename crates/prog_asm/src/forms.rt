@@ -3,7 +3,7 @@
 
 ghost use Rattle.std.specs.Prelude.{◌≡◌, map};
 ghost use Rattle.rights.specs.Views.{call_of};
-ghost use Rattle.prog_asm.specs.FormParts.{descriptor_call_at, register_form_at};
+ghost use Rattle.prog_asm.specs.FormParts.{at_call_at, descriptor_call_at, register_form_at};
 ghost use Rattle.prog_asm.specs.FormViews.{Takes, TakesWord, jump_of, mnemonic_from, written_from};
 ghost use Rattle.prog_asm.specs.Forms.{Leading, Make, commands_at, directory_at, else_at, flags_at, label_at, led, number_at, one, operand_at, path_at, register_at, rights_at, syscall_at, written_at, written_of};
 ghost use Rattle.prog_asm.specs.Readings.{ReadsField};
@@ -191,6 +191,35 @@ impl<'w, 't> Words<'w, 't> {
         }
     }
 
+    /// The operands of a call behind its descriptor and its path. A call without these is refused.
+    #[tactic(auto, unfolding(crate::specs::FormParts::at_call_at))]
+    fn at_call(&mut self, call: Call, descriptor: Operand, path: Path) -> Result<Syscall, Mistake>
+        ensures { Takes syscall_of result self.new
+            (at_call_at (call_of call) (operand_of descriptor) path self.old) }
+    {
+        Ok(match call {
+            Call::Openat => Syscall::Openat {
+                descriptor,
+                path,
+                flags: self.flags()?,
+            },
+            Call::Fstatat => Syscall::Fstatat { descriptor, path },
+            Call::Mkdirat => Syscall::Mkdirat { descriptor, path },
+            Call::Unlinkat => Syscall::Unlinkat {
+                descriptor,
+                path,
+                directory: self.directory()?,
+            },
+            Call::Renameat => Syscall::Renameat {
+                descriptor,
+                path,
+                target: self.operand()?,
+                new_path: self.path()?,
+            },
+            _ => return Err(Mistake::Operand),
+        })
+    }
+
     /// The operands of a call behind its descriptor. A call that has no descriptor is refused.
     #[tactic(auto, unfolding(crate::specs::FormParts::descriptor_call_at))]
     fn descriptor_call(&mut self, call: Call, descriptor: Operand) -> Result<Syscall, Mistake>
@@ -198,11 +227,6 @@ impl<'w, 't> Words<'w, 't> {
             (descriptor_call_at (call_of call) (operand_of descriptor) self.old) }
     {
         Ok(match call {
-            Call::Openat => Syscall::Openat {
-                descriptor,
-                path: self.path()?,
-                flags: self.flags()?,
-            },
             Call::Read => Syscall::Read { descriptor },
             Call::Write => Syscall::Write {
                 descriptor,
@@ -229,25 +253,6 @@ impl<'w, 't> Words<'w, 't> {
                 descriptor,
                 flags: self.operand()?,
             },
-            Call::Fstatat => Syscall::Fstatat {
-                descriptor,
-                path: self.path()?,
-            },
-            Call::Mkdirat => Syscall::Mkdirat {
-                descriptor,
-                path: self.path()?,
-            },
-            Call::Unlinkat => Syscall::Unlinkat {
-                descriptor,
-                path: self.path()?,
-                directory: self.directory()?,
-            },
-            Call::Renameat => Syscall::Renameat {
-                descriptor,
-                path: self.path()?,
-                target: self.operand()?,
-                new_path: self.path()?,
-            },
             Call::Dup => Syscall::Dup { descriptor },
             Call::Close => Syscall::Close { descriptor },
             Call::CapRightsLimit => Syscall::CapRightsLimit {
@@ -258,12 +263,15 @@ impl<'w, 't> Words<'w, 't> {
                 descriptor,
                 commands: self.commands()?,
             },
-            _ => return Err(Mistake::Operand),
+            _ => {
+                let path = self.path()?;
+                return self.at_call(call, descriptor, path);
+            }
         })
     }
 
     /// The operands of a call.
-    #[tactic(auto, unfolding(crate::specs::Forms::syscall_at, crate::specs::FormParts::descriptor_call_at))]
+    #[tactic(auto, unfolding(crate::specs::Forms::syscall_at, crate::specs::FormParts::descriptor_call_at, crate::specs::FormParts::at_call_at))]
     fn syscall(&mut self, call: Call) -> Result<Syscall, Mistake>
         ensures { Takes syscall_of result self.new (syscall_at (call_of call) self.old) }
     {
