@@ -378,8 +378,10 @@ pub(crate) fn read_written<'t>(
         (written_of (mnemonic_from mnemonic) (map (λ word. word.now) operands.now)) }
 {
     let mut words = Words::new(alloc, operands);
-    match words.written(mnemonic) {
-        Ok(_) if !words.rest.is_empty() => Err(Mistake::Operand),
-        read => read,
+    let written = words.written(mnemonic)?;
+    if words.rest.is_empty() {
+        Ok(written)
+    } else {
+        Err(Mistake::Operand)
     }
 }
