@@ -8,7 +8,7 @@ use crate::names::Name;
 use rights::{Fcntls, Rights};
 
 /// Whether a process is in capability mode.
-#[derive(Clone, Copy, PartialEq, Eq, Debug)]
+#[derive(Clone, Copy, PartialEq, Eq)]
 pub enum ModeBound {
     Off,
     On,
@@ -17,7 +17,7 @@ pub enum ModeBound {
 }
 
 /// The numbers from `low` to `high`, both of them too.
-#[derive(Clone, Copy, PartialEq, Eq, Debug)]
+#[derive(Clone, Copy, PartialEq, Eq)]
 pub struct Interval {
     pub low: u32,
     pub high: u32,

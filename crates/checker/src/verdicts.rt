@@ -12,7 +12,7 @@ use certificate::Cert;
 use task::Task;
 
 /// What the checker answers.
-#[derive(Clone, Copy, PartialEq, Eq, Debug)]
+#[derive(Clone, Copy, PartialEq, Eq)]
 pub enum Verdict {
     /// The certificate meets the rules: every run of the task is sandboxed.
     Yes,

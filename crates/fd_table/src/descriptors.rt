@@ -11,7 +11,7 @@ use rights::{Fcntls, Rights};
 use std::marker::Model;
 
 /// The number of an open description. It may name another one once no descriptor names it. (own)
-#[derive(Clone, Copy, PartialEq, Eq, Debug)]
+#[derive(Clone, Copy, PartialEq, Eq)]
 pub struct DescriptionId {
     number: usize,
 }
@@ -44,7 +44,7 @@ impl DescriptionId {
 
 /// A descriptor: the description that it names, and what may be done through it. (rights(4),
 /// cap_fcntls_limit(2))
-#[derive(Clone, Copy, PartialEq, Eq, Debug)]
+#[derive(Clone, Copy, PartialEq, Eq)]
 pub struct Descriptor {
     pub description: DescriptionId,
     pub rights: Rights,
@@ -52,14 +52,14 @@ pub struct Descriptor {
 }
 
 /// What a file or directory was opened for. (open(2))
-#[derive(Clone, Copy, PartialEq, Eq, Debug)]
+#[derive(Clone, Copy, PartialEq, Eq)]
 pub struct Access {
     pub readable: bool,
     pub writable: bool,
 }
 
 /// Where a socket pair was made. (own)
-#[derive(Clone, Copy, PartialEq, Eq, Debug)]
+#[derive(Clone, Copy, PartialEq, Eq)]
 pub enum Class {
     /// Before the start: an initial pair, by its number.
     Initial(u8),
@@ -68,7 +68,7 @@ pub enum Class {
 }
 
 /// What a description is of, for as long as it is open.
-#[derive(Clone, Copy, PartialEq, Eq, Debug)]
+#[derive(Clone, Copy, PartialEq, Eq)]
 pub enum Object {
     /// A file or directory.
     Node { node: NodeId, access: Access },
@@ -91,7 +91,7 @@ impl Object {
 }
 
 /// An open description: all descriptors that name it share it. (open(2))
-#[derive(Clone, Copy, PartialEq, Eq, Debug)]
+#[derive(Clone, Copy, PartialEq, Eq)]
 pub struct Description {
     pub object: Object,
     /// The offset of the next byte. (lseek(2))
@@ -100,7 +100,7 @@ pub struct Description {
 }
 
 /// An entry of a table: a process, and one of its descriptor numbers. There are sixteen of each. (own)
-#[derive(Clone, Copy, PartialEq, Eq, Debug)]
+#[derive(Clone, Copy, PartialEq, Eq)]
 pub struct Entry {
     pub process: u8,
     pub number: u8,

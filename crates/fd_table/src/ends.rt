@@ -7,7 +7,7 @@ ghost use Rattle.fd_table.specs.Views.{side_seen};
 use std::marker::Model;
 
 /// The number of a socket pair. It may name another pair once no end is open and nothing is on its way. (own)
-#[derive(Clone, Copy, PartialEq, Eq, Debug)]
+#[derive(Clone, Copy, PartialEq, Eq)]
 pub struct PairId {
     number: usize,
 }
@@ -39,7 +39,7 @@ impl PairId {
 }
 
 /// One of the two ends of a pair. (socketpair(2); the names are own)
-#[derive(Clone, Copy, PartialEq, Eq, Debug)]
+#[derive(Clone, Copy, PartialEq, Eq)]
 pub enum Side {
     A,
     B,
@@ -70,14 +70,14 @@ impl Side {
 }
 
 /// An end of a pair.
-#[derive(Clone, Copy, PartialEq, Eq, Debug)]
+#[derive(Clone, Copy, PartialEq, Eq)]
 pub struct End {
     pub pair: PairId,
     pub side: Side,
 }
 
 /// What stands first in a queue: its byte, and whether a descriptor comes with it. (own)
-#[derive(Clone, Copy, PartialEq, Eq, Debug)]
+#[derive(Clone, Copy, PartialEq, Eq)]
 pub struct Front {
     pub byte: u8,
     pub carries: bool,

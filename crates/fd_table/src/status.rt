@@ -5,7 +5,7 @@ ghost use Rattle.fd_table.specs.Descriptions.{status_number};
 ghost use Rattle.fd_table.specs.Views.{state_at};
 
 /// What a description does with each write, and where it can't go on. (fcntl(2), O_APPEND and O_NONBLOCK)
-#[derive(Clone, Copy, PartialEq, Eq, Debug)]
+#[derive(Clone, Copy, PartialEq, Eq)]
 pub struct Status {
     /// Each write goes to the end.
     pub append: bool,

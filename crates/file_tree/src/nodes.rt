@@ -5,7 +5,7 @@ ghost use Rattle.std.specs.Prelude.{◌≡◌, ◌<◌, ◌^◌};
 use std::marker::Model;
 
 /// The number of a node in its tree: how many were made before it. It never names another node. (own)
-#[derive(Clone, Copy, PartialEq, Eq, Debug)]
+#[derive(Clone, Copy, PartialEq, Eq)]
 pub struct NodeId {
     number: u16,
 }
@@ -40,7 +40,7 @@ impl NodeId {
 }
 
 /// What a node is. Other kinds aren't in this profile. (own)
-#[derive(Clone, Copy, PartialEq, Eq, Debug)]
+#[derive(Clone, Copy, PartialEq, Eq)]
 pub enum Kind {
     File,
     Dir,
@@ -49,7 +49,7 @@ pub enum Kind {
 }
 
 /// A node that is to be made: an empty file, an empty directory, or a symbolic link with its target.
-#[derive(Clone, Copy, Debug)]
+#[derive(Clone, Copy)]
 pub enum New<'a> {
     File,
     Dir,

@@ -3,7 +3,7 @@
 use file_tree::NodeId;
 
 /// Where a path may lead.
-#[derive(Clone, Copy, PartialEq, Eq, Debug)]
+#[derive(Clone, Copy, PartialEq, Eq)]
 pub enum Way {
     /// Beneath the start alone: neither an absolute path or target nor a `..` leads out of it.
     /// (capsicum(4); open(2), O_RESOLVE_BENEATH)
@@ -13,7 +13,7 @@ pub enum Way {
 }
 
 /// What becomes of the last name of a path.
-#[derive(Clone, Copy, PartialEq, Eq, Debug)]
+#[derive(Clone, Copy, PartialEq, Eq)]
 pub enum Last {
     /// It has to be there, and a link is followed.
     Follow,
@@ -23,7 +23,7 @@ pub enum Last {
 }
 
 /// What a path leads to.
-#[derive(Clone, Copy, PartialEq, Eq, Debug)]
+#[derive(Clone, Copy, PartialEq, Eq)]
 pub enum Found {
     /// A node.
     Node(NodeId),

@@ -5,6 +5,7 @@ pub mod Forms
 pub mod Assembly
 pub mod Views
 pub mod Readings
+pub mod FormParts
 pub mod FormViews
 pub mod LineViews
 pub mod Drafts

@@ -118,13 +118,9 @@ pub(crate) fn place(
 {
     match written {
         Written::Alone(instruction) => Some(instruction),
-        Written::Leading(jump, name) => {
-            let point = point_of(labels, name)?;
-            if point < points {
-                Some(jump.to(point as u8))
-            } else {
-                None
-            }
-        }
+        Written::Leading(jump, name) => match point_of(labels, name) {
+            Some(point) if point < points => Some(jump.to(point as u8)),
+            _ => None,
+        },
     }
 }

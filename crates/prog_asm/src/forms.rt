@@ -3,8 +3,9 @@
 
 ghost use Rattle.std.specs.Prelude.{◌≡◌, map};
 ghost use Rattle.rights.specs.Views.{call_of};
+ghost use Rattle.prog_asm.specs.FormParts.{at_call_at, descriptor_call_at, register_form_at};
 ghost use Rattle.prog_asm.specs.FormViews.{Takes, TakesWord, jump_of, mnemonic_from, written_from};
-ghost use Rattle.prog_asm.specs.Forms.{commands_at, directory_at, else_at, flags_at, label_at, led, number_at, operand_at, path_at, register_at, rights_at, syscall_at, written_at, written_of};
+ghost use Rattle.prog_asm.specs.Forms.{Leading, Make, commands_at, directory_at, else_at, flags_at, label_at, led, number_at, one, operand_at, path_at, register_at, rights_at, syscall_at, written_at, written_of};
 ghost use Rattle.prog_asm.specs.Readings.{ReadsField};
 ghost use Rattle.prog_asm.specs.Views.{instruction_of, operand_of, syscall_of};
 
@@ -190,8 +191,87 @@ impl<'w, 't> Words<'w, 't> {
         }
     }
 
+    /// The operands of a call behind its descriptor and its path. A call without these is refused.
+    #[tactic(auto, unfolding(crate::specs::FormParts::at_call_at))]
+    fn at_call(&mut self, call: Call, descriptor: Operand, path: Path) -> Result<Syscall, Mistake>
+        ensures { Takes syscall_of result self.new
+            (at_call_at (call_of call) (operand_of descriptor) path self.old) }
+    {
+        Ok(match call {
+            Call::Openat => Syscall::Openat {
+                descriptor,
+                path,
+                flags: self.flags()?,
+            },
+            Call::Fstatat => Syscall::Fstatat { descriptor, path },
+            Call::Mkdirat => Syscall::Mkdirat { descriptor, path },
+            Call::Unlinkat => Syscall::Unlinkat {
+                descriptor,
+                path,
+                directory: self.directory()?,
+            },
+            Call::Renameat => Syscall::Renameat {
+                descriptor,
+                path,
+                target: self.operand()?,
+                new_path: self.path()?,
+            },
+            _ => return Err(Mistake::Operand),
+        })
+    }
+
+    /// The operands of a call behind its descriptor. A call that has no descriptor is refused.
+    #[tactic(auto, unfolding(crate::specs::FormParts::descriptor_call_at))]
+    fn descriptor_call(&mut self, call: Call, descriptor: Operand) -> Result<Syscall, Mistake>
+        ensures { Takes syscall_of result self.new
+            (descriptor_call_at (call_of call) (operand_of descriptor) self.old) }
+    {
+        Ok(match call {
+            Call::Read => Syscall::Read { descriptor },
+            Call::Write => Syscall::Write {
+                descriptor,
+                value: self.operand()?,
+            },
+            Call::Sendfd => Syscall::Sendfd {
+                descriptor,
+                sent: self.operand()?,
+                value: self.operand()?,
+            },
+            Call::Recvfd => Syscall::Recvfd { descriptor },
+            Call::Lseek => Syscall::Lseek {
+                descriptor,
+                offset: self.operand()?,
+            },
+            Call::Ftruncate => Syscall::Ftruncate {
+                descriptor,
+                len: self.operand()?,
+            },
+            Call::Fsync => Syscall::Fsync { descriptor },
+            Call::Fstat => Syscall::Fstat { descriptor },
+            Call::FcntlGetfl => Syscall::FcntlGetfl { descriptor },
+            Call::FcntlSetfl => Syscall::FcntlSetfl {
+                descriptor,
+                flags: self.operand()?,
+            },
+            Call::Dup => Syscall::Dup { descriptor },
+            Call::Close => Syscall::Close { descriptor },
+            Call::CapRightsLimit => Syscall::CapRightsLimit {
+                descriptor,
+                rights: self.rights()?,
+            },
+            Call::CapFcntlsLimit => Syscall::CapFcntlsLimit {
+                descriptor,
+                commands: self.commands()?,
+            },
+            _ => {
+                let path = self.path()?;
+                return self.at_call(call, descriptor, path);
+            }
+        })
+    }
+
     /// The operands of a call.
-    #[tactic(auto, unfolding(crate::specs::Forms::syscall_at))]
+    #[tactic(auto, unfolding(crate::specs::Forms::syscall_at, crate::specs::FormParts::descriptor_call_at, crate::specs::FormParts::at_call_at))]
     fn syscall(&mut self, call: Call) -> Result<Syscall, Mistake>
         ensures { Takes syscall_of result self.new (syscall_at (call_of call) self.old) }
     {
@@ -200,135 +280,91 @@ impl<'w, 't> Words<'w, 't> {
                 path: self.path()?,
                 flags: self.flags()?,
             },
-            Call::Openat => Syscall::Openat {
-                descriptor: self.operand()?,
-                path: self.path()?,
-                flags: self.flags()?,
-            },
-            Call::Read => Syscall::Read {
-                descriptor: self.operand()?,
-            },
-            Call::Write => Syscall::Write {
-                descriptor: self.operand()?,
-                value: self.operand()?,
-            },
-            Call::Sendfd => Syscall::Sendfd {
-                descriptor: self.operand()?,
-                sent: self.operand()?,
-                value: self.operand()?,
-            },
-            Call::Recvfd => Syscall::Recvfd {
-                descriptor: self.operand()?,
-            },
-            Call::Lseek => Syscall::Lseek {
-                descriptor: self.operand()?,
-                offset: self.operand()?,
-            },
-            Call::Ftruncate => Syscall::Ftruncate {
-                descriptor: self.operand()?,
-                len: self.operand()?,
-            },
-            Call::Fsync => Syscall::Fsync {
-                descriptor: self.operand()?,
-            },
-            Call::Fstat => Syscall::Fstat {
-                descriptor: self.operand()?,
-            },
-            Call::FcntlGetfl => Syscall::FcntlGetfl {
-                descriptor: self.operand()?,
-            },
-            Call::FcntlSetfl => Syscall::FcntlSetfl {
-                descriptor: self.operand()?,
-                flags: self.operand()?,
-            },
-            Call::Fstatat => Syscall::Fstatat {
-                descriptor: self.operand()?,
-                path: self.path()?,
-            },
             Call::Stat => Syscall::Stat { path: self.path()? },
-            Call::Mkdirat => Syscall::Mkdirat {
-                descriptor: self.operand()?,
-                path: self.path()?,
-            },
             Call::Mkdir => Syscall::Mkdir { path: self.path()? },
-            Call::Unlinkat => Syscall::Unlinkat {
-                descriptor: self.operand()?,
-                path: self.path()?,
-                directory: self.directory()?,
-            },
             Call::Unlink => Syscall::Unlink {
                 path: self.path()?,
                 directory: self.directory()?,
-            },
-            Call::Renameat => Syscall::Renameat {
-                descriptor: self.operand()?,
-                path: self.path()?,
-                target: self.operand()?,
-                new_path: self.path()?,
-            },
-            Call::Dup => Syscall::Dup {
-                descriptor: self.operand()?,
-            },
-            Call::Close => Syscall::Close {
-                descriptor: self.operand()?,
-            },
-            Call::CapRightsLimit => Syscall::CapRightsLimit {
-                descriptor: self.operand()?,
-                rights: self.rights()?,
-            },
-            Call::CapFcntlsLimit => Syscall::CapFcntlsLimit {
-                descriptor: self.operand()?,
-                commands: self.commands()?,
             },
             Call::CapEnter => Syscall::CapEnter,
             Call::CapGetmode => Syscall::CapGetmode,
             Call::Socketpair => Syscall::Socketpair,
             Call::Fork => Syscall::Fork,
+            _ => {
+                let descriptor = self.operand()?;
+                return self.descriptor_call(call, descriptor);
+            }
         })
     }
 
-    /// The operands of an instruction.
+    /// The label that a jump leads to.
+    fn leading(&mut self, jump: Jump) -> Result<Written<'t>, Mistake>
+        ensures { Takes written_from result self.new (one label_at (Leading (jump_of jump)) self.old) }
+    {
+        let name = self.label()?;
+        Ok(Written::Leading(jump, name))
+    }
+
+    /// The operands of a call, and where it leads after an error.
     #[tactic(auto, unfolding(crate::specs::Forms::written_at))]
+    fn invocation(&mut self, call: Call) -> Result<Written<'t>, Mistake>
+        ensures { Takes written_from result self.new (written_at (Make (call_of call)) self.old) }
+    {
+        let call = self.syscall(call)?;
+        let name = self.otherwise()?;
+        Ok(Written::Leading(Jump::AfterError(call), name))
+    }
+
+    /// The operands of an instruction behind its register. One that has no register is refused.
+    #[tactic(auto, unfolding(crate::specs::FormParts::register_form_at))]
+    fn register_form(
+        &mut self,
+        mnemonic: Mnemonic,
+        register: Register,
+    ) -> Result<Written<'t>, Mistake>
+        ensures { Takes written_from result self.new
+            (register_form_at (mnemonic_from mnemonic) register self.old) }
+    {
+        Ok(Written::Alone(match mnemonic {
+            Mnemonic::Set => Instruction::Set {
+                register,
+                value: self.number()?,
+            },
+            Mnemonic::Mov => Instruction::Mov {
+                register,
+                source: self.register()?,
+            },
+            Mnemonic::Add => Instruction::Add {
+                register,
+                addend: self.register()?,
+            },
+            Mnemonic::In => Instruction::In { register },
+            Mnemonic::Jeq => {
+                let value = self.number()?;
+                return self.leading(Jump::IfEqual { register, value });
+            }
+            Mnemonic::Jlt => {
+                let value = self.number()?;
+                return self.leading(Jump::IfLess { register, value });
+            }
+            _ => return Err(Mistake::Operand),
+        }))
+    }
+
+    /// The operands of an instruction.
+    #[tactic(auto, unfolding(crate::specs::Forms::written_at, crate::specs::FormParts::register_form_at))]
     fn written(&mut self, mnemonic: Mnemonic) -> Result<Written<'t>, Mistake>
         ensures { Takes written_from result self.new (written_at (mnemonic_from mnemonic) self.old) }
     {
-        Ok(match mnemonic {
-            Mnemonic::Set => Written::Alone(Instruction::Set {
-                register: self.register()?,
-                value: self.number()?,
-            }),
-            Mnemonic::Mov => Written::Alone(Instruction::Mov {
-                register: self.register()?,
-                source: self.register()?,
-            }),
-            Mnemonic::Add => Written::Alone(Instruction::Add {
-                register: self.register()?,
-                addend: self.register()?,
-            }),
-            Mnemonic::In => Written::Alone(Instruction::In {
-                register: self.register()?,
-            }),
-            Mnemonic::Jmp => Written::Leading(Jump::Always, self.label()?),
-            Mnemonic::Jeq => Written::Leading(
-                Jump::IfEqual {
-                    register: self.register()?,
-                    value: self.number()?,
-                },
-                self.label()?,
-            ),
-            Mnemonic::Jlt => Written::Leading(
-                Jump::IfLess {
-                    register: self.register()?,
-                    value: self.number()?,
-                },
-                self.label()?,
-            ),
-            Mnemonic::Halt => Written::Alone(Instruction::Halt),
-            Mnemonic::Make(call) => Written::Leading(
-                Jump::AfterError(self.syscall(call)?),
-                self.otherwise()?,
-            ),
-        })
+        match mnemonic {
+            Mnemonic::Jmp => self.leading(Jump::Always),
+            Mnemonic::Halt => Ok(Written::Alone(Instruction::Halt)),
+            Mnemonic::Make(call) => self.invocation(call),
+            _ => {
+                let register = self.register()?;
+                self.register_form(mnemonic, register)
+            }
+        }
     }
 }
 

@@ -78,7 +78,7 @@ pub(crate) fn commands(word: &[u8]) -> Option<Fcntls>
 }
 
 /// The flags of an open, as a list names them.
-#[derive(Clone, Copy, PartialEq, Eq, Debug)]
+#[derive(Clone, Copy)]
 struct FlagWords(u8);
 
 const FLAG_WORDS: [Flag<FlagWords>; 5] = [

@@ -7,7 +7,7 @@ ghost use Rattle.prog_asm.specs.Forms.{mnemonic_among, mnemonic_name, mnemonic_o
 use rights::Call;
 
 /// The word that an instruction begins with.
-#[derive(Clone, Copy, PartialEq, Eq, Debug)]
+#[derive(Clone, Copy)]
 pub(crate) enum Mnemonic {
     Set,
     Mov,

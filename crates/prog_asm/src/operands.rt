@@ -10,7 +10,7 @@ use std::marker::Model;
 pub const REGISTERS: u8 = 8;
 
 /// A register, by its number from 0 to 7. (own)
-#[derive(Clone, Copy, PartialEq, Eq, Debug)]
+#[derive(Clone, Copy, PartialEq, Eq)]
 pub struct Register(u8);
 
 impl Model for Register {
@@ -48,7 +48,7 @@ impl Register {
 }
 
 /// A register, which stands for what it holds, or a number itself. (own)
-#[derive(Clone, Copy, PartialEq, Eq, Debug)]
+#[derive(Clone, Copy, PartialEq, Eq)]
 pub enum Operand {
     /// What the register holds.
     Register(Register),

@@ -5,7 +5,7 @@ ghost use Rattle.rights.specs.Calls.{call_name};
 ghost use Rattle.rights.specs.Views.{call_of};
 
 /// A system call, without its operands.
-#[derive(Clone, Copy, PartialEq, Eq, Debug)]
+#[derive(Clone, Copy, PartialEq, Eq)]
 pub enum Call {
     Open,
     Openat,

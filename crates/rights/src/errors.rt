@@ -6,7 +6,7 @@ ghost use Rattle.rights.specs.Views.{cause_of, errno_of};
 
 /// An error of a system call. `ENOTCAPABLE` and `ECAPMODE` are Capsicum's (rights(4)); where systems
 /// number the others differently, this table decides.
-#[derive(Clone, Copy, PartialEq, Eq, Debug)]
+#[derive(Clone, Copy, PartialEq, Eq)]
 pub enum Errno {
     EPERM = 1,
     ENOENT = 2,
@@ -67,7 +67,7 @@ impl Errno {
 
 /// Why a call fails. In a call the first cause that applies is the answer, in this order, where
 /// `Escape` and `Path` have one place.
-#[derive(Clone, Copy, PartialEq, Eq, Debug)]
+#[derive(Clone, Copy, PartialEq, Eq)]
 pub enum Cause {
     /// A global name space in capability mode.
     CapMode,

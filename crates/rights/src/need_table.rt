@@ -9,7 +9,7 @@ use crate::opens::OpenFlags;
 use crate::sets::Rights;
 
 /// Which of a call's descriptors is asked: its only one or the first of two, or the second.
-#[derive(Clone, Copy, PartialEq, Eq, Debug)]
+#[derive(Clone, Copy, PartialEq, Eq)]
 pub enum Position {
     First,
     Second,

@@ -7,7 +7,7 @@ use std::marker::Model;
 
 /// The flags of an open: to read, to write or both; append and trunc only with write. A clause sees
 /// the five. (open(2), in this profile's flags)
-#[derive(Clone, Copy, PartialEq, Eq, Debug)]
+#[derive(Clone, Copy, PartialEq, Eq)]
 pub struct OpenFlags {
     read: bool,
     write: bool,

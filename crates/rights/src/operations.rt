@@ -5,7 +5,7 @@ ghost use Rattle.rights.specs.Operations.{lists, operation_name, same_operation}
 ghost use Rattle.rights.specs.Views.{operation_of};
 
 /// What a call does to a place of the tree, and what a grant lists.
-#[derive(Clone, Copy, PartialEq, Eq, Debug)]
+#[derive(Clone, Copy, PartialEq, Eq)]
 pub enum Op {
     /// To ask what a node is.
     Look,

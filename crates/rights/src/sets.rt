@@ -7,7 +7,7 @@ use bitflags::{Flag, Flags};
 
 /// A set of rights on a descriptor. A clause sees the number that has bit k where right k is held.
 /// (rights(4), in this profile's fourteen)
-#[derive(Clone, Copy, PartialEq, Eq, Debug)]
+#[derive(Clone, Copy, PartialEq, Eq)]
 pub struct Rights(u16);
 
 const RIGHTS: [Flag<Rights>; 16] = [
@@ -186,7 +186,7 @@ impl Flags for Rights {
 /// A set of fcntl commands, which bounds what `fcntl` may do through a descriptor. A clause sees the
 /// number that has bit k where command k is allowed. (cap_fcntls_limit(2), without the commands on
 /// owners)
-#[derive(Clone, Copy, PartialEq, Eq, Debug)]
+#[derive(Clone, Copy, PartialEq, Eq)]
 pub struct Fcntls(u8);
 
 const COMMANDS: [Flag<Fcntls>; 2] = [

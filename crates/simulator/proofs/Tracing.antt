@@ -44,7 +44,7 @@ pub record IsTraced (plan : Plan) (events : List Event) (before after : Option (
   pub took : Took before after begun
   pub each : (lines : List (Option Acted)) → IsRun plan events lines → IsAhead plan events lines begun w left
 
-took_nothing : (before : Option (List ℕ)) → Took before before []
+pub took_nothing : (before : Option (List ℕ)) → Took before before []
 took_nothing None = refl
 took_nothing (Some bytes) = ap Some (sym (append-nil bytes))
 

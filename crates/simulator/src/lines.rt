@@ -8,7 +8,7 @@ use rights::{Cause, Errno};
 use syscalls::{Effect, Outcome};
 
 /// What a step comes to.
-#[derive(Clone, Copy, PartialEq, Eq, Debug)]
+#[derive(Clone, Copy, PartialEq, Eq)]
 pub enum LineResult {
     /// An instruction that is no call was done.
     Done,

@@ -1,12 +1,16 @@
 //! Runs of a task, as text.
 
 ghost use Rattle.std.specs.Prelude.{◌≡◌, ◌<◌, ◌-◌, ◌^◌, IsErrOf, OnErr, OnOk, map};
+ghost use Rattle.rights.specs.Output.{Took, TookFront};
 ghost use Rattle.kernel.specs.Gains.{NeverGains};
 ghost use Rattle.syscalls.specs.Views.{event_of};
 ghost use Rattle.task.specs.Begins.{first_world};
 ghost use Rattle.task.specs.Plans.{programs_of_plan};
 ghost use Rattle.simulator.specs.Simulations.{WritesFront, WritesTrace};
+ghost use Rattle.simulator.specs.Traces.{line_text};
+ghost use Rattle.simulator.specs.Views.{line_of};
 
+use crate::lines::Line;
 use crate::machine::Machine;
 use crate::trace::text_of_line;
 use file_tree::PlaceTree;
@@ -14,6 +18,19 @@ use rights::{Out, Stop, write_all};
 use std::alloc::Global;
 use syscalls::Event;
 use task::Task;
+
+/// Writes a line. After a failure of the writer or a refused growth a beginning of it is written.
+fn write_line<W: Out>(alloc: Global, task: &Task, line: &Line, out: &mut W) -> Result<(), Stop>
+    requires { W.faults out.old < 2 ^ 64 - 1 }
+    ensures ok { OnOk result (Took (W.taken out.old) (W.taken out.new) (line_text task.now (line_of line.now))) }
+    ensures err { OnErr result (TookFront (W.taken out.old) (W.taken out.new) (line_text task.now (line_of line.now))) }
+    ensures steady { OnOk result (W.faults out.new ≡ W.faults out.old) }
+    ensures device { IsErrOf result Stop.Device → W.faults out.old < W.faults out.new }
+    ensures not_spent { IsErrOf result Stop.Spent → ⊥ }
+{
+    let text = text_of_line(alloc, task, line)?;
+    write_all(out, &text)
+}
 
 /// Runs the task over the events, and writes a line for each. `Device` is answered only after a
 /// failure of the writer, and `Memory` after a refused growth; what was written then is a beginning
@@ -39,8 +56,7 @@ pub fn simulate<W: Out>(
     let mut machine: Machine<'_, PlaceTree> = Machine::start(alloc, task)?;
     for event in events {
         let line = machine.step(*event)?;
-        let text = text_of_line(alloc, task, &line)?;
-        write_all(out, &text)?;
+        write_line(alloc, task, &line, out)?;
     }
     Ok(())
 }

@@ -1,7 +1,7 @@
 //! Events.
 
 /// One instruction of one process. (own)
-#[derive(Clone, Copy, PartialEq, Eq, Debug)]
+#[derive(Clone, Copy, PartialEq, Eq)]
 pub struct Event {
     /// The number of the process, 0 to 15.
     pub process: u8,

@@ -13,14 +13,14 @@ use rights::{Cause, Errno, Memory, Op};
 use std::alloc::{AllocError, AllocFailed, Global};
 
 /// An operation at a place, written as a trace prints it: `/` for the root, else each name after a `/`.
-#[derive(Drop, PartialEq, Eq, Debug)]
+#[derive(Drop, PartialEq, Eq)]
 pub struct Effect {
     pub op: Op,
     pub place: Vec<u8>,
 }
 
 /// What a call comes to.
-#[derive(Clone, Copy, PartialEq, Eq, Debug)]
+#[derive(Clone, Copy, PartialEq, Eq)]
 pub enum Outcome {
     /// It succeeds with this value.
     Value(u32),

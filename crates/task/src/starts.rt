@@ -4,7 +4,7 @@ use fd_table::Access;
 use rights::{Fcntls, Rights};
 
 /// A descriptor that a process starts with, on a file or directory of the task. (rights(4), cap_fcntls_limit(2))
-#[derive(Clone, Copy, PartialEq, Eq, Debug)]
+#[derive(Clone, Copy, PartialEq, Eq)]
 pub struct FirstDescriptor {
     pub number: u8,
     /// The node's place in the list of nodes.

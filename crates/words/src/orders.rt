@@ -5,7 +5,7 @@ ghost use Rattle.words.specs.Orders.{line_of};
 ghost use Rattle.words.specs.OrderViews.{order_of};
 
 /// What the program is asked to do. It borrows the names from the words.
-#[derive(Clone, Copy, Debug, PartialEq, Eq)]
+#[derive(Clone, Copy, PartialEq, Eq)]
 pub enum Order<'a> {
     /// The example: no words at all.
     Example,

@@ -2,7 +2,6 @@ use Rattle.std.proofs.Common.{◌≡◌, ◌+◌, ◌<◌, ◌≤◌, refl, true
 use Rattle.std.specs.List.{slice_index_or}
 use Rattle.std.proofs.Math.ListN.{length-map}
 use Rattle.std.proofs.lemmas.List.{get_or-map, take_all}
-use Rattle.rights.specs.Output.{Took, TookFront}
 use Rattle.rights.proofs.Tests.{on_err}
 use Rattle.syscalls.specs.declared.events.Event.{Event as EventCode}
 use Rattle.syscalls.specs.Views.{event_of}
@@ -42,11 +41,8 @@ returns-in_err-machine-clause-gains g c = never_gains (programs_of_plan c.args.t
 pub returns-in_err-line-clause-gains : goal.returns-in_err-line-clause-gains
 returns-in_err-line-clause-gains g c = never_gains (programs_of_plan c.args.task.now) (first_world c.args.task.now) (map event_of c.args.events.now)
 
-pub returns-in_err-text-clause-gains : goal.returns-in_err-text-clause-gains
-returns-in_err-text-clause-gains g c = never_gains (programs_of_plan c.args.task.now) (first_world c.args.task.now) (map event_of c.args.events.now)
-
-pub returns-in_err-write_all-clause-gains : goal.returns-in_err-write_all-clause-gains
-returns-in_err-write_all-clause-gains g c = never_gains (programs_of_plan c.args.task.now) (first_world c.args.task.now) (map event_of c.args.events.now)
+pub returns-in_err-write_line-clause-gains : goal.returns-in_err-write_line-clause-gains
+returns-in_err-write_line-clause-gains g c = never_gains (programs_of_plan c.args.task.now) (first_world c.args.task.now) (map event_of c.args.events.now)
 
 pub returns-clause-gains : goal.returns-clause-gains
 returns-clause-gains g c = never_gains (programs_of_plan c.args.task.now) (first_world c.args.task.now) (map event_of c.args.events.now)
@@ -54,11 +50,8 @@ returns-clause-gains g c = never_gains (programs_of_plan c.args.task.now) (first
 pub returns-in_err-line-clause-err : goal.returns-in_err-line-clause-err
 returns-in_err-line-clause-err g c = on_err _ (traced-front c.args.task.now (map event_of c.args.events.now) _ _ _ _ c.loop-event.invariant.traced)
 
-pub returns-in_err-text-clause-err : goal.returns-in_err-text-clause-err
-returns-in_err-text-clause-err g c = on_err _ (traced-front c.args.task.now (map event_of c.args.events.now) _ _ _ _ c.loop-event.invariant.traced)
-
-pub returns-in_err-write_all-clause-err : goal.returns-in_err-write_all-clause-err
-returns-in_err-write_all-clause-err g c =
+pub returns-in_err-write_line-clause-err : goal.returns-in_err-write_line-clause-err
+returns-in_err-write_line-clause-err g c =
     let plan : Plan = c.args.task.now in
     let inv = c.loop-event.invariant in
     let none : EventCode = record { process = 0; input = 0; refuse = false } in
@@ -72,8 +65,7 @@ returns-in_err-write_all-clause-err g c =
     in
     let byte : IsEvent e = c.in_ok-line.ensures.byte in
     let s = subst (λ (p : Plan). Steps (programs_of_plan p) w e line next) inv.plan c.in_ok-line.ensures.step in
-    let front = subst (TookFront (g.W.Out.taken c.loop-event.out) (g.W.Out.taken c.write_all.new.out)) (c.deref.ensures.value ∙ c.in_ok-text.ensures) c.in_err-write_all.ensures.err in
-    on_err _ (traced-line plan (map event_of c.args.events.now) _ _ _ w next e left line inv.valid inv.well_formed byte so_far s front)
+    on_err _ (traced-line plan (map event_of c.args.events.now) _ _ _ w next e left line inv.valid inv.well_formed byte so_far s c.in_err-write_line.ensures.err)
 
 pub loop-event-preserved : goal.loop-event-preserved
 loop-event-preserved g c =
@@ -90,11 +82,10 @@ loop-event-preserved g c =
     in
     let byte : IsEvent e = c.in_ok-line.ensures.byte in
     let s = subst (λ (p : Plan). Steps (programs_of_plan p) w e line next) inv.plan c.in_ok-line.ensures.step in
-    let took = subst (Took (g.W.Out.taken c.loop-event.out) (g.W.Out.taken c.write_all.new.out)) (c.deref.ensures.value ∙ c.in_ok-text.ensures) c.in_ok-write_all.ensures.ok in
     let same : c.step.new.self.plan ≡ plan = c.in_ok-line.ensures.plan ∙ inv.plan in
     record {
       runs_on = c.in_ok-line.ensures.runs_on;
-      steady = c.in_ok-write_all.ensures.steady ∙ inv.steady;
+      steady = c.in_ok-write_line.ensures.steady ∙ inv.steady;
       plan = same;
       valid = inv.valid;
       well_formed = subst (λ (p : Plan). IsWellFormed (programs_of_plan p) next) same c.in_ok-line.ensures.well_formed;
@@ -102,7 +93,7 @@ loop-event-preserved g c =
           bytes_more (map event_of c.args.events.now) c.loop-event.event-index (event_of none)
           (subst (λ n. c.loop-event.event-index < n) (sym (length-map c.args.events.now event_of)) c.loop-event-test.true) inv.bytes
           (subst IsEvent (sym (get_or-map event_of c.args.events.now c.loop-event.event-index none (event_of none) c.loop-event-test.true)) byte);
-      traced = traced-step plan (map event_of c.args.events.now) _ _ _ w next e left line inv.valid inv.well_formed byte so_far s took;
+      traced = traced-step plan (map event_of c.args.events.now) _ _ _ w next e left line inv.valid inv.well_formed byte so_far s c.in_ok-write_line.ensures.ok;
     }
 
 pub returns-clause-ok : goal.returns-clause-ok

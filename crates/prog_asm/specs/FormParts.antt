@@ -1,0 +1,48 @@
+-- The forms of `Forms` whose first operand is read already, of the instructions that begin with one. (own)
+use Rattle.std.specs.Prelude.{ℕ, List, None}
+use Rattle.rights.specs.Calls.{Call}
+use Rattle.rights.specs.Calls as calls
+use Rattle.prog_asm.specs.Programs.{Operand, Syscall}
+use Rattle.prog_asm.specs.Programs as programs
+use Rattle.prog_asm.specs.Forms.{Field, Mnemonic, Set, Mov, Add, In, Jeq, Jlt, Written, Alone, Leading, If_equal, If_less, commands_at, directory_at, flags_at, label_at, nothing, number_at, one, operand_at, path_at, register_at, rights_at, two, ◌>>=◌}
+
+-- what nothing stands for
+abbrev pub refused : {A : Type 0} → Field A
+refused words = None
+
+-- the operands of a call behind its descriptor and its path
+unfoldable pub at_call_at : Call → Operand → List ℕ → Field Syscall
+at_call_at calls.Openat descriptor path = one flags_at (programs.Openat descriptor path)
+at_call_at calls.Fstatat descriptor path = nothing (programs.Fstatat descriptor path)
+at_call_at calls.Mkdirat descriptor path = nothing (programs.Mkdirat descriptor path)
+at_call_at calls.Unlinkat descriptor path = one directory_at (programs.Unlinkat descriptor path)
+at_call_at calls.Renameat descriptor path = two operand_at path_at (programs.Renameat descriptor path)
+at_call_at call descriptor path = refused
+
+-- the operands of a call behind its descriptor
+unfoldable pub descriptor_call_at : Call → Operand → Field Syscall
+descriptor_call_at calls.Read descriptor = nothing (programs.Read descriptor)
+descriptor_call_at calls.Write descriptor = one operand_at (programs.Write descriptor)
+descriptor_call_at calls.Sendfd descriptor = two operand_at operand_at (programs.Sendfd descriptor)
+descriptor_call_at calls.Recvfd descriptor = nothing (programs.Recvfd descriptor)
+descriptor_call_at calls.Lseek descriptor = one operand_at (programs.Lseek descriptor)
+descriptor_call_at calls.Ftruncate descriptor = one operand_at (programs.Ftruncate descriptor)
+descriptor_call_at calls.Fsync descriptor = nothing (programs.Fsync descriptor)
+descriptor_call_at calls.Fstat descriptor = nothing (programs.Fstat descriptor)
+descriptor_call_at calls.Fcntl_getfl descriptor = nothing (programs.Fcntl_getfl descriptor)
+descriptor_call_at calls.Fcntl_setfl descriptor = one operand_at (programs.Fcntl_setfl descriptor)
+descriptor_call_at calls.Dup descriptor = nothing (programs.Dup descriptor)
+descriptor_call_at calls.Close descriptor = nothing (programs.Close descriptor)
+descriptor_call_at calls.Cap_rights_limit descriptor = one rights_at (programs.Cap_rights_limit descriptor)
+descriptor_call_at calls.Cap_fcntls_limit descriptor = one commands_at (programs.Cap_fcntls_limit descriptor)
+descriptor_call_at call descriptor = λ words. path_at words >>= (λ path. at_call_at call descriptor path.0 path.1)
+
+-- the operands of an instruction behind its register
+unfoldable pub register_form_at : Mnemonic → ℕ → Field Written
+register_form_at Set register = one number_at (λ value. Alone (programs.Set register value))
+register_form_at Mov register = one register_at (λ source. Alone (programs.Mov register source))
+register_form_at Add register = one register_at (λ addend. Alone (programs.Add register addend))
+register_form_at In register = nothing (Alone (programs.In register))
+register_form_at Jeq register = two number_at label_at (λ value name. Leading (If_equal register value) name)
+register_form_at Jlt register = two number_at label_at (λ value name. Leading (If_less register value) name)
+register_form_at mnemonic register = refused
