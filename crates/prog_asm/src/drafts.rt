@@ -106,7 +106,19 @@ pub(crate) fn read_lines<'t>(alloc: Global, text: &'t [u8]) -> Result<Draft<'t>,
     }
 }
 
+/// The point of a label, if it is one of this many points.
+fn target(labels: &IndexMap<&[u8], usize>, points: usize, label: &[u8]) -> Option<u8>
+    requires { points ≤ 256 }
+    ensures { result ≡ below points (point_in labels.now label.now) }
+{
+    match point_of(labels, label) {
+        Some(point) if point < points => Some(point as u8),
+        _ => None,
+    }
+}
+
 /// The instruction with a point in the place of its label, if that is one of this many points.
+#[tactic(auto, unfolding(crate::specs::FormViews::written_from))]
 pub(crate) fn place(
     labels: &IndexMap<&[u8], usize>,
     points: usize,
@@ -116,11 +128,36 @@ pub(crate) fn place(
     ensures { option_map instruction_of result
         ≡ placed (λ name. below points (point_in labels.now name)) (written_from written.entry) }
 {
-    match written {
-        Written::Alone(instruction) => Some(instruction),
-        Written::Leading(jump, name) => match point_of(labels, name) {
-            Some(point) if point < points => Some(jump.to(point as u8)),
-            _ => None,
+    Some(match written {
+        Written::Set { register, value } => Instruction::Set { register, value },
+        Written::Mov { register, source } => Instruction::Mov { register, source },
+        Written::Add { register, addend } => Instruction::Add { register, addend },
+        Written::In { register } => Instruction::In { register },
+        Written::Jmp { label } => Instruction::Jmp {
+            target: target(labels, points, label)?,
         },
-    }
+        Written::Jeq {
+            register,
+            value,
+            label,
+        } => Instruction::Jeq {
+            register,
+            value,
+            target: target(labels, points, label)?,
+        },
+        Written::Jlt {
+            register,
+            value,
+            label,
+        } => Instruction::Jlt {
+            register,
+            value,
+            target: target(labels, points, label)?,
+        },
+        Written::Halt => Instruction::Halt,
+        Written::Invoke { call, otherwise } => Instruction::Invoke {
+            call,
+            otherwise: target(labels, points, otherwise)?,
+        },
+    })
 }

@@ -1,15 +1,15 @@
 //! What each instruction wants behind its word. A new instruction is a line of `MNEMONICS` and one of
-//! `Words::written` or `Words::syscall`.
+//! `Words::written` or `Words::syscall`, or of what these call once its first operand is read.
 
 ghost use Rattle.std.specs.Prelude.{◌≡◌, map};
 ghost use Rattle.rights.specs.Views.{call_of};
 ghost use Rattle.prog_asm.specs.FormParts.{at_call_at, descriptor_call_at, register_form_at};
-ghost use Rattle.prog_asm.specs.FormViews.{Takes, TakesWord, jump_of, mnemonic_from, written_from};
-ghost use Rattle.prog_asm.specs.Forms.{Leading, Make, commands_at, directory_at, else_at, flags_at, label_at, led, number_at, one, operand_at, path_at, register_at, rights_at, syscall_at, written_at, written_of};
+ghost use Rattle.prog_asm.specs.FormViews.{Takes, TakesWord, mnemonic_from, written_from};
+ghost use Rattle.prog_asm.specs.Forms.{Make, commands_at, directory_at, else_at, flags_at, label_at, number_at, operand_at, path_at, register_at, rights_at, syscall_at, written_at, written_of};
 ghost use Rattle.prog_asm.specs.Readings.{ReadsField};
-ghost use Rattle.prog_asm.specs.Views.{instruction_of, operand_of, syscall_of};
+ghost use Rattle.prog_asm.specs.Views.{operand_of, syscall_of};
 
-use crate::instructions::{Instruction, Syscall};
+use crate::instructions::Syscall;
 use crate::mistakes::Mistake;
 use crate::mnemonics::Mnemonic;
 use crate::operands::{Operand, Path, Register};
@@ -18,45 +18,42 @@ use rights::{Call, Fcntls, OpenFlags, Rights};
 use std::alloc::Global;
 use std::marker::Model;
 
-/// An instruction that leads to a label, but for the label.
-#[derive(Drop)]
-pub(crate) enum Jump {
-    Always,
-    IfEqual { register: Register, value: u32 },
-    IfLess { register: Register, value: u32 },
-    AfterError(Syscall),
-}
-
-impl Jump {
-    /// The instruction that leads to this point.
-    pub(crate) fn to(self, target: u8) -> Instruction
-        ensures { instruction_of result ≡ led (jump_of self) target }
-    {
-        match self {
-            Jump::Always => Instruction::Jmp { target },
-            Jump::IfEqual { register, value } => Instruction::Jeq {
-                register,
-                value,
-                target,
-            },
-            Jump::IfLess { register, value } => Instruction::Jlt {
-                register,
-                value,
-                target,
-            },
-            Jump::AfterError(call) => Instruction::Invoke {
-                call,
-                otherwise: target,
-            },
-        }
-    }
-}
-
-/// An instruction as it is written: alone, or leading to the label of a name.
+/// An instruction as it is written: with the name of a label in the place of a point.
 #[derive(Drop)]
 pub(crate) enum Written<'t> {
-    Alone(Instruction),
-    Leading(Jump, &'t [u8]),
+    Set {
+        register: Register,
+        value: u32,
+    },
+    Mov {
+        register: Register,
+        source: Register,
+    },
+    Add {
+        register: Register,
+        addend: Register,
+    },
+    In {
+        register: Register,
+    },
+    Jmp {
+        label: &'t [u8],
+    },
+    Jeq {
+        register: Register,
+        value: u32,
+        label: &'t [u8],
+    },
+    Jlt {
+        register: Register,
+        value: u32,
+        label: &'t [u8],
+    },
+    Halt,
+    Invoke {
+        call: Syscall,
+        otherwise: &'t [u8],
+    },
 }
 
 /// The words of a line from some place on, which are read field by field. A clause sees the words.
@@ -297,26 +294,19 @@ impl<'w, 't> Words<'w, 't> {
         })
     }
 
-    /// The label that a jump leads to.
-    fn leading(&mut self, jump: Jump) -> Result<Written<'t>, Mistake>
-        ensures { Takes written_from result self.new (one label_at (Leading (jump_of jump)) self.old) }
-    {
-        let name = self.label()?;
-        Ok(Written::Leading(jump, name))
-    }
-
     /// The operands of a call, and where it leads after an error.
-    #[tactic(auto, unfolding(crate::specs::Forms::written_at))]
+    #[tactic(auto, unfolding(crate::specs::Forms::written_at, crate::specs::FormViews::written_from))]
     fn invocation(&mut self, call: Call) -> Result<Written<'t>, Mistake>
         ensures { Takes written_from result self.new (written_at (Make (call_of call)) self.old) }
     {
-        let call = self.syscall(call)?;
-        let name = self.otherwise()?;
-        Ok(Written::Leading(Jump::AfterError(call), name))
+        Ok(Written::Invoke {
+            call: self.syscall(call)?,
+            otherwise: self.otherwise()?,
+        })
     }
 
     /// The operands of an instruction behind its register. One that has no register is refused.
-    #[tactic(auto, unfolding(crate::specs::FormParts::register_form_at))]
+    #[tactic(auto, unfolding(crate::specs::FormParts::register_form_at, crate::specs::FormViews::written_from))]
     fn register_form(
         &mut self,
         mnemonic: Mnemonic,
@@ -325,40 +315,44 @@ impl<'w, 't> Words<'w, 't> {
         ensures { Takes written_from result self.new
             (register_form_at (mnemonic_from mnemonic) register self.old) }
     {
-        Ok(Written::Alone(match mnemonic {
-            Mnemonic::Set => Instruction::Set {
+        Ok(match mnemonic {
+            Mnemonic::Set => Written::Set {
                 register,
                 value: self.number()?,
             },
-            Mnemonic::Mov => Instruction::Mov {
+            Mnemonic::Mov => Written::Mov {
                 register,
                 source: self.register()?,
             },
-            Mnemonic::Add => Instruction::Add {
+            Mnemonic::Add => Written::Add {
                 register,
                 addend: self.register()?,
             },
-            Mnemonic::In => Instruction::In { register },
-            Mnemonic::Jeq => {
-                let value = self.number()?;
-                return self.leading(Jump::IfEqual { register, value });
-            }
-            Mnemonic::Jlt => {
-                let value = self.number()?;
-                return self.leading(Jump::IfLess { register, value });
-            }
+            Mnemonic::In => Written::In { register },
+            Mnemonic::Jeq => Written::Jeq {
+                register,
+                value: self.number()?,
+                label: self.label()?,
+            },
+            Mnemonic::Jlt => Written::Jlt {
+                register,
+                value: self.number()?,
+                label: self.label()?,
+            },
             _ => return Err(Mistake::Operand),
-        }))
+        })
     }
 
     /// The operands of an instruction.
-    #[tactic(auto, unfolding(crate::specs::Forms::written_at, crate::specs::FormParts::register_form_at))]
+    #[tactic(auto, unfolding(crate::specs::Forms::written_at, crate::specs::FormParts::register_form_at, crate::specs::FormViews::written_from))]
     fn written(&mut self, mnemonic: Mnemonic) -> Result<Written<'t>, Mistake>
         ensures { Takes written_from result self.new (written_at (mnemonic_from mnemonic) self.old) }
     {
         match mnemonic {
-            Mnemonic::Jmp => self.leading(Jump::Always),
-            Mnemonic::Halt => Ok(Written::Alone(Instruction::Halt)),
+            Mnemonic::Jmp => Ok(Written::Jmp {
+                label: self.label()?,
+            }),
+            Mnemonic::Halt => Ok(Written::Halt),
             Mnemonic::Make(call) => self.invocation(call),
             _ => {
                 let register = self.register()?;
