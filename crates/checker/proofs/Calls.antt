@@ -30,7 +30,7 @@ use Rattle.task.specs.Plans.{Grant, Plan}
 use Rattle.task.specs.Policies.{allows, is_allowed, grant_named, holds_in, grant_holds, lists_in, grant_lists}
 use Rattle.task.specs.Laws.{Allowed}
 use Rattle.task.proofs.Allowances.{allowed_is_tested}
-use Rattle.simulator.specs.Sandboxed.{AreAllowed}
+use Rattle.task.specs.Sandboxed.{AreAllowed}
 use Rattle.task.specs.Plans.{program_name}
 use Rattle.checker.specs.Intervals.{only}
 use Rattle.checker.specs.Outcomes.{read_interval, error_interval, read_outcomes, outcomes, error_outcomes}

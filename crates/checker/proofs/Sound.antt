@@ -13,16 +13,16 @@ use Rattle.kernel.specs.Calls.{answer}
 use Rattle.kernel.specs.Steps.{Executed, Stepped, Ended, acted_as, register, plain, jumped, executed, stepped_at, stepped_by, stepped, step}
 use Rattle.kernel.specs.WellFormed.{ArePrograms, IsEvent, IsWellFormed}
 use Rattle.kernel.specs.Gains.{GainsNothing}
+use Rattle.kernel.specs.Origins.{caller_of}
 use Rattle.kernel.specs.Runs.{AreEvents}
 use Rattle.kernel.proofs.Gains.{never_gains}
 use Rattle.kernel.proofs.Keeping.{next_world}
-use Rattle.kernel.proofs.Rights.{gives_no_right}
 use Rattle.task.specs.Plans.{Plan, programs_of_plan}
 use Rattle.task.specs.Limits.{is_plan}
 use Rattle.task.specs.Policies.{grant_holds}
 use Rattle.task.specs.Begins.{first_world}
 use Rattle.task.proofs.FirstWorlds.{first_well_formed}
-use Rattle.simulator.specs.Sandboxed.{IsInMode, KeepsSources, IsSafe, Sandboxed, IsSandboxed}
+use Rattle.task.specs.Sandboxed.{IsInMode, IsSafe, Sandboxed, IsSandboxed}
 use Rattle.checker.specs.Points.{instruction_at}
 use Rattle.checker.specs.Intervals.{only, sums, equal_part, other_part, lower_part, upper_part}
 use Rattle.checker.specs.Outcomes.{is_covered, outcomes_in, byte_interval, outcomes}
@@ -151,16 +151,13 @@ standing plan certificate w p s i meets inv made alive here =
       asked = asked plan certificate s.program s.point i lies.bound here lies.at (meets s.program s.point);
     }
 
-keeps_sources : (w : World) (e : Event) → KeepsSources w e
-keeps_sources w e s call value change effects made own is = gives_no_right w e.process s e call value change effects own is
-
 -- a step that is safe, and after which the invariant holds
 abbrev Fine : Plan → Certificate → World → Event → Stepped → Type 0
 Fine plan certificate w e next = IsSafe (programs_of_plan plan) plan.grants w e next × Invariant plan certificate next.world
 
 -- what the kernel's laws say of a step
 record Lawful (plan : Plan) (w : World) (e : Event) (v : World) : Type 0 where
-  gained : GainsNothing (programs_of_plan plan) w e v
+  gained : GainsNothing w e.process (caller_of (programs_of_plan plan) w e) v
   formed : IsWellFormed (programs_of_plan plan) v
 
 module _ (plan : Plan) (certificate : Certificate) (w : World) (e : Event) (byte : IsEvent e) (choice : Choice) (meets : MeetsRules plan certificate) (inv : Invariant plan certificate w) where
@@ -169,7 +166,6 @@ module _ (plan : Plan) (certificate : Certificate) (w : World) (e : Event) (byte
     record {
       allowed = λ on. owed.allowed (subst IsInMode made on);
       unrefused = owed.unrefused;
-      sources = keeps_sources w e;
       gains = lawful.gained;
     },
     next plan w x.world e.process owed.keeps certificate inv lawful.formed owed.lies,
@@ -195,7 +191,6 @@ module _ (plan : Plan) (certificate : Certificate) (w : World) (e : Event) (byte
     record {
       allowed = λ on. absurd (subst IsInMode made on);
       unrefused = tt;
-      sources = keeps_sources w e;
       gains = lawful.gained;
     },
     inv,

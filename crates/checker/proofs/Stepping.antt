@@ -17,7 +17,7 @@ use Rattle.kernel.specs.Steps.{Executed, Halted, register, with_register, moved_
 use Rattle.kernel.specs.WellFormed.{Numbering, IsWorld}
 use Rattle.task.specs.Plans.{Plan, programs_of_plan}
 use Rattle.task.specs.Policies.{grant_holds}
-use Rattle.simulator.specs.Sandboxed.{AreAllowed, IsOtherCause, IsUnrefused}
+use Rattle.task.specs.Sandboxed.{AreAllowed, IsOtherCause, IsUnrefused}
 use Rattle.task.specs.Plans.{program_name}
 use Rattle.checker.specs.Outcomes.{Outcome, outcome_to, outcomes_in, error_interval, outcomes}
 use Rattle.checker.specs.Rules.{all_within, all_there}

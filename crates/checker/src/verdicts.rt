@@ -5,7 +5,7 @@ ghost use Rattle.certificate.specs.Views.{certificate_of};
 ghost use Rattle.checker.specs.Rules.{found_at};
 ghost use Rattle.checker.specs.Verdicts.{IsVerdict, MeetsRules, Yes};
 ghost use Rattle.checker.specs.Views.{finding_of, verdict_of};
-ghost use Rattle.simulator.specs.Sandboxed.{IsSandboxed};
+ghost use Rattle.task.specs.Sandboxed.{IsSandboxed};
 
 use crate::rules::{Finding, found_at};
 use certificate::Cert;

@@ -1,7 +1,7 @@
 pub mod Samples
 pub mod Rows
 pub mod ProcessRows
-pub mod Rights
+pub mod Origins
 pub mod Trees
 pub mod Lookups
 pub mod Brings
@@ -20,3 +20,4 @@ pub mod Determined
 pub mod Gains
 pub mod ChangeRows
 pub mod FirstWorld
+pub mod Gainful

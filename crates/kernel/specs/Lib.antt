@@ -3,9 +3,10 @@ pub mod Answers
 pub mod Calls
 pub mod Changes
 pub mod Steps
-pub mod Sources
+pub mod Origins
 pub mod WellFormed
 pub mod Runs
 pub mod Renamings
 pub mod Alike
 pub mod Gains
+pub mod Gainful

@@ -1,17 +1,10 @@
 //! Laws of the system calls. Each is the contract of a function that does nothing.
 
 ghost use Rattle.kernel.specs.Alike.{AlikeWorldsActAlike, AlikeWorldsShareNumbers, AlikeWorldsTwice};
+ghost use Rattle.kernel.specs.Gainful.{NothingComesFromElsewhere};
 ghost use Rattle.kernel.specs.Gains.{NoRunGains};
 ghost use Rattle.kernel.specs.Renamings.{NumbersAreIgnoredTwice, NumbersDoNotMatter};
 ghost use Rattle.kernel.specs.Runs.{AlikeWorldsRunAlike, FreshNumbersExist, NextWorldExists, RunExists, RunsShowTheSame, RunsShowTheSameLines, WellFormedWorldExists};
-ghost use Rattle.kernel.specs.Sources.{GivesNoRight};
-
-/// No call gives a right: in every world, of every process, at every event, a descriptor that a call makes has no more
-/// rights and fcntl commands than the one it comes from; and a call without such a source makes none. `open` and
-/// `socketpair` alone make descriptors of their own, with all rights. (cap_rights_limit(2), cap_fcntls_limit(2))
-pub fn no_call_gives_a_right()
-    ensures { GivesNoRight }
-{}
 
 /// From a well-formed world each event has a next world: there are fresh numbers to choose, and whichever are chosen,
 /// the next world is well formed.
@@ -62,11 +55,20 @@ pub fn worlds_show_the_same_lines()
     ensures { RunsShowTheSame }
 {}
 
-/// In every run, from any world, no process leaves capability mode, the children of one in it are in it, and each
-/// descriptor after a step has a source before it, with at least its rights and fcntl commands, but for those with all
-/// rights that `open`, outside capability mode, and `socketpair` give their process. (cap_enter(2), capsicum(4))
+/// In every run, from any world, no process leaves capability mode, and the children of one in it are in it. After a step
+/// each descriptor of a table is the one that stood there; or the acting process's call has made it, within the rights and
+/// commands of that call's own source, or, for `open` outside the mode and `socketpair`, at a number that was free; or it is
+/// a child's copy of what its parent has at that number. And what a message carries was in that queue, or is what
+/// `sendfd` sends, within its source. (cap_enter(2), capsicum(4), cap_rights_limit(2), fork(2), sendmsg(2))
 pub fn no_run_gains()
     ensures { NoRunGains }
+{}
+
+/// That says something: in a world of two processes the relation refuses that the second one's child has the first one's
+/// descriptors, that a `dup` of the second has the first one's rights, that an `open` takes a number that is taken, and a
+/// message with a descriptor that nobody sent.
+pub fn nothing_comes_from_elsewhere()
+    ensures { NothingComesFromElsewhere }
 {}
 
 /// Worlds that are alike have the same runs.

@@ -11,7 +11,7 @@ use Rattle.task.specs.Limits.{is_plan}
 use Rattle.task.specs.Plans.{Plan, programs_of_plan}
 use Rattle.task.specs.Policies.{grant_named}
 use Rattle.task.proofs.FirstWorlds.{first_well_formed}
-use Rattle.simulator.specs.Sandboxed.{IsSandboxed}
+use Rattle.task.specs.Sandboxed.{IsSandboxed}
 use Rattle.simulator.specs.Simulations.{IsRun}
 use Rattle.simulator.specs.Traces.{trace_text}
 use Rattle.checker.specs.Outcomes.{outcomes, error_outcomes}

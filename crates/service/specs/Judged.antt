@@ -5,7 +5,7 @@ use Rattle.rights.specs.Output.{Took}
 use Rattle.certificate.specs.Bounds.{Certificate}
 use Rattle.checker.specs.Verdicts.{Verdict, Yes, No, Uncovered, IsVerdict}
 use Rattle.task.specs.Plans.{Plan, program_name}
-use Rattle.simulator.specs.Sandboxed.{IsSandboxed}
+use Rattle.task.specs.Sandboxed.{IsSandboxed}
 use Rattle.service.specs.Named.{plan_named}
 use Rattle.service.specs.NamedCertificates.{certificate_named}
 

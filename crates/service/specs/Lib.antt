@@ -1,3 +1,4 @@
+pub mod Breaches
 pub mod Examples
 pub mod Fails
 pub mod FaultViews

@@ -1,4 +1,3 @@
-pub mod Sandboxed
 pub mod Lines
 pub mod Steps
 pub mod Views

@@ -4,7 +4,6 @@
 #![tactic(auto)]
 
 mod actions;
-pub mod laws;
 pub mod lines;
 pub mod machine;
 mod planting;

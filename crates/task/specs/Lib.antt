@@ -5,3 +5,4 @@ pub mod Begins
 pub mod Kept
 pub mod Laws
 pub mod Views
+pub mod Sandboxed

@@ -1,15 +1,13 @@
 -- When a run is sandboxed. (own, after capsicum(4), rights(4), cap_rights_limit(2) and
 -- cap_fcntls_limit(2))
-use Rattle.std.specs.Prelude.{◌≡◌, ℕ, true, false, List, [], ◌∷◌, Option, Some, None}
+use Rattle.std.specs.Prelude.{◌≡◌, true, List, [], ◌∷◌, Option, Some, None}
 use Rattle.std.specs.List.{slice_get}
 use Rattle.rights.specs.Errors.{Cause, CapMode, MissingRight}
 use Rattle.process.specs.State.{ProcessState}
-use Rattle.prog_asm.specs.Programs.{Syscall}
 use Rattle.kernel.specs.World.{World, Choice, IsFresh}
-use Rattle.kernel.specs.Answers.{Event, Effect, Change, Gives}
-use Rattle.kernel.specs.Calls.{answer}
+use Rattle.kernel.specs.Answers.{Event, Effect}
 use Rattle.kernel.specs.Steps.{LineResult, Failed, Programs, Acted, Stepped, step}
-use Rattle.kernel.specs.Sources.{AreWithin, has_own, new_in, source_of}
+use Rattle.kernel.specs.Origins.{caller_of}
 use Rattle.kernel.specs.Gains.{GainsNothing}
 use Rattle.kernel.specs.Runs.{AreEvents}
 use Rattle.task.specs.Plans.{Grant, Plan, programs_of_plan}
@@ -44,23 +42,13 @@ abbrev pub IsUnrefusedLine : Option Acted → Type 0
 IsUnrefusedLine None = Unit {0}
 IsUnrefusedLine (Some a) = IsUnrefused a.outcome
 
--- What a call of the process makes that has a source has no more rights and commands than the source.
-abbrev pub KeepsSources : World → Event → Type 0
-KeepsSources w e =
-    (s : ProcessState) (call : Syscall) (value : ℕ) (change : Change) (effects : List Effect)
-    → slice_get w.processes e.process ≡ Some s
-    → has_own call ≡ false
-    → answer w e.process s e call ≡ Gives value change effects
-    → AreWithin (source_of w e.process s call) (new_in change)
-
 -- One step is safe: what a process that was in capability mode before it does to the tree is allowed; no call is
--- refused for a missing right or by capability mode; and no descriptor, in a table or on its way in a message, has
--- more than what it comes from.
+-- refused for a missing right or by capability mode; and no process leaves the mode, and no descriptor, in a table or on its
+-- way in a message, comes from nowhere or has more than what it comes from.
 pub record IsSafe (programs : Programs) (grants : List Grant) (w : World) (e : Event) (next : Stepped) : Type 0 where
   pub allowed : IsInMode (slice_get w.processes e.process) → IsAllowedLine grants next.acted
   pub unrefused : IsUnrefusedLine next.acted
-  pub sources : KeepsSources w e
-  pub gains : GainsNothing programs w e next.world
+  pub gains : GainsNothing w e.process (caller_of programs w e) next.world
 
 -- Each step of every run of these events from this world is safe, whatever fresh numbers are chosen.
 abbrev pub Sandboxed : Programs → List Grant → World → List Event → Type 0
@@ -73,6 +61,3 @@ Sandboxed programs grants w (e ∷ events) =
 -- Every run of the task, for every list of events, is sandboxed.
 abbrev pub IsSandboxed : Plan → Type 0
 IsSandboxed plan = (events : List Event) → AreEvents events → Sandboxed (programs_of_plan plan) plan.grants (first_world plan) events
-
-abbrev pub EveryStepKeepsSources : Type 0
-EveryStepKeepsSources = (w : World) (e : Event) → KeepsSources w e

@@ -1,0 +1,77 @@
+-- The tasks that aren't sandboxed, each by a run of two steps.
+use Rattle.std.proofs.Common.{◌≡◌, ℕ, List, [], ◌∷◌, codes, refl, lit<}
+use Rattle.std.specs.Prelude.{true, false}
+use Rattle.std.proofs.Math.Decide.{ℕ_discrete}
+use Rattle.rights.specs.Operations.{Operation, Create, Write}
+use Rattle.file_tree.specs.Places.{is_name, path_components}
+use Rattle.file_tree.specs.Nodes.{node_at}
+use Rattle.file_tree.specs.Changes.{filled}
+use Rattle.file_tree.specs.WellFormed.{is_within_limits}
+use Rattle.lookup.specs.Paths.{last_component, path_fault}
+use Rattle.lookup.specs.Steps.{looked}
+use Rattle.lookup.specs.ByPlaces.{by_places}
+use Rattle.lookup.specs.Looks.{lookup_fault, find_of}
+use Rattle.kernel.specs.World.{World, Choice}
+use Rattle.kernel.specs.Answers.{Event, unless, held, at_object, at_number}
+use Rattle.kernel.specs.Calls.{answer}
+use Rattle.kernel.specs.Changes.{files_after, changed}
+use Rattle.kernel.specs.Steps.{answered, jumped, executed, stepped_at, stepped_by, stepped, step}
+use Rattle.kernel.proofs.Keeping.{next_world}
+use Rattle.task.specs.Begins.{first_world}
+use Rattle.task.specs.Laws.{Allowed}
+use Rattle.task.specs.Limits.{is_plan}
+use Rattle.task.specs.Plans.{Grant, Plan, programs_of_plan}
+use Rattle.task.specs.Policies.{is_allowed}
+use Rattle.task.specs.Sandboxed.{IsSafe, IsSandboxed}
+use Rattle.task.proofs.Allowances.{allowed_is_tested}
+use Rattle.task.proofs.FirstWorlds.{first_well_formed}
+use Rattle.service.specs.Breaches.{SomeAreNotSandboxed, opening_plan, writing_plan, moving_plan}
+use Rattle.service.specs.Named.{bare_plan}
+
+-- an event of the first process
+abbrev event : Event
+event = record { process = 0; input = 0; refuse = false }
+
+abbrev after_one : Plan → Choice → World
+after_one plan c = (step (programs_of_plan plan) (first_world plan) event c).world
+
+-- A valid task whose second step isn't safe, whatever numbers are chosen, isn't sandboxed.
+second_step : (plan : Plan) → is_plan plan ≡ true → ((c d : Choice) → IsSafe (programs_of_plan plan) plan.grants (after_one plan c) event (step (programs_of_plan plan) (after_one plan c) event d) → ⊥) → IsSandboxed plan → ⊥
+second_step plan valid unsafe sandboxed =
+    let programs = programs_of_plan plan in
+    let formed = first_well_formed plan valid in
+    let first = next_world programs (first_world plan) event formed.0 formed.1 (lit< tt) in
+    let c : Choice = first.some.0 in
+    let second = next_world programs (after_one plan c) event formed.0 (first.each c first.some.1) (lit< tt) in
+    let run = sandboxed (event ∷ event ∷ []) (lit< tt, (lit< tt, tt)) c first.some.1 in
+    unsafe c second.some.0 (run.1 second.some.0 second.some.1).0
+
+not_true : false ≡ true → ⊥
+not_true is = absurd cc
+
+forbidden : (grants : List Grant) (operation : Operation) (place : List (List ℕ)) → is_allowed grants operation place ≡ false → Allowed grants operation place → ⊥
+forbidden grants operation place is allowed = let tested : is_allowed grants operation place ≡ true = (allowed_is_tested grants operation place).1 allowed in absurd cc
+
+missing_right : IsSandboxed bare_plan → ⊥
+unfolding is_within_limits is_name ℕ_discrete unless held at_object answer files_after changed answered jumped executed stepped_at stepped_by stepped step first_world
+missing_right = second_step bare_plan refl (λ c d safe. safe.unrefused)
+
+capability_mode : IsSandboxed opening_plan → ⊥
+unfolding is_within_limits is_name ℕ_discrete unless held at_object answer files_after changed answered jumped executed stepped_at stepped_by stepped step first_world
+capability_mode = second_step opening_plan refl (λ c d safe. safe.unrefused)
+
+unlisted_operation : IsSandboxed writing_plan → ⊥
+unfolding is_within_limits is_name ℕ_discrete filled unless held at_object answer files_after changed answered jumped executed stepped_at stepped_by stepped step first_world
+unlisted_operation = second_step writing_plan refl (λ c d safe. forbidden writing_plan.grants Write (codes "work" ∷ codes "in" ∷ []) refl (safe.allowed refl).0)
+
+second_effect : IsSandboxed moving_plan → ⊥
+unfolding is_within_limits is_name ℕ_discrete find_of lookup_fault path_fault path_components last_component looked by_places node_at unless held at_object at_number answer files_after changed answered jumped executed stepped_at stepped_by stepped step first_world
+second_effect = second_step moving_plan refl (λ c d safe. forbidden moving_plan.grants Create (codes "work" ∷ codes "new" ∷ []) refl (safe.allowed refl).1.0)
+
+pub some_are_not_sandboxed : SomeAreNotSandboxed
+some_are_not_sandboxed = record {
+  missing_right = missing_right;
+  capability_mode = capability_mode;
+  unlisted_operation = unlisted_operation;
+  second_effect = second_effect;
+}
