@@ -1,6 +1,7 @@
 pub mod Samples
 pub mod Rows
 pub mod ProcessRows
+pub mod CauseRows
 pub mod Origins
 pub mod Trees
 pub mod Lookups

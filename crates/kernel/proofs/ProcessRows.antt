@@ -11,7 +11,7 @@ use Rattle.lookup.specs.Paths.{last_component, path_fault}
 use Rattle.lookup.specs.Steps.{looked}
 use Rattle.lookup.specs.ByPlaces.{by_places}
 use Rattle.lookup.specs.Looks.{lookup_fault, find_of}
-use Rattle.prog_asm.specs.Programs.{Number, Jmp, Jeq, Halt, Invoke, Open, Openat, Read, Write, Sendfd, Recvfd, Close, Cap_rights_limit, Cap_enter, Socketpair, Fork}
+use Rattle.prog_asm.specs.Programs.{Number, Jmp, Jeq, Halt, Invoke, Open, Openat, Read, Write, Sendfd, Recvfd, Fstat, Dup, Close, Cap_rights_limit, Cap_enter, Socketpair, Fork}
 use Rattle.fd_table.specs.OpenFiles.{any_below, lowest_from}
 use Rattle.kernel.specs.Answers.{unless, held, at_object, at_number}
 use Rattle.kernel.specs.Calls.{answer}
@@ -33,6 +33,19 @@ shares_an_offset : trace (programs_of ((Invoke Fork 2 ∷ Invoke (Read (Number 2
     codes "0 main:0 = 1\n1 main:1 = 65 read /work/in\n0 main:1 = 66 read /work/in\n"
 unfolding ℕ_discrete digits base created removed filled find_of lookup_fault path_fault path_components last_component looked by_places node_at unless held at_object at_number any_below lowest_from answer files_after changed answered jumped executed stepped_at stepped_by stepped step with_links
 shares_an_offset = refl
+
+-- The second process forks: its child has its table, and not the first one's.
+forks_from_the_second : trace (programs_of ((Halt ∷ []) ∷ (Invoke Fork 2 ∷ Invoke (Dup (Number 0)) 2 ∷ Halt ∷ []) ∷ [])) joined 0 (event 1 0 ∷ event 2 0 ∷ event 1 0 ∷ []) ≡
+    codes "1 child:0 = 2\n2 child:1 = 1\n1 child:1 = 1\n"
+unfolding ℕ_discrete digits base created removed filled find_of lookup_fault path_fault path_components last_component looked by_places node_at unless held at_object at_number any_below lowest_from answer files_after changed answered jumped executed stepped_at stepped_by stepped step with_links
+forks_from_the_second = refl
+
+-- The first one's child narrows a directory and sends it; the first one's stays as it was.
+a_child_sends_what_is_left : trace (programs_of ((Invoke Fork 3 ∷ Invoke (Cap_rights_limit (Number 0) 128) 3 ∷ Invoke (Sendfd (Number 2) (Number 0) (Number 0)) 3 ∷ Halt ∷ []) ∷ (Invoke (Recvfd (Number 0)) 2 ∷ Invoke (Fstat (Number 1)) 2 ∷ Halt ∷ []) ∷ []))
+    joined 0 (event 0 0 ∷ event 2 0 ∷ event 2 0 ∷ event 1 0 ∷ event 1 0 ∷ event 0 0 ∷ []) ≡
+    codes "0 main:0 = 2\n2 main:1 = 0\n2 main:2 = 1\n1 child:0 = 1\n1 child:1 ! ENOTCAPABLE MissingRight\n0 main:1 = 0\n"
+unfolding ℕ_discrete digits base created removed filled find_of lookup_fault path_fault path_components last_component looked by_places node_at unless held at_object at_number any_below lowest_from answer files_after changed answered jumped executed stepped_at stepped_by stepped step with_links
+a_child_sends_what_is_left = refl
 
 fills_a_queue : trace (programs_of ((Invoke Socketpair 3 ∷ Invoke (Write (Number 2) (Number 7)) 3 ∷ Jmp 1 ∷ Halt ∷ []) ∷ [])) (alone base []) 0 (times 34) ≡
     codes "0 main:0 = 2\n0 main:1 = 1\n0 main:2 ok\n0 main:1 = 1\n0 main:2 ok\n0 main:1 = 1\n0 main:2 ok\n0 main:1 = 1\n0 main:2 ok\n0 main:1 = 1\n0 main:2 ok\n0 main:1 = 1\n0 main:2 ok\n0 main:1 = 1\n0 main:2 ok\n0 main:1 = 1\n0 main:2 ok\n0 main:1 = 1\n0 main:2 ok\n0 main:1 = 1\n0 main:2 ok\n0 main:1 = 1\n0 main:2 ok\n0 main:1 = 1\n0 main:2 ok\n0 main:1 = 1\n0 main:2 ok\n0 main:1 = 1\n0 main:2 ok\n0 main:1 = 1\n0 main:2 ok\n0 main:1 = 1\n0 main:2 ok\n0 main:1 wait\n"
