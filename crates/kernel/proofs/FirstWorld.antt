@@ -123,7 +123,7 @@ gone zero = λ ended n. absurd cc
 gone (suc p) = λ n. refl
 
 pub first_world : WellFormedWorldExists
-unfolding first programs table row queue
+unfolding first programs table row queue objects
 first_world = (
   programs,
   (λ n. refl),
@@ -144,5 +144,5 @@ first_world = (
       sides = sides;
     };
   },
-  ((λ h. absurd cc), (λ h. absurd cc), (λ h. absurd cc), (λ h. absurd cc)),
+  record { directory = refl; first_end = (refl, refl); second_end = (refl, refl); under_way = refl },
 )
