@@ -16,11 +16,11 @@ use Rattle.lookup.specs.Steps.{looked}
 use Rattle.lookup.specs.ByPlaces.{by_places}
 use Rattle.lookup.specs.Looks.{lookup_fault, find_of}
 use Rattle.process.specs.State.{ProcessState, new_process}
-use Rattle.prog_asm.specs.Programs.{Syscall, Number, Open, Openat, Read, Write, Sendfd, Recvfd, Lseek, Ftruncate, Fsync, Fcntl_setfl, Stat, Mkdirat, Unlinkat, Renameat, Dup, Socketpair, Fork}
-use Rattle.fd_table.specs.Descriptions.{Access, Object, At_node, At_end, Initial, Descriptor, Message, descriptor_of}
+use Rattle.prog_asm.specs.Programs.{Number, Open, Openat, Read, Write, Sendfd, Recvfd, Lseek, Ftruncate, Fsync, Fcntl_setfl, Stat, Mkdirat, Unlinkat, Renameat, Dup, Socketpair, Fork}
+use Rattle.fd_table.specs.Descriptions.{Access, Object, At_node, At_end, Initial, Descriptor, descriptor_of}
 use Rattle.fd_table.specs.OpenFiles.{any_below, lowest_from}
 use Rattle.kernel.specs.World.{World}
-use Rattle.kernel.specs.Answers.{Event, Answer, Fails, unless, held, at_object, at_number}
+use Rattle.kernel.specs.Answers.{Event, Fails, unless, held, at_object, at_number}
 use Rattle.kernel.specs.Calls.{answer}
 use Rattle.kernel.proofs.Samples.{base, described, reading, row_of, world_of}
 

@@ -77,7 +77,7 @@ module _ (programs : Programs) (numbering : Numbering) (w : World) (good : IsWor
       by None is none = none
       by (Some s) is none = absurd cc
 
-  entry_unnamed : (pair side : ℕ) → is_open w.files pair side ≡ false → (p n : ℕ) → names_end w.files.objects pair side (w.files.table p n) ≡ false
+  pub entry_unnamed : (pair side : ℕ) → is_open w.files pair side ≡ false → (p n : ℕ) → names_end w.files.objects pair side (w.files.table p n) ≡ false
   entry_unnamed pair side closed p n =
       let scan = (both_false (any_below 16 (λ p. any_below 16 (λ n. names_end w.files.objects pair side (w.files.table p n)))) _ closed).0 in
       elim (lt_or_le p 16) [
@@ -88,7 +88,7 @@ module _ (programs : Programs) (numbering : Numbering) (w : World) (good : IsWor
         ]
       ]
 
-  message_unnamed : (pair side : ℕ) → is_open w.files pair side ≡ false → (q s : ℕ) → list_any (λ (m : Message). names_end w.files.objects pair side m.passed) (w.files.queue q s) ≡ false
+  pub message_unnamed : (pair side : ℕ) → is_open w.files pair side ≡ false → (q s : ℕ) → list_any (λ (m : Message). names_end w.files.objects pair side m.passed) (w.files.queue q s) ≡ false
   message_unnamed pair side closed q s =
       let test : ℕ → ℕ → Bool = λ q s. list_any (λ (m : Message). names_end w.files.objects pair side m.passed) (w.files.queue q s) in
       let scan : any_below w.files.pairs (λ q. any_below 2 (test q)) ≡ false = (both_false (any_below 16 (λ p. any_below 16 (λ n. names_end w.files.objects pair side (w.files.table p n)))) _ closed).1 in

@@ -22,3 +22,4 @@ pub mod Gains
 pub mod ChangeRows
 pub mod FirstWorld
 pub mod Gainful
+pub mod Scans

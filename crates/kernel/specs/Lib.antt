@@ -10,3 +10,4 @@ pub mod Renamings
 pub mod Alike
 pub mod Gains
 pub mod Gainful
+pub mod Scans

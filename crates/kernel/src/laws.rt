@@ -5,6 +5,7 @@ ghost use Rattle.kernel.specs.Gainful.{NothingComesFromElsewhere};
 ghost use Rattle.kernel.specs.Gains.{NoRunGains};
 ghost use Rattle.kernel.specs.Renamings.{NumbersAreIgnoredTwice, NumbersDoNotMatter};
 ghost use Rattle.kernel.specs.Runs.{AlikeWorldsRunAlike, FreshNumbersExist, NextWorldExists, RunExists, RunsShowTheSame, RunsShowTheSameLines, WellFormedWorldExists};
+ghost use Rattle.kernel.specs.Scans.{LookupsCompute, OpenEndsAreNamed};
 
 /// From a well-formed world each event has a next world: there are fresh numbers to choose, and whichever are chosen,
 /// the next world is well formed.
@@ -85,4 +86,16 @@ pub fn alike_twice_is_alike()
 /// directory is queued: so the laws speak of something.
 pub fn a_well_formed_world_exists()
     ensures { WellFormedWorldExists }
+{}
+
+/// What a path leads to, as a relation, is what the model's function gives: so the calls, which ask the function, ask the
+/// relation. (open(2))
+pub fn lookups_compute()
+    ensures { LookupsCompute }
+{}
+
+/// In a well-formed world an end is open, which the model finds by a scan of sixteen tables and of the pairs in use, exactly
+/// where some entry or some queued message names it.
+pub fn open_ends_are_named()
+    ensures { OpenEndsAreNamed }
 {}
