@@ -105,6 +105,28 @@ over_full_directory : rename_fault base 9 0 (codes "work") ≡ Some NotEmpty
 unfolding base created rename_fault
 over_full_directory = refl
 
+-- of two refusals at once the first is told: a directory that was removed before a name that is taken there, a name that is
+-- taken before a full tree, a removed node before its own place, and into itself before what stands there
+removed_before_taken : create_fault (created again 12 (codes "f") File []) 3 (codes "f") ≡ Some Gone
+unfolding again base created removed create_fault node_at
+removed_before_taken = refl
+
+taken_before_full : create_fault (base ++ replicate 1012 nowhere) 1 (codes "in") ≡ Some Exists
+unfolding base created create_fault node_at
+taken_before_full = refl
+
+removed_before_own_place : rename_fault again 3 1 (codes "out") ≡ Some Gone
+unfolding again base created removed rename_fault
+removed_before_own_place = refl
+
+own_place_before_into_itself : rename_fault base 1 0 (codes "work") ≡ None
+unfolding base created rename_fault
+own_place_before_into_itself = refl
+
+into_itself_before_full_directory : rename_fault (created (created base 3 (codes "x") Dir []) 12 (codes "y") File []) 1 3 (codes "x") ≡ Some IntoItself
+unfolding base created rename_fault
+into_itself_before_full_directory = refl
+
 over_own_directory : rename_fault base 2 0 (codes "work") ≡ Some NotEmpty
 unfolding base created rename_fault
 over_own_directory = refl

@@ -43,6 +43,11 @@ dot_alone : Leads_to base (codes ".") Beneath Follow (Found_node 1)
 unfolding base created find_of walk_of lookup_fault path_fault path_components last_component looked by_places by_nodes node_at child_of
 dot_alone = (refl, refl)
 
+-- absolute, and without a name that can be kept
+slash_kept : Leads_to base (codes "/") Beneath Keep (Lost Escape)
+unfolding base created find_of walk_of lookup_fault path_fault path_components last_component looked by_places by_nodes node_at child_of
+slash_kept = (refl, refl)
+
 dots_above : Leads_to base (codes "..") Beneath Follow (Lost Escape)
 unfolding base created find_of walk_of lookup_fault path_fault path_components last_component looked by_places by_nodes node_at child_of
 dots_above = (refl, refl)
@@ -197,6 +202,19 @@ links_32 = (refl, refl)
 links_33 : Leads_to (chained 33) (link_name 33) Beneath Follow (Lost Loop)
 unfolding base created find_of walk_of lookup_fault path_fault path_components last_component looked by_places by_nodes node_at child_of chained link_name
 links_33 = (refl, refl)
+
+-- the last link of a chain of 33 is absolute: it is a loop before it escapes, and of a chain of 32 it escapes
+absolute_chain : ℕ → List Node
+absolute_chain zero = created (created new_tree 0 (codes "work") Dir []) 1 (codes "end") Link (codes "/work")
+absolute_chain (suc k) = created (absolute_chain k) 1 (link_name (suc k)) Link (link_name k)
+
+absolute_33rd_link : Leads_to (absolute_chain 32) (link_name 32) Beneath Follow (Lost Loop)
+unfolding base created find_of walk_of lookup_fault path_fault path_components last_component looked by_places by_nodes node_at child_of absolute_chain link_name
+absolute_33rd_link = (refl, refl)
+
+absolute_32nd_link : Leads_to (absolute_chain 32) (link_name 31) Beneath Follow (Lost Escape)
+unfolding base created find_of walk_of lookup_fault path_fault path_components last_component looked by_places by_nodes node_at child_of absolute_chain link_name
+absolute_32nd_link = (refl, refl)
 
 links_33_kept : Leads_to (chained 33) (link_name 33) Beneath Keep (Found_node 35)
 unfolding base created find_of walk_of lookup_fault path_fault path_components last_component looked by_places by_nodes node_at child_of chained link_name
