@@ -1,1 +1,2 @@
 pub mod Smaller
+pub mod Rows

@@ -246,6 +246,10 @@ a_descriptor_before_limits : plan_in (document (work_directory ∷ file (codes "
 unfolding base created can_stand can_grant can_open written_task plan_of plan_in place_of node_at is_within_limits is_name is_target assembly_of line_of forms.written_at
 a_descriptor_before_limits = refl
 
+a_descriptor_before_a_program : plan_in (document base_nodes base_grants (process (on 0 same_path ∷ []) ∷ []) (program (codes "main") (codes "frob") ∷ [])) ≡ Err Wrong_descriptor
+unfolding base created can_stand can_grant can_open written_task plan_of plan_in place_of node_at is_within_limits is_name is_target assembly_of line_of forms.written_at
+a_descriptor_before_a_program = refl
+
 a_grant_before_a_descriptor : plan_in (document base_nodes (grant (codes "same") same_path [] ∷ []) (process (on 0 same_path ∷ []) ∷ []) (base_program ∷ [])) ≡ Err Wrong_grant
 unfolding base created can_stand can_grant can_open written_task plan_of plan_in place_of node_at is_within_limits is_name is_target assembly_of line_of forms.written_at
 a_grant_before_a_descriptor = refl
