@@ -1,5 +1,5 @@
 -- What each call brings into a well-formed world.
-use Rattle.std.proofs.Common.{◌≡◌, ℕ, ◌+◌, ◌-◌, ◌%◌, ◌<◌, ◌≤◌, ◌^◌, Bool, true, false, List, [], ◌∷◌, ◌++◌, inl, inr, refl, length, arith, ap}
+use Rattle.std.proofs.Common.{◌≡◌, ℕ, ◌+◌, ◌-◌, ◌%◌, ◌<◌, ◌≤◌, ◌^◌, Bool, true, false, List, [], ◌∷◌, ◌++◌, inl, inr, refl, length, arith, ap, subst, sym}
 use Rattle.std.specs.Prelude.{◌==◌, Option, Some, None, nat_lt, nat_le}
 use Rattle.std.specs.List.{slice_get}
 use Rattle.std.proofs.lemmas.Bool.{cases_Bool, ltb-true, leb-true}
@@ -18,20 +18,19 @@ use Rattle.file_tree.proofs.KeptByFill.{filled_is_tree, written_is_tree, resized
 use Rattle.lookup.specs.Answers.{Way, Beneath, Global, Follow, Keep, Found_node, Found_free, Lost}
 use Rattle.lookup.specs.Answers as lookups
 use Rattle.lookup.specs.Paths.{last_component}
-use Rattle.lookup.specs.Looks.{find_of, start_place}
-use Rattle.lookup.specs.Promises.{IsLinked, IsThere, IsBelow, IsUnderName}
+use Rattle.lookup.specs.Promises.{IsLinked, IsThere, HasName, IsUnderName}
 use Rattle.process.specs.State.{ProcessState}
-use Rattle.prog_asm.specs.Programs.{Syscall, Open, Openat, Read, Write, Sendfd, Recvfd, Lseek, Ftruncate, Fsync, Fstat, Fcntl_getfl, Fcntl_setfl, Fstatat, Stat, Mkdirat, Mkdir, Unlinkat, Unlink, Renameat, Dup, Close, Cap_rights_limit, Cap_fcntls_limit, Cap_enter, Cap_getmode, Socketpair, Fork, is_syscall, is_operand}
+use Rattle.prog_asm.specs.Programs.{Syscall, Open, Openat, Read, Write, Sendfd, Recvfd, Lseek, Ftruncate, Fsync, Fstat, Fcntl_getfl, Fcntl_setfl, Fstatat, Stat, Mkdirat, Mkdir, Unlinkat, Unlink, Renameat, Dup, Close, Cap_rights_limit, Cap_fcntls_limit, Cap_enter, Cap_getmode, Socketpair, Fork, is_syscall, is_operand, is_path}
 use Rattle.fd_table.specs.Descriptions.{Access, State, Descriptor, Message, other_side, bit_of, status_number}
 use Rattle.fd_table.specs.OpenFiles.{is_open, lowest_from, lowest_free}
 use Rattle.kernel.specs.World.{World}
 use Rattle.kernel.specs.Answers.{Event, TreeChange, Answer, same, held, value_of}
-use Rattle.kernel.specs.Calls.{answer, truncated, opened, opened_as, read_byte, read_node, read_end, write_node, write_at, sent_end, received, receive_end, looked, looked_at, kind_number, made_directory, unlinked, renamed_to, renamed_from, pair_at, blocked, in_directory, at_file, at_socket, most_messages, last_if}
+use Rattle.kernel.specs.Calls.{Search, looks, looks_twice, answer, truncated, opened, opened_as, read_byte, read_node, read_end, write_node, write_at, sent_end, received, receive_end, looked, looked_at, kind_number, made_directory, unlinked, renamed_to, renamed_from, pair_at, blocked, in_directory, at_file, at_socket, most_messages, last_if}
 use Rattle.kernel.specs.Changes.{tree_after}
 use Rattle.kernel.specs.Steps.{Programs}
 use Rattle.kernel.specs.WellFormed.{Numbering, IfHeld, EachMessage, IsWorld}
 use Rattle.kernel.proofs.Trees.{made_is_tree, emptied_is_tree, unlinked_is_tree, moved_to_free, there_if_opened, opened_kept}
-use Rattle.kernel.proofs.Lookups.{path_bytes, MayMake, find_there, find_vacant, find_openable, find_below, find_named, moved_over}
+use Rattle.kernel.proofs.Lookups.{MayMake, Sure, find_sure, moved_over}
 use Rattle.kernel.proofs.Brings.{Known, Brings, Sound, free_low, second_low, file_kind, no_directory, sound-fails, sound-waits, sound-gives, sound-unless, sound-if, sound-held, sound-object, sound-number, sound-lost}
 
 dir_opened : (kind : Kind) → is_dir kind ≡ true → is_link kind ≡ false
@@ -43,6 +42,10 @@ dir_opened Link is = absurd cc
 new_node : (t : List Node) (m : Node) → node (t ++ m ∷ []) (length t) ≡ m
 new_node [] m = refl
 new_node (k ∷ t) m = new_node t m
+
+longer : (place : List (List ℕ)) (name : List ℕ) → 0 < length (place ++ name ∷ [])
+longer [] name = omega arith
+longer (first ∷ place) name = omega arith
 
 small_kind : (kind : Kind) → kind_number kind < 2 ^ 32
 small_kind File = omega arith
@@ -195,6 +198,15 @@ module _ (programs : Programs) (numbering : Numbering) (w : World) (good : IsWor
   sound-receive_end d pair side number (m ∷ messages) low fine = sound-received pair side number m.passed low fine.1
 
   -- ## Lookups
+  sound-looks : (a : Search) (rest : lookups.Answer → Answer) → is_link (node w.tree a.start).kind ≡ false → is_path a.path ≡ true → ((found : lookups.Answer) → Sure w.tree a.path a.last found → Sound numbering w Named (rest found)) → Sound numbering w Named (looks w p s e a rest)
+  unfolding looks
+  sound-looks a rest opened path sound = sound _ (find_sure w.tree a good.tree opened path)
+
+  sound-looks_twice : (a b : Search) (rest : lookups.Answer → lookups.Answer → Answer) → is_link (node w.tree a.start).kind ≡ false → is_path a.path ≡ true → is_link (node w.tree b.start).kind ≡ false → is_path b.path ≡ true → ((found place : lookups.Answer) → Sure w.tree a.path a.last found → Sure w.tree b.path b.last place → Sound numbering w Named (rest found place)) → Sound numbering w Named (looks_twice w p s e a b rest)
+  unfolding looks_twice
+  sound-looks_twice a b rest opened path also other sound =
+      sound _ _ (find_sure w.tree a good.tree opened path) (find_sure w.tree b good.tree also other)
+
   sound-opened_as : (f : OpenRequest) (rights fcntls n : ℕ) (kind : Kind) → is_within rights all_rights ≡ true → is_within fcntls all_commands ≡ true → (node w.tree n).kind ≡ kind → Sound numbering w Named (opened_as w p s e f rights fcntls n kind)
   sound-opened_as f rights fcntls n Link all also is = sound-fails numbering w Named _ _
   sound-opened_as f rights fcntls n Dir all also is =
@@ -245,15 +257,18 @@ module _ (programs : Programs) (numbering : Numbering) (w : World) (good : IsWor
       sound-gives numbering w Named _ _ _ (alters 0 _ zero_small
       (made_is_tree w.tree d (last_component path) Dir good.tree may.linked may.directory may.absent may.named refl (below _ _ room)))))
 
-  sound-unlinked : (directory : Bool) (start : List (List ℕ)) (path : List ℕ) (found : lookups.Answer) → IsThere w.tree found → IsBelow w.tree start path found → Sound numbering w Named (unlinked w p s e directory found)
-  sound-unlinked directory start path (Lost fault) there low = sound-lost numbering w Named fault
-  sound-unlinked directory start path (Found_free d) there low = sound-fails numbering w Named _ _
-  sound-unlinked true start path (Found_node n) there low =
-      let some : 0 < length (node w.tree n).place = omega arith in
+  under_name : (n : ℕ) (name : List ℕ) → HasName w.tree n name → 0 < length (node w.tree n).place
+  under_name n name named = subst (λ place. 0 < length place) (sym named.place) (longer (node w.tree named.parent).place name)
+
+  sound-unlinked : (directory : Bool) (path : List ℕ) (found : lookups.Answer) → IsThere w.tree found → IsUnderName w.tree path found → Sound numbering w Named (unlinked w p s e directory found)
+  sound-unlinked directory path (Lost fault) there named = sound-lost numbering w Named fault
+  sound-unlinked directory path (Found_free d) there named = sound-fails numbering w Named _ _
+  sound-unlinked true path (Found_node n) there named =
+      let some : 0 < length (node w.tree n).place = under_name n (last_component path) named in
       sound-unless numbering w Named _ _ _ _ (λ dir. sound-unless numbering w Named _ _ _ _ (λ empty.
       sound-gives numbering w Named _ _ _ (alters 0 _ zero_small (emptied_is_tree w.tree n good.tree there.linked some (not_true _ empty)))))
-  sound-unlinked false start path (Found_node n) there low =
-      let some : 0 < length (node w.tree n).place = omega arith in
+  sound-unlinked false path (Found_node n) there named =
+      let some : 0 < length (node w.tree n).place = under_name n (last_component path) named in
       sound-unless numbering w Named _ _ _ _ (λ leaf.
       sound-gives numbering w Named _ _ _ (alters 0 _ zero_small (unlinked_is_tree w.tree n good.tree there.linked some (not_true _ leaf))))
 
@@ -300,13 +315,13 @@ module _ (programs : Programs) (numbering : Numbering) (w : World) (good : IsWor
   unfolding answer
   sound (Open path f) valid =
       sound-unless numbering w Named _ _ _ _ (λ outside.
-      sound-opened f all_rights all_commands path (find_of w.tree 0 path Global (last_if f.create)) (within_all all_rights) (within_all all_commands)
-      (find_openable w.tree 0 path Global good.tree root_opened (path_bytes path (both_left _ _ valid)) f.create))
+      sound-looks _ _ root_opened (both_left _ _ valid) (λ found sure.
+      sound-opened f all_rights all_commands path found (within_all all_rights) (within_all all_commands) sure.vacant))
   sound (Openat x path f) valid =
       sound-entry (value_of s x) _ (λ d low fine. sound-unless numbering w Named _ _ _ _ (λ has.
       sound-directory d _ fine (λ n opened.
-      sound-opened f d.rights d.fcntls path (find_of w.tree n path Beneath (last_if f.create)) fine.0.rights fine.0.fcntls
-      (find_openable w.tree n path Beneath good.tree opened (path_bytes path (both_right (is_operand x) _ (both_left _ _ valid))) f.create))))
+      sound-looks _ _ opened (both_right (is_operand x) _ (both_left _ _ valid)) (λ found sure.
+      sound-opened f d.rights d.fcntls path found fine.0.rights fine.0.fcntls sure.vacant))))
   sound (Read x) valid =
       sound-entry (value_of s x) _ (λ d low fine. sound-unless numbering w Named _ _ _ _ (λ has.
       sound-object numbering w Named d.description (w.files.objects d.description) _ _ fine.0.object
@@ -357,33 +372,34 @@ module _ (programs : Programs) (numbering : Numbering) (w : World) (good : IsWor
       sound-gives numbering w Named _ _ _ (record { small = zero_small; tree = good.tree; table = tt; queue = tt; state = fine.0.offset })))))
   sound (Fstatat x path) valid =
       sound-entry (value_of s x) _ (λ d low fine. sound-unless numbering w Named _ _ _ _ (λ has.
-      sound-directory d _ fine (λ n opened. sound-looked_at (find_of w.tree n path Beneath Follow))))
-  sound (Stat path) valid = sound-unless numbering w Named _ _ _ _ (λ outside. sound-looked_at (find_of w.tree 0 path Global Follow))
+      sound-directory d _ fine (λ n opened.
+      sound-looks _ _ opened (both_right (is_operand x) _ valid) (λ found sure. sound-looked_at found))))
+  sound (Stat path) valid =
+      sound-unless numbering w Named _ _ _ _ (λ outside.
+      sound-looks _ _ root_opened valid (λ found sure. sound-looked_at found))
   sound (Mkdirat x path) valid =
       sound-entry (value_of s x) _ (λ d low fine. sound-unless numbering w Named _ _ _ _ (λ has.
       sound-directory d _ fine (λ n opened.
-      sound-made_directory path (find_of w.tree n path Beneath Keep) (find_vacant w.tree n path Beneath good.tree (path_bytes path (both_right (is_operand x) _ valid))))))
+      sound-looks _ _ opened (both_right (is_operand x) _ valid) (λ found sure. sound-made_directory path found sure.vacant))))
   sound (Mkdir path) valid =
       sound-unless numbering w Named _ _ _ _ (λ outside.
-      sound-made_directory path (find_of w.tree 0 path Global Keep) (find_vacant w.tree 0 path Global good.tree (path_bytes path valid)))
+      sound-looks _ _ root_opened valid (λ found sure. sound-made_directory path found sure.vacant))
   sound (Unlinkat x path directory) valid =
       sound-entry (value_of s x) _ (λ d low fine. sound-unless numbering w Named _ _ _ _ (λ has.
       sound-directory d _ fine (λ n opened.
-      sound-unlinked directory (start_place w.tree n Beneath) path (find_of w.tree n path Beneath Keep) (find_there w.tree n path Beneath good.tree Keep) (find_below w.tree n path Beneath good.tree))))
+      sound-looks _ _ opened (both_right (is_operand x) _ valid) (λ found sure. sound-unlinked directory path found sure.there (sure.named refl)))))
   sound (Unlink path directory) valid =
       sound-unless numbering w Named _ _ _ _ (λ outside.
-      sound-unlinked directory (start_place w.tree 0 Global) path (find_of w.tree 0 path Global Keep) (find_there w.tree 0 path Global good.tree Keep) (find_below w.tree 0 path Global good.tree))
+      sound-looks _ _ root_opened valid (λ found sure. sound-unlinked directory path found sure.there (sure.named refl)))
   sound (Renameat x from y target) valid =
       sound-entry (value_of s x) _ (λ d low fine.
       sound-entry (value_of s y) _ (λ into low also.
       sound-unless numbering w Named _ _ _ _ (λ has. sound-unless numbering w Named _ _ _ _ (λ may.
       sound-directory d _ fine (λ n opened.
       sound-directory into _ also (λ m other.
-      sound-renamed_from (find_of w.tree n from Beneath Keep) _ (find_there w.tree n from Beneath good.tree Keep) (λ k linked.
-      sound-renamed_to (Renameat x from y target) into k target (find_of w.tree m target Beneath Keep) linked
-      (find_there w.tree m target Beneath good.tree Keep)
-      (find_vacant w.tree m target Beneath good.tree (path_bytes target (both_right _ _ valid)))
-      (find_named w.tree m target Beneath good.tree))))))))
+      sound-looks_twice _ _ _ opened (both_right (is_operand x) _ (both_left _ _ (both_left _ _ valid))) other (both_right _ _ valid) (λ source place sure into_place.
+      sound-renamed_from source _ sure.there (λ k linked.
+      sound-renamed_to (Renameat x from y target) into k target place linked into_place.there into_place.vacant (into_place.named refl)))))))))
   sound (Dup x) valid =
       sound-entry (value_of s x) _ (λ d low fine.
       sound-number numbering w Named (lowest_free (w.files.table p)) _ (λ number free.

@@ -21,7 +21,7 @@ use Rattle.fd_table.specs.Descriptions.{Access, Object, At_node, At_end, Initial
 use Rattle.fd_table.specs.OpenFiles.{any_below, lowest_from}
 use Rattle.kernel.specs.World.{World}
 use Rattle.kernel.specs.Answers.{Event, Fails, unless, held, at_object, at_number}
-use Rattle.kernel.specs.Calls.{answer}
+use Rattle.kernel.specs.Calls.{looks, looks_twice, answer}
 use Rattle.kernel.proofs.Samples.{base, described, reading, row_of, world_of}
 
 -- one process, with these objects by description and these entries
@@ -90,190 +90,190 @@ in_mode = new_process 0 true
 
 -- in the mode with an empty path
 open_asks_the_mode_first : answer (holding (dir ∷ []) (all 0 ∷ [])) 0 in_mode quiet (Open [] to_read) ≡ Fails ECAPMODE CapMode
-unfolding ℕ_discrete base created removed filled find_of lookup_fault path_fault path_components last_component looked by_places node_at unless held at_object at_number any_below lowest_from answer
+unfolding ℕ_discrete base created removed filled find_of looks looks_twice lookup_fault path_fault path_components last_component looked by_places node_at unless held at_object at_number any_below lowest_from answer
 open_asks_the_mode_first = refl
 
 -- a directory to be written, with no number free
 open_asks_the_kind_before_a_number : answer (holding (dir ∷ []) no_free) 0 free_process quiet (Open (codes "/work") to_write) ≡ Fails EISDIR Path
-unfolding ℕ_discrete base created removed filled find_of lookup_fault path_fault path_components last_component looked by_places node_at unless held at_object at_number any_below lowest_from answer
+unfolding ℕ_discrete base created removed filled find_of looks looks_twice lookup_fault path_fault path_components last_component looked by_places node_at unless held at_object at_number any_below lowest_from answer
 open_asks_the_kind_before_a_number = refl
 
 -- no number free, and the kernel refuses
 open_asks_a_number_before_the_kernel : answer (holding (dir ∷ []) no_free) 0 free_process refusing (Open (codes "/work/in") to_read) ≡ Fails EMFILE Full
-unfolding ℕ_discrete base created removed filled find_of lookup_fault path_fault path_components last_component looked by_places node_at unless held at_object at_number any_below lowest_from answer
+unfolding ℕ_discrete base created removed filled find_of looks looks_twice lookup_fault path_fault path_components last_component looked by_places node_at unless held at_object at_number any_below lowest_from answer
 open_asks_a_number_before_the_kernel = refl
 
 -- a file without LOOKUP
 openat_asks_rights_before_the_kind : answer (holding (file ∷ []) (with_rights 0 read_right ∷ [])) 0 free_process quiet (Openat (Number 0) (codes "x") to_read) ≡ Fails ENOTCAPABLE MissingRight
-unfolding ℕ_discrete base created removed filled find_of lookup_fault path_fault path_components last_component looked by_places node_at unless held at_object at_number any_below lowest_from answer
+unfolding ℕ_discrete base created removed filled find_of looks looks_twice lookup_fault path_fault path_components last_component looked by_places node_at unless held at_object at_number any_below lowest_from answer
 openat_asks_rights_before_the_kind = refl
 
 -- a file, and a path that escapes
 openat_asks_the_kind_before_the_path : answer (holding (file ∷ []) (all 0 ∷ [])) 0 free_process quiet (Openat (Number 0) (codes "/x") to_read) ≡ Fails ENOTDIR errors.Kind
-unfolding ℕ_discrete base created removed filled find_of lookup_fault path_fault path_components last_component looked by_places node_at unless held at_object at_number any_below lowest_from answer
+unfolding ℕ_discrete base created removed filled find_of looks looks_twice lookup_fault path_fault path_components last_component looked by_places node_at unless held at_object at_number any_below lowest_from answer
 openat_asks_the_kind_before_the_path = refl
 
 -- a path that escapes, with no number free
 openat_asks_the_path_before_a_number : answer (holding (dir ∷ []) no_free) 0 free_process quiet (Openat (Number 0) (codes "..") to_read) ≡ Fails ENOTCAPABLE Escape
-unfolding ℕ_discrete base created removed filled find_of lookup_fault path_fault path_components last_component looked by_places node_at unless held at_object at_number any_below lowest_from answer
+unfolding ℕ_discrete base created removed filled find_of looks looks_twice lookup_fault path_fault path_components last_component looked by_places node_at unless held at_object at_number any_below lowest_from answer
 openat_asks_the_path_before_a_number = refl
 
 -- a directory without READ
 read_asks_the_right_before_the_kind : answer (holding (dir ∷ []) (with_rights 0 seek_right ∷ [])) 0 free_process quiet (Read (Number 0)) ≡ Fails ENOTCAPABLE MissingRight
-unfolding ℕ_discrete base created removed filled find_of lookup_fault path_fault path_components last_component looked by_places node_at unless held at_object at_number any_below lowest_from answer
+unfolding ℕ_discrete base created removed filled find_of looks looks_twice lookup_fault path_fault path_components last_component looked by_places node_at unless held at_object at_number any_below lowest_from answer
 read_asks_the_right_before_the_kind = refl
 
 -- a directory that is open for writing
 read_asks_the_kind_before_the_access : answer (holding (At_node 1 writing ∷ []) (all 0 ∷ [])) 0 free_process quiet (Read (Number 0)) ≡ Fails EISDIR errors.Kind
-unfolding ℕ_discrete base created removed filled find_of lookup_fault path_fault path_components last_component looked by_places node_at unless held at_object at_number any_below lowest_from answer
+unfolding ℕ_discrete base created removed filled find_of looks looks_twice lookup_fault path_fault path_components last_component looked by_places node_at unless held at_object at_number any_below lowest_from answer
 read_asks_the_kind_before_the_access = refl
 
 -- a directory without WRITE
 write_asks_the_right_before_the_kind : answer (holding (dir ∷ []) (with_rights 0 seek_right ∷ [])) 0 free_process quiet (Write (Number 0) (Number 1)) ≡ Fails ENOTCAPABLE MissingRight
-unfolding ℕ_discrete base created removed filled find_of lookup_fault path_fault path_components last_component looked by_places node_at unless held at_object at_number any_below lowest_from answer
+unfolding ℕ_discrete base created removed filled find_of looks looks_twice lookup_fault path_fault path_components last_component looked by_places node_at unless held at_object at_number any_below lowest_from answer
 write_asks_the_right_before_the_kind = refl
 
 -- a directory that is open for reading
 write_asks_the_kind_before_the_access : answer (holding (dir ∷ []) (all 0 ∷ [])) 0 free_process quiet (Write (Number 0) (Number 1)) ≡ Fails EISDIR errors.Kind
-unfolding ℕ_discrete base created removed filled find_of lookup_fault path_fault path_components last_component looked by_places node_at unless held at_object at_number any_below lowest_from answer
+unfolding ℕ_discrete base created removed filled find_of looks looks_twice lookup_fault path_fault path_components last_component looked by_places node_at unless held at_object at_number any_below lowest_from answer
 write_asks_the_kind_before_the_access = refl
 
 -- a file that is open for reading, at its greatest length
 write_asks_the_access_before_the_room : answer (at_end (holding (file ∷ []) (all 0 ∷ []))) 0 free_process quiet (Write (Number 0) (Number 1)) ≡ Fails EBADF errors.Access
-unfolding ℕ_discrete base created removed filled find_of lookup_fault path_fault path_components last_component looked by_places node_at unless held at_object at_number any_below lowest_from answer
+unfolding ℕ_discrete base created removed filled find_of looks looks_twice lookup_fault path_fault path_components last_component looked by_places node_at unless held at_object at_number any_below lowest_from answer
 write_asks_the_access_before_the_room = refl
 
 -- at the greatest length, and the kernel refuses
 write_asks_the_room_before_the_kernel : answer (at_end (holding (At_node 2 writing ∷ []) (all 0 ∷ []))) 0 free_process refusing (Write (Number 0) (Number 1)) ≡ Fails EFBIG Full
-unfolding ℕ_discrete base created removed filled find_of lookup_fault path_fault path_components last_component looked by_places node_at unless held at_object at_number any_below lowest_from answer
+unfolding ℕ_discrete base created removed filled find_of looks looks_twice lookup_fault path_fault path_components last_component looked by_places node_at unless held at_object at_number any_below lowest_from answer
 write_asks_the_room_before_the_kernel = refl
 
 -- a socket whose other end is closed, and the kernel refuses
 write_asks_the_kernel_before_the_other_end : answer (holding (end_a ∷ []) (all 0 ∷ [])) 0 free_process refusing (Write (Number 0) (Number 1)) ≡ Fails ENOSPC Refused
-unfolding ℕ_discrete base created removed filled find_of lookup_fault path_fault path_components last_component looked by_places node_at unless held at_object at_number any_below lowest_from answer
+unfolding ℕ_discrete base created removed filled find_of looks looks_twice lookup_fault path_fault path_components last_component looked by_places node_at unless held at_object at_number any_below lowest_from answer
 write_asks_the_kernel_before_the_other_end = refl
 
 -- a full queue to a closed end
 write_asks_the_other_end_before_the_room : answer (queued 16 (holding (end_a ∷ []) (all 0 ∷ []))) 0 free_process quiet (Write (Number 0) (Number 1)) ≡ Fails EPIPE Refused
-unfolding ℕ_discrete base created removed filled find_of lookup_fault path_fault path_components last_component looked by_places node_at unless held at_object at_number any_below lowest_from answer
+unfolding ℕ_discrete base created removed filled find_of looks looks_twice lookup_fault path_fault path_components last_component looked by_places node_at unless held at_object at_number any_below lowest_from answer
 write_asks_the_other_end_before_the_room = refl
 
 -- without WRITE, and a second number that isn't open
 sendfd_asks_both_before_the_right : answer (holding (end_a ∷ []) (with_rights 0 seek_right ∷ [])) 0 free_process quiet (Sendfd (Number 0) (Number 1) (Number 0)) ≡ Fails EBADF BadDescriptor
-unfolding ℕ_discrete base created removed filled find_of lookup_fault path_fault path_components last_component looked by_places node_at unless held at_object at_number any_below lowest_from answer
+unfolding ℕ_discrete base created removed filled find_of looks looks_twice lookup_fault path_fault path_components last_component looked by_places node_at unless held at_object at_number any_below lowest_from answer
 sendfd_asks_both_before_the_right = refl
 
 -- a file without WRITE
 sendfd_asks_the_right_before_the_kind : answer (holding (file ∷ []) (with_rights 0 seek_right ∷ [])) 0 free_process quiet (Sendfd (Number 0) (Number 0) (Number 0)) ≡ Fails ENOTCAPABLE MissingRight
-unfolding ℕ_discrete base created removed filled find_of lookup_fault path_fault path_components last_component looked by_places node_at unless held at_object at_number any_below lowest_from answer
+unfolding ℕ_discrete base created removed filled find_of looks looks_twice lookup_fault path_fault path_components last_component looked by_places node_at unless held at_object at_number any_below lowest_from answer
 sendfd_asks_the_right_before_the_kind = refl
 
 -- the other end is closed, and the kernel refuses
 sendfd_is_not_refused_by_the_kernel : answer (holding (end_a ∷ []) (all 0 ∷ [])) 0 free_process refusing (Sendfd (Number 0) (Number 0) (Number 0)) ≡ Fails EPIPE Refused
-unfolding ℕ_discrete base created removed filled find_of lookup_fault path_fault path_components last_component looked by_places node_at unless held at_object at_number any_below lowest_from answer
+unfolding ℕ_discrete base created removed filled find_of looks looks_twice lookup_fault path_fault path_components last_component looked by_places node_at unless held at_object at_number any_below lowest_from answer
 sendfd_is_not_refused_by_the_kernel = refl
 
 -- a file without READ
 recvfd_asks_the_right_before_the_kind : answer (holding (file ∷ []) (with_rights 0 seek_right ∷ [])) 0 free_process quiet (Recvfd (Number 0)) ≡ Fails ENOTCAPABLE MissingRight
-unfolding ℕ_discrete base created removed filled find_of lookup_fault path_fault path_components last_component looked by_places node_at unless held at_object at_number any_below lowest_from answer
+unfolding ℕ_discrete base created removed filled find_of looks looks_twice lookup_fault path_fault path_components last_component looked by_places node_at unless held at_object at_number any_below lowest_from answer
 recvfd_asks_the_right_before_the_kind = refl
 
 -- a file, with no number free
 recvfd_asks_the_kind_before_a_number : answer (holding (file ∷ []) no_free) 0 free_process quiet (Recvfd (Number 0)) ≡ Fails ENOTSOCK errors.Kind
-unfolding ℕ_discrete base created removed filled find_of lookup_fault path_fault path_components last_component looked by_places node_at unless held at_object at_number any_below lowest_from answer
+unfolding ℕ_discrete base created removed filled find_of looks looks_twice lookup_fault path_fault path_components last_component looked by_places node_at unless held at_object at_number any_below lowest_from answer
 recvfd_asks_the_kind_before_a_number = refl
 
 -- an empty queue, with no number free
 recvfd_asks_a_number_before_it_waits : answer (holding (end_a ∷ end_b ∷ []) (all 1 ∷ replicate 15 (all 0))) 0 free_process quiet (Recvfd (Number 0)) ≡ Fails EMFILE Full
-unfolding ℕ_discrete base created removed filled find_of lookup_fault path_fault path_components last_component looked by_places node_at unless held at_object at_number any_below lowest_from answer
+unfolding ℕ_discrete base created removed filled find_of looks looks_twice lookup_fault path_fault path_components last_component looked by_places node_at unless held at_object at_number any_below lowest_from answer
 recvfd_asks_a_number_before_it_waits = refl
 
 -- a directory without SEEK
 lseek_asks_the_right_before_the_kind : answer (holding (dir ∷ []) (with_rights 0 read_right ∷ [])) 0 free_process quiet (Lseek (Number 0) (Number 5000)) ≡ Fails ENOTCAPABLE MissingRight
-unfolding ℕ_discrete base created removed filled find_of lookup_fault path_fault path_components last_component looked by_places node_at unless held at_object at_number any_below lowest_from answer
+unfolding ℕ_discrete base created removed filled find_of looks looks_twice lookup_fault path_fault path_components last_component looked by_places node_at unless held at_object at_number any_below lowest_from answer
 lseek_asks_the_right_before_the_kind = refl
 
 -- a directory, past the greatest offset
 lseek_asks_the_kind_before_the_offset : answer (holding (dir ∷ []) (all 0 ∷ [])) 0 free_process quiet (Lseek (Number 0) (Number 5000)) ≡ Fails EINVAL errors.Kind
-unfolding ℕ_discrete base created removed filled find_of lookup_fault path_fault path_components last_component looked by_places node_at unless held at_object at_number any_below lowest_from answer
+unfolding ℕ_discrete base created removed filled find_of looks looks_twice lookup_fault path_fault path_components last_component looked by_places node_at unless held at_object at_number any_below lowest_from answer
 lseek_asks_the_kind_before_the_offset = refl
 
 -- a directory that is open for reading
 ftruncate_asks_the_kind_before_the_access : answer (holding (dir ∷ []) (all 0 ∷ [])) 0 free_process quiet (Ftruncate (Number 0) (Number 5000)) ≡ Fails EINVAL errors.Kind
-unfolding ℕ_discrete base created removed filled find_of lookup_fault path_fault path_components last_component looked by_places node_at unless held at_object at_number any_below lowest_from answer
+unfolding ℕ_discrete base created removed filled find_of looks looks_twice lookup_fault path_fault path_components last_component looked by_places node_at unless held at_object at_number any_below lowest_from answer
 ftruncate_asks_the_kind_before_the_access = refl
 
 -- a file that is open for reading, past the greatest length
 ftruncate_asks_the_access_before_the_length : answer (holding (file ∷ []) (all 0 ∷ [])) 0 free_process quiet (Ftruncate (Number 0) (Number 5000)) ≡ Fails EINVAL errors.Access
-unfolding ℕ_discrete base created removed filled find_of lookup_fault path_fault path_components last_component looked by_places node_at unless held at_object at_number any_below lowest_from answer
+unfolding ℕ_discrete base created removed filled find_of looks looks_twice lookup_fault path_fault path_components last_component looked by_places node_at unless held at_object at_number any_below lowest_from answer
 ftruncate_asks_the_access_before_the_length = refl
 
 -- a socket without FSYNC
 fsync_asks_the_right_before_the_kind : answer (holding (end_a ∷ []) (with_rights 0 read_right ∷ [])) 0 free_process quiet (Fsync (Number 0)) ≡ Fails ENOTCAPABLE MissingRight
-unfolding ℕ_discrete base created removed filled find_of lookup_fault path_fault path_components last_component looked by_places node_at unless held at_object at_number any_below lowest_from answer
+unfolding ℕ_discrete base created removed filled find_of looks looks_twice lookup_fault path_fault path_components last_component looked by_places node_at unless held at_object at_number any_below lowest_from answer
 fsync_asks_the_right_before_the_kind = refl
 
 -- flags that there are not, without SETFL
 fcntl_setfl_asks_the_command_before_the_flags : answer (holding (file ∷ []) (Some (descriptor_of 0 all_rights getfl_command) ∷ [])) 0 free_process quiet (Fcntl_setfl (Number 0) (Number 4)) ≡ Fails ENOTCAPABLE MissingRight
-unfolding ℕ_discrete base created removed filled find_of lookup_fault path_fault path_components last_component looked by_places node_at unless held at_object at_number any_below lowest_from answer
+unfolding ℕ_discrete base created removed filled find_of looks looks_twice lookup_fault path_fault path_components last_component looked by_places node_at unless held at_object at_number any_below lowest_from answer
 fcntl_setfl_asks_the_command_before_the_flags = refl
 
 -- in the mode, a path that isn't there
 stat_asks_the_mode_first : answer (holding (dir ∷ []) (all 0 ∷ [])) 0 in_mode quiet (Stat (codes "/nope")) ≡ Fails ECAPMODE CapMode
-unfolding ℕ_discrete base created removed filled find_of lookup_fault path_fault path_components last_component looked by_places node_at unless held at_object at_number any_below lowest_from answer
+unfolding ℕ_discrete base created removed filled find_of looks looks_twice lookup_fault path_fault path_components last_component looked by_places node_at unless held at_object at_number any_below lowest_from answer
 stat_asks_the_mode_first = refl
 
 -- a name that is taken, and the kernel refuses
 mkdirat_asks_the_path_before_the_kernel : answer (holding (dir ∷ []) (all 0 ∷ [])) 0 free_process refusing (Mkdirat (Number 0) (codes "in")) ≡ Fails EEXIST Path
-unfolding ℕ_discrete base created removed filled find_of lookup_fault path_fault path_components last_component looked by_places node_at unless held at_object at_number any_below lowest_from answer
+unfolding ℕ_discrete base created removed filled find_of looks looks_twice lookup_fault path_fault path_components last_component looked by_places node_at unless held at_object at_number any_below lowest_from answer
 mkdirat_asks_the_path_before_the_kernel = refl
 
 -- a directory that isn't empty, as a file
 unlinkat_asks_the_kind_before_what_is_below : answer (holding (root ∷ []) (all 0 ∷ [])) 0 free_process quiet (Unlinkat (Number 0) (codes "work") false) ≡ Fails EPERM Path
-unfolding ℕ_discrete base created removed filled find_of lookup_fault path_fault path_components last_component looked by_places node_at unless held at_object at_number any_below lowest_from answer
+unfolding ℕ_discrete base created removed filled find_of looks looks_twice lookup_fault path_fault path_components last_component looked by_places node_at unless held at_object at_number any_below lowest_from answer
 unlinkat_asks_the_kind_before_what_is_below = refl
 
 -- the first is a file, and the second lacks RENAMEAT_TARGET
 renameat_asks_rights_before_the_kinds : answer (holding (file ∷ dir ∷ []) (all 0 ∷ with_rights 1 lookup_right ∷ [])) 0 free_process quiet (Renameat (Number 0) (codes "x") (Number 1) (codes "y")) ≡ Fails ENOTCAPABLE MissingRight
-unfolding ℕ_discrete base created removed filled find_of lookup_fault path_fault path_components last_component looked by_places node_at unless held at_object at_number any_below lowest_from answer
+unfolding ℕ_discrete base created removed filled find_of looks looks_twice lookup_fault path_fault path_components last_component looked by_places node_at unless held at_object at_number any_below lowest_from answer
 renameat_asks_rights_before_the_kinds = refl
 
 -- the first lacks its rights, and the second isn't open
 renameat_asks_both_before_the_rights : answer (holding (dir ∷ []) (with_rights 0 read_right ∷ [])) 0 free_process quiet (Renameat (Number 0) (codes "in") (Number 1) (codes "y")) ≡ Fails EBADF BadDescriptor
-unfolding ℕ_discrete base created removed filled find_of lookup_fault path_fault path_components last_component looked by_places node_at unless held at_object at_number any_below lowest_from answer
+unfolding ℕ_discrete base created removed filled find_of looks looks_twice lookup_fault path_fault path_components last_component looked by_places node_at unless held at_object at_number any_below lowest_from answer
 renameat_asks_both_before_the_rights = refl
 
 -- a source that isn't there, and a target that can't be kept
 renameat_asks_the_source_before_the_target : answer (holding (dir ∷ []) (all 0 ∷ [])) 0 free_process quiet (Renameat (Number 0) (codes "nope") (Number 0) (codes "..")) ≡ Fails ENOENT Path
-unfolding ℕ_discrete base created removed filled find_of lookup_fault path_fault path_components last_component looked by_places node_at unless held at_object at_number any_below lowest_from answer
+unfolding ℕ_discrete base created removed filled find_of looks looks_twice lookup_fault path_fault path_components last_component looked by_places node_at unless held at_object at_number any_below lowest_from answer
 renameat_asks_the_source_before_the_target = refl
 
 -- over a file below itself, without UNLINKAT
 renameat_asks_the_right_to_replace_first : answer (holding (root ∷ []) (all 0 ∷ to_rename_to ∷ [])) 0 free_process quiet (Renameat (Number 0) (codes "work") (Number 1) (codes "work/in")) ≡ Fails ENOTCAPABLE MissingRight
-unfolding ℕ_discrete base created removed filled find_of lookup_fault path_fault path_components last_component looked by_places node_at unless held at_object at_number any_below lowest_from answer
+unfolding ℕ_discrete base created removed filled find_of looks looks_twice lookup_fault path_fault path_components last_component looked by_places node_at unless held at_object at_number any_below lowest_from answer
 renameat_asks_the_right_to_replace_first = refl
 
 -- a directory over a file below it
 renameat_asks_into_itself_before_the_kinds : answer (holding (root ∷ []) (all 0 ∷ [])) 0 free_process quiet (Renameat (Number 0) (codes "work") (Number 0) (codes "work/in")) ≡ Fails EINVAL Path
-unfolding ℕ_discrete base created removed filled find_of lookup_fault path_fault path_components last_component looked by_places node_at unless held at_object at_number any_below lowest_from answer
+unfolding ℕ_discrete base created removed filled find_of looks looks_twice lookup_fault path_fault path_components last_component looked by_places node_at unless held at_object at_number any_below lowest_from answer
 renameat_asks_into_itself_before_the_kinds = refl
 
 -- a file over a directory that isn't empty
 renameat_asks_the_kinds_before_what_is_below : answer (holding (root ∷ []) (all 0 ∷ [])) 0 free_process quiet (Renameat (Number 0) (codes "work/in") (Number 0) (codes "workshop")) ≡ Fails EISDIR Path
-unfolding ℕ_discrete base created removed filled find_of lookup_fault path_fault path_components last_component looked by_places node_at unless held at_object at_number any_below lowest_from answer
+unfolding ℕ_discrete base created removed filled find_of looks looks_twice lookup_fault path_fault path_components last_component looked by_places node_at unless held at_object at_number any_below lowest_from answer
 renameat_asks_the_kinds_before_what_is_below = refl
 
 -- a number that isn't open, with none free
 dup_asks_the_descriptor_before_a_number : answer (holding (dir ∷ []) no_free) 0 free_process quiet (Dup (Number 20)) ≡ Fails EBADF BadDescriptor
-unfolding ℕ_discrete base created removed filled find_of lookup_fault path_fault path_components last_component looked by_places node_at unless held at_object at_number any_below lowest_from answer
+unfolding ℕ_discrete base created removed filled find_of looks looks_twice lookup_fault path_fault path_components last_component looked by_places node_at unless held at_object at_number any_below lowest_from answer
 dup_asks_the_descriptor_before_a_number = refl
 
 -- one number is free, and the kernel refuses
 socketpair_asks_numbers_before_the_kernel : answer (holding (dir ∷ []) (replicate 15 (all 0))) 0 free_process refusing (Socketpair) ≡ Fails EMFILE Full
-unfolding ℕ_discrete base created removed filled find_of lookup_fault path_fault path_components last_component looked by_places node_at unless held at_object at_number any_below lowest_from answer
+unfolding ℕ_discrete base created removed filled find_of looks looks_twice lookup_fault path_fault path_components last_component looked by_places node_at unless held at_object at_number any_below lowest_from answer
 socketpair_asks_numbers_before_the_kernel = refl
 
 -- sixteen processes, and the kernel refuses
 fork_asks_the_room_before_the_kernel : answer (crowded (holding (dir ∷ []) (all 0 ∷ []))) 0 free_process refusing (Fork) ≡ Fails EAGAIN Full
-unfolding ℕ_discrete base created removed filled find_of lookup_fault path_fault path_components last_component looked by_places node_at unless held at_object at_number any_below lowest_from answer
+unfolding ℕ_discrete base created removed filled find_of looks looks_twice lookup_fault path_fault path_components last_component looked by_places node_at unless held at_object at_number any_below lowest_from answer
 fork_asks_the_room_before_the_kernel = refl

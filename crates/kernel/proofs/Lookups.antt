@@ -13,13 +13,13 @@ use Rattle.file_tree.proofs.KeptByCreate.{names_kept}
 use Rattle.lookup.specs.Answers.{Way, Last, Follow, Keep, Answer, Found_node, Found_free, Lost}
 use Rattle.lookup.specs.Paths.{last_component, has_path_bytes}
 use Rattle.lookup.specs.Paths as paths
-use Rattle.lookup.specs.Looks.{find_of, start_place}
-use Rattle.lookup.specs.Promises.{IsThere, IsFreeName, IsBelow, HasName, IsUnderName, IsFollowed, MayBeMade}
+use Rattle.lookup.specs.Looks.{find_of}
+use Rattle.lookup.specs.Promises.{IsThere, IsFreeName, HasName, IsUnderName, IsFollowed, MayBeMade}
 use Rattle.lookup.proofs.LookLaws.{find_looks}
-use Rattle.lookup.proofs.PlaceLaws.{looks_there, kept_below, kept_named, kept_free, kept_may_be_made, followed_good}
+use Rattle.lookup.proofs.PlaceLaws.{looks_there, kept_named, kept_free, kept_may_be_made, followed_good}
 use Rattle.prog_asm.specs.Programs.{is_path, is_path_byte}
 use Rattle.kernel.specs.Answers.{Move}
-use Rattle.kernel.specs.Calls.{last_if}
+use Rattle.kernel.specs.Calls.{Search}
 use Rattle.kernel.specs.Changes.{tree_after}
 use Rattle.kernel.proofs.Trees.{moved_is_tree}
 
@@ -35,7 +35,7 @@ path_byte b good = by (nat_le 33 b) (nat_le b 126) (nat_eq b 34) (nat_eq b 92) (
     by true true true g h good = absurd cc
     by true true false true h good = absurd cc
 
-pub path_bytes : (path : List ℕ) → is_path path ≡ true → has_path_bytes path ≡ true
+path_bytes : (path : List ℕ) → is_path path ≡ true → has_path_bytes path ≡ true
 path_bytes [] good = refl
 path_bytes (b ∷ path) good =
     let parts = and_parts (is_path_byte b) (is_path path) good in
@@ -54,7 +54,7 @@ MayMake t path (Found_free d) = Vacant t d (last_component path)
 MayMake t path (Lost fault) = Unit {0}
 
 module _ (t : List Node) (start : ℕ) (path : List ℕ) (way : Way) (tree : IsTree t) where
-  pub find_there : (last : Last) → IsThere t (find_of t start path way last)
+  find_there : (last : Last) → IsThere t (find_of t start path way last)
   find_there last = looks_there t start path way last (find_of t start path way last) (find_looks t start path way last)
 
   may_make : (a : Answer) → IsThere t a → IsFreeName t path a → MayBeMade path a → has_path_bytes path ≡ true → MayMake t path a
@@ -62,8 +62,8 @@ module _ (t : List Node) (start : ℕ) (path : List ℕ) (way : Way) (tree : IsT
   may_make (Found_free d) there free name bytes = record { linked = there.linked; directory = free.directory; absent = free.absent; named = name bytes }
   may_make (Lost fault) there free name bytes = tt
 
-  pub find_vacant : has_path_bytes path ≡ true → MayMake t path (find_of t start path way Keep)
-  find_vacant bytes =
+  vacant : has_path_bytes path ≡ true → MayMake t path (find_of t start path way Keep)
+  vacant bytes =
       may_make (find_of t start path way Keep) (find_there Keep)
       (kept_free t start path way tree (find_of t start path way Keep) (find_looks t start path way Keep))
       (kept_may_be_made t start path way (find_of t start path way Keep) (find_looks t start path way Keep)) bytes
@@ -73,18 +73,27 @@ module _ (t : List Node) (start : ℕ) (path : List ℕ) (way : Way) (tree : IsT
   never_free (Found_free d) followed = absurd followed
   never_free (Lost fault) followed = tt
 
-  -- with or without a link followed at the end
-  pub find_openable : is_link (node t start).kind ≡ false → has_path_bytes path ≡ true → (create : Bool) → MayMake t path (find_of t start path way (last_if create))
-  find_openable opened bytes true = find_vacant bytes
-  find_openable opened bytes false =
+  find_vacant : is_link (node t start).kind ≡ false → has_path_bytes path ≡ true → (last : Last) → MayMake t path (find_of t start path way last)
+  find_vacant opened bytes Keep = vacant bytes
+  find_vacant opened bytes Follow =
       never_free (find_of t start path way Follow) (followed_good t start path way tree opened (find_of t start path way Follow) (find_looks t start path way Follow))
 
-  -- a node that is found under its name isn't the root, and is the child of a linked directory
-  pub find_below : IsBelow t (start_place t start way) path (find_of t start path way Keep)
-  find_below = kept_below t start path way tree (find_of t start path way Keep) (find_looks t start path way Keep)
+  find_named : (last : Last) → last ≡ Keep → IsUnderName t path (find_of t start path way last)
+  find_named Keep is = kept_named t start path way tree (find_of t start path way Keep) (find_looks t start path way Keep)
+  find_named Follow is = absurd cc
 
-  pub find_named : IsUnderName t path (find_of t start path way Keep)
-  find_named = kept_named t start path way tree (find_of t start path way Keep) (find_looks t start path way Keep)
+-- What is known of whatever a search finds in a tree. It doesn't name the start.
+pub record Sure (t : List Node) (path : List ℕ) (last : Last) (found : Answer) : Type 0 where
+  pub there : IsThere t found
+  pub vacant : MayMake t path found
+  pub named : last ≡ Keep → IsUnderName t path found
+
+pub find_sure : (t : List Node) (a : Search) → IsTree t → is_link (node t a.start).kind ≡ false → is_path a.path ≡ true → Sure t a.path a.last (find_of t a.start a.path a.way a.last)
+find_sure t a tree opened path = record {
+  there = find_there t a.start a.path a.way tree a.last;
+  vacant = find_vacant t a.start a.path a.way tree opened (path_bytes a.path path) a.last;
+  named = find_named t a.start a.path a.way tree a.last;
+}
 
 -- A linked node moves over another that is found under its name.
 name_of_place : (t : List Node) → IsTree t → (m d : ℕ) (name : List ℕ) → (node t m).linked ≡ true → (node t m).place ≡ at_name (node t d).place name → is_name name ≡ true

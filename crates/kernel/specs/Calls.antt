@@ -11,7 +11,7 @@ use Rattle.rights.specs.Operations.{Look, Read as Reads, Write as Writes, Create
 use Rattle.file_tree.specs.Places.{begins, at_name}
 use Rattle.file_tree.specs.Nodes.{Kind, File, Dir, Link, Node, node, is_dir, is_file, has_below}
 use Rattle.file_tree.specs.Changes.{most_nodes, most_bytes, resized, written}
-use Rattle.lookup.specs.Answers.{Beneath, Global, Last, Follow, Keep, Found_node, Found_free, Lost}
+use Rattle.lookup.specs.Answers.{Way, Beneath, Global, Last, Follow, Keep, Found_node, Found_free, Lost}
 use Rattle.lookup.specs.Answers as lookups
 use Rattle.lookup.specs.Paths.{last_component}
 use Rattle.lookup.specs.Looks.{find_of}
@@ -43,6 +43,19 @@ abbrev pub kind_number : Kind → ℕ
 kind_number File = 1
 kind_number Dir = 2
 kind_number Link = 3
+
+-- What a call looks up: a path from a directory, beneath it or from the root.
+pub record Search : Type 0 where
+  pub start : ℕ
+  pub way : Way
+  pub path : List ℕ
+  pub last : Last
+
+abbrev pub beneath : ℕ → List ℕ → Last → Search
+beneath directory path last = record { start = directory; way = Beneath; path = path; last = last }
+
+abbrev pub from_root : List ℕ → Last → Search
+from_root path last = record { start = 0; way = Global; path = path; last = last }
 
 -- In this world, process p, which stands at s, makes its call at this event.
 module _ (w : World) (p : ℕ) (s : ProcessState) (e : Event) where
@@ -91,6 +104,17 @@ module _ (w : World) (p : ℕ) (s : ProcessState) (e : Event) where
   -- a call that can't go on waits, or fails if its socket is told not to block (fcntl(2), O_NONBLOCK)
   abbrev pub blocked : Bool → Answer
   blocked nonblock = if nonblock then Fails EAGAIN Refused else Waits
+
+  -- ## Lookups
+  -- Every lookup of a call is one of these two: what it finds goes to the rest of the call.
+  abbrev pub found_by : Search → lookups.Answer
+  found_by a = find_of w.tree a.start a.path a.way a.last
+
+  unfoldable pub looks : Search → (lookups.Answer → Answer) → Answer
+  looks a rest = rest (found_by a)
+
+  unfoldable pub looks_twice : Search → Search → (lookups.Answer → lookups.Answer → Answer) → Answer
+  looks_twice a b rest = rest (found_by a) (found_by b)
 
   -- ## open and openat (open(2))
   -- What is found is opened with these rights and commands: all of them by `open`, those of the directory's
@@ -266,10 +290,10 @@ module _ (w : World) (p : ℕ) (s : ProcessState) (e : Event) where
 
   -- ## The calls
   unfoldable pub answer : Syscall → Answer
-  answer (Open path f) = outside_mode (opened f all_rights all_commands path (find_of w.tree 0 path Global (last_if f.create)))
+  answer (Open path f) = outside_mode (looks (from_root path (last_if f.create)) (opened f all_rights all_commands path))
   answer (Openat x path f) =
       through (first_need (Openat x path f) f) (entry x) (λ d.
-      in_directory d (λ n. opened f d.rights d.fcntls path (find_of w.tree n path Beneath (last_if f.create))))
+      in_directory d (λ n. looks (beneath n path (last_if f.create)) (opened f d.rights d.fcntls path)))
   answer (Read x) =
       through (first_need (Read x) no_request) (entry x) (λ d.
       at_object (w.files.objects d.description) (read_node d)
@@ -318,16 +342,16 @@ module _ (w : World) (p : ℕ) (s : ProcessState) (e : Event) where
       }) [])))
   answer (Fstatat x path) =
       through (first_need (Fstatat x path) no_request) (entry x) (λ d.
-      in_directory d (λ n. looked_at (find_of w.tree n path Beneath Follow)))
-  answer (Stat path) = outside_mode (looked_at (find_of w.tree 0 path Global Follow))
+      in_directory d (λ n. looks (beneath n path Follow) looked_at))
+  answer (Stat path) = outside_mode (looks (from_root path Follow) looked_at)
   answer (Mkdirat x path) =
       through (first_need (Mkdirat x path) no_request) (entry x) (λ d.
-      in_directory d (λ n. made_directory path (find_of w.tree n path Beneath Keep)))
-  answer (Mkdir path) = outside_mode (made_directory path (find_of w.tree 0 path Global Keep))
+      in_directory d (λ n. looks (beneath n path Keep) (made_directory path)))
+  answer (Mkdir path) = outside_mode (looks (from_root path Keep) (made_directory path))
   answer (Unlinkat x path directory) =
       through (first_need (Unlinkat x path directory) no_request) (entry x) (λ d.
-      in_directory d (λ n. unlinked directory (find_of w.tree n path Beneath Keep)))
-  answer (Unlink path directory) = outside_mode (unlinked directory (find_of w.tree 0 path Global Keep))
+      in_directory d (λ n. looks (beneath n path Keep) (unlinked directory)))
+  answer (Unlink path directory) = outside_mode (looks (from_root path Keep) (unlinked directory))
   answer (Renameat x from y to) =
       held (entry x) (λ d.
       held (entry y) (λ target.
@@ -335,8 +359,8 @@ module _ (w : World) (p : ℕ) (s : ProcessState) (e : Event) where
       (granted (needs_of (called (Renameat x from y to)) no_request Second false) target
       (in_directory d (λ n.
       in_directory target (λ m.
-      renamed_from (find_of w.tree n from Beneath Keep) (λ k.
-      renamed_to (Renameat x from y to) target k to (find_of w.tree m to Beneath Keep))))))))
+      looks_twice (beneath n from Keep) (beneath m to Keep) (λ source place.
+      renamed_from source (λ k. renamed_to (Renameat x from y to) target k to place))))))))
   answer (Dup x) = held (entry x) (λ d. at_number free (λ number. Gives number (record same { table = Set_entry number d }) []))
   answer (Close x) = held (entry x) (λ d. Gives 0 (record same { table = Clear_entry (value_of s x) }) [])
   answer (Cap_rights_limit x rights) =

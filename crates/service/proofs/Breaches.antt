@@ -13,7 +13,7 @@ use Rattle.lookup.specs.ByPlaces.{by_places}
 use Rattle.lookup.specs.Looks.{lookup_fault, find_of}
 use Rattle.kernel.specs.World.{World, Choice}
 use Rattle.kernel.specs.Answers.{Event, unless, held, at_object, at_number}
-use Rattle.kernel.specs.Calls.{answer}
+use Rattle.kernel.specs.Calls.{looks, looks_twice, answer}
 use Rattle.kernel.specs.Changes.{files_after, changed}
 use Rattle.kernel.specs.Steps.{answered, jumped, executed, stepped_at, stepped_by, stepped, step}
 use Rattle.kernel.proofs.Keeping.{next_world}
@@ -65,7 +65,7 @@ unfolding is_within_limits is_name ℕ_discrete filled unless held at_object ans
 unlisted_operation = second_step writing_plan refl (λ c d safe. forbidden writing_plan.grants Write (codes "work" ∷ codes "in" ∷ []) refl (safe.allowed refl).0)
 
 second_effect : IsSandboxed moving_plan → ⊥
-unfolding is_within_limits is_name ℕ_discrete find_of lookup_fault path_fault path_components last_component looked by_places node_at unless held at_object at_number answer files_after changed answered jumped executed stepped_at stepped_by stepped step first_world
+unfolding is_within_limits is_name ℕ_discrete find_of looks looks_twice lookup_fault path_fault path_components last_component looked by_places node_at unless held at_object at_number answer files_after changed answered jumped executed stepped_at stepped_by stepped step first_world
 second_effect = second_step moving_plan refl (λ c d safe. forbidden moving_plan.grants Create (codes "work" ∷ codes "new" ∷ []) refl (safe.allowed refl).1.0)
 
 pub some_are_not_sandboxed : SomeAreNotSandboxed

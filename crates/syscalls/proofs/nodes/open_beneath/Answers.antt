@@ -2,26 +2,26 @@ use Rattle.std.proofs.Common.{sym, subst, refl, ◌∙◌}
 use Rattle.fd_table.specs.Kept.{open_files}
 use Rattle.lookup.specs.Answers.{Beneath}
 use Rattle.lookup.specs.Looks.{find_of}
-use Rattle.kernel.specs.Calls.{answer, opened, last_if}
+use Rattle.kernel.specs.Calls.{answer, looks, looks_twice, opened, last_if}
 use Rattle.syscalls.specs.Meets.{Meets, Refuses}
 use Rattle.syscalls.specs.Views.{world_with}
 use Rattle.syscalls.proofs.Finding.{refused_alone}
 use Rattle.syscalls.proofs.nodes.open_beneath.Goals as goal
 
 pub returns-in-Err : goal.returns-in-Err
-unfolding answer
+unfolding answer looks looks_twice
 returns-in-Err g c = λ processes e same.
     refused_alone c.in-Err.refused (world_with (g.T.Tree.nodes c.args.tree.now) (open_files c.args.files.now) processes) _ _ _ (c.in-Err.ensures.passes _) (record { tree = refl; files = refl })
 
 pub returns-in-Err-directory_of : goal.returns-in-Err-directory_of
-unfolding answer
+unfolding answer looks looks_twice
 returns-in-Err-directory_of g c = λ processes e same.
     let w = world_with (g.T.Tree.nodes c.args.tree.now) (open_files c.args.files.now) processes in
     let refused = c.in-Err-directory_of.refused in
     refused_alone refused w _ _ _ (subst (Refuses refused) (sym (c.in-Ok.ensures.passes _)) (c.in-Err-directory_of.ensures.passes processes c.args.caller.now.number c.args.caller.now.process e _)) (record { tree = refl; files = refl })
 
 pub returns-in-Ok-directory_of : goal.returns-in-Ok-directory_of
-unfolding answer
+unfolding answer looks looks_twice
 returns-in-Ok-directory_of g c = λ processes e same.
     let t = g.T.Tree.nodes c.args.tree.now in
     let w = world_with t (open_files c.args.files.now) processes in

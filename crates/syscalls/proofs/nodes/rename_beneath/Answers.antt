@@ -1,7 +1,7 @@
 use Rattle.std.proofs.Common.{sym, subst, refl, ap, ◌∙◌}
 use Rattle.rights.specs.Sets.{is_within}
 use Rattle.fd_table.specs.Kept.{open_files}
-use Rattle.kernel.specs.Calls.{answer}
+use Rattle.kernel.specs.Calls.{answer, looks, looks_twice}
 use Rattle.prog_asm.specs.Programs.{Renameat}
 use Rattle.prog_asm.specs.Views.{operand_of}
 use Rattle.syscalls.specs.Meets.{Meets, Refuses, held_seen}
@@ -11,23 +11,23 @@ use Rattle.syscalls.proofs.Tests.{passes, fails}
 use Rattle.syscalls.proofs.nodes.rename_beneath.Goals as goal
 
 pub returns-in-Err : goal.returns-in-Err
-unfolding answer
+unfolding answer looks looks_twice
 returns-in-Err g c = λ processes e same.
     refused_alone c.in-Err.refused (world_with (g.T.Tree.nodes c.args.tree.now) (open_files c.args.files.now) processes) _ _ _ (c.in-Err.ensures.passes _) (record { tree = refl; files = refl })
 
 pub returns-in-Err-held : goal.returns-in-Err-held
-unfolding answer
+unfolding answer looks looks_twice
 returns-in-Err-held g c = λ processes e same.
     refused_alone c.in-Err-held.refused (world_with (g.T.Tree.nodes c.args.tree.now) (open_files c.args.files.now) processes) _ _ _
     (subst (Refuses c.in-Err-held.refused) (sym (c.in-Ok.ensures.passes _)) (c.in-Err-held.ensures.passes _)) (record { tree = refl; files = refl })
 
 pub returns-then-not-contains : goal.returns-then-not-contains
-unfolding answer
+unfolding answer looks looks_twice
 returns-then-not-contains g c = λ processes e same.
     (c.in-Ok.ensures.passes _ ∙ c.in-Ok-held.ensures.passes _ ∙ fails _ _ _ _ (ap (λ n. is_within n c.in-Ok.held.rights.0) (sym c.need_of.ensures) ∙ sym c.contains.ensures.computes ∙ c.if-not-contains.true), record { tree = refl; files = refl })
 
 pub returns-then-not-contains-2 : goal.returns-then-not-contains-2
-unfolding answer
+unfolding answer looks looks_twice
 returns-then-not-contains-2 g c = λ processes e same. (
   c.in-Ok.ensures.passes _ ∙ c.in-Ok-held.ensures.passes _
       ∙ passes _ _ _ _ (ap (λ n. is_within n c.in-Ok.held.rights.0) (sym c.need_of.ensures) ∙ sym c.contains.ensures.computes ∙ c.if-not-contains.false)
@@ -36,7 +36,7 @@ returns-then-not-contains-2 g c = λ processes e same. (
 )
 
 pub returns-in-Err-directory_of : goal.returns-in-Err-directory_of
-unfolding answer
+unfolding answer looks looks_twice
 returns-in-Err-directory_of g c = λ processes e same.
     let refused = c.in-Err-directory_of.refused in
     refused_alone refused (world_with (g.T.Tree.nodes c.args.tree.now) (open_files c.args.files.now) processes) _ _ _
@@ -46,7 +46,7 @@ returns-in-Err-directory_of g c = λ processes e same.
     (c.in-Err-directory_of.ensures.passes processes c.args.caller.now.number c.args.caller.now.process e _)) (record { tree = refl; files = refl })
 
 pub returns-in-Err-directory_of-2 : goal.returns-in-Err-directory_of-2
-unfolding answer
+unfolding answer looks looks_twice
 returns-in-Err-directory_of-2 g c = λ processes e same.
     let refused = c.in-Err-directory_of-2.refused in
     refused_alone refused (world_with (g.T.Tree.nodes c.args.tree.now) (open_files c.args.files.now) processes) _ _ _
@@ -57,7 +57,7 @@ returns-in-Err-directory_of-2 g c = λ processes e same.
     (c.in-Err-directory_of-2.ensures.passes processes c.args.caller.now.number c.args.caller.now.process e _)) (record { tree = refl; files = refl })
 
 pub returns : goal.returns
-unfolding answer
+unfolding answer looks looks_twice
 returns g c = λ processes e same.
     let t = g.T.Tree.nodes c.args.tree.now in
     let f = open_files c.args.files.now in

@@ -1,6 +1,6 @@
 use Rattle.std.proofs.Common.{sym, subst, refl}
 use Rattle.fd_table.specs.Kept.{open_files}
-use Rattle.kernel.specs.Calls.{answer}
+use Rattle.kernel.specs.Calls.{answer, looks, looks_twice}
 use Rattle.syscalls.specs.Meets.{Meets}
 use Rattle.syscalls.specs.Views.{world_with}
 use Rattle.syscalls.proofs.Finding.{refused_alone}
@@ -8,12 +8,12 @@ use Rattle.syscalls.proofs.Keeping.{told_meets}
 use Rattle.syscalls.proofs.nodes.stat_beneath.Goals as goal
 
 pub returns-in-Err : goal.returns-in-Err
-unfolding answer
+unfolding answer looks looks_twice
 returns-in-Err g c = λ processes e same.
     refused_alone c.in-Err.refused (world_with (g.T.Tree.nodes c.args.tree.now) (open_files c.args.files.now) processes) _ _ _ (c.in-Err.ensures.passes processes e _) (record { tree = refl; files = refl })
 
 pub returns-in-Ok : goal.returns-in-Ok
-unfolding answer
+unfolding answer looks looks_twice
 returns-in-Ok g c = λ processes e same.
     let t = g.T.Tree.nodes c.args.tree.now in
     let f = open_files c.args.files.now in

@@ -3,7 +3,7 @@ use Rattle.std.specs.Prelude.{not}
 use Rattle.fd_table.specs.Kept.{open_files}
 use Rattle.lookup.specs.Answers.{Global, Follow}
 use Rattle.lookup.specs.Looks.{find_of}
-use Rattle.kernel.specs.Calls.{answer, looked_at}
+use Rattle.kernel.specs.Calls.{answer, looks, looks_twice, looked_at}
 use Rattle.syscalls.specs.Meets.{Meets}
 use Rattle.syscalls.specs.Views.{world_with}
 use Rattle.syscalls.proofs.Finding.{refused_alone}
@@ -12,12 +12,12 @@ use Rattle.syscalls.proofs.Keeping.{told_meets}
 use Rattle.syscalls.proofs.nodes.stat_path.Goals as goal
 
 pub returns-in-Err : goal.returns-in-Err
-unfolding answer
+unfolding answer looks looks_twice
 returns-in-Err g c = λ processes e same.
     refused_alone c.in-Err.refused (world_with (g.T.Tree.nodes c.args.tree.now) (open_files c.args.files.now) processes) _ _ _ (c.in-Err.ensures.refused _) (record { tree = refl; files = refl })
 
 pub returns-in-Ok : goal.returns-in-Ok
-unfolding answer
+unfolding answer looks looks_twice
 returns-in-Ok g c = λ processes e same.
     let t = g.T.Tree.nodes c.args.tree.now in
     let f = open_files c.args.files.now in
