@@ -10,4 +10,4 @@ pub mod order;
 pub use bounds::{
     Bound, Cert, FcntlsRange, Held, Interval, ModeBound, Point, RightsRange, Slot, Target,
 };
-pub use names::{MAX_NAME, Name};
+pub use names::Name;

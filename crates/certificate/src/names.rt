@@ -3,14 +3,13 @@
 ghost use Rattle.std.specs.Prelude.{◌≡◌, ◌≤◌, length};
 ghost use Rattle.certificate.specs.Views.{name_of};
 
-/// The most bytes of a name.
-pub const MAX_NAME: usize = 16;
+use rights::limits::MAX_WORD;
 
 /// A name of at most 16 bytes. (own)
 #[derive(Clone, Copy)]
 pub struct Name {
     length: usize,
-    bytes: [u8; MAX_NAME],
+    bytes: [u8; MAX_WORD],
 }
 
 impl Name {
@@ -19,7 +18,7 @@ impl Name {
         requires { length text.now ≤ 16 }
         ensures { name_of result ≡ text.now }
     {
-        let mut bytes = [0; MAX_NAME];
+        let mut bytes = [0; MAX_WORD];
         bytes[..text.len()].copy_from_slice(text);
         Name {
             length: text.len(),
@@ -31,7 +30,7 @@ impl Name {
     pub fn as_bytes(&self) -> &[u8]
         ensures { result.now ≡ name_of self.now }
     {
-        let length = self.length.min(MAX_NAME);
+        let length = self.length.min(MAX_WORD);
         &self.bytes[..length]
     }
 }

@@ -7,7 +7,8 @@ use Rattle.std.specs.Str.{bytes_eq}
 use Rattle.std.specs.Cmp.Derive.{both_true}
 use Rattle.std.proofs.lemmas.Bool.{le-leb, ltb-true}
 use Rattle.rights.specs.Sets.{is_within, read_right}
-use Rattle.rights.specs.Operations.{Operation, lists}
+use Rattle.rights.specs.Operations.{Operation}
+use Rattle.rights.specs.OperationLists.{lists}
 use Rattle.rights.specs.Operations as operations
 use Rattle.rights.proofs.Lists.{list_all-slice_get}
 use Rattle.rights.proofs.Subsets.{is_within-trans}
@@ -18,19 +19,18 @@ use Rattle.certificate.proofs.Smaller.{Between, between}
 use Rattle.file_tree.specs.Nodes.{node, is_dir, is_link}
 use Rattle.file_tree.specs.WellFormed.{IsTree, is_byte}
 use Rattle.file_tree.proofs.KeptByCreate.{limits_of}
-use Rattle.fd_table.specs.Descriptions.{Access, Object, At_node, At_end, Descriptor, Message, other_side}
+use Rattle.fd_table.specs.Descriptions.{Access, Object, At_node, At_end, Descriptor, Message, other_side, IfHeld}
 use Rattle.fd_table.specs.OpenFiles.{is_open}
 use Rattle.prog_asm.specs.Programs.{Number, Cap_enter, Read, Invoke}
 use Rattle.kernel.specs.World.{World}
 use Rattle.kernel.specs.Answers.{Event, Effect, QueueChange, Same_queue, Pop, StateChange, Same_state, Set_state, Answer, gives, held, through, at_object}
 use Rattle.kernel.specs.Calls.{answer, blocked, read_byte, read_node, read_end}
-use Rattle.kernel.specs.WellFormed.{IsObject, IsDescriptor, IfHeld, EachMessage}
+use Rattle.kernel.specs.WellFormed.{IsObject, IsDescriptor, EachMessage}
 use Rattle.kernel.proofs.Trees.{there_if_opened}
 use Rattle.task.specs.Plans.{Grant, Plan}
 use Rattle.task.specs.Policies.{allows, is_allowed, grant_named, holds_in, grant_holds, lists_in, grant_lists}
-use Rattle.task.specs.Laws.{Allowed}
 use Rattle.task.proofs.Allowances.{allowed_is_tested}
-use Rattle.task.specs.Sandboxed.{AreAllowed}
+use Rattle.task.specs.Sandboxed.{AreAllowed, Allowed}
 use Rattle.task.specs.Plans.{program_name}
 use Rattle.checker.specs.Intervals.{only}
 use Rattle.checker.specs.Outcomes.{read_interval, error_interval, read_outcomes, outcomes, error_outcomes}

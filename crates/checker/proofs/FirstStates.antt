@@ -5,7 +5,7 @@ use Rattle.std.specs.List.{slice_get, list_any}
 use Rattle.std.specs.Option.{option_map}
 use Rattle.std.proofs.lemmas.Bool.{eq-eqb}
 use Rattle.rights.proofs.Lists.{list_all-slice_get}
-use Rattle.process.specs.State.{ProcessState}
+use Rattle.process.specs.State.{ProcessState, new_process}
 use Rattle.certificate.specs.Bounds.{Bound, Certificate}
 use Rattle.certificate.specs.Describes.{slot_describes, describes}
 use Rattle.fd_table.specs.Descriptions.{Descriptor}
@@ -81,7 +81,7 @@ module _ (plan : Plan) (certificate : Certificate) (valid : is_plan plan ≡ tru
       })
 
   abbrev begun : ProcessState
-  begun = record { program = st.program; point = 0; registers = replicate 8 0; mode = st.mode; alive = true }
+  begun = new_process st.program st.mode
 
   first_lies : IsPoint (instruction_at plan st.program 0) → Lies plan certificate (first_world plan) p begun
   first_lies point = go (instruction_at plan st.program 0) refl point

@@ -8,13 +8,12 @@ use Rattle.certificate.specs.Bounds.{Interval, interval, Certificate}
 use Rattle.certificate.specs.Describes.{interval_describes}
 use Rattle.prog_asm.specs.Programs.{Register, Number, Syscall, Open, Openat, Read, Write, Sendfd, Recvfd, Lseek, Ftruncate, Fsync, Fstat, Fcntl_getfl, Fcntl_setfl, Fstatat, Stat, Mkdirat, Mkdir, Unlinkat, Unlink, Renameat, Dup, Close, Cap_rights_limit, Cap_fcntls_limit, Cap_enter, Cap_getmode, Socketpair, Fork, Instruction, Set, Mov, Add, In, Jmp, Jeq, Jlt, Halt, Invoke}
 use Rattle.kernel.specs.World.{World, Choice, IsFresh}
-use Rattle.kernel.specs.Answers.{Event}
+use Rattle.kernel.specs.Answers.{Event, IsEvent, AreEvents}
 use Rattle.kernel.specs.Calls.{answer}
 use Rattle.kernel.specs.Steps.{Executed, Stepped, Ended, acted_as, register, plain, jumped, executed, stepped_at, stepped_by, stepped, step}
-use Rattle.kernel.specs.WellFormed.{ArePrograms, IsEvent, IsWellFormed}
+use Rattle.kernel.specs.WellFormed.{ArePrograms, IsWellFormed}
 use Rattle.kernel.specs.Gains.{GainsNothing}
 use Rattle.kernel.specs.Origins.{caller_of}
-use Rattle.kernel.specs.Runs.{AreEvents}
 use Rattle.kernel.proofs.Gains.{never_gains}
 use Rattle.kernel.proofs.Keeping.{next_world}
 use Rattle.task.specs.Plans.{Plan, programs_of_plan}

@@ -1,6 +1,6 @@
 -- Open descriptions, descriptors and messages. (open(2), rights(4), cap_fcntls_limit(2); the parts
 -- are own)
-use Rattle.std.specs.Prelude.{◌+◌, ◌%◌, ◌==◌, ℕ, zero, suc, Bool, true, false, nat_le, Option}
+use Rattle.std.specs.Prelude.{◌+◌, ◌%◌, ◌==◌, ℕ, zero, suc, Bool, true, false, nat_le, List, [], ◌∷◌, Option, Some, None}
 
 -- what a file or directory was opened for
 pub record Access : Type 0 where
@@ -35,6 +35,15 @@ pub record Descriptor : Type 0 where
 pub record Message : Type 0 where
   pub byte : ℕ
   pub passed : Option Descriptor
+
+-- what holds of a descriptor, where there is one, and of each in the messages of a queue
+abbrev pub IfHeld : (Descriptor → Type 0) → Option Descriptor → Type 0
+IfHeld Good None = Unit {0}
+IfHeld Good (Some d) = Good d
+
+abbrev pub EachPassed : (Descriptor → Type 0) → List Message → Type 0
+EachPassed Good [] = Unit {0}
+EachPassed Good (m ∷ messages) = IfHeld Good m.passed × EachPassed Good messages
 
 abbrev pub other_side : ℕ → ℕ
 other_side zero = 1

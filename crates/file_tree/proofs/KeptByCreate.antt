@@ -7,7 +7,8 @@ use Rattle.std.proofs.lemmas.List.{get_or_append_left}
 use Rattle.std.proofs.lemmas.Bool.{and_parts, both_ways, ltb-true, not-false}
 use Rattle.file_tree.specs.Places.{is_name, at_name, above}
 use Rattle.file_tree.specs.Nodes.{Kind, Dir, Node, node, nowhere, node_at, stands_at}
-use Rattle.file_tree.specs.Changes.{most_nodes, created, create_fault}
+use Rattle.rights.specs.Limits.{most_nodes}
+use Rattle.file_tree.specs.Refusals.{created, create_fault}
 use Rattle.file_tree.specs.WellFormed.{IsTree, is_held, is_within_limits, is_content, is_byte}
 use Rattle.file_tree.proofs.PlaceLaws.{above_at_name}
 use Rattle.file_tree.proofs.NodeLaws.{linked_there, stands_from, node_at_none, Directory, held_above, held_from, more_cases, passed, passed_last, none_from}

@@ -5,7 +5,9 @@ use Rattle.std.specs.Cmp.Derive.{both_true}
 use Rattle.std.proofs.lemmas.Bool.{and_parts, ltb-true, leb-true, le-leb, lt-ltb, ltb-false}
 use Rattle.std.proofs.lemmas.List.{length-replicate}
 use Rattle.file_tree.specs.Nodes.{File, Node, node}
-use Rattle.file_tree.specs.Changes.{most_bytes, filled, written, resized, put_byte_fault, truncate_fault}
+use Rattle.rights.specs.Limits.{most_bytes}
+use Rattle.file_tree.specs.Changes.{filled, written, resized}
+use Rattle.file_tree.specs.Refusals.{put_byte_fault, truncate_fault}
 use Rattle.file_tree.specs.WellFormed.{IsTree, is_within_limits, is_byte}
 use Rattle.file_tree.proofs.NodeLaws.{Directory, held_above, held_from, set_cases, passed, passed_last}
 use Rattle.file_tree.proofs.TreeLaws.{filled_length}

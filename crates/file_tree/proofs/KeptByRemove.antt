@@ -5,7 +5,8 @@ use Rattle.std.specs.Cmp.Derive.{both_true}
 use Rattle.std.proofs.lemmas.Bool.{both_ways, not-false}
 use Rattle.file_tree.specs.Places.{same_place, begins, above}
 use Rattle.file_tree.specs.Nodes.{Node, node, lies_below, has_below}
-use Rattle.file_tree.specs.Changes.{unlinked, removed, remove_fault, is_root}
+use Rattle.file_tree.specs.Changes.{unlinked, removed}
+use Rattle.file_tree.specs.Refusals.{remove_fault, is_root}
 use Rattle.file_tree.specs.WellFormed.{IsTree, is_held, is_within_limits}
 use Rattle.file_tree.proofs.PlaceLaws.{same_place_from, begins_above, above_length, longer_place}
 use Rattle.file_tree.proofs.NodeLaws.{linked_there, none_at, Directory, held_above, held_from, set_cases, passed}

@@ -9,7 +9,8 @@ use Rattle.std.proofs.Math.Seq.{drop-append_seam, drop-length}
 use Rattle.std.proofs.lemmas.Bool.{and_parts, both_ways, not-false, cases_Bool, cond_both, false_from_ne_true}
 use Rattle.file_tree.specs.Places.{is_name, same_place, begins, at_name, above}
 use Rattle.file_tree.specs.Nodes.{Dir, Node, node, nowhere, stands_at, lies_below, has_below}
-use Rattle.file_tree.specs.Changes.{Fault, NotEmpty, IntoItself, Gone, unlinked, moved, replaced_at, renamed, rename_fault}
+use Rattle.file_tree.specs.Changes.{unlinked, moved, replaced_at, renamed}
+use Rattle.file_tree.specs.Refusals.{Fault, NotEmpty, IntoItself, Gone, rename_fault}
 use Rattle.file_tree.specs.WellFormed.{IsTree, is_held, is_within_limits}
 use Rattle.file_tree.proofs.PlaceLaws.{same_place_is, begins_is, begins_from, begins_trans, begins_above, begins_above_other, begins_append, begins_longer, rest_same, above_append, above_at_name, at_name_length}
 use Rattle.file_tree.proofs.NodeLaws.{none_at, Directory, held_above, held_from, passed}
@@ -250,8 +251,8 @@ moved_is_tree t n d name tree directory named may =
       limits = λ k there. ap is_within_limits (after_node t from to k) ∙ moved_limits from to (node t k) names (tree.limits k (omega (arith, after_length t from to)));
     }
 
-pub renamed_is_tree : (t : List Node) (n d : ℕ) (name : List ℕ) → IsTree t → (node t d).kind ≡ Dir → is_name name ≡ true → rename_fault t n d name ≡ None → IsTree (renamed t n d name)
-unfolding renamed after
+pub renamed_is_tree : (t : List Node) (n d : ℕ) (name : List ℕ) → IsTree t → (node t d).kind ≡ Dir → is_name name ≡ true → rename_fault t n d name ≡ None → IsTree (renamed t n (at_name (node t d).place name))
+unfolding after
 renamed_is_tree t n d name tree directory named allowed =
     cond_both (same_place (at_name (node t d).place name) (node t n).place) t (after t (node t n).place (at_name (node t d).place name)) IsTree
     (λ own. tree)

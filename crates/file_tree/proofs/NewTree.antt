@@ -1,7 +1,7 @@
 -- A new tree, of the root alone, is a tree.
 use Rattle.std.proofs.Common.{◌≡◌, ℕ, zero, suc, ◌<◌, true, refl, arith}
 use Rattle.file_tree.specs.Nodes.{node}
-use Rattle.file_tree.specs.Changes.{new_tree}
+use Rattle.file_tree.specs.Refusals.{new_tree}
 use Rattle.file_tree.specs.WellFormed.{IsTree, is_held, is_within_limits}
 use Rattle.file_tree.proofs.NodeLaws.{linked_there}
 

@@ -8,7 +8,7 @@ use Rattle.std.proofs.lemmas.List.{get_or-set_same, get_or-set_other}
 use Rattle.std.specs.Cmp.Derive.{both_true}
 use Rattle.file_tree.specs.Places.{above}
 use Rattle.file_tree.specs.Nodes.{Kind, File, Dir, Link, Node, node, nowhere, is_dir, stands_at, node_from, node_at}
-use Rattle.file_tree.specs.Changes.{Fault}
+use Rattle.file_tree.specs.Refusals.{Fault}
 use Rattle.file_tree.specs.WellFormed.{is_directory_at, has_directory, is_held}
 use Rattle.file_tree.proofs.PlaceLaws.{same_place_is, same_place_refl}
 

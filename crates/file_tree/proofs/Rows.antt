@@ -2,7 +2,8 @@
 use Rattle.std.specs.Prelude.{◌≡◌, true, false, List, [], ◌∷◌, ◌++◌, Some, None, codes, replicate, length, refl}
 use Rattle.file_tree.specs.Places.{begins, place_text, path_components, is_name, is_target}
 use Rattle.file_tree.specs.Nodes.{File, Dir, Link, Node, node, nowhere, node_at, child_of, parent_of, target_of, byte_of}
-use Rattle.file_tree.specs.Changes.{Exists, NotEmpty, Full, IntoItself, Gone, new_tree, created, create_fault, removed, remove_fault, renamed, rename_fault, written, resized, put_byte_fault, truncate_fault}
+use Rattle.file_tree.specs.Changes.{removed, renamed, written, resized}
+use Rattle.file_tree.specs.Refusals.{Exists, NotEmpty, Full, IntoItself, Gone, new_tree, created, create_fault, remove_fault, rename_fault, put_byte_fault, truncate_fault}
 
 -- Directories `/work` with `in`, `out` and three links, `/workshop` with `x`, `/log`, and `/etc` with
 -- `passwd`: eleven nodes after the root.
@@ -153,26 +154,26 @@ remove_log = refl
 
 -- `/work` becomes `/w2`: what is in it moves, `/workshop/x` and what was removed before keep their places
 w2 : List Node
-w2 = renamed (removed base 3) 1 0 (codes "w2")
+w2 = renamed (removed base 3) 1 (codes "w2" ∷ [])
 
 w2_in : place_text (node w2 2).place ≡ codes "/w2/in"
-unfolding w2 base created removed renamed
+unfolding w2 base created removed
 w2_in = refl
 
 w2_shop : place_text (node w2 8).place ≡ codes "/workshop/x"
-unfolding w2 base created removed renamed
+unfolding w2 base created removed
 w2_shop = refl
 
 w2_removed : place_text (node w2 3).place ≡ codes "/work/out"
-unfolding w2 base created removed renamed
+unfolding w2 base created removed
 w2_removed = refl
 
 in_begins_w2 : begins (path_components (codes "/w2")) (node w2 2).place ≡ true
-unfolding w2 base created removed renamed path_components
+unfolding w2 base created removed path_components
 in_begins_w2 = refl
 
 in_begins_work : begins (path_components (codes "/work")) (node w2 2).place ≡ false
-unfolding w2 base created removed renamed path_components
+unfolding w2 base created removed path_components
 in_begins_work = refl
 
 shop_begins_work : begins (path_components (codes "/work")) (node base 8).place ≡ false
@@ -181,14 +182,14 @@ shop_begins_work = refl
 
 -- `/log` takes the place of an empty directory, which is removed then
 over_out : List Node
-over_out = renamed base 9 1 (codes "out")
+over_out = renamed base 9 (codes "work" ∷ codes "out" ∷ [])
 
 over_out_place : place_text (node over_out 9).place ≡ codes "/work/out"
-unfolding over_out base created renamed
+unfolding over_out base created
 over_out_place = refl
 
 over_out_removed : (node over_out 3).linked ≡ false
-unfolding over_out base created renamed
+unfolding over_out base created
 over_out_removed = refl
 
 -- 1012 nodes fit beside those of the base tree, and no more

@@ -8,7 +8,8 @@ use Rattle.std.proofs.Math.Seq.{get_or-append_seam}
 use Rattle.std.proofs.Math.ListN.{get_or-map}
 use Rattle.file_tree.specs.Places.{same_place, at_name, above}
 use Rattle.file_tree.specs.Nodes.{Kind, Dir, Node, node, nowhere, node_at, child_of, parent_of, holder_at}
-use Rattle.file_tree.specs.Changes.{created, removed, filled, renamed, moved, replaced_at, unlinked}
+use Rattle.file_tree.specs.Changes.{removed, filled, renamed, moved, replaced_at, unlinked}
+use Rattle.file_tree.specs.Refusals.{created}
 use Rattle.file_tree.specs.WellFormed.{IsTree}
 use Rattle.file_tree.proofs.NodeLaws.{linked_there, stands_is, stands_from, node_at_found, node_at_none, held_above}
 use Rattle.file_tree.proofs.PlaceLaws.{at_name_length, above_at_name}
@@ -164,18 +165,15 @@ unfolding filled
 filled_other t n content m other = get_or-set_other t n m _ nowhere other
 
 -- a rename to another place changes each node by itself, and to its own place none
-pub renamed_length : (t : List Node) (n d : ℕ) (name : List ℕ) → length (renamed t n d name) ≡ length t
-unfolding renamed
+pub renamed_length : (t : List Node) (n d : ℕ) (name : List ℕ) → length (renamed t n (at_name (node t d).place name)) ≡ length t
 renamed_length t n d name = by_place (cases_Bool (same_place (at_name (node t d).place name) (node t n).place))
   where
-    by_place : (same_place (at_name (node t d).place name) (node t n).place ≡ true) ⊎ (same_place (at_name (node t d).place name) (node t n).place ≡ false) → length (renamed t n d name) ≡ length t
+    by_place : (same_place (at_name (node t d).place name) (node t n).place ≡ true) ⊎ (same_place (at_name (node t d).place name) (node t n).place ≡ false) → length (renamed t n (at_name (node t d).place name)) ≡ length t
     by_place (inl own) = rw own refl
     by_place (inr other) = rw other (length-map t _)
 
-pub renamed_own : (t : List Node) (n d : ℕ) (name : List ℕ) → same_place (at_name (node t d).place name) (node t n).place ≡ true → renamed t n d name ≡ t
-unfolding renamed
+pub renamed_own : (t : List Node) (n d : ℕ) (name : List ℕ) → same_place (at_name (node t d).place name) (node t n).place ≡ true → renamed t n (at_name (node t d).place name) ≡ t
 renamed_own t n d name own = rw own refl
 
-pub renamed_node : (t : List Node) (n d : ℕ) (name : List ℕ) (k : ℕ) → same_place (at_name (node t d).place name) (node t n).place ≡ false → node (renamed t n d name) k ≡ moved (node t n).place (at_name (node t d).place name) (replaced_at (at_name (node t d).place name) (node t k))
-unfolding renamed
+pub renamed_node : (t : List Node) (n d : ℕ) (name : List ℕ) (k : ℕ) → same_place (at_name (node t d).place name) (node t n).place ≡ false → node (renamed t n (at_name (node t d).place name)) k ≡ moved (node t n).place (at_name (node t d).place name) (replaced_at (at_name (node t d).place name) (node t k))
 renamed_node t n d name k other = rw other (get_or-map (λ m. moved (node t n).place (at_name (node t d).place name) (replaced_at (at_name (node t d).place name) m)) t k nowhere)

@@ -5,7 +5,7 @@ use Rattle.std.specs.List.{list_all}
 use Rattle.std.specs.Cmp.Derive.{both_true}
 use Rattle.std.proofs.lemmas.Bool.{lt-ltb}
 use Rattle.file_tree.specs.Nodes.{Node}
-use Rattle.file_tree.specs.Changes.{Fault}
+use Rattle.file_tree.specs.Refusals.{Fault}
 use Rattle.file_tree.specs.WellFormed.{IsTree, is_byte}
 use Rattle.file_tree.specs.Views.{is_new, new_kind, new_content}
 use Rattle.file_tree.specs.declared.nodes.New.{New}

@@ -1,38 +1,7 @@
--- What becomes of a tree, and which changes are refused. (own, after open(2), mkdir(2), unlink(2),
--- rename(2) and ftruncate(2))
-use Rattle.std.specs.Prelude.{ℕ, ◌+◌, ◌-◌, Bool, true, false, ◌&&◌, ◌||◌, not, nat_lt, List, [], ◌∷◌, ◌++◌, Option, Some, None, is_some, length, take, drop, map, replicate, slice_set, if◌then◌else◌}
-use Rattle.file_tree.specs.Places.{same_place, begins, at_name}
-use Rattle.file_tree.specs.Nodes.{Kind, Dir, Node, node, node_at, has_below, stands_at}
-
--- Why a change is refused.
-pub data Fault : Type 0 where
-  Exists : Fault
-  NotEmpty : Fault
-  Full : Fault
-  IntoItself : Fault
-  Gone : Fault
-
--- how many nodes may be made in a tree, its root and removed ones counted, and how many bytes a file may have
-abbrev pub most_nodes : ℕ
-most_nodes = 1024
-
-abbrev pub most_bytes : ℕ
-most_bytes = 4096
-
--- A new tree has the root alone.
-abbrev pub new_tree : List Node
-new_tree = record { kind = Dir; place = []; linked = true; content = [] } ∷ []
-
--- The tree with one more node, of that name in a directory. (open(2), mkdir(2))
-unfoldable pub created : List Node → ℕ → List ℕ → Kind → List ℕ → List Node
-created t d name kind content = t ++ (record { kind = kind; place = at_name (node t d).place name; linked = true; content = content }) ∷ []
-
--- A new node is refused in a directory that was removed, under a name that is taken, and in a full tree.
-unfoldable pub create_fault : List Node → ℕ → List ℕ → Option Fault
-create_fault t d name =
-    if not (node t d).linked then Some Gone
-    else (if is_some (node_at t (at_name (node t d).place name)) then Some Exists
-    else (if nat_lt (length t) most_nodes then None else Some Full))
+-- What becomes of a tree. (own, after open(2), mkdir(2), unlink(2), rename(2), write(2) and ftruncate(2))
+use Rattle.std.specs.Prelude.{ℕ, ◌+◌, ◌-◌, false, ◌&&◌, List, [], ◌∷◌, ◌++◌, length, take, drop, map, replicate, slice_set, if◌then◌else◌}
+use Rattle.file_tree.specs.Places.{same_place, begins}
+use Rattle.file_tree.specs.Nodes.{Node, node, stands_at}
 
 -- A removed node keeps its place and all else. (unlink(2))
 abbrev pub unlinked : Node → Node
@@ -40,16 +9,6 @@ unlinked m = record { kind = m.kind; place = m.place; linked = false; content = 
 
 unfoldable pub removed : List Node → ℕ → List Node
 removed t n = slice_set t n (unlinked (node t n))
-
--- whether a place is the root's
-abbrev pub is_root : List (List ℕ) → Bool
-is_root p = same_place [] p
-
--- A removal is refused of what was removed, and of a directory that holds something. The root is never empty.
-unfoldable pub remove_fault : List Node → ℕ → Option Fault
-remove_fault t n =
-    if not (node t n).linked then Some Gone
-    else (if is_root (node t n).place || has_below t (node t n).place then Some NotEmpty else None)
 
 -- what a rename from p to q makes of a node: the one that stands at q is removed, and in each linked one
 -- whose place begins with p this front becomes q
@@ -59,23 +18,11 @@ replaced_at q m = if stands_at q m then unlinked m else m
 abbrev pub moved : List (List ℕ) → List (List ℕ) → Node → Node
 moved p q m = if m.linked && begins p m.place then record { kind = m.kind; place = q ++ drop (length p) m.place; linked = m.linked; content = m.content } else m
 
--- The tree after a node was given that name in a directory; to its own place nothing changes. (rename(2))
-unfoldable pub renamed : List Node → ℕ → ℕ → List ℕ → List Node
-renamed t n d name =
+-- The tree after a node was given another place; to its own place nothing changes. (rename(2))
+abbrev pub renamed : List Node → ℕ → List (List ℕ) → List Node
+renamed t n place =
     let from = (node t n).place in
-    let to = at_name (node t d).place name in
-    if same_place to from then t else map (λ m. moved from to (replaced_at to m)) t
-
--- A rename is refused of what was removed and into what was removed, to a place below the node itself,
--- and over a directory that holds something. All places are below the root's.
-unfoldable pub rename_fault : List Node → ℕ → ℕ → List ℕ → Option Fault
-rename_fault t n d name =
-    let from = (node t n).place in
-    let to = at_name (node t d).place name in
-    if not ((node t n).linked && (node t d).linked) then Some Gone
-    else (if same_place to from then None
-    else (if begins from to then Some IntoItself
-    else (if has_below t to then Some NotEmpty else None)))
+    if same_place place from then t else map (λ m. moved from place (replaced_at place m)) t
 
 -- a content of that length: it is cut, or goes on with zeros
 abbrev pub resized : List ℕ → ℕ → List ℕ
@@ -89,10 +36,3 @@ written content at b = resized content at ++ b ∷ drop (at + 1) content
 unfoldable pub filled : List Node → ℕ → List ℕ → List Node
 filled t n content =
     slice_set t n (record { kind = (node t n).kind; place = (node t n).place; linked = (node t n).linked; content = content })
-
--- A file is full at its greatest length. (write(2), ftruncate(2))
-abbrev pub put_byte_fault : ℕ → Option Fault
-put_byte_fault at = if nat_lt at most_bytes then None else Some Full
-
-abbrev pub truncate_fault : ℕ → Option Fault
-truncate_fault len = if nat_lt most_bytes len then Some Full else None

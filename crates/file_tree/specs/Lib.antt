@@ -1,5 +1,6 @@
 pub mod Places
 pub mod Nodes
 pub mod Changes
+pub mod Refusals
 pub mod WellFormed
 pub mod Views

@@ -1,26 +1,36 @@
 -- Names, and places as lists of names. (own, but for what the manual pages beside it say)
-use Rattle.std.specs.Prelude.{ℕ, ◌+◌, ◌-◌, Bool, true, false, ◌&&◌, ◌||◌, not, nat_eq, nat_le, List, [], ◌∷◌, ◌++◌, length, take, if◌then◌else◌}
+use Rattle.std.specs.Prelude.{ℕ, ◌+◌, ◌-◌, Bool, true, false, ◌&&◌, ◌||◌, not, nat_eq, nat_le, List, [], ◌∷◌, ◌++◌, codes, length, take, if◌then◌else◌}
 use Rattle.std.specs.List.{list_all}
 use Rattle.std.specs.Str.{bytes_eq}
+use Rattle.rights.specs.Limits.{most_name, most_path}
+
+abbrev pub slash : ℕ
+slash = 47
+
+abbrev pub quote : ℕ
+quote = 34
+
+abbrev pub backslash : ℕ
+backslash = 92
 
 -- A name: one to 255 bytes from 33 to 126 without `/`, `"` and `\`; `.` and `..` name no node.
 abbrev pub is_name_byte : ℕ → Bool
-is_name_byte b = nat_le 33 b && nat_le b 126 && not (nat_eq b 34 || nat_eq b 47 || nat_eq b 92)
+is_name_byte b = nat_le 33 b && nat_le b 126 && not (nat_eq b quote || nat_eq b slash || nat_eq b backslash)
 
 abbrev pub is_dots : List ℕ → Bool
-is_dots name = bytes_eq name (46 ∷ []) || bytes_eq name (46 ∷ 46 ∷ [])
+is_dots name = bytes_eq name (codes ".") || bytes_eq name (codes "..")
 
 unfoldable pub is_name : List ℕ → Bool
-is_name name = not (nat_eq (length name) 0) && nat_le (length name) 255 && list_all is_name_byte name && not (is_dots name)
+is_name name = not (nat_eq (length name) 0) && nat_le (length name) most_name && list_all is_name_byte name && not (is_dots name)
 
 -- whether each name in a text has at most 255 bytes, of which so many of the first are already read
 abbrev pub names_fit : ℕ → List ℕ → Bool
-names_fit read [] = nat_le read 255
-names_fit read (b ∷ text) = if nat_eq b 47 then nat_le read 255 && names_fit 0 text else names_fit (read + 1) text
+names_fit read [] = nat_le read most_name
+names_fit read (b ∷ text) = if nat_eq b slash then nat_le read most_name && names_fit 0 text else names_fit (read + 1) text
 
 -- What a symbolic link may hold: a text of 1 to 1023 bytes whose names have at most 255 bytes each.
 unfoldable pub is_target : List ℕ → Bool
-is_target text = not (nat_eq (length text) 0) && nat_le (length text) 1023 && names_fit 0 text
+is_target text = not (nat_eq (length text) 0) && nat_le (length text) most_path && names_fit 0 text
 
 -- A place is the list of the names from the root down. The root's is empty.
 abbrev pub same_place : List (List ℕ) → List (List ℕ) → Bool
@@ -46,10 +56,10 @@ above p = take (length p - 1) p
 -- A place as text: `/` for the root, else each name after a `/`.
 abbrev pub names_text : List (List ℕ) → List ℕ
 names_text [] = []
-names_text (name ∷ p) = (47 ∷ name) ++ names_text p
+names_text (name ∷ p) = (slash ∷ name) ++ names_text p
 
 abbrev pub place_text : List (List ℕ) → List ℕ
-place_text [] = 47 ∷ []
+place_text [] = slash ∷ []
 place_text (name ∷ p) = names_text (name ∷ p)
 
 -- The names in a path: it is cut at each `/`, and empty names are left out. (open(2))
@@ -59,7 +69,7 @@ with_name (b ∷ name) names = (b ∷ name) ∷ names
 
 abbrev pub names_from : List ℕ → List ℕ → List (List ℕ)
 names_from begun [] = with_name begun []
-names_from begun (b ∷ path) = if nat_eq b 47 then with_name begun (names_from [] path) else names_from (begun ++ b ∷ []) path
+names_from begun (b ∷ path) = if nat_eq b slash then with_name begun (names_from [] path) else names_from (begun ++ b ∷ []) path
 
 unfoldable pub path_components : List ℕ → List (List ℕ)
 path_components path = names_from [] path

@@ -9,7 +9,7 @@ use Rattle.file_tree.specs.declared.faults.TreeFault.TheVariants as fault
 use Rattle.file_tree.specs.declared.entries.Entry.{Entry}
 use Rattle.file_tree.specs.Places.{is_target}
 use Rattle.file_tree.specs.Nodes.{Kind, File, Dir, Link, Node}
-use Rattle.file_tree.specs.Changes.{Fault, Exists, NotEmpty, Full, IntoItself, Gone}
+use Rattle.file_tree.specs.Refusals.{Fault, Exists, NotEmpty, Full, IntoItself, Gone}
 
 abbrev pub kind_of : KindCode → Kind
 kind_of kind.File = File

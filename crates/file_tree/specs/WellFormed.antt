@@ -3,7 +3,7 @@ use Rattle.std.specs.Prelude.{◌≡◌, ◌≤◌, ◌<◌, ℕ, Bool, true, �
 use Rattle.std.specs.List.{list_all, list_any}
 use Rattle.file_tree.specs.Places.{is_name, is_target, above}
 use Rattle.file_tree.specs.Nodes.{Kind, File, Dir, Link, Node, node, is_dir, stands_at}
-use Rattle.file_tree.specs.Changes.{most_nodes, most_bytes}
+use Rattle.rights.specs.Limits.{most_nodes, most_bytes}
 
 abbrev pub is_directory_at : List (List ℕ) → Node → Bool
 is_directory_at p m = stands_at p m && is_dir m.kind

@@ -2,8 +2,10 @@
 
 ghost use Rattle.std.specs.Prelude.{◌≡◌, ◌<◌, ◌≤◌, ◌++◌, None, true, drop, length, map, vec_len, IfOk, IfErr, OnOk, OnErr};
 ghost use Rattle.std.specs.List.{list_all};
+ghost use Rattle.file_tree.specs.Places.{at_name};
 ghost use Rattle.file_tree.specs.Nodes.{node};
-ghost use Rattle.file_tree.specs.Changes.{create_fault, created, filled, moved, put_byte_fault, remove_fault, removed, rename_fault, renamed, replaced_at, resized, truncate_fault, written};
+ghost use Rattle.file_tree.specs.Changes.{filled, moved, removed, renamed, replaced_at, resized, written};
+ghost use Rattle.file_tree.specs.Refusals.{create_fault, created, put_byte_fault, remove_fault, rename_fault, truncate_fault};
 ghost use Rattle.file_tree.specs.WellFormed.{is_byte};
 ghost use Rattle.file_tree.specs.Views.{Tells, kind_of, names_of, new_content, new_kind, node_of, nodes_of};
 
@@ -11,7 +13,7 @@ use crate::entries::{Entry, child_in, holds_below};
 use crate::faults::TreeFault;
 use crate::nodes::{Kind, New, NodeId};
 use crate::places::{append_names, child_place, copy_of, is_child, is_front, is_same_place};
-use crate::tree::{MAX_BYTES, MAX_NODES};
+use rights::limits::{MAX_BYTES, MAX_NODES};
 use std::alloc::{AllocError, Global};
 
 /// The kind of a node that is to be made.
@@ -50,7 +52,7 @@ fn content_to_make(alloc: Global, what: New<'_>) -> Result<Vec<u8>, AllocError>
 }
 
 /// Makes a node of that name in a directory.
-#[tactic(auto, unfolding(crate::specs::Changes::created, crate::specs::Changes::create_fault, crate::specs::Nodes::child_of))]
+#[tactic(auto, unfolding(crate::specs::Refusals::created, crate::specs::Refusals::create_fault, crate::specs::Nodes::child_of))]
 pub(crate) fn create_in(
     alloc: Global,
     entries: &mut Vec<Entry>,
@@ -89,7 +91,7 @@ pub(crate) fn create_in(
 }
 
 /// Removes a node.
-#[tactic(auto, unfolding(crate::specs::Changes::removed, crate::specs::Changes::remove_fault))]
+#[tactic(auto, unfolding(crate::specs::Changes::removed, crate::specs::Refusals::remove_fault))]
 pub(crate) fn remove_in(entries: &mut Vec<Entry>, n: usize) -> Result<(), TreeFault>
     requires { n < vec_len entries.old }
     ensures ok { OnOk result (nodes_of entries.new.items ≡ removed (nodes_of entries.old.items) n) }
@@ -180,7 +182,7 @@ fn moved_entries(
 }
 
 /// Gives a node that name in a directory. The new list is made first, and then it takes the old one's place.
-#[tactic(auto, unfolding(crate::specs::Changes::renamed, crate::specs::Changes::rename_fault))]
+#[tactic(auto, unfolding(crate::specs::Refusals::rename_fault))]
 pub(crate) fn rename_in(
     alloc: Global,
     entries: &mut Vec<Entry>,
@@ -190,7 +192,7 @@ pub(crate) fn rename_in(
 ) -> Result<(), TreeFault>
     requires there { n < vec_len entries.old }
     requires dir_there { dir < vec_len entries.old }
-    ensures ok { OnOk result (nodes_of entries.new.items ≡ renamed (nodes_of entries.old.items) n dir name.now) }
+    ensures ok { OnOk result (nodes_of entries.new.items ≡ renamed (nodes_of entries.old.items) n (at_name (node (nodes_of entries.old.items) dir).place name.now)) }
     ensures allowed { OnOk result (rename_fault (nodes_of entries.old.items) n dir name.now ≡ None) }
     ensures refused { IfErr result (Tells (rename_fault (nodes_of entries.old.items) n dir name.now)) }
     ensures err { OnErr result (nodes_of entries.new.items ≡ nodes_of entries.old.items) }

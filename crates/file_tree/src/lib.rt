@@ -15,8 +15,8 @@ mod places;
 pub mod tree;
 
 pub use faults::TreeFault;
-pub use names::{MAX_NAME, MAX_TARGET, is_valid_name, is_valid_target};
+pub use names::{is_valid_name, is_valid_target};
 pub use nodes::{Kind, New, NodeId};
 pub use place_tree::PlaceTree;
 pub use places::{is_front, is_same_place};
-pub use tree::{MAX_BYTES, MAX_NODES, Tree};
+pub use tree::Tree;

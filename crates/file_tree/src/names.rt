@@ -4,11 +4,7 @@ ghost use Rattle.std.specs.Prelude.{◌≡◌};
 ghost use Rattle.std.specs.List.{list_all};
 ghost use Rattle.file_tree.specs.Places.{is_dots, is_name, is_name_byte, is_target, names_fit};
 
-/// How many bytes a name may have. (own)
-pub const MAX_NAME: usize = 255;
-
-/// How many bytes the target of a symbolic link may have. (own)
-pub const MAX_TARGET: usize = 1023;
+use rights::limits::{MAX_NAME, MAX_PATH};
 
 /// Whether a byte may stand in a name.
 fn may_stand_in_name(byte: u8) -> bool
@@ -71,5 +67,5 @@ pub fn is_valid_target(target: &[u8]) -> bool
     ensures { result ≡ is_target target.now }
 {
     let has_short_names = has_short_names(target);
-    !target.is_empty() && target.len() <= MAX_TARGET && has_short_names
+    !target.is_empty() && target.len() <= MAX_PATH && has_short_names
 }

@@ -2,21 +2,16 @@
 
 ghost use Rattle.std.specs.Prelude.{◌≡◌, ◌<◌, ◌++◌, List, Option, None, length, IsTrue, IfOk, IfErr, OnOk, OnErr};
 ghost use Rattle.std.specs.Option.{option_copied};
-ghost use Rattle.file_tree.specs.Places.{begins, is_name, path_components, place_text};
+ghost use Rattle.file_tree.specs.Places.{at_name, begins, is_name, path_components, place_text};
 ghost use Rattle.file_tree.specs.Nodes.{Dir, File, Node, byte_of, child_of, node, parent_of, target_of};
-ghost use Rattle.file_tree.specs.Changes.{create_fault, created, filled, new_tree, put_byte_fault, remove_fault, removed, rename_fault, renamed, resized, truncate_fault, written};
+ghost use Rattle.file_tree.specs.Changes.{filled, removed, renamed, resized, written};
+ghost use Rattle.file_tree.specs.Refusals.{create_fault, created, new_tree, put_byte_fault, remove_fault, rename_fault, truncate_fault};
 ghost use Rattle.file_tree.specs.WellFormed.{IsTree};
 ghost use Rattle.file_tree.specs.Views.{Tells, is_new, kind_of, new_content, new_kind};
 
 use crate::faults::TreeFault;
 use crate::nodes::{Kind, New, NodeId};
 use std::alloc::Global;
-
-/// How many nodes may be made in a tree, the root and removed ones counted. (own)
-pub const MAX_NODES: usize = 1024;
-
-/// How many bytes a file may have. (own)
-pub const MAX_BYTES: usize = 4096;
 
 /// A file tree. It names its nodes by numbers, which stay good when a node is removed: a removed node
 /// keeps its place and its content for good. A refused change leaves the tree as it was. `Memory` may
@@ -112,7 +107,7 @@ pub trait Tree: Sized + Drop {
         requires dir_there { dir < length (nodes self.old) }
         requires directory { (node (nodes self.old) dir).kind ≡ Dir }
         requires name { IsTrue (is_name name.now) }
-        ensures ok { OnOk result (nodes self.new ≡ renamed (nodes self.old) n dir name.now) }
+        ensures ok { OnOk result (nodes self.new ≡ renamed (nodes self.old) n (at_name (node (nodes self.old) dir).place name.now)) }
         ensures allowed { OnOk result (rename_fault (nodes self.old) n dir name.now ≡ None) }
         ensures refused { IfErr result (Tells (rename_fault (nodes self.old) n dir name.now)) }
         ensures err { OnErr result (nodes self.new ≡ nodes self.old) };

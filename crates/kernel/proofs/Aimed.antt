@@ -5,13 +5,13 @@ use Rattle.std.proofs.lemmas.Bool.{eq-eqb, both_ways}
 use Rattle.std.proofs.lemmas.Bool.Decides.{eqb_tells}
 use Rattle.rights.specs.Maps.{put}
 use Rattle.rights.proofs.Changes.{put-cases, put-same, put-other}
-use Rattle.fd_table.specs.Descriptions.{Class, Object, At_node, At_end, Descriptor, Message}
+use Rattle.fd_table.specs.Descriptions.{Class, Object, At_node, At_end, Descriptor, Message, IfHeld}
 use Rattle.fd_table.specs.OpenFiles.{OpenFiles, is_end}
 use Rattle.kernel.specs.World.{World, Choice, IsFresh}
 use Rattle.kernel.specs.Steps.{Programs, step}
-use Rattle.kernel.specs.WellFormed.{Numbering, IfHeld, EachMessage, IsWorld}
+use Rattle.kernel.specs.WellFormed.{Numbering, EachMessage, IsWorld}
 use Rattle.kernel.specs.Renamings.{Renaming, SameDescription, EachNamed, SameFiles, NumbersDoNotMatter, renamed_object, renamed_entry, renamed_messages}
-use Rattle.kernel.proofs.Brings.{Known}
+use Rattle.kernel.proofs.Brings.{ground, Known}
 use Rattle.kernel.proofs.Fresh.{IsApart, known_entries, known_messages}
 use Rattle.kernel.proofs.ChangedAlike.{Aims, each_named}
 use Rattle.kernel.proofs.SteppedAlike.{SameStep, steps_same}
@@ -163,19 +163,19 @@ module _ (r : Renaming) (w v : OpenFiles) (j k : Choice) where
 
 -- ## What is named in two well-formed worlds
 module _ (r : Renaming) (w v : World) (one two : Numbering) (j k : Choice) where
-  separate_one : (o : Option Descriptor) → IfHeld (λ d. SameDescription r w.files v.files d.description) o → IfHeld (Known one w (IsApart w.files j)) o → IfHeld (Known two v (IsApart v.files k)) (renamed_entry r o) → IfHeld (λ d. Separate r w.files v.files j k d.description) o
+  separate_one : (o : Option Descriptor) → IfHeld (λ d. SameDescription r w.files v.files d.description) o → IfHeld (Known (ground one w (IsApart w.files j))) o → IfHeld (Known (ground two v (IsApart v.files k))) (renamed_entry r o) → IfHeld (λ d. Separate r w.files v.files j k d.description) o
   separate_one None twin here there = tt
   separate_one (Some d) twin here there = record { twin = twin; here = here.1; there = there.1 }
 
-  separate_each : (messages : List Message) → EachNamed (SameDescription r w.files v.files) messages → EachMessage (Known one w (IsApart w.files j)) messages → EachMessage (Known two v (IsApart v.files k)) (renamed_messages r messages) → EachNamed (Separate r w.files v.files j k) messages
+  separate_each : (messages : List Message) → EachNamed (SameDescription r w.files v.files) messages → EachMessage (Known (ground one w (IsApart w.files j))) messages → EachMessage (Known (ground two v (IsApart v.files k))) (renamed_messages r messages) → EachNamed (Separate r w.files v.files j k) messages
   separate_each [] twin here there = tt
   separate_each (m ∷ messages) twin here there = (separate_one m.passed twin.0 here.1 there.1, separate_each messages twin.1 here.2 there.2)
 
   aimed_worlds : (programs : Programs) → IsWorld programs one w → IsWorld programs two v → SameFiles r w.files v.files → IsFresh w.files j → IsFresh v.files k → SameFiles (aimed_at r j k) w.files v.files
   aimed_worlds programs good fine same fresh also =
       aimed_files r w.files v.files j k same
-      (λ p n. separate_one (w.files.table p n) (same.entries p n) (known_entries programs one w good j fresh p n) (subst (IfHeld (Known two v (IsApart v.files k))) (same.table p n) (known_entries programs two v fine k also p n)))
-      (λ pair side. separate_each (w.files.queue pair side) (same.messages pair side) (known_messages programs one w good j fresh pair side) (subst (EachMessage (Known two v (IsApart v.files k))) (same.queue pair side) (known_messages programs two v fine k also (r.pair pair) side)))
+      (λ p n. separate_one (w.files.table p n) (same.entries p n) (known_entries programs one w good j fresh p n) (subst (IfHeld (Known (ground two v (IsApart v.files k)))) (same.table p n) (known_entries programs two v fine k also p n)))
+      (λ pair side. separate_each (w.files.queue pair side) (same.messages pair side) (known_messages programs one w good j fresh pair side) (subst (EachMessage (Known (ground two v (IsApart v.files k)))) (same.queue pair side) (known_messages programs two v fine k also (r.pair pair) side)))
       fresh.pair.empty also.pair.empty
 
 -- Whatever is chosen in both, the lines are the same, and the next worlds differ only in numbers again.

@@ -2,17 +2,17 @@
 use Rattle.std.proofs.Common.{◌≡◌, ℕ, ◌≤◌, List, [], ◌∷◌, refl, length, sym, ◌∙◌, subst}
 use Rattle.std.specs.Prelude.{Option, Some, None}
 use Rattle.std.specs.List.{slice_get}
-use Rattle.file_tree.specs.Changes.{most_bytes}
+use Rattle.rights.specs.Limits.{most_bytes, most_messages}
 use Rattle.process.specs.State.{ProcessState}
 use Rattle.prog_asm.specs.Programs.{Syscall}
-use Rattle.fd_table.specs.Descriptions.{Object, At_node, At_end, State, Descriptor, Message}
+use Rattle.fd_table.specs.Descriptions.{Object, At_node, At_end, State, Descriptor, Message, IfHeld}
 use Rattle.fd_table.specs.OpenFiles.{OpenFiles, Alike, SameDescriptions, IsOther, AreOther, IsUnnamed, IsUnused, is_open}
 use Rattle.fd_table.specs.OpenFiles as open_files
 use Rattle.kernel.specs.World.{World, Choice, IsFresh}
-use Rattle.kernel.specs.Answers.{Event, TableChange, Same_table, Set_entry, Clear_entry, New_file, New_pair, New_process, QueueChange, Same_queue, Push, Pop, StateChange, Same_state, Set_state, Answer, Fails, Waits, Gives}
-use Rattle.kernel.specs.Calls.{answer, most_messages}
+use Rattle.kernel.specs.Answers.{Event, TableChange, Same_table, Set_entry, Clear_entry, New_file, New_pair, New_process, QueueChange, Same_queue, Push, Pop, StateChange, Same_state, Set_state, Answer, Fails, Waits, Gives, IsEvent}
+use Rattle.kernel.specs.Calls.{answer}
 use Rattle.kernel.specs.Steps.{Programs, step}
-use Rattle.kernel.specs.WellFormed.{ArePrograms, IsEvent, Numbering, IsObject, IsDescriptor, IfHeld, EachMessage, HasNone, IsWorld, IsWellFormed}
+use Rattle.kernel.specs.WellFormed.{ArePrograms, Numbering, IsObject, IsDescriptor, EachMessage, HasNone, IsWorld, IsWellFormed}
 use Rattle.kernel.specs.Renamings.{Renaming, SameDescription, EachNamed, SameFiles, renamed_object, renamed_entry, renamed_messages}
 use Rattle.kernel.specs.Alike.{AlikeWorldsTwice, StepsAsOne, ActsAs, AlikeWorldsActAlike}
 use Rattle.kernel.proofs.Keeping.{kept}

@@ -5,16 +5,15 @@ use Rattle.std.proofs.lemmas.Bool.{cond_both}
 use Rattle.rights.specs.Sets.{is_within, all_rights, all_commands}
 use Rattle.rights.specs.Errors.{Errno, Cause}
 use Rattle.file_tree.specs.Nodes.{Kind, File, Dir, Link, Node, node, is_dir, is_file, is_link}
-use Rattle.file_tree.specs.Changes.{most_bytes}
+use Rattle.rights.specs.Limits.{most_bytes, most_messages, most_processes}
 use Rattle.file_tree.specs.WellFormed.{IsTree}
 use Rattle.lookup.specs.Answers.{Fault, Escape, No_entry, Not_dir, Loop, Too_long, Bad_last}
-use Rattle.fd_table.specs.Descriptions.{Access, Object, At_node, At_end, Descriptor, Message}
+use Rattle.fd_table.specs.Descriptions.{Access, Object, At_node, At_end, Descriptor, Message, IfHeld}
 use Rattle.fd_table.specs.OpenFiles.{lowest_from, lowest_free}
 use Rattle.kernel.specs.World.{World}
 use Rattle.kernel.specs.Answers.{TableChange, Same_table, Set_entry, Clear_entry, New_file, New_pair, New_process, QueueChange, Same_queue, Push, Pop, StateChange, Same_state, Set_state, Change, Answer, Fails, Waits, Gives, unless, held, at_object, at_number, lost}
-use Rattle.kernel.specs.Calls.{most_messages, most_processes}
 use Rattle.kernel.specs.Changes.{tree_after}
-use Rattle.kernel.specs.WellFormed.{Numbering, IsObject, IsDescriptor, IfHeld}
+use Rattle.kernel.specs.WellFormed.{Numbering, IsObject, IsDescriptor}
 
 -- Into a table: a descriptor that is well formed already; a file or directory that is in the tree then, with sets
 -- within all; a pair; a child, if there is room.
@@ -37,21 +36,30 @@ abbrev pub BringsState : StateChange → Type 0
 BringsState Same_state = Unit {0}
 BringsState (Set_state description state) = state.offset ≤ most_bytes
 
--- A descriptor that is known: it is well formed, and its description has what else each description has that is named.
-abbrev pub Known : Numbering → World → (ℕ → Type 0) → Descriptor → Type 0
-Known numbering w Named d = IsDescriptor w.tree numbering w.files.objects w.files.states d × Named d.description
+-- What a call stands on: a world with its numbering, and what else holds of each description that is named in it.
+pub record Ground : Type 1 where
+  pub numbering : Numbering
+  pub world : World
+  pub Named : ℕ → Type 0
 
-pub record Brings (numbering : Numbering) (w : World) (Named : ℕ → Type 0) (value : ℕ) (change : Change) : Type 0 where
+abbrev pub ground : Numbering → World → (ℕ → Type 0) → Ground
+ground numbering w Named = record { numbering = numbering; world = w; Named = Named }
+
+-- a descriptor that is known: it is well formed, and its description has what each has that is named
+abbrev pub Known : Ground → Descriptor → Type 0
+Known g d = IsDescriptor g.world.tree g.numbering g.world.files.objects g.world.files.states d × g.Named d.description
+
+pub record Brings (g : Ground) (value : ℕ) (change : Change) : Type 0 where
   pub small : value < 2 ^ 32
-  pub tree : IsTree (tree_after w.tree change.tree)
-  pub table : BringsTable (Known numbering w Named) (tree_after w.tree change.tree) (length w.processes) change.table
-  pub queue : BringsQueue (Known numbering w Named) w.files.queue change.queue
+  pub tree : IsTree (tree_after g.world.tree change.tree)
+  pub table : BringsTable (Known g) (tree_after g.world.tree change.tree) (length g.world.processes) change.table
+  pub queue : BringsQueue (Known g) g.world.files.queue change.queue
   pub state : BringsState change.state
 
-unfoldable pub Sound : Numbering → World → (ℕ → Type 0) → Answer → Type 0
-Sound numbering w Named (Fails errno cause) = Unit {0}
-Sound numbering w Named Waits = Unit {0}
-Sound numbering w Named (Gives value change effects) = Brings numbering w Named value change
+unfoldable pub Sound : Ground → Answer → Type 0
+Sound g (Fails errno cause) = Unit {0}
+Sound g Waits = Unit {0}
+Sound g (Gives value change effects) = Brings g value change
 
 -- numbers that are free are below 16
 lowest_low : (count n : ℕ) (row : ℕ → Option Descriptor) (k : ℕ) → lowest_from count n row ≡ Some k → k < n + count
@@ -85,44 +93,44 @@ no_directory Dir opened is = absurd cc
 no_directory Link opened is = absurd cc
 
 -- The tests. Each hands on what it has found.
-module _ (numbering : Numbering) (w : World) (Named : ℕ → Type 0) where
-  pub sound-fails : (errno : Errno) (cause : Cause) → Sound numbering w Named (Fails errno cause)
+module _ (g : Ground) where
+  pub sound-fails : (errno : Errno) (cause : Cause) → Sound g (Fails errno cause)
   unfolding Sound
   sound-fails errno cause = tt
 
-  pub sound-waits : Sound numbering w Named Waits
+  pub sound-waits : Sound g Waits
   unfolding Sound
   sound-waits = tt
 
-  pub sound-gives : (value : ℕ) (change : Change) (effects : _) → Brings numbering w Named value change → Sound numbering w Named (Gives value change effects)
+  pub sound-gives : (value : ℕ) (change : Change) (effects : _) → Brings g value change → Sound g (Gives value change effects)
   unfolding Sound
   sound-gives value change effects brings = brings
 
-  pub sound-unless : (test : Bool) (errno : Errno) (cause : Cause) (rest : Answer) → (test ≡ true → Sound numbering w Named rest) → Sound numbering w Named (unless test errno cause rest)
+  pub sound-unless : (test : Bool) (errno : Errno) (cause : Cause) (rest : Answer) → (test ≡ true → Sound g rest) → Sound g (unless test errno cause rest)
   unfolding unless
   sound-unless true errno cause rest sound = sound refl
   sound-unless false errno cause rest sound = sound-fails errno cause
 
-  pub sound-if : (test : Bool) (a b : Answer) → (test ≡ true → Sound numbering w Named a) → Sound numbering w Named b → Sound numbering w Named (cond test a b)
+  pub sound-if : (test : Bool) (a b : Answer) → (test ≡ true → Sound g a) → Sound g b → Sound g (cond test a b)
   sound-if true a b first second = first refl
   sound-if false a b first second = second
 
-  pub sound-held : (o : Option Descriptor) (rest : Descriptor → Answer) → IfHeld (Known numbering w Named) o → ((d : Descriptor) → o ≡ Some d → Known numbering w Named d → Sound numbering w Named (rest d)) → Sound numbering w Named (held o rest)
+  pub sound-held : (o : Option Descriptor) (rest : Descriptor → Answer) → IfHeld (Known g) o → ((d : Descriptor) → o ≡ Some d → Known g d → Sound g (rest d)) → Sound g (held o rest)
   unfolding held
   sound-held None rest good sound = sound-fails _ _
   sound-held (Some d) rest good sound = sound d refl good
 
-  pub sound-object : (description : ℕ) (o : Object) (on_node : ℕ → Access → Answer) (on_end : ℕ → ℕ → Answer) → IsObject w.tree numbering description o → ((n : ℕ) (access : Access) → is_link (node w.tree n).kind ≡ false → Sound numbering w Named (on_node n access)) → ((pair side : ℕ) → side < 2 → Sound numbering w Named (on_end pair side)) → Sound numbering w Named (at_object o on_node on_end)
+  pub sound-object : (description : ℕ) (o : Object) (on_node : ℕ → Access → Answer) (on_end : ℕ → ℕ → Answer) → IsObject g.world.tree g.numbering description o → ((n : ℕ) (access : Access) → is_link (node g.world.tree n).kind ≡ false → Sound g (on_node n access)) → ((pair side : ℕ) → side < 2 → Sound g (on_end pair side)) → Sound g (at_object o on_node on_end)
   unfolding at_object
   sound-object description (At_node n access) on_node on_end good nodes ends = nodes n access good
   sound-object description (At_end pair side class) on_node on_end good nodes ends = ends pair side good.1
 
-  pub sound-number : (o : Option ℕ) (rest : ℕ → Answer) → ((n : ℕ) → o ≡ Some n → Sound numbering w Named (rest n)) → Sound numbering w Named (at_number o rest)
+  pub sound-number : (o : Option ℕ) (rest : ℕ → Answer) → ((n : ℕ) → o ≡ Some n → Sound g (rest n)) → Sound g (at_number o rest)
   unfolding at_number
   sound-number None rest sound = sound-fails _ _
   sound-number (Some n) rest sound = sound n refl
 
-  pub sound-lost : (fault : Fault) → Sound numbering w Named (lost fault)
+  pub sound-lost : (fault : Fault) → Sound g (lost fault)
   sound-lost Escape = sound-fails _ _
   sound-lost No_entry = sound-fails _ _
   sound-lost Not_dir = sound-fails _ _

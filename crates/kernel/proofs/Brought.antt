@@ -11,27 +11,28 @@ use Rattle.rights.proofs.Lists.{list_all-slice_get}
 use Rattle.rights.proofs.Subsets.{is_within-refl, is_within-trans}
 use Rattle.rights.proofs.Tests.{both_left, both_right, not_true}
 use Rattle.file_tree.specs.Nodes.{Kind, File, Dir, Link, Node, node, is_dir, is_link}
-use Rattle.file_tree.specs.Changes.{most_bytes, put_byte_fault, truncate_fault}
+use Rattle.rights.specs.Limits.{most_bytes, most_messages}
+use Rattle.file_tree.specs.Refusals.{put_byte_fault, truncate_fault}
 use Rattle.file_tree.specs.WellFormed.{IsTree, is_byte}
 use Rattle.file_tree.proofs.KeptByCreate.{limits_of}
 use Rattle.file_tree.proofs.KeptByFill.{filled_is_tree, written_is_tree, resized_is_tree}
-use Rattle.lookup.specs.Answers.{Way, Beneath, Global, Follow, Keep, Found_node, Found_free, Lost}
+use Rattle.lookup.specs.Answers.{Way, Last, Beneath, Global, Follow, Keep, Found_node, Found_free, Lost}
 use Rattle.lookup.specs.Answers as lookups
 use Rattle.lookup.specs.Paths.{last_component}
 use Rattle.lookup.specs.Promises.{IsLinked, IsThere, HasName, IsUnderName}
 use Rattle.process.specs.State.{ProcessState}
 use Rattle.prog_asm.specs.Programs.{Syscall, Open, Openat, Read, Write, Sendfd, Recvfd, Lseek, Ftruncate, Fsync, Fstat, Fcntl_getfl, Fcntl_setfl, Fstatat, Stat, Mkdirat, Mkdir, Unlinkat, Unlink, Renameat, Dup, Close, Cap_rights_limit, Cap_fcntls_limit, Cap_enter, Cap_getmode, Socketpair, Fork, is_syscall, is_operand, is_path}
-use Rattle.fd_table.specs.Descriptions.{Access, State, Descriptor, Message, other_side, bit_of, status_number}
+use Rattle.fd_table.specs.Descriptions.{Access, State, Descriptor, Message, other_side, bit_of, status_number, IfHeld}
 use Rattle.fd_table.specs.OpenFiles.{is_open, lowest_from, lowest_free}
 use Rattle.kernel.specs.World.{World}
 use Rattle.kernel.specs.Answers.{Event, TreeChange, Answer, same, held, value_of}
-use Rattle.kernel.specs.Calls.{Search, looks, looks_twice, answer, truncated, opened, opened_as, read_byte, read_node, read_end, write_node, write_at, sent_end, received, receive_end, looked, looked_at, kind_number, made_directory, unlinked, renamed_to, renamed_from, pair_at, blocked, in_directory, at_file, at_socket, most_messages, last_if}
+use Rattle.kernel.specs.Calls.{looks, looks_twice, answer, truncated, opened, opened_as, read_byte, read_node, read_end, write_node, write_at, sent_end, received, receive_end, looked, looked_at, kind_number, made_directory, unlinked, renamed_to, renamed_from, pair_at, blocked, in_directory, at_file, at_socket, last_if}
 use Rattle.kernel.specs.Changes.{tree_after}
 use Rattle.kernel.specs.Steps.{Programs}
-use Rattle.kernel.specs.WellFormed.{Numbering, IfHeld, EachMessage, IsWorld}
+use Rattle.kernel.specs.WellFormed.{EachMessage, IsWorld}
 use Rattle.kernel.proofs.Trees.{made_is_tree, emptied_is_tree, unlinked_is_tree, moved_to_free, there_if_opened, opened_kept}
 use Rattle.kernel.proofs.Lookups.{MayMake, Sure, find_sure, moved_over}
-use Rattle.kernel.proofs.Brings.{Known, Brings, Sound, free_low, second_low, file_kind, no_directory, sound-fails, sound-waits, sound-gives, sound-unless, sound-if, sound-held, sound-object, sound-number, sound-lost}
+use Rattle.kernel.proofs.Brings.{Ground, Known, Brings, Sound, free_low, second_low, file_kind, no_directory, sound-fails, sound-waits, sound-gives, sound-unless, sound-if, sound-held, sound-object, sound-number, sound-lost}
 
 dir_opened : (kind : Kind) → is_dir kind ≡ true → is_link kind ≡ false
 dir_opened File is = refl
@@ -72,12 +73,21 @@ no_truncate_fault len is = grind (arith, nat_tests)
 no_put_byte_fault : (at : ℕ) → nat_lt at most_bytes ≡ true → put_byte_fault at ≡ None
 no_put_byte_fault at is = rw is refl
 
-module _ (programs : Programs) (numbering : Numbering) (w : World) (good : IsWorld programs numbering w) (Named : ℕ → Type 0) (entries : (p n : ℕ) → IfHeld (Known numbering w Named) (w.files.table p n)) (messages : (pair side : ℕ) → EachMessage (Known numbering w Named) (w.files.queue pair side)) (p : ℕ) (s : ProcessState) (e : Event) where
-  -- ## Changes that leave most parts as they are
-  nothing : (value : ℕ) → value < 2 ^ 32 → Brings numbering w Named value same
-  nothing value small = record { small = small; tree = good.tree; table = tt; queue = tt; state = tt }
+-- The ground is a well-formed world, in which each entry and message is known.
+pub record Standing (programs : Programs) (g : Ground) : Type 0 where
+  pub good : IsWorld programs g.numbering g.world
+  pub entries : (p n : ℕ) → IfHeld (Known g) (g.world.files.table p n)
+  pub messages : (pair side : ℕ) → EachMessage (Known g) (g.world.files.queue pair side)
 
-  alters : (value : ℕ) (tree : TreeChange) → value < 2 ^ 32 → IsTree (tree_after w.tree tree) → Brings numbering w Named value (record same { tree = tree })
+module _ (programs : Programs) (g : Ground) (standing : Standing programs g) (p : ℕ) (s : ProcessState) (e : Event) where
+  abbrev w : World
+  w = g.world
+
+  -- ## Changes that leave most parts as they are
+  nothing : (value : ℕ) → value < 2 ^ 32 → Brings g value same
+  nothing value small = record { small = small; tree = standing.good.tree; table = tt; queue = tt; state = tt }
+
+  alters : (value : ℕ) (tree : TreeChange) → value < 2 ^ 32 → IsTree (tree_after w.tree tree) → Brings g value (record same { tree = tree })
   alters value tree small is = record { small = small; tree = is; table = tt; queue = tt; state = tt }
 
   zero_small : 0 < 2 ^ 32
@@ -91,134 +101,134 @@ module _ (programs : Programs) (numbering : Numbering) (w : World) (good : IsWor
   entry_low n d is =
       elim (cases_Bool (nat_lt n 16)) [
         | inl low ↦ ltb-true n 16 low
-        | inr high ↦ (let far : 16 ≤ n = grind (arith, nat_tests) in let none : w.files.table p n ≡ None = good.numbers p n far in cc)
+        | inr high ↦ (let far : 16 ≤ n = grind (arith, nat_tests) in let none : w.files.table p n ≡ None = standing.good.numbers p n far in cc)
       ]
 
   -- ## What is at a descriptor
-  sound-blocked : (nonblock : Bool) → Sound numbering w Named (blocked w p s e nonblock)
-  sound-blocked nonblock = sound-if numbering w Named nonblock _ _ (λ _. sound-fails numbering w Named _ _) (sound-waits numbering w Named)
+  sound-blocked : (nonblock : Bool) → Sound g (blocked w p s e nonblock)
+  sound-blocked nonblock = sound-if g nonblock _ _ (λ _. sound-fails g _ _) (sound-waits g)
 
-  sound-entry : (n : ℕ) (rest : Descriptor → Answer) → ((d : Descriptor) → n < 16 → Known numbering w Named d → Sound numbering w Named (rest d)) → Sound numbering w Named (held (w.files.table p n) rest)
-  sound-entry n rest sound = sound-held numbering w Named (w.files.table p n) rest (entries p n) (λ d is fine. sound d (entry_low n d is) fine)
+  sound-entry : (n : ℕ) (rest : Descriptor → Answer) → ((d : Descriptor) → n < 16 → Known g d → Sound g (rest d)) → Sound g (held (w.files.table p n) rest)
+  sound-entry n rest sound = sound-held g (w.files.table p n) rest (standing.entries p n) (λ d is fine. sound d (entry_low n d is) fine)
 
-  sound-directory : (d : Descriptor) (rest : ℕ → Answer) → Known numbering w Named d → ((n : ℕ) → is_link (node w.tree n).kind ≡ false → Sound numbering w Named (rest n)) → Sound numbering w Named (in_directory w p s e d rest)
+  sound-directory : (d : Descriptor) (rest : ℕ → Answer) → Known g d → ((n : ℕ) → is_link (node w.tree n).kind ≡ false → Sound g (rest n)) → Sound g (in_directory w p s e d rest)
   sound-directory d rest fine sound =
-      sound-object numbering w Named d.description (w.files.objects d.description) _ _ fine.0.object
-      (λ n access opened. sound-unless numbering w Named _ _ _ _ (λ dir. sound n opened))
-      (λ pair side low. sound-fails numbering w Named _ _)
+      sound-object g d.description (w.files.objects d.description) _ _ fine.0.object
+      (λ n access opened. sound-unless g _ _ _ _ (λ dir. sound n opened))
+      (λ pair side low. sound-fails g _ _)
 
-  sound-file : (d : Descriptor) (rest : ℕ → Access → Answer) → Known numbering w Named d → ((n : ℕ) (access : Access) → (node w.tree n).kind ≡ File → Sound numbering w Named (rest n access)) → Sound numbering w Named (at_file w p s e d rest)
+  sound-file : (d : Descriptor) (rest : ℕ → Access → Answer) → Known g d → ((n : ℕ) (access : Access) → (node w.tree n).kind ≡ File → Sound g (rest n access)) → Sound g (at_file w p s e d rest)
   sound-file d rest fine sound =
-      sound-object numbering w Named d.description (w.files.objects d.description) _ _ fine.0.object
-      (λ n access opened. sound-unless numbering w Named _ _ _ _ (λ file. sound n access (file_kind (node w.tree n).kind file)))
-      (λ pair side low. sound-fails numbering w Named _ _)
+      sound-object g d.description (w.files.objects d.description) _ _ fine.0.object
+      (λ n access opened. sound-unless g _ _ _ _ (λ file. sound n access (file_kind (node w.tree n).kind file)))
+      (λ pair side low. sound-fails g _ _)
 
-  sound-socket : (d : Descriptor) (rest : ℕ → ℕ → Answer) → Known numbering w Named d → ((pair side : ℕ) → side < 2 → Sound numbering w Named (rest pair side)) → Sound numbering w Named (at_socket w p s e d rest)
+  sound-socket : (d : Descriptor) (rest : ℕ → ℕ → Answer) → Known g d → ((pair side : ℕ) → side < 2 → Sound g (rest pair side)) → Sound g (at_socket w p s e d rest)
   sound-socket d rest fine sound =
-      sound-object numbering w Named d.description (w.files.objects d.description) _ _ fine.0.object
-      (λ n access opened. sound-fails numbering w Named _ _) sound
+      sound-object g d.description (w.files.objects d.description) _ _ fine.0.object
+      (λ n access opened. sound-fails g _ _) sound
 
   -- ## Files
   file_there : (n : ℕ) → (node w.tree n).kind ≡ File → n < length w.tree
   file_there n file = there_if_opened w.tree n (ap is_link file)
 
   truncated_is_tree : (trunc : Bool) (n : ℕ) → (node w.tree n).kind ≡ File → IsTree (tree_after w.tree (truncated w p s e trunc n))
-  truncated_is_tree true n file = filled_is_tree w.tree n [] good.tree file (file_there n file) (omega arith) refl
-  truncated_is_tree false n file = good.tree
+  truncated_is_tree true n file = filled_is_tree w.tree n [] standing.good.tree file (file_there n file) (omega arith) refl
+  truncated_is_tree false n file = standing.good.tree
 
   -- a byte of a file, at an offset in it
   file_byte : (n offset byte : ℕ) → (node w.tree n).kind ≡ File → slice_get (node w.tree n).content offset ≡ Some byte → (byte < 256) × (offset < most_bytes)
   file_byte n offset byte file here =
-      let old = limits_of (node w.tree n) (good.tree.limits n (file_there n file)) in
+      let old = limits_of (node w.tree n) (standing.good.tree.limits n (file_there n file)) in
       let short : length (node w.tree n).content ≤ most_bytes = leb-true (length (node w.tree n).content) most_bytes (rw file at old.content) in
       let within : offset < length (node w.tree n).content = slice_get_within (node w.tree n).content offset byte here in
       (ltb-true byte 256 (list_all-slice_get is_byte (node w.tree n).content offset byte old.bytes here), omega arith)
 
-  sound-byte : (d : Descriptor) (n : ℕ) (place : List (List ℕ)) (o : Option ℕ) → (node w.tree n).kind ≡ File → slice_get (node w.tree n).content (w.files.states d.description).offset ≡ o → Sound numbering w Named (read_byte w p s e d place o)
-  sound-byte d n place None file here = sound-gives numbering w Named _ _ _ (nothing 256 (omega arith))
+  sound-byte : (d : Descriptor) (n : ℕ) (place : List (List ℕ)) (o : Option ℕ) → (node w.tree n).kind ≡ File → slice_get (node w.tree n).content (w.files.states d.description).offset ≡ o → Sound g (read_byte w p s e d place o)
+  sound-byte d n place None file here = sound-gives g _ _ _ (nothing 256 (omega arith))
   sound-byte d n place (Some byte) file here =
       let facts = file_byte n (w.files.states d.description).offset byte file here in
       let small : byte < 2 ^ 32 = omega (arith, facts.0) in
       let within : (w.files.states d.description).offset + 1 ≤ most_bytes = omega (arith, facts.1) in
-      sound-gives numbering w Named _ _ _ (record { small = small; tree = good.tree; table = tt; queue = tt; state = within })
+      sound-gives g _ _ _ (record { small = small; tree = standing.good.tree; table = tt; queue = tt; state = within })
 
-  sound-read_node : (d : Descriptor) (n : ℕ) (access : Access) → is_link (node w.tree n).kind ≡ false → Sound numbering w Named (read_node w p s e d n access)
+  sound-read_node : (d : Descriptor) (n : ℕ) (access : Access) → is_link (node w.tree n).kind ≡ false → Sound g (read_node w p s e d n access)
   sound-read_node d n access opened =
-      sound-unless numbering w Named _ _ _ _ (λ no_dir. sound-unless numbering w Named _ _ _ _ (λ readable.
+      sound-unless g _ _ _ _ (λ no_dir. sound-unless g _ _ _ _ (λ readable.
       sound-byte d n _ (slice_get (node w.tree n).content (w.files.states d.description).offset)
       (no_directory (node w.tree n).kind opened (not_true _ no_dir)) refl))
 
-  sound-write_at : (d : Descriptor) (n offset byte : ℕ) → (node w.tree n).kind ≡ File → byte < 256 → Sound numbering w Named (write_at w p s e d n offset byte)
+  sound-write_at : (d : Descriptor) (n offset byte : ℕ) → (node w.tree n).kind ≡ File → byte < 256 → Sound g (write_at w p s e d n offset byte)
   sound-write_at d n offset byte file small =
-      sound-unless numbering w Named _ _ _ _ (λ room. sound-unless numbering w Named _ _ _ _ (λ allowed.
+      sound-unless g _ _ _ _ (λ room. sound-unless g _ _ _ _ (λ allowed.
       let low : offset < most_bytes = ltb-true offset most_bytes room in
       let within : offset + 1 ≤ most_bytes = omega arith in
-      sound-gives numbering w Named _ _ _ (record {
+      sound-gives g _ _ _ (record {
         small = omega arith;
-        tree = written_is_tree w.tree n offset byte good.tree file (file_there n file) small (no_put_byte_fault offset room);
+        tree = written_is_tree w.tree n offset byte standing.good.tree file (file_there n file) small (no_put_byte_fault offset room);
         table = tt;
         queue = tt;
         state = within;
       })))
 
-  sound-write_node : (d : Descriptor) (n : ℕ) (access : Access) (byte : ℕ) → is_link (node w.tree n).kind ≡ false → byte < 256 → Sound numbering w Named (write_node w p s e d n access byte)
+  sound-write_node : (d : Descriptor) (n : ℕ) (access : Access) (byte : ℕ) → is_link (node w.tree n).kind ≡ false → byte < 256 → Sound g (write_node w p s e d n access byte)
   sound-write_node d n access byte opened small =
-      sound-unless numbering w Named _ _ _ _ (λ no_dir. sound-unless numbering w Named _ _ _ _ (λ writable.
+      sound-unless g _ _ _ _ (λ no_dir. sound-unless g _ _ _ _ (λ writable.
       sound-write_at d n _ byte (no_directory (node w.tree n).kind opened (not_true _ no_dir)) small))
 
   -- ## Pairs
-  sound-read_end : (d : Descriptor) (pair side : ℕ) (messages : List Message) → EachMessage (Known numbering w Named) messages → Sound numbering w Named (read_end w p s e d pair side messages)
+  sound-read_end : (d : Descriptor) (pair side : ℕ) (messages : List Message) → EachMessage (Known g) messages → Sound g (read_end w p s e d pair side messages)
   sound-read_end d pair side [] fine =
-      sound-if numbering w Named (is_open w.files pair (other_side side)) (blocked w p s e (w.files.states d.description).nonblock) _ (λ _. sound-blocked (w.files.states d.description).nonblock) (sound-gives numbering w Named _ _ [] (nothing 256 (omega arith)))
+      sound-if g (is_open w.files pair (other_side side)) (blocked w p s e (w.files.states d.description).nonblock) _ (λ _. sound-blocked (w.files.states d.description).nonblock) (sound-gives g _ _ [] (nothing 256 (omega arith)))
   sound-read_end d pair side (m ∷ messages) fine =
       let low : m.byte < 256 = fine.0 in
       let small : m.byte < 2 ^ 32 = omega arith in
-      sound-gives numbering w Named _ _ _ (record { small = small; tree = good.tree; table = tt; queue = tt; state = tt })
+      sound-gives g _ _ _ (record { small = small; tree = standing.good.tree; table = tt; queue = tt; state = tt })
 
-  sound-sent : (d : Descriptor) (pair side : ℕ) (m : Message) → side < 2 → m.byte < 256 → IfHeld (Known numbering w Named) m.passed → Sound numbering w Named (sent_end w p s e d pair side m)
+  sound-sent : (d : Descriptor) (pair side : ℕ) (m : Message) → side < 2 → m.byte < 256 → IfHeld (Known g) m.passed → Sound g (sent_end w p s e d pair side m)
   sound-sent d pair side m low byte passed =
-      sound-unless numbering w Named _ _ _ _ (λ there.
-      sound-if numbering w Named (nat_lt (length (w.files.queue pair side)) most_messages) _ _
-      (λ room. sound-gives numbering w Named _ _ _ (record {
+      sound-unless g _ _ _ _ (λ there.
+      sound-if g (nat_lt (length (w.files.queue pair side)) most_messages) _ _
+      (λ room. sound-gives g _ _ _ (record {
         small = omega arith;
-        tree = good.tree;
+        tree = standing.good.tree;
         table = tt;
         queue = (low, ltb-true (length (w.files.queue pair side)) most_messages room, byte, passed);
         state = tt;
       }))
       (sound-blocked (w.files.states d.description).nonblock))
 
-  sound-received : (pair side number : ℕ) (o : Option Descriptor) → number < 16 → IfHeld (Known numbering w Named) o → Sound numbering w Named (received w p s e pair side number o)
-  sound-received pair side number None low fine = sound-fails numbering w Named _ _
+  sound-received : (pair side number : ℕ) (o : Option Descriptor) → number < 16 → IfHeld (Known g) o → Sound g (received w p s e pair side number o)
+  sound-received pair side number None low fine = sound-fails g _ _
   sound-received pair side number (Some d) low fine =
-      sound-gives numbering w Named _ _ _ (record { small = low_small number low; tree = good.tree; table = (low, fine); queue = tt; state = tt })
+      sound-gives g _ _ _ (record { small = low_small number low; tree = standing.good.tree; table = (low, fine); queue = tt; state = tt })
 
-  sound-receive_end : (d : Descriptor) (pair side number : ℕ) (messages : List Message) → number < 16 → EachMessage (Known numbering w Named) messages → Sound numbering w Named (receive_end w p s e d pair side number messages)
-  sound-receive_end d pair side number [] low fine = sound-unless numbering w Named _ _ _ _ (λ there. sound-blocked (w.files.states d.description).nonblock)
+  sound-receive_end : (d : Descriptor) (pair side number : ℕ) (messages : List Message) → number < 16 → EachMessage (Known g) messages → Sound g (receive_end w p s e d pair side number messages)
+  sound-receive_end d pair side number [] low fine = sound-unless g _ _ _ _ (λ there. sound-blocked (w.files.states d.description).nonblock)
   sound-receive_end d pair side number (m ∷ messages) low fine = sound-received pair side number m.passed low fine.1
 
   -- ## Lookups
-  sound-looks : (a : Search) (rest : lookups.Answer → Answer) → is_link (node w.tree a.start).kind ≡ false → is_path a.path ≡ true → ((found : lookups.Answer) → Sure w.tree a.path a.last found → Sound numbering w Named (rest found)) → Sound numbering w Named (looks w p s e a rest)
+  sound-looks : (start : ℕ) (way : Way) (path : List ℕ) (last : Last) (rest : lookups.Answer → Answer) → is_link (node w.tree start).kind ≡ false → is_path path ≡ true → ((found : lookups.Answer) → Sure w.tree path last found → Sound g (rest found)) → Sound g (looks w p s e start way path last rest)
   unfolding looks
-  sound-looks a rest opened path sound = sound _ (find_sure w.tree a good.tree opened path)
+  sound-looks start way path last rest opened valid sound = sound _ (find_sure w.tree start path way last standing.good.tree opened valid)
 
-  sound-looks_twice : (a b : Search) (rest : lookups.Answer → lookups.Answer → Answer) → is_link (node w.tree a.start).kind ≡ false → is_path a.path ≡ true → is_link (node w.tree b.start).kind ≡ false → is_path b.path ≡ true → ((found place : lookups.Answer) → Sure w.tree a.path a.last found → Sure w.tree b.path b.last place → Sound numbering w Named (rest found place)) → Sound numbering w Named (looks_twice w p s e a b rest)
+  sound-looks_twice : (n : ℕ) (from : List ℕ) (m : ℕ) (to : List ℕ) (rest : lookups.Answer → lookups.Answer → Answer) → is_link (node w.tree n).kind ≡ false → is_path from ≡ true → is_link (node w.tree m).kind ≡ false → is_path to ≡ true → ((found place : lookups.Answer) → Sure w.tree from Keep found → Sure w.tree to Keep place → Sound g (rest found place)) → Sound g (looks_twice w p s e n from m to rest)
   unfolding looks_twice
-  sound-looks_twice a b rest opened path also other sound =
-      sound _ _ (find_sure w.tree a good.tree opened path) (find_sure w.tree b good.tree also other)
+  sound-looks_twice n from m to rest opened valid also other sound =
+      sound _ _ (find_sure w.tree n from Beneath Keep standing.good.tree opened valid) (find_sure w.tree m to Beneath Keep standing.good.tree also other)
 
-  sound-opened_as : (f : OpenRequest) (rights fcntls n : ℕ) (kind : Kind) → is_within rights all_rights ≡ true → is_within fcntls all_commands ≡ true → (node w.tree n).kind ≡ kind → Sound numbering w Named (opened_as w p s e f rights fcntls n kind)
-  sound-opened_as f rights fcntls n Link all also is = sound-fails numbering w Named _ _
+  sound-opened_as : (f : OpenRequest) (rights fcntls n : ℕ) (kind : Kind) → is_within rights all_rights ≡ true → is_within fcntls all_commands ≡ true → (node w.tree n).kind ≡ kind → Sound g (opened_as w p s e f rights fcntls n kind)
+  sound-opened_as f rights fcntls n Link all also is = sound-fails g _ _
   sound-opened_as f rights fcntls n Dir all also is =
-      sound-unless numbering w Named _ _ _ _ (λ plain. sound-number numbering w Named (lowest_free (w.files.table p)) _ (λ number free.
-      sound-unless numbering w Named _ _ _ _ (λ allowed.
+      sound-unless g _ _ _ _ (λ plain. sound-number g (lowest_free (w.files.table p)) _ (λ number free.
+      sound-unless g _ _ _ _ (λ allowed.
       let low : number < 16 = free_low (w.files.table p) number free in
-      sound-gives numbering w Named _ _ _ (record { small = low_small number low; tree = good.tree; table = (low, ap is_link is, all, also); queue = tt; state = tt }))))
+      sound-gives g _ _ _ (record { small = low_small number low; tree = standing.good.tree; table = (low, ap is_link is, all, also); queue = tt; state = tt }))))
   sound-opened_as f rights fcntls n File all also is =
-      sound-number numbering w Named (lowest_free (w.files.table p)) _ (λ number free.
-      sound-unless numbering w Named _ _ _ _ (λ allowed.
+      sound-number g (lowest_free (w.files.table p)) _ (λ number free.
+      sound-unless g _ _ _ _ (λ allowed.
       let low : number < 16 = free_low (w.files.table p) number free in
-      sound-gives numbering w Named _ _ _ (record {
+      sound-gives g _ _ _ (record {
         small = low_small number low;
         tree = truncated_is_tree f.trunc n is;
         table = (low, opened_kept w.tree (truncated w p s e f.trunc n) n (ap is_link is), all, also);
@@ -226,200 +236,200 @@ module _ (programs : Programs) (numbering : Numbering) (w : World) (good : IsWor
         state = tt;
       })))
 
-  sound-opened : (f : OpenRequest) (rights fcntls : ℕ) (path : List ℕ) (found : lookups.Answer) → is_within rights all_rights ≡ true → is_within fcntls all_commands ≡ true → MayMake w.tree path found → Sound numbering w Named (opened w p s e f rights fcntls path found)
-  sound-opened f rights fcntls path (Lost fault) all also may = sound-lost numbering w Named fault
+  sound-opened : (f : OpenRequest) (rights fcntls : ℕ) (path : List ℕ) (found : lookups.Answer) → is_within rights all_rights ≡ true → is_within fcntls all_commands ≡ true → MayMake w.tree path found → Sound g (opened w p s e f rights fcntls path found)
+  sound-opened f rights fcntls path (Lost fault) all also may = sound-lost g fault
   sound-opened f rights fcntls path (Found_free d) all also may =
-      sound-number numbering w Named (lowest_free (w.files.table p)) _ (λ number free.
-      sound-unless numbering w Named _ _ _ _ (λ room. sound-unless numbering w Named _ _ _ _ (λ allowed.
+      sound-number g (lowest_free (w.files.table p)) _ (λ number free.
+      sound-unless g _ _ _ _ (λ room. sound-unless g _ _ _ _ (λ allowed.
       let low : number < 16 = free_low (w.files.table p) number free in
-      sound-gives numbering w Named _ _ _ (record {
+      sound-gives g _ _ _ (record {
         small = low_small number low;
-        tree = made_is_tree w.tree d (last_component path) File good.tree may.linked may.directory may.absent may.named refl (below _ _ room);
+        tree = made_is_tree w.tree d (last_component path) File standing.good.tree may.linked may.directory may.absent may.named refl (below _ _ room);
         table = (low, ap (λ (m : Node). is_link m.kind) (new_node w.tree _), all, also);
         queue = tt;
         state = tt;
       }))))
   sound-opened f rights fcntls path (Found_node n) all also may = sound-opened_as f rights fcntls n (node w.tree n).kind all also refl
 
-  sound-looked : (n : ℕ) → Sound numbering w Named (looked w p s e n)
-  sound-looked n = sound-gives numbering w Named _ _ _ (nothing (kind_number (node w.tree n).kind) (small_kind (node w.tree n).kind))
+  sound-looked : (n : ℕ) → Sound g (looked w p s e n)
+  sound-looked n = sound-gives g _ _ _ (nothing (kind_number (node w.tree n).kind) (small_kind (node w.tree n).kind))
 
-  sound-looked_at : (found : lookups.Answer) → Sound numbering w Named (looked_at w p s e found)
-  sound-looked_at (Lost fault) = sound-lost numbering w Named fault
-  sound-looked_at (Found_free d) = sound-fails numbering w Named _ _
+  sound-looked_at : (found : lookups.Answer) → Sound g (looked_at w p s e found)
+  sound-looked_at (Lost fault) = sound-lost g fault
+  sound-looked_at (Found_free d) = sound-fails g _ _
   sound-looked_at (Found_node n) = sound-looked n
 
-  sound-made_directory : (path : List ℕ) (found : lookups.Answer) → MayMake w.tree path found → Sound numbering w Named (made_directory w p s e path found)
-  sound-made_directory path (Lost fault) may = sound-lost numbering w Named fault
-  sound-made_directory path (Found_node n) may = sound-fails numbering w Named _ _
+  sound-made_directory : (path : List ℕ) (found : lookups.Answer) → MayMake w.tree path found → Sound g (made_directory w p s e path found)
+  sound-made_directory path (Lost fault) may = sound-lost g fault
+  sound-made_directory path (Found_node n) may = sound-fails g _ _
   sound-made_directory path (Found_free d) may =
-      sound-unless numbering w Named _ _ _ _ (λ room. sound-unless numbering w Named _ _ _ _ (λ allowed.
-      sound-gives numbering w Named _ _ _ (alters 0 _ zero_small
-      (made_is_tree w.tree d (last_component path) Dir good.tree may.linked may.directory may.absent may.named refl (below _ _ room)))))
+      sound-unless g _ _ _ _ (λ room. sound-unless g _ _ _ _ (λ allowed.
+      sound-gives g _ _ _ (alters 0 _ zero_small
+      (made_is_tree w.tree d (last_component path) Dir standing.good.tree may.linked may.directory may.absent may.named refl (below _ _ room)))))
 
   under_name : (n : ℕ) (name : List ℕ) → HasName w.tree n name → 0 < length (node w.tree n).place
   under_name n name named = subst (λ place. 0 < length place) (sym named.place) (longer (node w.tree named.parent).place name)
 
-  sound-unlinked : (directory : Bool) (path : List ℕ) (found : lookups.Answer) → IsThere w.tree found → IsUnderName w.tree path found → Sound numbering w Named (unlinked w p s e directory found)
-  sound-unlinked directory path (Lost fault) there named = sound-lost numbering w Named fault
-  sound-unlinked directory path (Found_free d) there named = sound-fails numbering w Named _ _
+  sound-unlinked : (directory : Bool) (path : List ℕ) (found : lookups.Answer) → IsThere w.tree found → IsUnderName w.tree path found → Sound g (unlinked w p s e directory found)
+  sound-unlinked directory path (Lost fault) there named = sound-lost g fault
+  sound-unlinked directory path (Found_free d) there named = sound-fails g _ _
   sound-unlinked true path (Found_node n) there named =
       let some : 0 < length (node w.tree n).place = under_name n (last_component path) named in
-      sound-unless numbering w Named _ _ _ _ (λ dir. sound-unless numbering w Named _ _ _ _ (λ empty.
-      sound-gives numbering w Named _ _ _ (alters 0 _ zero_small (emptied_is_tree w.tree n good.tree there.linked some (not_true _ empty)))))
+      sound-unless g _ _ _ _ (λ dir. sound-unless g _ _ _ _ (λ empty.
+      sound-gives g _ _ _ (alters 0 _ zero_small (emptied_is_tree w.tree n standing.good.tree there.linked some (not_true _ empty)))))
   sound-unlinked false path (Found_node n) there named =
       let some : 0 < length (node w.tree n).place = under_name n (last_component path) named in
-      sound-unless numbering w Named _ _ _ _ (λ leaf.
-      sound-gives numbering w Named _ _ _ (alters 0 _ zero_small (unlinked_is_tree w.tree n good.tree there.linked some (not_true _ leaf))))
+      sound-unless g _ _ _ _ (λ leaf.
+      sound-gives g _ _ _ (alters 0 _ zero_small (unlinked_is_tree w.tree n standing.good.tree there.linked some (not_true _ leaf))))
 
-  sound-renamed_to : (call : Syscall) (target : Descriptor) (n : ℕ) (path : List ℕ) (found : lookups.Answer) → IsLinked w.tree n → IsThere w.tree found → MayMake w.tree path found → IsUnderName w.tree path found → Sound numbering w Named (renamed_to w p s e call target n path found)
-  sound-renamed_to call target n path (Lost fault) linked there may named = sound-lost numbering w Named fault
+  sound-renamed_to : (call : Syscall) (target : Descriptor) (n : ℕ) (path : List ℕ) (found : lookups.Answer) → IsLinked w.tree n → IsThere w.tree found → MayMake w.tree path found → IsUnderName w.tree path found → Sound g (renamed_to w p s e call target n path found)
+  sound-renamed_to call target n path (Lost fault) linked there may named = sound-lost g fault
   sound-renamed_to call target n path (Found_free d) linked there may named =
-      sound-unless numbering w Named _ _ _ _ (λ outside.
-      sound-gives numbering w Named _ _ _ (alters 0 _ zero_small
-      (moved_to_free w.tree n d (last_component path) good.tree linked.linked may.linked may.directory may.absent may.named (not_true _ outside))))
+      sound-unless g _ _ _ _ (λ outside.
+      sound-gives g _ _ _ (alters 0 _ zero_small
+      (moved_to_free w.tree n d (last_component path) standing.good.tree linked.linked may.linked may.directory may.absent may.named (not_true _ outside))))
   sound-renamed_to call target n path (Found_node m) linked there may named =
-      sound-if numbering w Named (n == m) _ _ (λ _. sound-gives numbering w Named _ _ _ (nothing 0 zero_small))
-      (sound-unless numbering w Named _ _ _ _ (λ granted.
-      sound-unless numbering w Named _ _ _ _ (λ outside. sound-unless numbering w Named _ _ _ _ (λ kinds. sound-unless numbering w Named _ _ _ _ (λ also. sound-unless numbering w Named _ _ _ _ (λ empty.
-      sound-gives numbering w Named _ _ _ (alters 0 _ zero_small
-      (moved_over w.tree n m (last_component path) good.tree linked.linked there.linked named (not_true _ outside) (not_true _ empty)))))))))
+      sound-if g (n == m) _ _ (λ _. sound-gives g _ _ _ (nothing 0 zero_small))
+      (sound-unless g _ _ _ _ (λ granted.
+      sound-unless g _ _ _ _ (λ outside. sound-unless g _ _ _ _ (λ kinds. sound-unless g _ _ _ _ (λ also. sound-unless g _ _ _ _ (λ empty.
+      sound-gives g _ _ _ (alters 0 _ zero_small
+      (moved_over w.tree n m (last_component path) standing.good.tree linked.linked there.linked named (not_true _ outside) (not_true _ empty)))))))))
 
-  sound-renamed_from : (found : lookups.Answer) (rest : ℕ → Answer) → IsThere w.tree found → ((n : ℕ) → IsLinked w.tree n → Sound numbering w Named (rest n)) → Sound numbering w Named (renamed_from w p s e found rest)
-  sound-renamed_from (Lost fault) rest there sound = sound-lost numbering w Named fault
-  sound-renamed_from (Found_free d) rest there sound = sound-fails numbering w Named _ _
+  sound-renamed_from : (found : lookups.Answer) (rest : ℕ → Answer) → IsThere w.tree found → ((n : ℕ) → IsLinked w.tree n → Sound g (rest n)) → Sound g (renamed_from w p s e found rest)
+  sound-renamed_from (Lost fault) rest there sound = sound-lost g fault
+  sound-renamed_from (Found_free d) rest there sound = sound-fails g _ _
   sound-renamed_from (Found_node n) rest there sound = sound n there
 
-  sound-pair_at : (o : Option ℕ) → lowest_free (w.files.table p) ≡ o → Sound numbering w Named (pair_at w p s e o)
-  sound-pair_at None free = sound-fails numbering w Named _ _
+  sound-pair_at : (o : Option ℕ) → lowest_free (w.files.table p) ≡ o → Sound g (pair_at w p s e o)
+  sound-pair_at None free = sound-fails g _ _
   sound-pair_at (Some first) free =
       let low : first < 16 = free_low (w.files.table p) first free in
-      sound-number numbering w Named (lowest_from (15 - first) (first + 1) (w.files.table p)) _ (λ second also.
-      sound-unless numbering w Named _ _ _ _ (λ allowed.
-      sound-gives numbering w Named _ _ _ (record {
+      sound-number g (lowest_from (15 - first) (first + 1) (w.files.table p)) _ (λ second also.
+      sound-unless g _ _ _ _ (λ allowed.
+      sound-gives g _ _ _ (record {
         small = low_small first low;
-        tree = good.tree;
+        tree = standing.good.tree;
         table = (low, second_low first second (15 - first) (w.files.table p) (omega arith) also);
         queue = tt;
         state = tt;
       })))
 
   root_opened : is_link (node w.tree 0).kind ≡ false
-  root_opened = ap is_link good.tree.root_kind
+  root_opened = ap is_link standing.good.tree.root_kind
 
   within_all : (set : ℕ) → is_within set set ≡ true
   within_all set = is_within-refl set
 
   -- ## Every call
-  pub sound : (call : Syscall) → is_syscall call ≡ true → Sound numbering w Named (answer w p s e call)
+  pub sound : (call : Syscall) → is_syscall call ≡ true → Sound g (answer w p s e call)
   unfolding answer
   sound (Open path f) valid =
-      sound-unless numbering w Named _ _ _ _ (λ outside.
-      sound-looks _ _ root_opened (both_left _ _ valid) (λ found sure.
+      sound-unless g _ _ _ _ (λ outside.
+      sound-looks _ _ _ _ _ root_opened (both_left _ _ valid) (λ found sure.
       sound-opened f all_rights all_commands path found (within_all all_rights) (within_all all_commands) sure.vacant))
   sound (Openat x path f) valid =
-      sound-entry (value_of s x) _ (λ d low fine. sound-unless numbering w Named _ _ _ _ (λ has.
+      sound-entry (value_of s x) _ (λ d low fine. sound-unless g _ _ _ _ (λ has.
       sound-directory d _ fine (λ n opened.
-      sound-looks _ _ opened (both_right (is_operand x) _ (both_left _ _ valid)) (λ found sure.
+      sound-looks _ _ _ _ _ opened (both_right (is_operand x) _ (both_left _ _ valid)) (λ found sure.
       sound-opened f d.rights d.fcntls path found fine.0.rights fine.0.fcntls sure.vacant))))
   sound (Read x) valid =
-      sound-entry (value_of s x) _ (λ d low fine. sound-unless numbering w Named _ _ _ _ (λ has.
-      sound-object numbering w Named d.description (w.files.objects d.description) _ _ fine.0.object
+      sound-entry (value_of s x) _ (λ d low fine. sound-unless g _ _ _ _ (λ has.
+      sound-object g d.description (w.files.objects d.description) _ _ fine.0.object
       (λ n access opened. sound-read_node d n access opened)
-      (λ pair side low. sound-read_end d pair side (w.files.queue pair (other_side side)) (messages pair (other_side side)))))
+      (λ pair side low. sound-read_end d pair side (w.files.queue pair (other_side side)) (standing.messages pair (other_side side)))))
   sound (Write x v) valid =
       let byte : value_of s v % 256 < 256 = omega arith in
-      sound-entry (value_of s x) _ (λ d low fine. sound-unless numbering w Named _ _ _ _ (λ has.
-      sound-object numbering w Named d.description (w.files.objects d.description) _ _ fine.0.object
+      sound-entry (value_of s x) _ (λ d low fine. sound-unless g _ _ _ _ (λ has.
+      sound-object g d.description (w.files.objects d.description) _ _ fine.0.object
       (λ n access opened. sound-write_node d n access (value_of s v % 256) opened byte)
-      (λ pair side low. sound-unless numbering w Named _ _ _ _ (λ allowed. sound-sent d pair side _ low byte tt))))
+      (λ pair side low. sound-unless g _ _ _ _ (λ allowed. sound-sent d pair side _ low byte tt))))
   sound (Sendfd x y v) valid =
       let byte : value_of s v % 256 < 256 = omega arith in
       sound-entry (value_of s x) _ (λ d low fine.
-      sound-entry (value_of s y) _ (λ passed low also. sound-unless numbering w Named _ _ _ _ (λ has.
+      sound-entry (value_of s y) _ (λ passed low also. sound-unless g _ _ _ _ (λ has.
       sound-socket d _ fine (λ pair side low. sound-sent d pair side _ low byte also))))
   sound (Recvfd x) valid =
-      sound-entry (value_of s x) _ (λ d low fine. sound-unless numbering w Named _ _ _ _ (λ has.
+      sound-entry (value_of s x) _ (λ d low fine. sound-unless g _ _ _ _ (λ has.
       sound-socket d _ fine (λ pair side low.
-      sound-number numbering w Named (lowest_free (w.files.table p)) _ (λ number free.
-      sound-receive_end d pair side number (w.files.queue pair (other_side side)) (free_low (w.files.table p) number free) (messages pair (other_side side))))))
+      sound-number g (lowest_free (w.files.table p)) _ (λ number free.
+      sound-receive_end d pair side number (w.files.queue pair (other_side side)) (free_low (w.files.table p) number free) (standing.messages pair (other_side side))))))
   sound (Lseek x v) valid =
-      sound-entry (value_of s x) _ (λ d low fine. sound-unless numbering w Named _ _ _ _ (λ has.
-      sound-file d _ fine (λ n access file. sound-unless numbering w Named _ _ _ _ (λ low.
+      sound-entry (value_of s x) _ (λ d low fine. sound-unless g _ _ _ _ (λ has.
+      sound-file d _ fine (λ n access file. sound-unless g _ _ _ _ (λ low.
       let within : value_of s v ≤ most_bytes = leb-true _ _ low in
       let small : value_of s v < 2 ^ 32 = omega arith in
-      sound-gives numbering w Named _ _ _ (record { small = small; tree = good.tree; table = tt; queue = tt; state = within })))))
+      sound-gives g _ _ _ (record { small = small; tree = standing.good.tree; table = tt; queue = tt; state = within })))))
   sound (Ftruncate x v) valid =
-      sound-entry (value_of s x) _ (λ d low fine. sound-unless numbering w Named _ _ _ _ (λ has.
-      sound-file d _ fine (λ n access file. sound-unless numbering w Named _ _ _ _ (λ writable. sound-unless numbering w Named _ _ _ _ (λ low.
-      sound-gives numbering w Named _ _ _ (alters 0 _ zero_small
-      (resized_is_tree w.tree n (value_of s v) good.tree file (file_there n file) (no_truncate_fault (value_of s v) low))))))))
+      sound-entry (value_of s x) _ (λ d low fine. sound-unless g _ _ _ _ (λ has.
+      sound-file d _ fine (λ n access file. sound-unless g _ _ _ _ (λ writable. sound-unless g _ _ _ _ (λ low.
+      sound-gives g _ _ _ (alters 0 _ zero_small
+      (resized_is_tree w.tree n (value_of s v) standing.good.tree file (file_there n file) (no_truncate_fault (value_of s v) low))))))))
   sound (Fsync x) valid =
-      sound-entry (value_of s x) _ (λ d low fine. sound-unless numbering w Named _ _ _ _ (λ has.
-      sound-object numbering w Named d.description (w.files.objects d.description) _ _ fine.0.object
-      (λ n access opened. sound-gives numbering w Named _ _ _ (nothing 0 zero_small)) (λ pair side low. sound-fails numbering w Named _ _)))
+      sound-entry (value_of s x) _ (λ d low fine. sound-unless g _ _ _ _ (λ has.
+      sound-object g d.description (w.files.objects d.description) _ _ fine.0.object
+      (λ n access opened. sound-gives g _ _ _ (nothing 0 zero_small)) (λ pair side low. sound-fails g _ _)))
   sound (Fstat x) valid =
-      sound-entry (value_of s x) _ (λ d low fine. sound-unless numbering w Named _ _ _ _ (λ has.
-      sound-object numbering w Named d.description (w.files.objects d.description) _ _ fine.0.object
-      (λ n access opened. sound-looked n) (λ pair side low. sound-gives numbering w Named _ _ _ (nothing 3 (omega arith)))))
+      sound-entry (value_of s x) _ (λ d low fine. sound-unless g _ _ _ _ (λ has.
+      sound-object g d.description (w.files.objects d.description) _ _ fine.0.object
+      (λ n access opened. sound-looked n) (λ pair side low. sound-gives g _ _ _ (nothing 3 (omega arith)))))
   sound (Fcntl_getfl x) valid =
-      sound-entry (value_of s x) _ (λ d low fine. sound-unless numbering w Named _ _ _ _ (λ has. sound-unless numbering w Named _ _ _ _ (λ also.
+      sound-entry (value_of s x) _ (λ d low fine. sound-unless g _ _ _ _ (λ has. sound-unless g _ _ _ _ (λ also.
       let state : State = w.files.states d.description in
-      sound-gives numbering w Named _ _ _ (nothing (status_number state) (small_bits state.append state.nonblock)))))
+      sound-gives g _ _ _ (nothing (status_number state) (small_bits state.append state.nonblock)))))
   sound (Fcntl_setfl x v) valid =
-      sound-entry (value_of s x) _ (λ d low fine. sound-unless numbering w Named _ _ _ _ (λ has. sound-unless numbering w Named _ _ _ _ (λ also.
-      sound-unless numbering w Named _ _ _ _ (λ flags.
-      sound-gives numbering w Named _ _ _ (record { small = zero_small; tree = good.tree; table = tt; queue = tt; state = fine.0.offset })))))
+      sound-entry (value_of s x) _ (λ d low fine. sound-unless g _ _ _ _ (λ has. sound-unless g _ _ _ _ (λ also.
+      sound-unless g _ _ _ _ (λ flags.
+      sound-gives g _ _ _ (record { small = zero_small; tree = standing.good.tree; table = tt; queue = tt; state = fine.0.offset })))))
   sound (Fstatat x path) valid =
-      sound-entry (value_of s x) _ (λ d low fine. sound-unless numbering w Named _ _ _ _ (λ has.
+      sound-entry (value_of s x) _ (λ d low fine. sound-unless g _ _ _ _ (λ has.
       sound-directory d _ fine (λ n opened.
-      sound-looks _ _ opened (both_right (is_operand x) _ valid) (λ found sure. sound-looked_at found))))
+      sound-looks _ _ _ _ _ opened (both_right (is_operand x) _ valid) (λ found sure. sound-looked_at found))))
   sound (Stat path) valid =
-      sound-unless numbering w Named _ _ _ _ (λ outside.
-      sound-looks _ _ root_opened valid (λ found sure. sound-looked_at found))
+      sound-unless g _ _ _ _ (λ outside.
+      sound-looks _ _ _ _ _ root_opened valid (λ found sure. sound-looked_at found))
   sound (Mkdirat x path) valid =
-      sound-entry (value_of s x) _ (λ d low fine. sound-unless numbering w Named _ _ _ _ (λ has.
+      sound-entry (value_of s x) _ (λ d low fine. sound-unless g _ _ _ _ (λ has.
       sound-directory d _ fine (λ n opened.
-      sound-looks _ _ opened (both_right (is_operand x) _ valid) (λ found sure. sound-made_directory path found sure.vacant))))
+      sound-looks _ _ _ _ _ opened (both_right (is_operand x) _ valid) (λ found sure. sound-made_directory path found sure.vacant))))
   sound (Mkdir path) valid =
-      sound-unless numbering w Named _ _ _ _ (λ outside.
-      sound-looks _ _ root_opened valid (λ found sure. sound-made_directory path found sure.vacant))
+      sound-unless g _ _ _ _ (λ outside.
+      sound-looks _ _ _ _ _ root_opened valid (λ found sure. sound-made_directory path found sure.vacant))
   sound (Unlinkat x path directory) valid =
-      sound-entry (value_of s x) _ (λ d low fine. sound-unless numbering w Named _ _ _ _ (λ has.
+      sound-entry (value_of s x) _ (λ d low fine. sound-unless g _ _ _ _ (λ has.
       sound-directory d _ fine (λ n opened.
-      sound-looks _ _ opened (both_right (is_operand x) _ valid) (λ found sure. sound-unlinked directory path found sure.there (sure.named refl)))))
+      sound-looks _ _ _ _ _ opened (both_right (is_operand x) _ valid) (λ found sure. sound-unlinked directory path found sure.there (sure.named refl)))))
   sound (Unlink path directory) valid =
-      sound-unless numbering w Named _ _ _ _ (λ outside.
-      sound-looks _ _ root_opened valid (λ found sure. sound-unlinked directory path found sure.there (sure.named refl)))
+      sound-unless g _ _ _ _ (λ outside.
+      sound-looks _ _ _ _ _ root_opened valid (λ found sure. sound-unlinked directory path found sure.there (sure.named refl)))
   sound (Renameat x from y target) valid =
       sound-entry (value_of s x) _ (λ d low fine.
       sound-entry (value_of s y) _ (λ into low also.
-      sound-unless numbering w Named _ _ _ _ (λ has. sound-unless numbering w Named _ _ _ _ (λ may.
+      sound-unless g _ _ _ _ (λ has. sound-unless g _ _ _ _ (λ may.
       sound-directory d _ fine (λ n opened.
       sound-directory into _ also (λ m other.
-      sound-looks_twice _ _ _ opened (both_right (is_operand x) _ (both_left _ _ (both_left _ _ valid))) other (both_right _ _ valid) (λ source place sure into_place.
+      sound-looks_twice _ _ _ _ _ opened (both_right (is_operand x) _ (both_left _ _ (both_left _ _ valid))) other (both_right _ _ valid) (λ source place sure into_place.
       sound-renamed_from source _ sure.there (λ k linked.
       sound-renamed_to (Renameat x from y target) into k target place linked into_place.there into_place.vacant (into_place.named refl)))))))))
   sound (Dup x) valid =
       sound-entry (value_of s x) _ (λ d low fine.
-      sound-number numbering w Named (lowest_free (w.files.table p)) _ (λ number free.
+      sound-number g (lowest_free (w.files.table p)) _ (λ number free.
       let there : number < 16 = free_low (w.files.table p) number free in
-      sound-gives numbering w Named _ _ _ (record { small = low_small number there; tree = good.tree; table = (there, fine); queue = tt; state = tt })))
+      sound-gives g _ _ _ (record { small = low_small number there; tree = standing.good.tree; table = (there, fine); queue = tt; state = tt })))
   sound (Close x) valid =
       sound-entry (value_of s x) _ (λ d low fine.
-      sound-gives numbering w Named _ _ _ (record { small = zero_small; tree = good.tree; table = tt; queue = tt; state = tt }))
+      sound-gives g _ _ _ (record { small = zero_small; tree = standing.good.tree; table = tt; queue = tt; state = tt }))
   sound (Cap_rights_limit x rights) valid =
-      sound-entry (value_of s x) _ (λ d low fine. sound-unless numbering w Named _ _ _ _ (λ within.
-      let narrowed : Known numbering w Named (record d { rights = rights }) = (record { number = fine.0.number; rights = is_within-trans rights d.rights all_rights within fine.0.rights; fcntls = fine.0.fcntls; object = fine.0.object; offset = fine.0.offset }, fine.1) in
-      sound-gives numbering w Named _ _ _ (record { small = zero_small; tree = good.tree; table = (low, narrowed); queue = tt; state = tt })))
+      sound-entry (value_of s x) _ (λ d low fine. sound-unless g _ _ _ _ (λ within.
+      let narrowed : Known g (record d { rights = rights }) = (record { number = fine.0.number; rights = is_within-trans rights d.rights all_rights within fine.0.rights; fcntls = fine.0.fcntls; object = fine.0.object; offset = fine.0.offset }, fine.1) in
+      sound-gives g _ _ _ (record { small = zero_small; tree = standing.good.tree; table = (low, narrowed); queue = tt; state = tt })))
   sound (Cap_fcntls_limit x commands) valid =
-      sound-entry (value_of s x) _ (λ d low fine. sound-unless numbering w Named _ _ _ _ (λ within.
-      let narrowed : Known numbering w Named (record d { fcntls = commands }) = (record { number = fine.0.number; rights = fine.0.rights; fcntls = is_within-trans commands d.fcntls all_commands within fine.0.fcntls; object = fine.0.object; offset = fine.0.offset }, fine.1) in
-      sound-gives numbering w Named _ _ _ (record { small = zero_small; tree = good.tree; table = (low, narrowed); queue = tt; state = tt })))
-  sound Cap_enter valid = sound-gives numbering w Named _ _ _ (record { small = zero_small; tree = good.tree; table = tt; queue = tt; state = tt })
-  sound Cap_getmode valid = sound-gives numbering w Named _ _ _ (nothing (bit_of s.mode 1) (small_bit s.mode))
+      sound-entry (value_of s x) _ (λ d low fine. sound-unless g _ _ _ _ (λ within.
+      let narrowed : Known g (record d { fcntls = commands }) = (record { number = fine.0.number; rights = fine.0.rights; fcntls = is_within-trans commands d.fcntls all_commands within fine.0.fcntls; object = fine.0.object; offset = fine.0.offset }, fine.1) in
+      sound-gives g _ _ _ (record { small = zero_small; tree = standing.good.tree; table = (low, narrowed); queue = tt; state = tt })))
+  sound Cap_enter valid = sound-gives g _ _ _ (record { small = zero_small; tree = standing.good.tree; table = tt; queue = tt; state = tt })
+  sound Cap_getmode valid = sound-gives g _ _ _ (nothing (bit_of s.mode 1) (small_bit s.mode))
   sound Socketpair valid = sound-pair_at (lowest_free (w.files.table p)) refl
   sound Fork valid =
-      sound-unless numbering w Named _ _ _ _ (λ room. sound-unless numbering w Named _ _ _ _ (λ allowed.
+      sound-unless g _ _ _ _ (λ room. sound-unless g _ _ _ _ (λ allowed.
       let few : length w.processes < 16 = below _ _ room in
-      sound-gives numbering w Named _ _ _ (record { small = low_small (length w.processes) few; tree = good.tree; table = few; queue = tt; state = tt })))
+      sound-gives g _ _ _ (record { small = low_small (length w.processes) few; tree = standing.good.tree; table = few; queue = tt; state = tt })))

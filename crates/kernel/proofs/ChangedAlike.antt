@@ -5,12 +5,11 @@ use Rattle.rights.specs.Sets.{all_rights, all_commands}
 use Rattle.rights.specs.Maps.{put, put2}
 use Rattle.rights.proofs.Changes.{put-cases, put2-cases, put-both}
 use Rattle.file_tree.specs.Nodes.{Node}
-use Rattle.fd_table.specs.Descriptions.{Access, Class, At_node, At_end, State, Descriptor, Message, new_state, descriptor_of}
+use Rattle.fd_table.specs.Descriptions.{Access, Class, At_node, At_end, State, Descriptor, Message, new_state, descriptor_of, IfHeld}
 use Rattle.fd_table.specs.OpenFiles.{OpenFiles}
 use Rattle.kernel.specs.World.{Choice}
 use Rattle.kernel.specs.Answers.{TableChange, Same_table, Set_entry, Clear_entry, New_file, New_pair, New_process, QueueChange, Same_queue, Push, Pop, StateChange, Same_state, Set_state, Change}
 use Rattle.kernel.specs.Changes.{objects_after, new_states, states_after, queue_after, table_after, files_after}
-use Rattle.kernel.specs.WellFormed.{IfHeld}
 use Rattle.kernel.specs.Renamings.{Renaming, SameDescription, EachNamed, SameFiles, renamed_object, renamed_descriptor, renamed_entry, renamed_message, renamed_messages}
 use Rattle.kernel.proofs.Brings.{BringsTable, BringsQueue}
 use Rattle.kernel.proofs.Fresh.{held_map}

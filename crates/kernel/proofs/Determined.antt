@@ -1,15 +1,15 @@
 -- All runs of the same events show the same lines.
 use Rattle.std.proofs.Common.{◌≡◌, List, [], ◌∷◌, refl, ap, sym, ◌∙◌, subst}
 use Rattle.std.specs.Prelude.{Option, Some, None}
-use Rattle.fd_table.specs.Descriptions.{Object, At_node, At_end, Descriptor, Message}
+use Rattle.fd_table.specs.Descriptions.{Object, At_node, At_end, Descriptor, Message, IfHeld}
 use Rattle.fd_table.specs.OpenFiles.{OpenFiles}
 use Rattle.kernel.specs.World.{World, IsFresh}
-use Rattle.kernel.specs.Answers.{Event}
+use Rattle.kernel.specs.Answers.{Event, AreEvents}
 use Rattle.kernel.specs.Steps.{Programs, Acted, step}
-use Rattle.kernel.specs.WellFormed.{ArePrograms, IfHeld, IsWellFormed}
+use Rattle.kernel.specs.WellFormed.{ArePrograms, IsWellFormed}
 use Rattle.kernel.specs.Renamings.{Renaming, SameDescription, EachNamed, SameFiles, DiffersInNumbers, StepsAlike, NumbersAreIgnoredTwice, renamed_object, renamed_entry, renamed_messages}
 use Rattle.kernel.specs.Alike.{AlikeWorlds, ActsAs, StepsAsOne, AlikeWorldsShareNumbers}
-use Rattle.kernel.specs.Runs.{Runs, AreEvents, AlikeWorldsRunAlike, RunExists, RunsShowTheSame, RunsShowTheSameLines}
+use Rattle.kernel.specs.Runs.{Runs, AlikeWorldsRunAlike, RunExists, RunsShowTheSame, RunsShowTheSameLines}
 use Rattle.kernel.proofs.Fresh.{fresh_some}
 use Rattle.kernel.proofs.Keeping.{kept}
 use Rattle.kernel.proofs.Aimed.{steps_alike}

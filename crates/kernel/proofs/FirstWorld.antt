@@ -4,14 +4,14 @@ use Rattle.std.specs.Prelude.{Option, Some, None}
 use Rattle.std.specs.List.{slice_get}
 use Rattle.rights.specs.Sets.{all_rights, all_commands}
 use Rattle.rights.proofs.Subsets.{is_within-refl}
-use Rattle.file_tree.specs.Changes.{new_tree}
+use Rattle.file_tree.specs.Refusals.{new_tree}
 use Rattle.file_tree.proofs.NewTree.{new_is_tree}
 use Rattle.process.specs.State.{new_process}
 use Rattle.prog_asm.specs.Programs.{Halt}
-use Rattle.fd_table.specs.Descriptions.{Initial, Object, At_node, At_end, Descriptor, Message, new_state, descriptor_of}
+use Rattle.fd_table.specs.Descriptions.{Initial, Object, At_node, At_end, Descriptor, Message, new_state, descriptor_of, IfHeld}
 use Rattle.kernel.specs.World.{World}
 use Rattle.kernel.specs.Steps.{Programs}
-use Rattle.kernel.specs.WellFormed.{Numbering, IsDescriptor, IfHeld, EachMessage, FitsRegister, IsMade, HasNone}
+use Rattle.kernel.specs.WellFormed.{Numbering, IsDescriptor, EachMessage, FitsRegister, IsMade, HasNone}
 use Rattle.kernel.specs.Runs.{WellFormedWorldExists}
 
 objects : ℕ → Object

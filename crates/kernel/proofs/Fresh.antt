@@ -6,12 +6,12 @@ use Rattle.std.proofs.lemmas.Bool.{cases_Bool, ltb-true, ne_eqb}
 use Rattle.std.proofs.lemmas.Bool.Decides.{nat_tests}
 use Rattle.rights.proofs.Tests.{neither}
 use Rattle.process.specs.State.{ProcessState}
-use Rattle.fd_table.specs.Descriptions.{Object, At_node, At_end, Descriptor, Message}
+use Rattle.fd_table.specs.Descriptions.{Object, At_node, At_end, Descriptor, Message, IfHeld}
 use Rattle.fd_table.specs.OpenFiles.{OpenFiles, is_end, names_end, any_below, is_open, IsOther, AreOther, IsUnnamed, IsUnused}
 use Rattle.kernel.specs.World.{World, Choice, IsFresh}
 use Rattle.kernel.specs.Steps.{Programs}
-use Rattle.kernel.specs.WellFormed.{Numbering, IsObject, IsDescriptor, IfHeld, EachMessage, HasNone, IsWorld}
-use Rattle.kernel.proofs.Brings.{Known}
+use Rattle.kernel.specs.WellFormed.{Numbering, IsObject, IsDescriptor, EachMessage, HasNone, IsWorld}
+use Rattle.kernel.proofs.Brings.{ground, Known}
 
 pub lt_or_le : (a b : ℕ) → (a < b) ⊎ (b ≤ a)
 lt_or_le a b =
@@ -102,11 +102,11 @@ module _ (programs : Programs) (numbering : Numbering) (w : World) (good : IsWor
 
   -- ## What is named is apart from a fresh choice
   module _ (choice : Choice) (fresh : IsFresh w.files choice) where
-    known_one : (o : Option Descriptor) → IfHeld (IsDescriptor w.tree numbering w.files.objects w.files.states) o → IsOther choice.first o → IsOther choice.second o → ((side : ℕ) → names_end w.files.objects choice.pair side o ≡ false) → IfHeld (Known numbering w (IsApart w.files choice)) o
+    known_one : (o : Option Descriptor) → IfHeld (IsDescriptor w.tree numbering w.files.objects w.files.states) o → IsOther choice.first o → IsOther choice.second o → ((side : ℕ) → names_end w.files.objects choice.pair side o ≡ false) → IfHeld (Known (ground numbering w (IsApart w.files choice))) o
     known_one None fine first second ends = tt
     known_one (Some d) fine first second ends = (fine, record { first = first; second = second; ends = ends })
 
-    known_each : (messages : List Message) → EachMessage (IsDescriptor w.tree numbering w.files.objects w.files.states) messages → AreOther choice.first messages → AreOther choice.second messages → ((side : ℕ) → list_any (λ (m : Message). names_end w.files.objects choice.pair side m.passed) messages ≡ false) → EachMessage (Known numbering w (IsApart w.files choice)) messages
+    known_each : (messages : List Message) → EachMessage (IsDescriptor w.tree numbering w.files.objects w.files.states) messages → AreOther choice.first messages → AreOther choice.second messages → ((side : ℕ) → list_any (λ (m : Message). names_end w.files.objects choice.pair side m.passed) messages ≡ false) → EachMessage (Known (ground numbering w (IsApart w.files choice))) messages
     known_each [] fine first second ends = tt
     known_each (m ∷ messages) fine first second ends = (
       fine.0,
@@ -114,12 +114,12 @@ module _ (programs : Programs) (numbering : Numbering) (w : World) (good : IsWor
       known_each messages fine.2 first.1 second.1 (λ side. (both_false (names_end w.files.objects choice.pair side m.passed) _ (ends side)).1),
     )
 
-    pub known_entries : (p n : ℕ) → IfHeld (Known numbering w (IsApart w.files choice)) (w.files.table p n)
+    pub known_entries : (p n : ℕ) → IfHeld (Known (ground numbering w (IsApart w.files choice))) (w.files.table p n)
     known_entries p n =
         known_one (w.files.table p n) (good.entries p n) (fresh.first.entries p n) (fresh.second.entries p n)
         (λ side. entry_unnamed choice.pair side (fresh.pair.closed side) p n)
 
-    pub known_messages : (pair side : ℕ) → EachMessage (Known numbering w (IsApart w.files choice)) (w.files.queue pair side)
+    pub known_messages : (pair side : ℕ) → EachMessage (Known (ground numbering w (IsApart w.files choice))) (w.files.queue pair side)
     known_messages pair side =
         known_each (w.files.queue pair side) (good.messages pair side) (fresh.first.messages pair side) (fresh.second.messages pair side)
         (λ end. message_unnamed choice.pair end (fresh.pair.closed end) pair side)

@@ -9,14 +9,13 @@ use Rattle.rights.proofs.Changes.{put-cases}
 use Rattle.rights.proofs.Lists.{slice_get-set_cases}
 use Rattle.process.specs.State.{ProcessState, forked}
 use Rattle.prog_asm.specs.Programs.{Syscall, Fork, Instruction, Set, Mov, Add, In, Jmp, Jeq, Jlt, Halt, Invoke}
-use Rattle.fd_table.specs.Descriptions.{Descriptor, Message, descriptor_of}
+use Rattle.fd_table.specs.Descriptions.{Descriptor, Message, descriptor_of, IfHeld, EachPassed}
 use Rattle.kernel.specs.World.{World, Choice}
 use Rattle.kernel.specs.Answers.{Event, TableChange, Same_table, Set_entry, Clear_entry, New_file, New_pair, New_process, QueueChange, Same_queue, Push, Pop, Change, Answer, Fails, Waits, Gives}
 use Rattle.kernel.specs.Calls.{answer}
 use Rattle.kernel.specs.Changes.{table_after, queue_after, given, processes_after, files_after, changed}
 use Rattle.kernel.specs.Origins.{Caller, calls, calls_at, calls_by, caller_of, IsMade, ComesFrom, stood, was_made, was_copied, IsSent, QueuedFrom, had_waited, was_sent}
 use Rattle.kernel.specs.Steps.{Programs, register, with_process, halted, failed, answered, jumped, executed, stepped_at, stepped_by, stepped, step}
-use Rattle.kernel.specs.WellFormed.{IfHeld, EachPassed}
 use Rattle.kernel.specs.Gains.{StaysIn, GainsNothing, NoRunGains}
 use Rattle.kernel.proofs.Origins.{MayTable, MayQueue, may_table, may_queue}
 use Rattle.kernel.proofs.Keeping.{slice_get-more_cases}

@@ -14,15 +14,16 @@ use Rattle.rights.proofs.Tests.{both_left, both_right}
 use Rattle.file_tree.specs.Nodes.{Node}
 use Rattle.process.specs.State.{ProcessState, forked}
 use Rattle.prog_asm.specs.Programs.{Instruction, Set, Mov, Add, In, Jmp, Jeq, Jlt, Halt, Invoke, is_register, is_syscall}
-use Rattle.fd_table.specs.Descriptions.{Descriptor, descriptor_of}
+use Rattle.fd_table.specs.Descriptions.{Descriptor, descriptor_of, IfHeld}
 use Rattle.kernel.specs.World.{World, Choice, IsFresh}
-use Rattle.kernel.specs.Answers.{Event, TableChange, Same_table, Set_entry, Clear_entry, New_file, New_pair, New_process, Change, Answer, Fails, Waits, Gives}
-use Rattle.kernel.specs.Calls.{answer, most_processes}
+use Rattle.kernel.specs.Answers.{Event, TableChange, Same_table, Set_entry, Clear_entry, New_file, New_pair, New_process, Change, Answer, Fails, Waits, Gives, IsEvent}
+use Rattle.rights.specs.Limits.{most_processes}
+use Rattle.kernel.specs.Calls.{answer}
 use Rattle.kernel.specs.Changes.{table_after, second_number, given, processes_after, files_after, changed}
 use Rattle.kernel.specs.Steps.{Programs, register, with_register, moved_to, goes_on, with_process, halted, failed, answered, jumped, executed, stepped_at, stepped_by, stepped, step}
-use Rattle.kernel.specs.WellFormed.{ArePrograms, IsEvent, Numbering, HasNone, IsDescriptor, IfHeld, IsMade, IsPoint, IsProcess, IsWorld, IsWellFormed}
+use Rattle.kernel.specs.WellFormed.{ArePrograms, Numbering, HasNone, IsDescriptor, IsMade, IsPoint, IsProcess, IsWorld, IsWellFormed}
 use Rattle.kernel.specs.Runs.{NextWorldExists, FreshNumbersExist}
-use Rattle.kernel.proofs.Brings.{Known, BringsTable, Brings, Sound}
+use Rattle.kernel.proofs.Brings.{ground, Known, BringsTable, Brings, Sound}
 use Rattle.kernel.proofs.Brought.{sound}
 use Rattle.kernel.proofs.Fresh.{IsApart, known_entries, known_messages, fresh_with, fresh_some}
 use Rattle.kernel.proofs.Later.{numbering_after, entries_later, numbers_later, messages_later, short_later, idle_later, sides_later}
@@ -167,24 +168,24 @@ module _ (programs : Programs) (numbering : Numbering) (w : World) (good : IsWor
       (process_at programs s 0 value (s.point + 1) mode fine small next) low
   given_process Good tree made value mode New_process brings fine small next = process_at programs s 0 value (s.point + 1) mode fine small next
 
-  kept-changed : IsFresh w.files choice → IsProcess programs s → IsPoint (slice_get (programs s.program) (s.point + 1)) → (value : ℕ) (change : Change) → Brings numbering w (IsApart w.files choice) value change → IsWorld programs (numbering_after numbering choice change.table) (changed w p (given s value change) choice change)
+  kept-changed : IsFresh w.files choice → IsProcess programs s → IsPoint (slice_get (programs s.program) (s.point + 1)) → (value : ℕ) (change : Change) → Brings (ground numbering w (IsApart w.files choice)) value change → IsWorld programs (numbering_after numbering choice change.table) (changed w p (given s value change) choice change)
   unfolding changed files_after Few
   kept-changed fresh fine next value change brings =
       let t : ProcessState = given s value change in
-      let is_process : IsProcess programs t = given_process (Known numbering w (IsApart w.files choice)) _ (length w.processes) value t.mode change.table brings.table fine brings.small next in
-      let count = few_later (Known numbering w (IsApart w.files choice)) _ t change.table brings.table in
+      let is_process : IsProcess programs t = given_process (Known (ground numbering w (IsApart w.files choice))) _ (length w.processes) value t.mode change.table brings.table fine brings.small next in
+      let count = few_later (Known (ground numbering w (IsApart w.files choice))) _ t change.table brings.table in
       record {
         tree = brings.tree;
         some = count.0;
         few = count.1;
         processes = processes_later t is_process change.table;
         entries = entries_later programs numbering w good choice fresh p (length w.processes) change.tree change.table change.state brings.table brings.state;
-        numbers = numbers_later programs numbering w good choice fresh (Known numbering w (IsApart w.files choice)) _ p (length w.processes) change.table brings.table;
+        numbers = numbers_later programs numbering w good choice fresh (Known (ground numbering w (IsApart w.files choice))) _ p (length w.processes) change.table brings.table;
         gone = gone_later t alive change.table;
         messages = messages_later programs numbering w good choice fresh change.tree change.table change.state change.queue brings.state brings.queue;
-        short = short_later programs numbering w good choice fresh (Known numbering w (IsApart w.files choice)) change.queue brings.queue;
+        short = short_later programs numbering w good choice fresh (Known (ground numbering w (IsApart w.files choice))) change.queue brings.queue;
         idle = idle_later programs numbering w good choice fresh change.queue;
-        sides = sides_later programs numbering w good choice fresh (Known numbering w (IsApart w.files choice)) change.queue brings.queue;
+        sides = sides_later programs numbering w good choice fresh (Known (ground numbering w (IsApart w.files choice))) change.queue brings.queue;
       }
 
 -- ## Steps
@@ -195,7 +196,7 @@ module _ (programs : Programs) (valid : ArePrograms programs) (numbering : Numbe
   well : (v : World) → IsWorld programs numbering v → IsWellFormed programs v
   well v is = record { numbering = numbering; world = is }
 
-  kept-answered : (s : ProcessState) (otherwise : ℕ) (a : Answer) → slice_get w.processes e.process ≡ Some s → IsProcess programs s → s.alive ≡ true → IsPoint (slice_get (programs s.program) otherwise) → IsPoint (slice_get (programs s.program) (s.point + 1)) → Sound numbering w (IsApart w.files choice) a → IsWellFormed programs (answered w e.process s choice otherwise a).world
+  kept-answered : (s : ProcessState) (otherwise : ℕ) (a : Answer) → slice_get w.processes e.process ≡ Some s → IsProcess programs s → s.alive ≡ true → IsPoint (slice_get (programs s.program) otherwise) → IsPoint (slice_get (programs s.program) (s.point + 1)) → Sound (ground numbering w (IsApart w.files choice)) a → IsWellFormed programs (answered w e.process s choice otherwise a).world
   unfolding answered Sound
   kept-answered s otherwise (Fails errno cause) made fine alive label next brings =
       well _ (kept-process programs numbering w good e.process (failed s errno otherwise) (process_at programs s 7 (errno_number errno) otherwise s.mode fine (number_small errno) label) alive)
@@ -236,7 +237,8 @@ module _ (programs : Programs) (valid : ArePrograms programs) (numbering : Numbe
   kept-executed s (Invoke call otherwise) made fine alive at =
       kept-answered s otherwise (answer w e.process s e call) made fine alive
       (at.target otherwise (ltb-true otherwise _ (both_right (is_syscall call) _ at.fits))) (at.next refl)
-      (sound programs numbering w good (IsApart w.files choice) (known_entries programs numbering w good choice fresh) (known_messages programs numbering w good choice fresh) e.process s e call (both_left _ _ at.fits))
+      (sound programs (ground numbering w (IsApart w.files choice))
+      (record { good = good; entries = known_entries programs numbering w good choice fresh; messages = known_messages programs numbering w good choice fresh }) e.process s e call (both_left _ _ at.fits))
 
   kept-at : (s : ProcessState) → slice_get w.processes e.process ≡ Some s → IsProcess programs s → s.alive ≡ true → (o : Option Instruction) → slice_get (programs s.program) s.point ≡ o → IsWellFormed programs (stepped_at w e choice s o).world
   unfolding stepped_at

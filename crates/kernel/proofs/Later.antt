@@ -8,17 +8,16 @@ use Rattle.rights.specs.Maps.{put, put2}
 use Rattle.rights.proofs.Changes.{put-cases, put2-cases, put-other}
 use Rattle.rights.proofs.Subsets.{is_within-refl}
 use Rattle.file_tree.specs.Nodes.{Node, node, is_link}
-use Rattle.file_tree.specs.Changes.{most_bytes}
-use Rattle.fd_table.specs.Descriptions.{Access, Class, Object, At_node, At_end, State, Descriptor, Message, new_state, descriptor_of}
+use Rattle.rights.specs.Limits.{most_bytes, most_messages}
+use Rattle.fd_table.specs.Descriptions.{Access, Class, Object, At_node, At_end, State, Descriptor, Message, new_state, descriptor_of, IfHeld}
 use Rattle.fd_table.specs.OpenFiles.{is_end}
 use Rattle.kernel.specs.World.{World, Choice, IsFresh}
 use Rattle.kernel.specs.Answers.{TreeChange, TableChange, Same_table, Set_entry, Clear_entry, New_file, New_pair, New_process, QueueChange, Same_queue, Push, Pop, StateChange, Same_state, Set_state}
-use Rattle.kernel.specs.Calls.{most_messages}
 use Rattle.kernel.specs.Changes.{tree_after, objects_after, new_states, states_after, queue_after, pairs_after, table_after}
 use Rattle.kernel.specs.Steps.{Programs}
-use Rattle.kernel.specs.WellFormed.{Numbering, IsObject, IsDescriptor, IfHeld, EachMessage, IsWorld}
+use Rattle.kernel.specs.WellFormed.{Numbering, IsObject, IsDescriptor, EachMessage, IsWorld}
 use Rattle.kernel.proofs.Trees.{opened_kept}
-use Rattle.kernel.proofs.Brings.{Known, BringsTable, BringsQueue, BringsState}
+use Rattle.kernel.proofs.Brings.{ground, Known, BringsTable, BringsQueue, BringsState}
 use Rattle.kernel.proofs.Fresh.{IsApart, held_map, each_map, known_entries, known_messages}
 
 -- What there is to know of the numbers then.
@@ -118,7 +117,7 @@ module _ (programs : Programs) (numbering : Numbering) (w : World) (good : IsWor
       )
 
   -- What is known stays well formed.
-  pub still : (tree : TreeChange) (table : TableChange) (state : StateChange) → BringsState state → (d : Descriptor) → Known numbering w (IsApart w.files choice) d → Later tree table state d
+  pub still : (tree : TreeChange) (table : TableChange) (state : StateChange) → BringsState state → (d : Descriptor) → Known (ground numbering w (IsApart w.files choice)) d → Later tree table state d
   unfolding IsNear
   still tree table state brings d known =
       let low : d.description < numbering.descriptions = known.0.number in
@@ -194,10 +193,10 @@ module _ (programs : Programs) (numbering : Numbering) (w : World) (good : IsWor
   -- ## The tables
   old_entry : (tree : TreeChange) (table : TableChange) (state : StateChange) → BringsState state → (q n : ℕ) → IfHeld (Later tree table state) (w.files.table q n)
   old_entry tree table state brings q n =
-      held_map (Known numbering w (IsApart w.files choice)) (Later tree table state) (still tree table state brings) (w.files.table q n)
+      held_map (Known (ground numbering w (IsApart w.files choice))) (Later tree table state) (still tree table state brings) (w.files.table q n)
       (known_entries programs numbering w good choice fresh q n)
 
-  pub entries_later : (p made : ℕ) (tree : TreeChange) (table : TableChange) (state : StateChange) → BringsTable (Known numbering w (IsApart w.files choice)) (tree_after w.tree tree) made table → BringsState state → (q n : ℕ) → IfHeld (Later tree table state) (table_after w.files.table p made choice table q n)
+  pub entries_later : (p made : ℕ) (tree : TreeChange) (table : TableChange) (state : StateChange) → BringsTable (Known (ground numbering w (IsApart w.files choice))) (tree_after w.tree tree) made table → BringsState state → (q n : ℕ) → IfHeld (Later tree table state) (table_after w.files.table p made choice table q n)
   entries_later p made tree Same_table state brings near q n = old_entry tree Same_table state near q n
   entries_later p made tree (Set_entry number d) state brings near q n =
       put2-cases (IfHeld (Later tree (Set_entry number d) state)) w.files.table p number (Some d) q n (still tree (Set_entry number d) state near d brings.1) (old_entry tree (Set_entry number d) state near q n)
@@ -242,7 +241,7 @@ module _ (programs : Programs) (numbering : Numbering) (w : World) (good : IsWor
   -- ## The queues
   old_messages : (tree : TreeChange) (table : TableChange) (state : StateChange) → BringsState state → (pair side : ℕ) → EachMessage (Later tree table state) (w.files.queue pair side)
   old_messages tree table state brings pair side =
-      each_map (Known numbering w (IsApart w.files choice)) (Later tree table state) (still tree table state brings) (w.files.queue pair side)
+      each_map (Known (ground numbering w (IsApart w.files choice))) (Later tree table state) (still tree table state brings) (w.files.queue pair side)
       (known_messages programs numbering w good choice fresh pair side)
 
   each_more : (P : Descriptor → Type 0) (messages : List Message) (m : Message) → EachMessage P messages → m.byte < 256 → IfHeld P m.passed → EachMessage P (messages ++ m ∷ [])
@@ -253,12 +252,12 @@ module _ (programs : Programs) (numbering : Numbering) (w : World) (good : IsWor
   each_fewer P [] good = tt
   each_fewer P (k ∷ messages) good = good.2
 
-  pub messages_later : (tree : TreeChange) (table : TableChange) (state : StateChange) (change : QueueChange) → BringsState state → BringsQueue (Known numbering w (IsApart w.files choice)) w.files.queue change → (pair side : ℕ) → EachMessage (Later tree table state) (queue_after w.files.queue change pair side)
+  pub messages_later : (tree : TreeChange) (table : TableChange) (state : StateChange) (change : QueueChange) → BringsState state → BringsQueue (Known (ground numbering w (IsApart w.files choice))) w.files.queue change → (pair side : ℕ) → EachMessage (Later tree table state) (queue_after w.files.queue change pair side)
   messages_later tree table state Same_queue near brings pair side = old_messages tree table state near pair side
   messages_later tree table state (Push q s m) near brings pair side =
       put2-cases (EachMessage (Later tree table state)) w.files.queue q s (w.files.queue q s ++ m ∷ []) pair side
       (each_more (Later tree table state) (w.files.queue q s) m (old_messages tree table state near q s) brings.2
-      (held_map (Known numbering w (IsApart w.files choice)) (Later tree table state) (still tree table state near) m.passed brings.3))
+      (held_map (Known (ground numbering w (IsApart w.files choice))) (Later tree table state) (still tree table state near) m.passed brings.3))
       (old_messages tree table state near pair side)
   messages_later tree table state (Pop q s) near brings pair side =
       put2-cases (EachMessage (Later tree table state)) w.files.queue q s (drop 1 (w.files.queue q s)) pair side

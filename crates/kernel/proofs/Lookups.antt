@@ -19,7 +19,6 @@ use Rattle.lookup.proofs.LookLaws.{find_looks}
 use Rattle.lookup.proofs.PlaceLaws.{looks_there, kept_named, kept_free, kept_may_be_made, followed_good}
 use Rattle.prog_asm.specs.Programs.{is_path, is_path_byte}
 use Rattle.kernel.specs.Answers.{Move}
-use Rattle.kernel.specs.Calls.{Search}
 use Rattle.kernel.specs.Changes.{tree_after}
 use Rattle.kernel.proofs.Trees.{moved_is_tree}
 
@@ -88,11 +87,11 @@ pub record Sure (t : List Node) (path : List ℕ) (last : Last) (found : Answer)
   pub vacant : MayMake t path found
   pub named : last ≡ Keep → IsUnderName t path found
 
-pub find_sure : (t : List Node) (a : Search) → IsTree t → is_link (node t a.start).kind ≡ false → is_path a.path ≡ true → Sure t a.path a.last (find_of t a.start a.path a.way a.last)
-find_sure t a tree opened path = record {
-  there = find_there t a.start a.path a.way tree a.last;
-  vacant = find_vacant t a.start a.path a.way tree opened (path_bytes a.path path) a.last;
-  named = find_named t a.start a.path a.way tree a.last;
+pub find_sure : (t : List Node) (start : ℕ) (path : List ℕ) (way : Way) (last : Last) → IsTree t → is_link (node t start).kind ≡ false → is_path path ≡ true → Sure t path last (find_of t start path way last)
+find_sure t start path way last tree opened valid = record {
+  there = find_there t start path way tree last;
+  vacant = find_vacant t start path way tree opened (path_bytes path valid) last;
+  named = find_named t start path way tree last;
 }
 
 -- A linked node moves over another that is found under its name.

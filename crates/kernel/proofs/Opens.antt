@@ -4,9 +4,8 @@ use Rattle.std.specs.Prelude.{◌==◌, ◌&&◌, ◌||◌, Option, Some, None}
 use Rattle.std.specs.List.{list_any}
 use Rattle.std.proofs.lemmas.Bool.{eqb-true, eq-eqb}
 use Rattle.rights.proofs.Tests.{either_one}
-use Rattle.fd_table.specs.Descriptions.{Object, At_node, At_end, Descriptor, Message}
+use Rattle.fd_table.specs.Descriptions.{Object, At_node, At_end, Descriptor, Message, IfHeld}
 use Rattle.fd_table.specs.OpenFiles.{OpenFiles, is_end, names_end, any_below, is_open}
-use Rattle.kernel.specs.WellFormed.{IfHeld}
 use Rattle.kernel.specs.Renamings.{Renaming, SameDescription, EachNamed, SameFiles, renamed_object, renamed_entry, renamed_messages}
 use Rattle.kernel.proofs.Fresh.{lt_or_le}
 

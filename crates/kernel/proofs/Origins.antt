@@ -7,17 +7,16 @@ use Rattle.rights.specs.Sets.{all_rights, all_commands}
 use Rattle.rights.proofs.Subsets.{is_within-refl}
 use Rattle.rights.specs.Opens.{OpenRequest}
 use Rattle.file_tree.specs.Nodes.{Kind, File, Dir, Link, node}
-use Rattle.lookup.specs.Answers.{Fault, Escape, No_entry, Not_dir, Loop, Too_long, Bad_last, Beneath, Keep, Found_node, Found_free, Lost}
+use Rattle.lookup.specs.Answers.{Way, Last, Fault, Escape, No_entry, Not_dir, Loop, Too_long, Bad_last, Beneath, Keep, Found_node, Found_free, Lost}
 use Rattle.lookup.specs.Answers as lookups
 use Rattle.process.specs.State.{ProcessState}
 use Rattle.prog_asm.specs.Programs.{Syscall, Open, Openat, Read, Write, Sendfd, Recvfd, Lseek, Ftruncate, Fsync, Fstat, Fcntl_getfl, Fcntl_setfl, Fstatat, Stat, Mkdirat, Mkdir, Unlinkat, Unlink, Renameat, Dup, Close, Cap_rights_limit, Cap_fcntls_limit, Cap_enter, Cap_getmode, Socketpair, Fork}
-use Rattle.fd_table.specs.Descriptions.{Access, Class, Object, At_node, At_end, Descriptor, Message, other_side, descriptor_of}
+use Rattle.fd_table.specs.Descriptions.{Access, Class, Object, At_node, At_end, Descriptor, Message, other_side, descriptor_of, IfHeld}
 use Rattle.fd_table.specs.OpenFiles.{lowest_from, lowest_free}
 use Rattle.kernel.specs.World.{World}
 use Rattle.kernel.specs.Answers.{Event, Effect, TableChange, Same_table, Set_entry, Clear_entry, New_file, New_pair, New_process, QueueChange, Same_queue, Push, Pop, Change, Answer, Fails, Waits, Gives, unless, held, at_object, at_number, lost}
-use Rattle.kernel.specs.Calls.{Search, looks, looks_twice, answer, opened, opened_as, read_byte, read_end, write_node, sent_end, received, receive_end, looked_at, made_directory, unlinked_as, unlinked, renamed_over, renamed_to, renamed_from, pair_at, blocked, in_directory, at_file}
+use Rattle.kernel.specs.Calls.{looks, looks_twice, answer, opened, opened_as, read_byte, read_end, write_node, sent_end, received, receive_end, looked_at, made_directory, unlinked_as, unlinked, renamed_over, renamed_to, renamed_from, pair_at, blocked, in_directory, at_file}
 use Rattle.kernel.specs.Origins.{Caller, front_of, arriving_at, arriving, IsWithin, IsOwn, IsMade, IsEndOf, IsEnd, IsSent}
-use Rattle.kernel.specs.WellFormed.{IfHeld}
 
 -- a number that is found free is
 unheld : (o : Option Descriptor) → is_some o ≡ false → o ≡ None
@@ -154,13 +153,13 @@ module _ (w : World) (p : ℕ) (s : ProcessState) where
     fair-write_node call d n access byte =
         fair-unless call _ _ _ _ (λ _. fair-unless call _ _ _ _ (λ _. fair-unless call _ _ _ _ (λ _. fair-unless call _ _ _ _ (λ _. gives call _ _ _ tt tt))))
 
-    fair-looks : (call : Syscall) (a : Search) (rest : lookups.Answer → Answer) → ((found : lookups.Answer) → Fair call (rest found)) → Fair call (looks w p s e a rest)
+    fair-looks : (call : Syscall) (start : ℕ) (way : Way) (path : List ℕ) (last : Last) (rest : lookups.Answer → Answer) → ((found : lookups.Answer) → Fair call (rest found)) → Fair call (looks w p s e start way path last rest)
     unfolding looks
-    fair-looks call a rest fair = fair _
+    fair-looks call start way path last rest fair = fair _
 
-    fair-looks_twice : (call : Syscall) (a b : Search) (rest : lookups.Answer → lookups.Answer → Answer) → ((found place : lookups.Answer) → Fair call (rest found place)) → Fair call (looks_twice w p s e a b rest)
+    fair-looks_twice : (call : Syscall) (n : ℕ) (from : List ℕ) (m : ℕ) (to : List ℕ) (rest : lookups.Answer → lookups.Answer → Answer) → ((found place : lookups.Answer) → Fair call (rest found place)) → Fair call (looks_twice w p s e n from m to rest)
     unfolding looks_twice
-    fair-looks_twice call a b rest fair = fair _ _
+    fair-looks_twice call n from m to rest fair = fair _ _
 
     fair-looked_at : (call : Syscall) (found : lookups.Answer) → Fair call (looked_at w p s e found)
     fair-looked_at call (Lost fault) = fair-lost call fault
@@ -220,11 +219,11 @@ module _ (w : World) (p : ℕ) (s : ProcessState) where
     unfolding answer
     fair (Open path f) =
         fair-unless (Open path f) _ _ _ _ (λ outside.
-        fair-looks (Open path f) _ _ (fair-opened (Open path f) all_rights all_commands
+        fair-looks (Open path f) _ _ _ _ _ (fair-opened (Open path f) all_rights all_commands
         (λ number k none. record { place = none; comes = inr (record { makes = outside; rights = refl; fcntls = refl }) }) f path))
     fair (Openat x path f) =
         fair-held (Openat x path f) _ _ (λ d is. fair-unless (Openat x path f) _ _ _ _ (λ _. fair-directory (Openat x path f) d _ (λ n.
-        fair-looks (Openat x path f) _ _
+        fair-looks (Openat x path f) _ _ _ _ _
         (fair-opened (Openat x path f) d.rights d.fcntls (λ number k none. record { place = none; comes = inl (within-refl d _ is k) }) f path))))
     fair (Read x) =
         fair-held (Read x) _ _ (λ d is. fair-unless (Read x) _ _ _ _ (λ _. fair-object (Read x) _ _ _
@@ -259,21 +258,21 @@ module _ (w : World) (p : ℕ) (s : ProcessState) where
         fair-held (Fcntl_setfl x v) _ _ (λ d is. fair-unless (Fcntl_setfl x v) _ _ _ _ (λ _. fair-unless (Fcntl_setfl x v) _ _ _ _ (λ _.
         fair-unless (Fcntl_setfl x v) _ _ _ _ (λ _. gives (Fcntl_setfl x v) _ _ _ tt tt))))
     fair (Fstatat x path) =
-        fair-held (Fstatat x path) _ _ (λ d is. fair-unless (Fstatat x path) _ _ _ _ (λ _. fair-directory (Fstatat x path) d _ (λ n. fair-looks (Fstatat x path) _ _ (fair-looked_at (Fstatat x path)))))
-    fair (Stat path) = fair-unless (Stat path) _ _ _ _ (λ _. fair-looks (Stat path) _ _ (fair-looked_at (Stat path)))
+        fair-held (Fstatat x path) _ _ (λ d is. fair-unless (Fstatat x path) _ _ _ _ (λ _. fair-directory (Fstatat x path) d _ (λ n. fair-looks (Fstatat x path) _ _ _ _ _ (fair-looked_at (Fstatat x path)))))
+    fair (Stat path) = fair-unless (Stat path) _ _ _ _ (λ _. fair-looks (Stat path) _ _ _ _ _ (fair-looked_at (Stat path)))
     fair (Mkdirat x path) =
-        fair-held (Mkdirat x path) _ _ (λ d is. fair-unless (Mkdirat x path) _ _ _ _ (λ _. fair-directory (Mkdirat x path) d _ (λ n. fair-looks (Mkdirat x path) _ _ (fair-made_directory (Mkdirat x path) path))))
-    fair (Mkdir path) = fair-unless (Mkdir path) _ _ _ _ (λ _. fair-looks (Mkdir path) _ _ (fair-made_directory (Mkdir path) path))
+        fair-held (Mkdirat x path) _ _ (λ d is. fair-unless (Mkdirat x path) _ _ _ _ (λ _. fair-directory (Mkdirat x path) d _ (λ n. fair-looks (Mkdirat x path) _ _ _ _ _ (fair-made_directory (Mkdirat x path) path))))
+    fair (Mkdir path) = fair-unless (Mkdir path) _ _ _ _ (λ _. fair-looks (Mkdir path) _ _ _ _ _ (fair-made_directory (Mkdir path) path))
     fair (Unlinkat x path directory) =
         fair-held (Unlinkat x path directory) _ _ (λ d is. fair-unless (Unlinkat x path directory) _ _ _ _ (λ _.
-        fair-directory (Unlinkat x path directory) d _ (λ n. fair-looks (Unlinkat x path directory) _ _ (fair-unlinked (Unlinkat x path directory) directory))))
-    fair (Unlink path directory) = fair-unless (Unlink path directory) _ _ _ _ (λ _. fair-looks (Unlink path directory) _ _ (fair-unlinked (Unlink path directory) directory))
+        fair-directory (Unlinkat x path directory) d _ (λ n. fair-looks (Unlinkat x path directory) _ _ _ _ _ (fair-unlinked (Unlinkat x path directory) directory))))
+    fair (Unlink path directory) = fair-unless (Unlink path directory) _ _ _ _ (λ _. fair-looks (Unlink path directory) _ _ _ _ _ (fair-unlinked (Unlink path directory) directory))
     fair (Renameat x from y to) =
         let call : Syscall = Renameat x from y to in
         fair-held call _ _ (λ d is. fair-held call _ _ (λ target also.
         fair-unless call _ _ _ _ (λ _. fair-unless call _ _ _ _ (λ _.
         fair-directory call d _ (λ n. fair-directory call target _ (λ m.
-        fair-looks_twice call _ _ _ (λ source place.
+        fair-looks_twice call _ _ _ _ _ (λ source place.
         fair-renamed_from call source _ (λ k. fair-renamed_to call target k to place))))))))
     fair (Dup x) =
         fair-held (Dup x) _ _ (λ d is. fair-number (Dup x) _ _ (λ number none.

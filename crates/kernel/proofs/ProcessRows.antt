@@ -6,7 +6,8 @@ use Rattle.std.specs.Fmt.{digits}
 use Rattle.rights.specs.Opens.{open_request}
 use Rattle.file_tree.specs.Places.{path_components}
 use Rattle.file_tree.specs.Nodes.{node_at}
-use Rattle.file_tree.specs.Changes.{created, removed, filled}
+use Rattle.file_tree.specs.Changes.{removed, filled}
+use Rattle.file_tree.specs.Refusals.{created}
 use Rattle.lookup.specs.Paths.{last_component, path_fault}
 use Rattle.lookup.specs.Steps.{looked}
 use Rattle.lookup.specs.ByPlaces.{by_places}

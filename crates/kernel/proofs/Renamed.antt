@@ -7,16 +7,16 @@ use Rattle.rights.specs.Operations.{Read as Reads, Write as Writes}
 use Rattle.rights.specs.Opens.{OpenRequest}
 use Rattle.file_tree.specs.Nodes.{Kind, File, Dir, Link, node}
 use Rattle.file_tree.specs.Changes.{written}
-use Rattle.lookup.specs.Answers.{Fault, Escape, No_entry, Not_dir, Loop, Too_long, Bad_last, Beneath, Global, Follow, Keep, Found_node, Found_free, Lost}
+use Rattle.lookup.specs.Answers.{Way, Last, Fault, Escape, No_entry, Not_dir, Loop, Too_long, Bad_last, Beneath, Global, Follow, Keep, Found_node, Found_free, Lost}
 use Rattle.lookup.specs.Answers as lookups
 use Rattle.process.specs.State.{ProcessState}
 use Rattle.prog_asm.specs.Programs.{Syscall, Open, Openat, Read, Write, Sendfd, Recvfd, Lseek, Ftruncate, Fsync, Fstat, Fcntl_getfl, Fcntl_setfl, Fstatat, Stat, Mkdirat, Mkdir, Unlinkat, Unlink, Renameat, Dup, Close, Cap_rights_limit, Cap_fcntls_limit, Cap_enter, Cap_getmode, Socketpair, Fork}
-use Rattle.fd_table.specs.Descriptions.{Access, Made_at, Object, At_node, At_end, State, Descriptor, Message, other_side, status_number, with_status}
+use Rattle.fd_table.specs.Descriptions.{Access, Made_at, Object, At_node, At_end, State, Descriptor, Message, other_side, status_number, with_status, IfHeld}
 use Rattle.fd_table.specs.OpenFiles.{OpenFiles, is_open, lowest_from, lowest_free}
 use Rattle.kernel.specs.World.{World}
 use Rattle.kernel.specs.Answers.{Event, Effect, TableChange, Same_table, Set_entry, Clear_entry, New_file, New_pair, New_process, QueueChange, Same_queue, Push, Pop, StateChange, Same_state, Set_state, Fill, Change, Answer, Fails, Waits, Gives, same, gives, does, unless, held, at_object, at_number, lost, value_of}
-use Rattle.kernel.specs.Calls.{Search, looks, looks_twice, answer, most_messages, opened, opened_as, read_byte, read_node, read_end, write_node, write_at, write_offset, sent_end, received, receive_end, looked_at, made_directory, unlinked, renamed_to, renamed_from, pair_at, blocked, in_directory, at_file, at_socket, last_if}
-use Rattle.kernel.specs.WellFormed.{IfHeld}
+use Rattle.rights.specs.Limits.{most_messages}
+use Rattle.kernel.specs.Calls.{looks, looks_twice, answer, opened, opened_as, read_byte, read_node, read_end, write_node, write_at, write_offset, sent_end, received, receive_end, looked_at, made_directory, unlinked, renamed_to, renamed_from, pair_at, blocked, in_directory, at_file, at_socket, last_if}
 use Rattle.kernel.specs.Renamings.{Renaming, SameDescription, SameFiles, renamed_object, renamed_descriptor, renamed_entry, renamed_message, renamed_messages}
 
 -- A change, and an answer, under the other numbers.
@@ -227,13 +227,13 @@ module _ (r : Renaming) (w : World) (g : OpenFiles) (alike : SameFiles r w.files
   both-opened f rights fcntls path (Found_free d) = both-free _ _ (λ number. both-unless r _ _ _ _ _ (both-unless r _ _ _ _ _ (given r _ _ _)))
   both-opened f rights fcntls path (Found_node n) = both-opened_as f rights fcntls n (node w.tree n).kind
 
-  both-looks : (a : Search) (rest more : lookups.Answer → Answer) → ((found : lookups.Answer) → Matches r (rest found) (more found)) → Matches r (looks w p s e a rest) (looks other p s e a more)
+  both-looks : (start : ℕ) (way : Way) (path : List ℕ) (last : Last) (rest more : lookups.Answer → Answer) → ((found : lookups.Answer) → Matches r (rest found) (more found)) → Matches r (looks w p s e start way path last rest) (looks other p s e start way path last more)
   unfolding looks
-  both-looks a rest more is = is _
+  both-looks start way path last rest more is = is _
 
-  both-looks_twice : (a b : Search) (rest more : lookups.Answer → lookups.Answer → Answer) → ((found place : lookups.Answer) → Matches r (rest found place) (more found place)) → Matches r (looks_twice w p s e a b rest) (looks_twice other p s e a b more)
+  both-looks_twice : (n : ℕ) (from : List ℕ) (m : ℕ) (to : List ℕ) (rest more : lookups.Answer → lookups.Answer → Answer) → ((found place : lookups.Answer) → Matches r (rest found place) (more found place)) → Matches r (looks_twice w p s e n from m to rest) (looks_twice other p s e n from m to more)
   unfolding looks_twice
-  both-looks_twice a b rest more is = is _ _
+  both-looks_twice n from m to rest more is = is _ _
 
   both-looked_at : (found : lookups.Answer) → Matches r (looked_at w p s e found) (looked_at other p s e found)
   both-looked_at (Lost fault) = both-lost r fault
@@ -273,10 +273,10 @@ module _ (r : Renaming) (w : World) (g : OpenFiles) (alike : SameFiles r w.files
   -- ## Every call
   matches : (call : Syscall) → Matches r (answer w p s e call) (answer other p s e call)
   unfolding answer
-  matches (Open path f) = both-unless r _ _ _ _ _ (both-looks _ _ _ (both-opened f _ _ path))
+  matches (Open path f) = both-unless r _ _ _ _ _ (both-looks _ _ _ _ _ _ (both-opened f _ _ path))
   matches (Openat x path f) =
       both-entry (value_of s x) _ _ (λ d twin. both-unless r _ _ _ _ _ (both-directory d twin _ _ (λ n.
-      both-looks _ _ _ (both-opened f d.rights d.fcntls path))))
+      both-looks _ _ _ _ _ _ (both-opened f d.rights d.fcntls path))))
   matches (Read x) =
       both-entry (value_of s x) _ _ (λ d twin. both-unless r _ _ _ _ _ (both-object d twin _ _ _ _
       (λ n access. both-read_node d twin n access)
@@ -315,19 +315,19 @@ module _ (r : Renaming) (w : World) (g : OpenFiles) (alike : SameFiles r w.files
       (ap (λ (state : State). Gives 0 (record same { state = Set_state (r.description d.description) (with_status state (value_of s v)) }) []) twin.state)
       (given r 0 (record same { state = Set_state d.description (with_status (w.files.states d.description) (value_of s v)) }) [])))))
   matches (Fstatat x path) =
-      both-entry (value_of s x) _ _ (λ d twin. both-unless r _ _ _ _ _ (both-directory d twin _ _ (λ n. both-looks _ _ _ (both-looked_at))))
-  matches (Stat path) = both-unless r _ _ _ _ _ (both-looks _ _ _ (both-looked_at))
+      both-entry (value_of s x) _ _ (λ d twin. both-unless r _ _ _ _ _ (both-directory d twin _ _ (λ n. both-looks _ _ _ _ _ _ (both-looked_at))))
+  matches (Stat path) = both-unless r _ _ _ _ _ (both-looks _ _ _ _ _ _ (both-looked_at))
   matches (Mkdirat x path) =
-      both-entry (value_of s x) _ _ (λ d twin. both-unless r _ _ _ _ _ (both-directory d twin _ _ (λ n. both-looks _ _ _ (both-made_directory path))))
-  matches (Mkdir path) = both-unless r _ _ _ _ _ (both-looks _ _ _ (both-made_directory path))
+      both-entry (value_of s x) _ _ (λ d twin. both-unless r _ _ _ _ _ (both-directory d twin _ _ (λ n. both-looks _ _ _ _ _ _ (both-made_directory path))))
+  matches (Mkdir path) = both-unless r _ _ _ _ _ (both-looks _ _ _ _ _ _ (both-made_directory path))
   matches (Unlinkat x path directory) =
-      both-entry (value_of s x) _ _ (λ d twin. both-unless r _ _ _ _ _ (both-directory d twin _ _ (λ n. both-looks _ _ _ (both-unlinked directory))))
-  matches (Unlink path directory) = both-unless r _ _ _ _ _ (both-looks _ _ _ (both-unlinked directory))
+      both-entry (value_of s x) _ _ (λ d twin. both-unless r _ _ _ _ _ (both-directory d twin _ _ (λ n. both-looks _ _ _ _ _ _ (both-unlinked directory))))
+  matches (Unlink path directory) = both-unless r _ _ _ _ _ (both-looks _ _ _ _ _ _ (both-unlinked directory))
   matches (Renameat x from y target) =
       both-entry (value_of s x) _ _ (λ d twin. both-entry (value_of s y) _ _ (λ into also.
       both-unless r _ _ _ _ _ (both-unless r _ _ _ _ _
       (both-directory d twin _ _ (λ n. both-directory into also _ _ (λ m.
-      both-looks_twice _ _ _ _ (λ source place. both-renamed_from source _ _ (λ k.
+      both-looks_twice _ _ _ _ _ _ (λ source place. both-renamed_from source _ _ (λ k.
       both-renamed_to (Renameat x from y target) into k target place))))))))
   matches (Dup x) = both-entry (value_of s x) _ _ (λ d twin. both-free _ _ (λ number. given r _ _ _))
   matches (Close x) = both-entry (value_of s x) _ _ (λ d twin. given r _ _ _)

@@ -5,7 +5,8 @@ use Rattle.std.proofs.Math.Decide.{ℕ_discrete}
 use Rattle.std.specs.Fmt.{digits}
 use Rattle.file_tree.specs.Places.{path_components}
 use Rattle.file_tree.specs.Nodes.{node_at}
-use Rattle.file_tree.specs.Changes.{created, removed, filled}
+use Rattle.file_tree.specs.Changes.{removed, filled}
+use Rattle.file_tree.specs.Refusals.{created}
 use Rattle.lookup.specs.Paths.{last_component, path_fault}
 use Rattle.lookup.specs.Steps.{looked}
 use Rattle.lookup.specs.ByPlaces.{by_places}

@@ -5,10 +5,10 @@ use Rattle.std.specs.Fmt.{decimal}
 use Rattle.rights.specs.Sets.{all_rights, all_commands}
 use Rattle.rights.specs.Errors.{errno_name, cause_name}
 use Rattle.rights.specs.Maps.{put}
-use Rattle.rights.specs.Operations.{operation_name}
+use Rattle.rights.specs.OperationLists.{operation_name}
 use Rattle.file_tree.specs.Places.{place_text}
 use Rattle.file_tree.specs.Nodes.{File, Dir, Link, Node}
-use Rattle.file_tree.specs.Changes.{new_tree, created}
+use Rattle.file_tree.specs.Refusals.{new_tree, created}
 use Rattle.process.specs.State.{ProcessState, new_process}
 use Rattle.prog_asm.specs.Programs.{Instruction}
 use Rattle.prog_asm.specs.Assembly.{Fault}

@@ -7,16 +7,16 @@ use Rattle.rights.proofs.Changes.{put-cases, put-both}
 use Rattle.rights.proofs.Tests.{both_left}
 use Rattle.process.specs.State.{ProcessState}
 use Rattle.prog_asm.specs.Programs.{Instruction, Set, Mov, Add, In, Jmp, Jeq, Jlt, Halt, Invoke}
-use Rattle.fd_table.specs.Descriptions.{Descriptor, Message}
+use Rattle.fd_table.specs.Descriptions.{Descriptor, Message, IfHeld}
 use Rattle.fd_table.specs.OpenFiles.{OpenFiles, is_open}
 use Rattle.kernel.specs.World.{World, Choice}
 use Rattle.kernel.specs.Answers.{Event, TableChange, Same_table, Set_entry, Clear_entry, New_file, New_pair, New_process, Change, Answer, Fails, Waits, Gives}
 use Rattle.kernel.specs.Calls.{answer}
 use Rattle.kernel.specs.Changes.{given, processes_after, changed}
 use Rattle.kernel.specs.Steps.{Programs, Executed, Stepped, with_process, plain, halted, failed, answered, executed, register, acted_as, stepped_at, stepped_by, stepped, step}
-use Rattle.kernel.specs.WellFormed.{ArePrograms, Numbering, IsDescriptor, IfHeld, EachMessage, IsWorld}
+use Rattle.kernel.specs.WellFormed.{ArePrograms, Numbering, IsDescriptor, EachMessage, IsWorld}
 use Rattle.kernel.specs.Renamings.{Renaming, SameDescription, EachNamed, SameFiles, renamed_entry}
-use Rattle.kernel.proofs.Brings.{Known, Brings, Sound}
+use Rattle.kernel.proofs.Brings.{ground, Known, Brings, Sound}
 use Rattle.kernel.proofs.Brought.{sound}
 use Rattle.kernel.proofs.Fresh.{held_map}
 use Rattle.kernel.proofs.Opens.{same_open}
@@ -58,11 +58,11 @@ module _ (r : Renaming) (programs : Programs) (valid : ArePrograms programs) (nu
   opens = same_open r w.files g alike good.idle idle
 
   -- what is named is the same description in both
-  known_one : (o : Option Descriptor) → IfHeld (IsDescriptor w.tree numbering w.files.objects w.files.states) o → IfHeld (λ d. SameDescription r w.files g d.description) o → IfHeld (Known numbering w (SameDescription r w.files g)) o
+  known_one : (o : Option Descriptor) → IfHeld (IsDescriptor w.tree numbering w.files.objects w.files.states) o → IfHeld (λ d. SameDescription r w.files g d.description) o → IfHeld (Known (ground numbering w (SameDescription r w.files g))) o
   known_one None fine twin = tt
   known_one (Some d) fine twin = (fine, twin)
 
-  known_each : (messages : List Message) → EachMessage (IsDescriptor w.tree numbering w.files.objects w.files.states) messages → EachNamed (SameDescription r w.files g) messages → EachMessage (Known numbering w (SameDescription r w.files g)) messages
+  known_each : (messages : List Message) → EachMessage (IsDescriptor w.tree numbering w.files.objects w.files.states) messages → EachNamed (SameDescription r w.files g) messages → EachMessage (Known (ground numbering w (SameDescription r w.files g))) messages
   known_each [] fine twin = tt
   known_each (m ∷ messages) fine twin = (fine.0, known_one m.passed fine.1 twin.0, known_each messages fine.2 twin.1)
 
@@ -101,15 +101,15 @@ module _ (r : Renaming) (programs : Programs) (valid : ArePrograms programs) (nu
   unfolding closed
   halted_alike s = record { tree = refl; processes = refl; files = closed_alike }
 
-  changed_alike : (s : ProcessState) (value : ℕ) (change : Change) → Brings numbering w (SameDescription r w.files g) value change → SameWorlds r (changed w e.process (given s value change) j change) (changed other e.process (given s value (renamed_change r change)) k (renamed_change r change))
+  changed_alike : (s : ProcessState) (value : ℕ) (change : Change) → Brings (ground numbering w (SameDescription r w.files g)) value change → SameWorlds r (changed w e.process (given s value change) j change) (changed other e.process (given s value (renamed_change r change)) k (renamed_change r change))
   unfolding changed
   changed_alike s value change brings = record {
     tree = refl;
     processes = processes-same r w.processes e.process s value change change.table;
-    files = files_alike r w.files g alike j k aims e.process _ (Known numbering w (SameDescription r w.files g)) _ _ change (λ d known. known.1) brings.table brings.queue;
+    files = files_alike r w.files g alike j k aims e.process _ (Known (ground numbering w (SameDescription r w.files g))) _ _ change (λ d known. known.1) brings.table brings.queue;
   }
 
-  answered_alike : (s : ProcessState) (otherwise : ℕ) (a : Answer) → Sound numbering w (SameDescription r w.files g) a → SameDone r (answered w e.process s j otherwise a) (answered other e.process s k otherwise (renamed_answer r a))
+  answered_alike : (s : ProcessState) (otherwise : ℕ) (a : Answer) → Sound (ground numbering w (SameDescription r w.files g)) a → SameDone r (answered w e.process s j otherwise a) (answered other e.process s k otherwise (renamed_answer r a))
   unfolding answered Sound
   answered_alike s otherwise (Fails errno cause) brings = record { world = process_alike (failed s errno otherwise); outcome = refl; effects = refl }
   answered_alike s otherwise Waits brings = record { world = same_world; outcome = refl; effects = refl }
@@ -129,9 +129,12 @@ module _ (r : Renaming) (programs : Programs) (valid : ArePrograms programs) (nu
       subst (λ a. SameDone r (answered w e.process s j otherwise (answer w e.process s e call)) (answered other e.process s k otherwise a))
       (sym (same_answer r w g alike opens e.process s e call))
       (answered_alike s otherwise (answer w e.process s e call)
-      (sound programs numbering w good (SameDescription r w.files g)
-      (λ p n. known_one (w.files.table p n) (good.entries p n) (alike.entries p n))
-      (λ pair side. known_each (w.files.queue pair side) (good.messages pair side) (alike.messages pair side))
+      (sound programs (ground numbering w (SameDescription r w.files g))
+      (record {
+        good = good;
+        entries = λ p n. known_one (w.files.table p n) (good.entries p n) (alike.entries p n);
+        messages = λ pair side. known_each (w.files.queue pair side) (good.messages pair side) (alike.messages pair side);
+      })
       e.process s e call (both_left _ _ (placed (programs s.program) s.point (Invoke call otherwise) (valid s.program) here).fits)))
 
   at_alike : (s : ProcessState) (o : Option Instruction) → slice_get (programs s.program) s.point ≡ o → SameStep r (stepped_at w e j s o) (stepped_at other e k s o)

@@ -5,7 +5,9 @@ use Rattle.std.proofs.lemmas.Bool.{and_parts, both_ways, cases_Bool, cond_both, 
 use Rattle.rights.proofs.Tests.{not_true}
 use Rattle.file_tree.specs.Places.{is_name, same_place, begins, at_name, above}
 use Rattle.file_tree.specs.Nodes.{Kind, Dir, Node, node, is_dir, is_link, node_at, child_of, lies_below, has_below, stands_at}
-use Rattle.file_tree.specs.Changes.{Exists, NotEmpty, Full, IntoItself, Gone, most_nodes, created, create_fault, removed, remove_fault, is_root, renamed, rename_fault, moved, replaced_at, filled, unlinked}
+use Rattle.rights.specs.Limits.{most_nodes}
+use Rattle.file_tree.specs.Changes.{removed, renamed, moved, replaced_at, filled, unlinked}
+use Rattle.file_tree.specs.Refusals.{Exists, NotEmpty, Full, IntoItself, Gone, created, create_fault, remove_fault, is_root, rename_fault}
 use Rattle.file_tree.specs.WellFormed.{IsTree, is_content}
 use Rattle.file_tree.proofs.PlaceLaws.{same_place_is, begins_above_other, begins_longer, above_length}
 use Rattle.file_tree.proofs.NodeLaws.{Directory, any_found, held_above, node_at_none, stands_from}
@@ -87,7 +89,7 @@ unlinked_is_tree t n tree linked low leaf = removes t n tree linked (below_root 
 
 -- A linked node moves to a name in a linked directory, where nothing lies below it.
 pub moved_is_tree : (t : List Node) (n d : ℕ) (name : List ℕ) → IsTree t → (node t n).linked ≡ true → (node t d).linked ≡ true → (node t d).kind ≡ Dir → is_name name ≡ true → begins (node t n).place (at_name (node t d).place name) ≡ false → has_below t (at_name (node t d).place name) ≡ false → IsTree (tree_after t (Move n (at_name (node t d).place name)))
-unfolding renamed rename_fault
+unfolding rename_fault
 moved_is_tree t n d name tree linked holder dir named outside empty =
     renamed_is_tree t n d name tree dir named
     (none (node t n).linked (node t d).linked (same_place (at_name (node t d).place name) (node t n).place) (begins (node t n).place (at_name (node t d).place name)) (has_below t (at_name (node t d).place name)) linked holder outside empty)

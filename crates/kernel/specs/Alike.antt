@@ -4,10 +4,10 @@ use Rattle.process.specs.State.{ProcessState}
 use Rattle.prog_asm.specs.Programs.{Syscall}
 use Rattle.fd_table.specs.OpenFiles.{Alike}
 use Rattle.kernel.specs.World.{World, Choice, IsFresh}
-use Rattle.kernel.specs.Answers.{Event}
+use Rattle.kernel.specs.Answers.{Event, IsEvent}
 use Rattle.kernel.specs.Calls.{answer}
 use Rattle.kernel.specs.Steps.{Programs, step}
-use Rattle.kernel.specs.WellFormed.{ArePrograms, IsEvent, IsWellFormed}
+use Rattle.kernel.specs.WellFormed.{ArePrograms, IsWellFormed}
 use Rattle.kernel.specs.Renamings.{DiffersInNumbers}
 
 -- What stands at numbers that nobody names is left open, and so is the bound on the pairs with messages.

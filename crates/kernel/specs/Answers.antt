@@ -1,6 +1,6 @@
 -- What a system call answers, and the tests that it asks. An answer that is an error has no change, so
 -- errors change nothing.
-use Rattle.std.specs.Prelude.{ℕ, Bool, true, false, List, [], ◌∷◌, slice_index_or, Option, Some, None}
+use Rattle.std.specs.Prelude.{◌<◌, ℕ, Bool, true, false, List, [], ◌∷◌, slice_index_or, Option, Some, None}
 use Rattle.rights.specs.Sets.{is_within}
 use Rattle.rights.specs.Errors.{Errno, EBADF, EMFILE, ENOENT, ENOTDIR, EINVAL, ELOOP, ENAMETOOLONG, ENOTCAPABLE, ECAPMODE, ENOTSOCK, EAGAIN, Cause, CapMode, BadDescriptor, MissingRight, Full, Refused}
 use Rattle.rights.specs.Errors as errors
@@ -17,6 +17,14 @@ pub record Event : Type 0 where
   pub process : ℕ
   pub input : ℕ
   pub refuse : Bool
+
+-- An event gives a byte.
+abbrev pub IsEvent : Event → Type 0
+IsEvent e = e.input < 256
+
+abbrev pub AreEvents : List Event → Type 0
+AreEvents [] = Unit {0}
+AreEvents (e ∷ events) = IsEvent e × AreEvents events
 
 -- an operation at a place, the one at that moment
 pub record Effect : Type 0 where

@@ -10,7 +10,8 @@ use Rattle.rights.specs.Errors as errors
 use Rattle.rights.specs.Operations.{Look, Read as Reads, Write as Writes, Create as Creates, Remove as Removes}
 use Rattle.file_tree.specs.Places.{begins, at_name}
 use Rattle.file_tree.specs.Nodes.{Kind, File, Dir, Link, Node, node, is_dir, is_file, has_below}
-use Rattle.file_tree.specs.Changes.{most_nodes, most_bytes, resized, written}
+use Rattle.rights.specs.Limits.{most_nodes, most_bytes, most_messages, most_processes}
+use Rattle.file_tree.specs.Changes.{resized, written}
 use Rattle.lookup.specs.Answers.{Way, Beneath, Global, Last, Follow, Keep, Found_node, Found_free, Lost}
 use Rattle.lookup.specs.Answers as lookups
 use Rattle.lookup.specs.Paths.{last_component}
@@ -21,13 +22,6 @@ use Rattle.fd_table.specs.Descriptions.{Access, Made_at, State, Descriptor, Mess
 use Rattle.fd_table.specs.OpenFiles.{is_open, lowest_from, lowest_free}
 use Rattle.kernel.specs.World.{World}
 use Rattle.kernel.specs.Answers.{Event, Effect, Make, Remove, Move, Fill, TreeChange, Same_tree, Set_entry, Clear_entry, New_file, New_pair, New_process, Push, Pop, Set_state, Change, Answer, Fails, Waits, Gives, same, gives, does, unless, held, granted, commanded, through, at_object, at_number, lost, value_of}
-
--- how many messages a queue holds, how far a file is sought, and how many processes are made (own)
-abbrev pub most_messages : ℕ
-most_messages = 16
-
-abbrev pub most_processes : ℕ
-most_processes = 16
 
 -- the flags of a call that opens nothing
 abbrev pub no_request : OpenRequest
@@ -43,19 +37,6 @@ abbrev pub kind_number : Kind → ℕ
 kind_number File = 1
 kind_number Dir = 2
 kind_number Link = 3
-
--- What a call looks up: a path from a directory, beneath it or from the root.
-pub record Search : Type 0 where
-  pub start : ℕ
-  pub way : Way
-  pub path : List ℕ
-  pub last : Last
-
-abbrev pub beneath : ℕ → List ℕ → Last → Search
-beneath directory path last = record { start = directory; way = Beneath; path = path; last = last }
-
-abbrev pub from_root : List ℕ → Last → Search
-from_root path last = record { start = 0; way = Global; path = path; last = last }
 
 -- In this world, process p, which stands at s, makes its call at this event.
 module _ (w : World) (p : ℕ) (s : ProcessState) (e : Event) where
@@ -106,15 +87,12 @@ module _ (w : World) (p : ℕ) (s : ProcessState) (e : Event) where
   blocked nonblock = if nonblock then Fails EAGAIN Refused else Waits
 
   -- ## Lookups
-  -- Every lookup of a call is one of these two: what it finds goes to the rest of the call.
-  abbrev pub found_by : Search → lookups.Answer
-  found_by a = find_of w.tree a.start a.path a.way a.last
+  -- Every lookup of a call is one of these two: what is found goes to the rest of the call.
+  unfoldable pub looks : ℕ → Way → List ℕ → Last → (lookups.Answer → Answer) → Answer
+  looks start way path last rest = rest (find_of w.tree start path way last)
 
-  unfoldable pub looks : Search → (lookups.Answer → Answer) → Answer
-  looks a rest = rest (found_by a)
-
-  unfoldable pub looks_twice : Search → Search → (lookups.Answer → lookups.Answer → Answer) → Answer
-  looks_twice a b rest = rest (found_by a) (found_by b)
+  unfoldable pub looks_twice : ℕ → List ℕ → ℕ → List ℕ → (lookups.Answer → lookups.Answer → Answer) → Answer
+  looks_twice n from m to rest = rest (find_of w.tree n from Beneath Keep) (find_of w.tree m to Beneath Keep)
 
   -- ## open and openat (open(2))
   -- What is found is opened with these rights and commands: all of them by `open`, those of the directory's
@@ -290,10 +268,10 @@ module _ (w : World) (p : ℕ) (s : ProcessState) (e : Event) where
 
   -- ## The calls
   unfoldable pub answer : Syscall → Answer
-  answer (Open path f) = outside_mode (looks (from_root path (last_if f.create)) (opened f all_rights all_commands path))
+  answer (Open path f) = outside_mode (looks 0 Global path (last_if f.create) (opened f all_rights all_commands path))
   answer (Openat x path f) =
       through (first_need (Openat x path f) f) (entry x) (λ d.
-      in_directory d (λ n. looks (beneath n path (last_if f.create)) (opened f d.rights d.fcntls path)))
+      in_directory d (λ n. looks n Beneath path (last_if f.create) (opened f d.rights d.fcntls path)))
   answer (Read x) =
       through (first_need (Read x) no_request) (entry x) (λ d.
       at_object (w.files.objects d.description) (read_node d)
@@ -342,16 +320,16 @@ module _ (w : World) (p : ℕ) (s : ProcessState) (e : Event) where
       }) [])))
   answer (Fstatat x path) =
       through (first_need (Fstatat x path) no_request) (entry x) (λ d.
-      in_directory d (λ n. looks (beneath n path Follow) looked_at))
-  answer (Stat path) = outside_mode (looks (from_root path Follow) looked_at)
+      in_directory d (λ n. looks n Beneath path Follow looked_at))
+  answer (Stat path) = outside_mode (looks 0 Global path Follow looked_at)
   answer (Mkdirat x path) =
       through (first_need (Mkdirat x path) no_request) (entry x) (λ d.
-      in_directory d (λ n. looks (beneath n path Keep) (made_directory path)))
-  answer (Mkdir path) = outside_mode (looks (from_root path Keep) (made_directory path))
+      in_directory d (λ n. looks n Beneath path Keep (made_directory path)))
+  answer (Mkdir path) = outside_mode (looks 0 Global path Keep (made_directory path))
   answer (Unlinkat x path directory) =
       through (first_need (Unlinkat x path directory) no_request) (entry x) (λ d.
-      in_directory d (λ n. looks (beneath n path Keep) (unlinked directory)))
-  answer (Unlink path directory) = outside_mode (looks (from_root path Keep) (unlinked directory))
+      in_directory d (λ n. looks n Beneath path Keep (unlinked directory)))
+  answer (Unlink path directory) = outside_mode (looks 0 Global path Keep (unlinked directory))
   answer (Renameat x from y to) =
       held (entry x) (λ d.
       held (entry y) (λ target.
@@ -359,7 +337,7 @@ module _ (w : World) (p : ℕ) (s : ProcessState) (e : Event) where
       (granted (needs_of (called (Renameat x from y to)) no_request Second false) target
       (in_directory d (λ n.
       in_directory target (λ m.
-      looks_twice (beneath n from Keep) (beneath m to Keep) (λ source place.
+      looks_twice n from m to (λ source place.
       renamed_from source (λ k. renamed_to (Renameat x from y to) target k to place))))))))
   answer (Dup x) = held (entry x) (λ d. at_number free (λ number. Gives number (record same { table = Set_entry number d }) []))
   answer (Close x) = held (entry x) (λ d. Gives 0 (record same { table = Clear_entry (value_of s x) }) [])

@@ -3,26 +3,20 @@
 use Rattle.std.specs.Prelude.{ℕ, ◌+◌, true, false, ◌||◌, nat_lt, List, [], ◌∷◌, ◌++◌, drop, length, map, slice_set, Option, Some, None, if◌then◌else◌}
 use Rattle.rights.specs.Sets.{all_rights, all_commands}
 use Rattle.rights.specs.Maps.{put, put2}
-use Rattle.file_tree.specs.Places.{same_place}
-use Rattle.file_tree.specs.Nodes.{Node, node}
-use Rattle.file_tree.specs.Changes.{removed, filled, moved, replaced_at}
+use Rattle.file_tree.specs.Nodes.{Node}
+use Rattle.file_tree.specs.Changes.{removed, filled, renamed}
 use Rattle.process.specs.State.{ProcessState, forked}
 use Rattle.fd_table.specs.Descriptions.{At_node, At_end, Object, State, Descriptor, Message, new_state, descriptor_of}
 use Rattle.fd_table.specs.OpenFiles.{OpenFiles}
 use Rattle.kernel.specs.World.{World, Choice}
 use Rattle.kernel.specs.Answers.{TreeChange, Same_tree, Make, Remove, Move, Fill, TableChange, Same_table, Set_entry, Clear_entry, New_file, New_pair, New_process, QueueChange, Same_queue, Push, Pop, StateChange, Same_state, Set_state, Change}
 
--- The tree: a new node goes to the end; a node that is moved takes all below it along, and what stood at
--- its new place is removed; to its own place nothing changes.
-abbrev pub relocated : List Node → ℕ → List (List ℕ) → List Node
-relocated tree n place =
-    if same_place place (node tree n).place then tree else map (λ m. moved (node tree n).place place (replaced_at place m)) tree
-
+-- The tree: a new node goes to the end.
 abbrev pub tree_after : List Node → TreeChange → List Node
 tree_after tree Same_tree = tree
 tree_after tree (Make place kind) = tree ++ record { kind = kind; place = place; linked = true; content = [] } ∷ []
 tree_after tree (Remove n) = removed tree n
-tree_after tree (Move n place) = relocated tree n place
+tree_after tree (Move n place) = renamed tree n place
 tree_after tree (Fill n content) = filled tree n content
 
 -- What new descriptions are of.

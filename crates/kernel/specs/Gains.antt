@@ -6,7 +6,7 @@ use Rattle.process.specs.State.{ProcessState}
 use Rattle.kernel.specs.World.{World, IsFresh, Choice}
 use Rattle.kernel.specs.Answers.{Event}
 use Rattle.kernel.specs.Steps.{Programs, step}
-use Rattle.kernel.specs.WellFormed.{IfHeld, EachPassed}
+use Rattle.fd_table.specs.Descriptions.{IfHeld, EachPassed}
 use Rattle.kernel.specs.Origins.{Caller, caller_of, ComesFrom, QueuedFrom}
 
 -- A process in capability mode stays in it, and a child of one is in it.

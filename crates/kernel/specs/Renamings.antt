@@ -1,11 +1,11 @@
 -- Worlds that differ only in the numbers of descriptions and pairs, which nothing shows. (own)
 use Rattle.std.specs.Prelude.{◌≡◌, ℕ, List, [], ◌∷◌, Option, Some, None}
-use Rattle.fd_table.specs.Descriptions.{Object, At_node, At_end, Descriptor, Message}
+use Rattle.fd_table.specs.Descriptions.{Object, At_node, At_end, Descriptor, Message, IfHeld, EachPassed}
 use Rattle.fd_table.specs.OpenFiles.{OpenFiles}
 use Rattle.kernel.specs.World.{World, Choice, IsFresh}
 use Rattle.kernel.specs.Answers.{Event}
 use Rattle.kernel.specs.Steps.{Programs, step}
-use Rattle.kernel.specs.WellFormed.{ArePrograms, IfHeld, EachPassed, IsWellFormed}
+use Rattle.kernel.specs.WellFormed.{ArePrograms, IsWellFormed}
 
 -- other numbers for descriptions and pairs, each with its way back
 pub record Renaming : Type 0 where

@@ -4,10 +4,10 @@ use Rattle.file_tree.specs.Nodes.{Dir, node}
 use Rattle.fd_table.specs.Descriptions.{Object, At_node, At_end, Descriptor}
 use Rattle.fd_table.specs.OpenFiles.{OpenFiles, IsUnnamed, IsUnused}
 use Rattle.kernel.specs.World.{World, Choice, IsFresh}
-use Rattle.kernel.specs.Answers.{Event}
+use Rattle.kernel.specs.Answers.{Event, IsEvent, AreEvents}
 use Rattle.kernel.specs.Steps.{Programs, Acted, step}
 use Rattle.kernel.specs.Origins.{front_of, IsEnd}
-use Rattle.kernel.specs.WellFormed.{ArePrograms, IsEvent, IsWellFormed}
+use Rattle.kernel.specs.WellFormed.{ArePrograms, IsWellFormed}
 use Rattle.kernel.specs.Renamings.{DiffersInNumbers}
 use Rattle.kernel.specs.Alike.{AlikeWorlds}
 
@@ -39,10 +39,6 @@ pub record MayChoose (f : OpenFiles) : Type 0 where
 
 abbrev pub FreshNumbersExist : Type 0
 FreshNumbersExist = (programs : Programs) (w : World) → IsWellFormed programs w → MayChoose w.files
-
-abbrev pub AreEvents : List Event → Type 0
-AreEvents [] = Unit {0}
-AreEvents (e ∷ events) = IsEvent e × AreEvents events
 
 -- Events have a run from each well-formed world, and all its runs show the same lines: so do all runs from a world that
 -- differs in numbers only.

@@ -3,19 +3,13 @@ use Rattle.std.specs.Prelude.{◌≡◌, ◌^◌, ◌<◌, ◌≤◌, ℕ, true,
 use Rattle.std.specs.List.{slice_get}
 use Rattle.rights.specs.Sets.{is_within, all_rights, all_commands}
 use Rattle.file_tree.specs.Nodes.{Node, node, is_link}
-use Rattle.file_tree.specs.Changes.{most_bytes}
+use Rattle.rights.specs.Limits.{most_bytes, most_messages, most_processes}
 use Rattle.file_tree.specs.WellFormed.{IsTree}
 use Rattle.process.specs.State.{ProcessState}
 use Rattle.prog_asm.specs.Programs.{Instruction, is_program}
-use Rattle.fd_table.specs.Descriptions.{Class, Object, At_node, At_end, State, Descriptor, Message}
+use Rattle.fd_table.specs.Descriptions.{Class, Object, At_node, At_end, State, Descriptor, Message, IfHeld}
 use Rattle.kernel.specs.World.{World}
-use Rattle.kernel.specs.Answers.{Event}
-use Rattle.kernel.specs.Calls.{most_messages, most_processes}
 use Rattle.kernel.specs.Steps.{Programs}
-
--- An event gives a byte.
-abbrev pub IsEvent : Event → Type 0
-IsEvent e = e.input < 256
 
 -- Each program of a task is valid. Where a task has none, there is the empty list.
 abbrev pub IsCode : List Instruction → Type 0
@@ -47,15 +41,6 @@ pub record IsDescriptor (tree : List Node) (numbering : Numbering) (objects : �
   pub fcntls : is_within d.fcntls all_commands ≡ true
   pub object : IsObject tree numbering d.description (objects d.description)
   pub offset : (states d.description).offset ≤ most_bytes
-
--- what holds of a descriptor, where there is one, and of each in the messages of a queue
-abbrev pub IfHeld : (Descriptor → Type 0) → Option Descriptor → Type 0
-IfHeld Good None = Unit {0}
-IfHeld Good (Some d) = Good d
-
-abbrev pub EachPassed : (Descriptor → Type 0) → List Message → Type 0
-EachPassed Good [] = Unit {0}
-EachPassed Good (m ∷ messages) = IfHeld Good m.passed × EachPassed Good messages
 
 -- messages of bytes
 abbrev pub EachMessage : (Descriptor → Type 0) → List Message → Type 0

@@ -8,7 +8,8 @@ use Rattle.file_tree.proofs.NodeLaws.{linked_there}
 use Rattle.file_tree.proofs.TreeLaws.{Found, at_place, node_at_its_place, child_by_place, root_there}
 use Rattle.lookup.specs.Answers.{Way, Beneath, Global, Last, is_kept, Fault, No_entry}
 use Rattle.lookup.specs.Paths.{is_dot, is_dot_dot, path_fault}
-use Rattle.lookup.specs.Steps.{Move, Moves, Meets, most_links, looked}
+use Rattle.rights.specs.Limits.{most_links}
+use Rattle.lookup.specs.Steps.{Move, Moves, Meets, looked}
 use Rattle.lookup.specs.ByPlaces.{place_below, upwards, downwards, in_place, standing, restart_below, by_places}
 use Rattle.lookup.specs.ByNodes.{Walked, from_node, back, into, in_node, restart_node, by_nodes}
 use Rattle.lookup.specs.Looks.{start_place, start_node, start_fault, is_start_gone, lookup_fault, or_else, unless_lost, find_of, walk_of}

@@ -12,7 +12,8 @@ use Rattle.file_tree.proofs.NodeLaws.{Directory, linked_there}
 use Rattle.file_tree.proofs.TreeLaws.{Found}
 use Rattle.lookup.specs.Answers.{Way, Last, Found_node}
 use Rattle.lookup.specs.Paths.{is_dot, is_dot_dot}
-use Rattle.lookup.specs.Steps.{Moves, Ends, Leads, here, there, onward}
+use Rattle.lookup.specs.Leads.{Ends, Leads, onward, here, there}
+use Rattle.lookup.specs.Steps.{Moves}
 use Rattle.lookup.specs.ByPlaces.{place_below, in_place, standing, by_places}
 use Rattle.lookup.specs.Looks.{start_place, lookup_fault, Looks}
 use Rattle.lookup.specs.Promises.{Spells}

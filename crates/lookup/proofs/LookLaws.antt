@@ -4,7 +4,9 @@ use Rattle.std.specs.Prelude.{MatchOption}
 use Rattle.file_tree.specs.Places.{path_components}
 use Rattle.file_tree.specs.Nodes.{Node}
 use Rattle.lookup.specs.Answers.{Way, Last, Fault, Answer, Lost}
-use Rattle.lookup.specs.Steps.{Leads, looked, most_links}
+use Rattle.rights.specs.Limits.{most_links}
+use Rattle.lookup.specs.Leads.{Leads}
+use Rattle.lookup.specs.Steps.{looked}
 use Rattle.lookup.specs.ByPlaces.{by_places}
 use Rattle.lookup.specs.Looks.{start_place, lookup_fault, unless_lost, first_stand, Looks, find_of}
 use Rattle.lookup.proofs.StepLaws.{leads_rest, leads_only}

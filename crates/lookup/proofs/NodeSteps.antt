@@ -4,7 +4,8 @@ use Rattle.std.specs.Prelude.{not, ◌&&◌}
 use Rattle.file_tree.specs.Nodes.{Kind, File, Dir, Link, Node, node, child_of, target_of, is_link}
 use Rattle.lookup.specs.Answers.{Way, Last, is_kept}
 use Rattle.lookup.specs.Paths.{is_dot, is_dot_dot}
-use Rattle.lookup.specs.Steps.{Move, Moves, Meets, Stops, Stand, Next}
+use Rattle.lookup.specs.Leads.{Stand, Next}
+use Rattle.lookup.specs.Steps.{Move, Moves, Meets, Stops}
 use Rattle.lookup.specs.ByPlaces.{absent}
 use Rattle.lookup.specs.ByNodes.{Walked, in_node, into}
 use Rattle.lookup.specs.Views.{Steps}

@@ -9,7 +9,7 @@ use Rattle.file_tree.proofs.NodeLaws.{Directory, held_above, linked_there}
 use Rattle.file_tree.proofs.TreeLaws.{Found, at_place, child_by_place, parent_above}
 use Rattle.lookup.specs.Answers.{Way, Beneath, Global, Last, Follow, Keep, is_kept, Fault, Answer, Found_node, Found_free, Lost}
 use Rattle.lookup.specs.Paths.{is_dot, is_dot_dot, last_or, last_component, is_bad_last}
-use Rattle.lookup.specs.Steps.{Leads}
+use Rattle.lookup.specs.Leads.{Leads}
 use Rattle.lookup.specs.ByPlaces.{place_below, by_places}
 use Rattle.lookup.specs.Looks.{start_place, start_node, is_start_gone, first_stand, lookup_fault, Looks}
 use Rattle.lookup.specs.Promises.{IsLinked, IsThere, Lacks, IsFreeName, IsBeneath, IsBelow, HasName, IsUnderName, IsFollowed, MayBeMade}

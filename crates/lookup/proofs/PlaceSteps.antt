@@ -6,7 +6,9 @@ use Rattle.file_tree.specs.Places.{at_name, path_components}
 use Rattle.file_tree.specs.Nodes.{Node, node, node_at, is_dir, is_link}
 use Rattle.lookup.specs.Answers.{Way, Beneath, Global, Last, is_kept, Fault, Escape, No_entry, Not_dir, Loop, Answer, Found_node, Found_free, Lost}
 use Rattle.lookup.specs.Paths.{is_absolute, is_dot, is_dot_dot}
-use Rattle.lookup.specs.Steps.{Move, Moves, Meets, Stops, Stand, Next, Goes, Ends, most_links, followed_from, onward, next_from, Leads, here, there}
+use Rattle.rights.specs.Limits.{most_links}
+use Rattle.lookup.specs.Leads.{Stand, Next, Goes, Ends, followed_from, onward, next_from, Leads, here, there}
+use Rattle.lookup.specs.Steps.{Move, Moves, Meets, Stops}
 use Rattle.lookup.specs.ByPlaces.{place_below, upwards, downwards, in_place, standing, restart_below, by_places}
 
 -- A fact of where a lookup stands and of the names left, which each name keeps, and what it gives of an answer.

@@ -2,7 +2,8 @@
 use Rattle.std.specs.Prelude.{◌≡◌, ℕ, zero, suc, ◌+◌, List, [], ◌∷◌, ◌++◌, codes, replicate, refl}
 use Rattle.file_tree.specs.Places.{path_components}
 use Rattle.file_tree.specs.Nodes.{File, Dir, Link, Node, node_at, child_of}
-use Rattle.file_tree.specs.Changes.{new_tree, created, removed}
+use Rattle.file_tree.specs.Changes.{removed}
+use Rattle.file_tree.specs.Refusals.{new_tree, created}
 use Rattle.lookup.specs.Answers.{Way, Beneath, Global, Last, Follow, Keep, Escape, No_entry, Not_dir, Loop, Too_long, Bad_last, Answer, Found_node, Found_free, Lost}
 use Rattle.lookup.specs.Paths.{last_component, path_fault}
 use Rattle.lookup.specs.Steps.{looked}

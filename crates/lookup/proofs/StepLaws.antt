@@ -5,7 +5,9 @@ use Rattle.std.proofs.lemmas.Bool.Decides.{nat_tests}
 use Rattle.file_tree.specs.Places.{path_components}
 use Rattle.lookup.specs.Paths.{is_absolute}
 use Rattle.lookup.specs.Answers.{Loop, Answer, Lost}
-use Rattle.lookup.specs.Steps.{Move, Moves, Meets, Stops, Rules, Stand, Next, Goes, Ends, most_links, target_spot, followed_from, onward, next_from, next, Leads, here, there, taken, along, resumed, looked}
+use Rattle.rights.specs.Limits.{most_links}
+use Rattle.lookup.specs.Leads.{Stand, Next, Goes, Ends, followed_from, onward, next_from, next, Leads, here, there}
+use Rattle.lookup.specs.Steps.{Move, Moves, Meets, Stops, Rules, target_spot, taken, along, resumed, looked}
 
 -- a lookup leads to one answer
 pub one_answer : {Spot : Type 0} (rules : Rules Spot) (s : Stand Spot) (a b : Answer) → Leads rules s a → Leads rules s b → a ≡ b

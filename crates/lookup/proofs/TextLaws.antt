@@ -8,7 +8,8 @@ use Rattle.std.proofs.lemmas.Bool.Decides.{nat_tests}
 use Rattle.std.specs.Cmp.Derive.{both_true}
 use Rattle.file_tree.specs.Places.{is_name, is_name_byte, names_fit, names_from, path_components, with_name}
 use Rattle.lookup.specs.Answers.{Way, Last, Fault, Too_long, No_entry, Escape, Bad_last}
-use Rattle.lookup.specs.Paths.{most_path, is_too_long, is_escape, is_unkept, is_bad_last, is_dot, is_dot_dot, is_path_byte, has_path_bytes, last_or, last_component, path_fault}
+use Rattle.rights.specs.Limits.{most_path}
+use Rattle.lookup.specs.Paths.{is_too_long, is_escape, is_unkept, is_bad_last, is_dot, is_dot_dot, is_path_byte, has_path_bytes, last_or, last_component, path_fault}
 
 passed : (b : Bool) (f : Fault) (rest : Option Fault) → cond b (Some f) rest ≡ None → (b ≡ false) × (rest ≡ None)
 passed true f rest h = cc

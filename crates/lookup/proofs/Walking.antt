@@ -4,7 +4,9 @@ use Rattle.std.specs.Prelude.{IfSome}
 use Rattle.file_tree.specs.Places.{path_components}
 use Rattle.file_tree.specs.Nodes.{Node}
 use Rattle.lookup.specs.Answers.{Way, Last, Fault, Answer, Lost}
-use Rattle.lookup.specs.Steps.{Rules, Stand, Goes, Ends, next, most_links, looked}
+use Rattle.rights.specs.Limits.{most_links}
+use Rattle.lookup.specs.Leads.{Stand, Goes, Ends, next}
+use Rattle.lookup.specs.Steps.{Rules, looked}
 use Rattle.lookup.specs.ByNodes.{Walked, from_node, by_nodes}
 use Rattle.lookup.specs.Looks.{first_stand, start_node, lookup_fault, unless_lost, walk_of}
 use Rattle.lookup.specs.Views.{SameRules, found_of, fault_of, last_of, lost, rules_of, stand_of, way_of}

@@ -1,6 +1,7 @@
 pub mod Answers
 pub mod Paths
 pub mod Steps
+pub mod Leads
 pub mod ByPlaces
 pub mod ByNodes
 pub mod Looks

@@ -4,7 +4,9 @@ use Rattle.file_tree.specs.Places.{path_components}
 use Rattle.file_tree.specs.Nodes.{Node, node}
 use Rattle.lookup.specs.Answers.{Way, Beneath, Global, Last, Fault, No_entry, Answer, Lost}
 use Rattle.lookup.specs.Paths.{path_fault}
-use Rattle.lookup.specs.Steps.{Stand, Leads, looked, most_links}
+use Rattle.rights.specs.Limits.{most_links}
+use Rattle.lookup.specs.Leads.{Stand, Leads}
+use Rattle.lookup.specs.Steps.{looked}
 use Rattle.lookup.specs.ByPlaces.{by_places}
 use Rattle.lookup.specs.ByNodes.{from_node, by_nodes}
 

@@ -1,25 +1,22 @@
 -- A path as a text: its last name, and what is wrong with it before anything is looked up.
-use Rattle.std.specs.Prelude.{ℕ, Bool, false, ◌&&◌, ◌||◌, not, nat_eq, nat_le, List, [], ◌∷◌, Option, Some, None, length, if◌then◌else◌}
+use Rattle.std.specs.Prelude.{ℕ, Bool, false, ◌&&◌, ◌||◌, not, nat_eq, nat_le, List, [], ◌∷◌, codes, Option, Some, None, length, if◌then◌else◌}
 use Rattle.std.specs.List.{list_all}
 use Rattle.std.specs.Str.{bytes_eq}
-use Rattle.file_tree.specs.Places.{is_name_byte, names_fit, path_components}
+use Rattle.rights.specs.Limits.{most_path}
+use Rattle.file_tree.specs.Places.{slash, is_name_byte, names_fit, path_components}
 use Rattle.lookup.specs.Answers.{Way, Beneath, Global, Last, Follow, Keep, Fault, Escape, No_entry, Too_long, Bad_last}
-
--- how many bytes a path may have (own; open(2), ENAMETOOLONG)
-abbrev pub most_path : ℕ
-most_path = 1023
 
 -- whether a path, or a link's target, begins with `/` (open(2))
 abbrev pub is_absolute : List ℕ → Bool
 is_absolute [] = false
-is_absolute (b ∷ path) = nat_eq b 47
+is_absolute (b ∷ path) = nat_eq b slash
 
 -- the names `.`, the directory itself, and `..`, the one that holds it (open(2))
 abbrev pub is_dot : List ℕ → Bool
-is_dot name = bytes_eq name (46 ∷ [])
+is_dot name = bytes_eq name (codes ".")
 
 abbrev pub is_dot_dot : List ℕ → Bool
-is_dot_dot name = bytes_eq name (46 ∷ 46 ∷ [])
+is_dot_dot name = bytes_eq name (codes "..")
 
 -- the last of some names, and another one where there is none
 abbrev pub last_or : List ℕ → List (List ℕ) → List ℕ
@@ -57,7 +54,7 @@ path_fault path way last =
 
 -- whether each byte is one of a name or `/`, as in the paths of a program
 abbrev pub is_path_byte : ℕ → Bool
-is_path_byte b = is_name_byte b || nat_eq b 47
+is_path_byte b = is_name_byte b || nat_eq b slash
 
 abbrev pub has_path_bytes : List ℕ → Bool
 has_path_bytes path = list_all is_path_byte path

@@ -5,10 +5,6 @@ use Rattle.file_tree.specs.Places.{path_components}
 use Rattle.lookup.specs.Answers.{Escape, Loop, Answer, Lost}
 use Rattle.lookup.specs.Paths.{is_absolute}
 
--- how many links one lookup follows (own; open(2), ELOOP)
-abbrev pub most_links : ℕ
-most_links = 32
-
 -- Where one name leads: on to a spot, to a link, whose target is to be looked up first, or to an answer.
 pub data Move (Spot : Type 0) : Type 0 where
   Moves : Spot → Move Spot
@@ -22,47 +18,11 @@ pub record Rules (Spot : Type 0) : Type 0 where
   pub component : Spot → List ℕ → List (List ℕ) → Move Spot
   pub restart : Option Spot
 
--- A lookup under way: where it stands, the names left, and how many links it followed.
-pub record Stand (Spot : Type 0) : Type 0 where
-  pub spot : Spot
-  pub left : List (List ℕ)
-  pub followed : ℕ
-
-pub data Next (Spot : Type 0) : Type 0 where
-  Goes : Stand Spot → Next Spot
-  Ends : Answer → Next Spot
-
 -- the spot from which a link's target is looked up: where the link was met, unless the target is absolute
 abbrev pub target_spot : {Spot : Type 0} → Rules Spot → Spot → List ℕ → Option Spot
 target_spot rules spot target = if is_absolute target then rules.restart else Some spot
 
--- the names of a link's target come before the rest; where its spot is none, it escapes
-abbrev pub followed_from : {Spot : Type 0} → List (List ℕ) → ℕ → Option Spot → Next Spot
-followed_from left followed None = Ends (Lost Escape)
-followed_from left followed (Some spot) = Goes (record { spot = spot; left = left; followed = followed })
-
--- what is next after a name, by where it leads; a 33rd link is not followed, whatever its target is
-abbrev pub onward : {Spot : Type 0} → Rules Spot → Spot → List (List ℕ) → ℕ → Move Spot → Next Spot
-onward rules spot left followed (Moves to) = Goes (record { spot = to; left = left; followed = followed })
-onward rules spot left followed (Meets target) =
-    if nat_le most_links followed then Ends (Lost Loop)
-    else followed_from (path_components target ++ left) (followed + 1) (target_spot rules spot target)
-onward rules spot left followed (Stops answer) = Ends answer
-
--- One name is looked up; where none is left, the lookup has arrived.
-abbrev pub next_from : {Spot : Type 0} → Rules Spot → Spot → List (List ℕ) → ℕ → Next Spot
-next_from rules spot [] followed = Ends (rules.arrived spot)
-next_from rules spot (name ∷ left) followed = onward rules spot left followed (rules.component spot name left)
-
-abbrev pub next : {Spot : Type 0} → Rules Spot → Stand Spot → Next Spot
-next rules stand = next_from rules stand.spot stand.left stand.followed
-
--- What a lookup leads to, name after name.
-pub data Leads {Spot : Type 0} (rules : Rules Spot) : Stand Spot → Answer → Type 0 where
-  here : {stand : Stand Spot} {answer : Answer} → next rules stand ≡ Ends answer → Leads rules stand answer
-  there : {stand : Stand Spot} {after : Stand Spot} {answer : Answer} → next rules stand ≡ Goes after → Leads rules after answer → Leads rules stand answer
-
--- The same, computed: by recursion on the links that may still be followed, and in it on the names left.
+-- What a lookup leads to: by recursion on the links that may still be followed, and in it on the names left.
 -- `along` goes over names, and is told what becomes of a link that is met; `looked` says that it takes one
 -- link from those that may be followed.
 abbrev pub taken : {Spot : Type 0} → (Spot → Answer) → (List ℕ → Answer) → Move Spot → Answer

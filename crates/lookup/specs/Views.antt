@@ -14,7 +14,8 @@ use Rattle.lookup.specs.declared.walk.Walk.{Walk}
 use Rattle.lookup.specs.declared.walk.Progress.{Progress}
 use Rattle.lookup.specs.declared.walk.Progress.TheVariants as progress
 use Rattle.file_tree.specs.Nodes.{Node}
-use Rattle.lookup.specs.Steps.{Move, Rules, Stand, Next, Goes, Ends, onward}
+use Rattle.lookup.specs.Leads.{Stand, Next, Goes, Ends, onward}
+use Rattle.lookup.specs.Steps.{Move, Rules}
 use Rattle.lookup.specs.ByNodes.{Walked, by_nodes, in_node, into}
 use Rattle.lookup.specs.Answers.{Way, Beneath, Global, Last, Follow, Keep, Fault, Escape, No_entry, Not_dir, Loop, Too_long, Bad_last, Answer, Found_node, Found_free, Lost}
 

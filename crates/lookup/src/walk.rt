@@ -4,7 +4,8 @@ ghost use Rattle.std.specs.Prelude.{◌≡◌, ◌<◌, ◌≤◌, List, ◌∷�
 ghost use Rattle.file_tree.specs.Nodes.{Node};
 ghost use Rattle.file_tree.specs.WellFormed.{IsTree};
 ghost use Rattle.lookup.specs.Answers.{is_kept};
-ghost use Rattle.lookup.specs.Steps.{Rules, Moves, Meets, Stops, next};
+ghost use Rattle.lookup.specs.Leads.{next};
+ghost use Rattle.lookup.specs.Steps.{Rules, Moves, Meets, Stops};
 ghost use Rattle.lookup.specs.ByPlaces.{absent};
 ghost use Rattle.lookup.specs.ByNodes.{Walked, back, from_node};
 ghost use Rattle.lookup.specs.Looks.{first_stand, lookup_fault, start_node};
@@ -14,10 +15,8 @@ use crate::faults::PathFault;
 use crate::paths::{check_text, is_absolute, is_dot, is_dot_dot, put_before};
 use crate::ways::{Found, Last, Way};
 use file_tree::{Kind, NodeId, Tree};
+use rights::limits::MAX_LINKS;
 use std::alloc::Global;
-
-/// How many links one lookup follows. (own; open(2), ELOOP)
-pub(crate) const MAX_LINKS: u8 = 32;
 
 /// Whether a lookup goes on.
 #[derive(Clone, Copy)]

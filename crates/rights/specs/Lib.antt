@@ -2,6 +2,8 @@ pub mod Sets
 pub mod Calls
 pub mod Errors
 pub mod Operations
+pub mod OperationLists
+pub mod Limits
 pub mod Output
 pub mod Maps
 pub mod Views

@@ -1,10 +1,11 @@
 //! What every layer of Capcheck speaks of: sets of rights and of fcntl commands, the system calls
 //! by name, what each needs of a descriptor's rights, errors with their causes, the operations of a
-//! policy, and the writer that a trace or a certificate goes to.
+//! policy, the limits, and the writer that a trace or a certificate goes to.
 #![tactic(auto)]
 
 pub mod calls;
 pub mod errors;
+pub mod limits;
 pub mod need_table;
 pub mod opens;
 pub mod operations;

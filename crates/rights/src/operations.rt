@@ -1,7 +1,7 @@
 //! The operations that a policy speaks of.
 
 ghost use Rattle.std.specs.Prelude.{◌≡◌, map};
-ghost use Rattle.rights.specs.Operations.{lists, operation_name, same_operation};
+ghost use Rattle.rights.specs.OperationLists.{lists, operation_name, same_operation};
 ghost use Rattle.rights.specs.Views.{operation_of};
 
 /// What a call does to a place of the tree, and what a grant lists.

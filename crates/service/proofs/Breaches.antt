@@ -18,11 +18,10 @@ use Rattle.kernel.specs.Changes.{files_after, changed}
 use Rattle.kernel.specs.Steps.{answered, jumped, executed, stepped_at, stepped_by, stepped, step}
 use Rattle.kernel.proofs.Keeping.{next_world}
 use Rattle.task.specs.Begins.{first_world}
-use Rattle.task.specs.Laws.{Allowed}
 use Rattle.task.specs.Limits.{is_plan}
 use Rattle.task.specs.Plans.{Grant, Plan, programs_of_plan}
 use Rattle.task.specs.Policies.{is_allowed}
-use Rattle.task.specs.Sandboxed.{IsSafe, IsSandboxed}
+use Rattle.task.specs.Sandboxed.{IsSafe, IsSandboxed, Allowed}
 use Rattle.task.proofs.Allowances.{allowed_is_tested}
 use Rattle.task.proofs.FirstWorlds.{first_well_formed}
 use Rattle.service.specs.Breaches.{SomeAreNotSandboxed, opening_plan, writing_plan, moving_plan}

@@ -8,10 +8,9 @@ use Rattle.std.proofs.lemmas.Bool.{both_ways, eq-eqb, ltb-true}
 use Rattle.rights.specs.Maps.{put}
 use Rattle.rights.proofs.Changes.{put-cases, put2-cases, put-both, put-same, put-other}
 use Rattle.rights.proofs.Tests.{both_left, both_right, not_true}
-use Rattle.fd_table.specs.Descriptions.{Access, At_node, At_end, Descriptor, Object, descriptor_of, new_state}
+use Rattle.fd_table.specs.Descriptions.{Access, At_node, At_end, Descriptor, Object, descriptor_of, new_state, IfHeld}
 use Rattle.fd_table.specs.Filled.{Opens, opened}
 use Rattle.fd_table.specs.OpenFiles.{Alike, IsOther, IsUnnamed, OpenFiles}
-use Rattle.kernel.specs.WellFormed.{IfHeld}
 use Rattle.kernel.specs.Renamings.{EachNamed, Renaming, SameDescription, SameFiles, renamed_entry, renamed_messages, renamed_object}
 use Rattle.kernel.proofs.Aimed.{aim-kept, aimed, swap-left}
 use Rattle.kernel.proofs.Determined.{alike_share, differs_twice}

@@ -10,7 +10,9 @@ use Rattle.std.proofs.lemmas.List.{append-nil, get_or-map, get_or-set_same, leng
 use Rattle.rights.proofs.Tests.{both_left, both_right}
 use Rattle.file_tree.specs.Places.{is_name, above, at_name}
 use Rattle.file_tree.specs.Nodes.{Kind, File, Dir, Link, Node, node, is_dir, node_at, stands_at, nowhere}
-use Rattle.file_tree.specs.Changes.{created, filled, most_nodes, new_tree, resized, written}
+use Rattle.rights.specs.Limits.{most_nodes}
+use Rattle.file_tree.specs.Changes.{filled, resized, written}
+use Rattle.file_tree.specs.Refusals.{created, new_tree}
 use Rattle.file_tree.specs.WellFormed.{has_directory, is_directory_at}
 use Rattle.file_tree.proofs.KeptByCreate.{limits_of}
 use Rattle.file_tree.proofs.NodeLaws.{directory_from, stands_is}

@@ -6,12 +6,12 @@ use Rattle.std.proofs.lemmas.Bool.{lt-ltb}
 use Rattle.rights.proofs.Tests.{both_left, both_right, not_true}
 use Rattle.process.specs.State.{ProcessState}
 use Rattle.file_tree.specs.Nodes.{Node, is_dir, is_link, node}
-use Rattle.fd_table.specs.Descriptions.{Descriptor, Initial, State}
+use Rattle.fd_table.specs.Descriptions.{Descriptor, Initial, State, IfHeld}
 use Rattle.file_tree.specs.WellFormed.{IsTree}
 use Rattle.kernel.proofs.Fresh.{lt_or_le}
 use Rattle.kernel.specs.World.{World}
 use Rattle.kernel.specs.Renamings.{DiffersInNumbers, Renaming, SameDescription, renamed_entry, renamed_messages, renamed_object}
-use Rattle.kernel.specs.WellFormed.{EachMessage, HasNone, IfHeld, IsDescriptor, IsMade, IsObject, IsWellFormed, Numbering}
+use Rattle.kernel.specs.WellFormed.{EachMessage, HasNone, IsDescriptor, IsMade, IsObject, IsWellFormed, Numbering}
 use Rattle.task.specs.Plans.{FirstDescriptor, Plan, Start, programs_of_plan}
 use Rattle.task.specs.Limits.{all_apart, are_numbered_apart, is_accessed, is_descriptor, is_plan, is_start}
 use Rattle.task.specs.Laws.{IsFirstEntry, given_to}

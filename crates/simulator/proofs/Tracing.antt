@@ -5,11 +5,11 @@ use Rattle.std.specs.List.{slice_index_or}
 use Rattle.rights.specs.Output.{Took, TookFront}
 use Rattle.rights.proofs.Taken.{took_more, front_after, front_of_more}
 use Rattle.kernel.specs.World.{World}
-use Rattle.kernel.specs.Answers.{Event}
+use Rattle.kernel.specs.Answers.{Event, IsEvent, AreEvents}
 use Rattle.kernel.specs.Steps.{Acted, Programs, step}
-use Rattle.kernel.specs.Runs.{AreEvents, Runs}
+use Rattle.kernel.specs.Runs.{Runs}
 use Rattle.kernel.specs.Renamings.{DiffersInNumbers}
-use Rattle.kernel.specs.WellFormed.{ArePrograms, IsEvent, IsWellFormed}
+use Rattle.kernel.specs.WellFormed.{ArePrograms, IsWellFormed}
 use Rattle.kernel.proofs.AlikeWorlds.{act_alike}
 use Rattle.kernel.proofs.Determined.{alike_share, differs_twice, run_exists}
 use Rattle.kernel.proofs.Aimed.{steps_alike}

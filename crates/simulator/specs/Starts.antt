@@ -3,10 +3,10 @@ use Rattle.std.specs.Prelude.{◌≡◌, ◌<◌, ◌≤◌, ◌++◌, ◌||◌,
 use Rattle.std.specs.List.{list_all, slice_index_or}
 use Rattle.file_tree.specs.Places.{is_name}
 use Rattle.file_tree.specs.Nodes.{Dir, Node, node}
-use Rattle.file_tree.specs.Changes.{created, create_fault}
+use Rattle.file_tree.specs.Refusals.{created, create_fault}
 use Rattle.file_tree.specs.WellFormed.{is_content}
 use Rattle.fd_table.specs.OpenFiles.{OpenFiles}
-use Rattle.kernel.specs.WellFormed.{IfHeld}
+use Rattle.fd_table.specs.Descriptions.{IfHeld}
 use Rattle.kernel.specs.Renamings.{DiffersInNumbers}
 use Rattle.syscalls.specs.Views.{world_with}
 use Rattle.task.specs.Plans.{FirstDescriptor, Start}

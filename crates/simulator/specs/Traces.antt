@@ -3,7 +3,7 @@ use Rattle.std.specs.Prelude.{ℕ, List, [], ◌∷◌, ◌++◌, codes, Option,
 use Rattle.std.specs.List.{flat_map}
 use Rattle.std.specs.Fmt.{decimal}
 use Rattle.rights.specs.Errors.{errno_name, cause_name}
-use Rattle.rights.specs.Operations.{operation_name}
+use Rattle.rights.specs.OperationLists.{operation_name}
 use Rattle.kernel.specs.Answers.{Event}
 use Rattle.kernel.specs.Steps.{LineResult, Done, Halted, Value, Failed, Waiting, Ended, Acted}
 use Rattle.syscalls.specs.Shows.{Shown}

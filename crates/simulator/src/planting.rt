@@ -1,7 +1,9 @@
 //! The tree that a task starts with.
 
 ghost use Rattle.std.specs.Prelude.{◌≡◌, ◌<◌, ◌≤◌, ◌+◌, ◌++◌, [], ◌∷◌, IfOk, None, OnOk, length, take, true};
-ghost use Rattle.file_tree.specs.Changes.{create_fault, created, filled, most_bytes};
+ghost use Rattle.rights.specs.Limits.{most_bytes};
+ghost use Rattle.file_tree.specs.Changes.{filled};
+ghost use Rattle.file_tree.specs.Refusals.{create_fault, created};
 ghost use Rattle.file_tree.specs.Nodes.{Dir, File, node};
 ghost use Rattle.file_tree.specs.Places.{is_name};
 ghost use Rattle.file_tree.specs.Views.{is_new, names_of, new_content, new_kind};

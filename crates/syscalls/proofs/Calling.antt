@@ -4,7 +4,7 @@ use Rattle.std.specs.Prelude.{◌||◌, Option, Some, None}
 use Rattle.std.proofs.lemmas.Option.{slice_get_within}
 use Rattle.process.specs.State.{ProcessState}
 use Rattle.file_tree.specs.Nodes.{Node}
-use Rattle.fd_table.specs.Descriptions.{Object, At_node, At_end, Descriptor}
+use Rattle.fd_table.specs.Descriptions.{Object, At_node, At_end, Descriptor, IfHeld}
 use Rattle.fd_table.specs.OpenFiles.{OpenFiles, Alike}
 use Rattle.rights.specs.Errors.{Errno, Cause}
 use Rattle.rights.specs.Views.{errno_of, cause_of}
@@ -18,7 +18,7 @@ use Rattle.kernel.specs.Answers.{Event, TreeChange, TableChange, Same_table, Set
 use Rattle.kernel.specs.Calls.{answer}
 use Rattle.kernel.specs.Changes.{files_after, changed, given, second_number, children, processes_after}
 use Rattle.kernel.specs.Steps.{LineResult, Value, Failed, Waiting, Programs, answered, failed}
-use Rattle.kernel.specs.WellFormed.{IsWellFormed, Numbering, IsObject, IsDescriptor, IfHeld}
+use Rattle.kernel.specs.WellFormed.{IsWellFormed, Numbering, IsObject, IsDescriptor}
 use Rattle.kernel.proofs.Trees.{there_if_opened}
 use Rattle.kernel.specs.Runs.{MayChoose}
 use Rattle.kernel.specs.Alike.{AlikeWorlds}

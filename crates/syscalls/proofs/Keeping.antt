@@ -3,7 +3,7 @@ use Rattle.std.proofs.Common.{◌≡◌, ◌<◌, ℕ, Bool, true, List, [], ◌
 use Rattle.std.specs.Prelude.{Option, Some, None}
 use Rattle.file_tree.specs.Nodes.{Kind, Node, node, child_of}
 use Rattle.file_tree.specs.Places.{at_name}
-use Rattle.file_tree.specs.Changes.{created, create_fault}
+use Rattle.file_tree.specs.Refusals.{created, create_fault}
 use Rattle.file_tree.proofs.TreeLaws.{child_by_place}
 use Rattle.syscalls.proofs.Tests.{below}
 use Rattle.fd_table.specs.Descriptions.{Access, Message, Descriptor, State}

@@ -5,7 +5,7 @@ use Rattle.rights.specs.Errors.{ENOTEMPTY, ENOTDIR, EPERM}
 use Rattle.rights.specs.Errors as causes
 use Rattle.file_tree.specs.Places.{at_name}
 use Rattle.file_tree.specs.Nodes.{Node, node, is_dir, has_below}
-use Rattle.file_tree.specs.Changes.{Fault, NotEmpty, Gone, remove_fault, is_root}
+use Rattle.file_tree.specs.Refusals.{Fault, NotEmpty, Gone, remove_fault, is_root}
 use Rattle.file_tree.specs.WellFormed.{IsTree}
 use Rattle.file_tree.specs.declared.faults.TreeFault.{TreeFault}
 use Rattle.file_tree.specs.declared.faults.TreeFault.TheVariants as fault

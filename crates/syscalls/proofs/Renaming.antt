@@ -7,7 +7,8 @@ use Rattle.std.specs.List.{list_all}
 use Rattle.file_tree.proofs.PlaceTexts.{names_of_place}
 use Rattle.file_tree.specs.Places.{same_place, begins, at_name, is_name}
 use Rattle.file_tree.specs.Nodes.{Node, node, node_at, child_of, parent_of, stands_at, has_below, is_dir}
-use Rattle.file_tree.specs.Changes.{Fault, Gone, IntoItself, NotEmpty, rename_fault, renamed, moved, replaced_at}
+use Rattle.file_tree.specs.Changes.{renamed, moved, replaced_at}
+use Rattle.file_tree.specs.Refusals.{Fault, Gone, IntoItself, NotEmpty, rename_fault}
 use Rattle.file_tree.specs.WellFormed.{IsTree}
 use Rattle.file_tree.specs.declared.faults.TreeFault.{TreeFault}
 use Rattle.file_tree.specs.declared.faults.TreeFault.TheVariants as fault
@@ -25,11 +26,6 @@ use Rattle.kernel.specs.Answers.{Move, Event, Gives, unless}
 use Rattle.kernel.specs.Calls.{renamed_over, moves}
 use Rattle.syscalls.proofs.Tests.{passes}
 use Rattle.kernel.specs.Changes.{tree_after}
-
--- the change of the model is the tree's
-pub move_is : (t : List Node) (n d : ℕ) (name : List ℕ) → renamed t n d name ≡ tree_after t (Move n (at_name (node t d).place name))
-unfolding renamed
-move_is t n d name = refl
 
 into : (a b c d : Bool) → cond a (Some Gone) (cond b None (cond c (Some IntoItself) (cond d (Some NotEmpty) None))) ≡ Some IntoItself → c ≡ true
 into true b c d is = absurd cc
@@ -75,7 +71,7 @@ module _ (q : List (List ℕ)) (m : Node) where
       ∙ ap (λ rest. q ++ rest) (drop-length m.place)
       ∙ append-nil q
 
-pub renamed_place : (t : List Node) (n d : ℕ) (name : List ℕ) → (node t n).linked ≡ true → same_place (at_name (node t d).place name) (node t n).place ≡ false → (node (renamed t n d name) n).place ≡ at_name (node t d).place name
+pub renamed_place : (t : List Node) (n d : ℕ) (name : List ℕ) → (node t n).linked ≡ true → same_place (at_name (node t d).place name) (node t n).place ≡ false → (node (renamed t n (at_name (node t d).place name)) n).place ≡ at_name (node t d).place name
 renamed_place t n d name linked other =
     ap (λ (m : Node). m.place) (renamed_node t n d name n other) ∙ moved_place (at_name (node t d).place name) (node t n) linked other
 

@@ -10,7 +10,8 @@ use Rattle.rights.specs.Opens.{open_request}
 use Rattle.rights.specs.Views.{call_of, errno_of, cause_of}
 use Rattle.process.specs.State.{ProcessState}
 use Rattle.file_tree.specs.Nodes.{Node, node, is_link}
-use Rattle.file_tree.specs.Changes.{most_bytes, resized}
+use Rattle.rights.specs.Limits.{most_bytes}
+use Rattle.file_tree.specs.Changes.{resized}
 use Rattle.file_tree.specs.WellFormed.{IsTree}
 use Rattle.fd_table.specs.Descriptions.{Access, Object, State, At_node, At_end, Descriptor, descriptor_of, with_status}
 use Rattle.fd_table.specs.Filled.{IsNamed, IsEndThere}

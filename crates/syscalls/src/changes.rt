@@ -4,7 +4,7 @@ ghost use Rattle.std.specs.Prelude.{◌≡◌, ◌<◌, ◌∷◌, [], None, IfE
 ghost use Rattle.rights.specs.Operations as operations;
 ghost use Rattle.file_tree.specs.Places.{at_name, is_name};
 ghost use Rattle.file_tree.specs.Nodes.{Dir, node};
-ghost use Rattle.file_tree.specs.Changes.{create_fault};
+ghost use Rattle.file_tree.specs.Refusals.{create_fault};
 ghost use Rattle.file_tree.specs.Views.{is_new, new_content, new_kind};
 ghost use Rattle.kernel.specs.Answers as answers;
 ghost use Rattle.kernel.specs.Changes.{tree_after};

@@ -13,9 +13,10 @@ ghost use Rattle.syscalls.specs.Meets.{Asks, OnTree};
 use crate::changes::create_node;
 use crate::outcomes::{Refusal, Success, effects_at};
 use crate::paths::sought;
-use file_tree::{Kind, MAX_NODES, New, NodeId, Tree, TreeFault};
+use file_tree::{Kind, New, NodeId, Tree, TreeFault};
 use lookup::{Found, Last, Way, last_name};
 use rights::{Cause, Errno, Op};
+use rights::limits::MAX_NODES;
 use std::alloc::Global;
 
 /// What a node is: 1 for a file and 2 for a directory. (fstat(2))

@@ -24,9 +24,10 @@ use crate::outcomes::{Effect, Refusal, Success, effects_at};
 use crate::paths::sought;
 use crate::tables::free_number;
 use fd_table::Files;
-use file_tree::{Kind, MAX_NODES, New, NodeId, Tree};
+use file_tree::{Kind, New, NodeId, Tree};
 use lookup::{Found, Last, Way, last_name};
 use rights::{Cause, Errno, Fcntls, Op, OpenFlags, Rights};
+use rights::limits::MAX_NODES;
 use std::alloc::Global;
 
 /// How a node is to be opened, and with what rights.

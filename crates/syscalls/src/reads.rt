@@ -5,7 +5,8 @@ ghost use Rattle.rights.specs.Errors.{EINVAL, EFBIG, Full, Refused};
 ghost use Rattle.rights.specs.Errors as causes;
 ghost use Rattle.rights.specs.Operations as operations;
 ghost use Rattle.file_tree.specs.Nodes.{File, Node, node};
-ghost use Rattle.file_tree.specs.Changes.{most_bytes, resized};
+ghost use Rattle.rights.specs.Limits.{most_bytes};
+ghost use Rattle.file_tree.specs.Changes.{resized};
 ghost use Rattle.fd_table.specs.Descriptions.{descriptor_of};
 ghost use Rattle.fd_table.specs.Filled.{IsNamed};
 ghost use Rattle.fd_table.specs.Kept.{open_files};
@@ -21,9 +22,10 @@ use crate::directories::is_directory;
 use crate::outcomes::{Refusal, Success, effects_at};
 use crate::sockets::read_end;
 use fd_table::{Access, DescriptionId, Files};
-use file_tree::{MAX_BYTES, NodeId, Tree};
+use file_tree::{NodeId, Tree};
 use prog_asm::Operand;
 use rights::{Call, Cause, Errno, Op};
+use rights::limits::MAX_BYTES;
 use std::alloc::Global;
 
 /// What `read` tells at the end of a file, in place of a byte. (own)
@@ -92,7 +94,7 @@ fn move_to(
         moved_to w description (answers.value_of caller.now.process (operand_of to))) }
 {
     let offset = value_of(caller, to);
-    if offset > 4096 {
+    if offset as usize > MAX_BYTES {
         return Err(Refusal::Fails(Errno::EINVAL, Cause::Refused));
     }
     files.set_offset(description, offset as u16);

@@ -4,13 +4,15 @@ use Rattle.std.specs.Prelude.{◌||◌, Some}
 use Rattle.std.specs.List.{slice_get, slice_index_or, Contains}
 use Rattle.std.specs.Cmp.Derive.{both_true}
 use Rattle.std.proofs.lemmas.Map.Views.{Contains-from_any}
-use Rattle.rights.specs.Operations.{Operation, Look, Read, Write, Create, Remove, same_operation, lists}
+use Rattle.rights.specs.Operations.{Operation, Look, Read, Write, Create, Remove}
+use Rattle.rights.specs.OperationLists.{same_operation, lists}
 use Rattle.rights.proofs.Tests.{both_left, both_right, either_one}
 use Rattle.file_tree.specs.Places.{begins}
 use Rattle.file_tree.proofs.PlaceLaws.{begins_is, begins_from}
 use Rattle.task.specs.Plans.{Grant}
 use Rattle.task.specs.Policies.{allows, is_allowed}
-use Rattle.task.specs.Laws.{Allowed, AllowedIsTested}
+use Rattle.task.specs.Sandboxed.{Allowed}
+use Rattle.task.specs.Laws.{AllowedIsTested}
 
 same_is : (a b : Operation) → same_operation a b ≡ true → a ≡ b
 same_is Look Look is = refl

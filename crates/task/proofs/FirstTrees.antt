@@ -6,7 +6,8 @@ use Rattle.std.proofs.lemmas.Bool.{both_ways, eqb-true, ltb-true, lt-ltb}
 use Rattle.rights.proofs.Tests.{both_left, both_right, not_true}
 use Rattle.file_tree.specs.Places.{is_name, above, at_name}
 use Rattle.file_tree.specs.Nodes.{Kind, File, Dir, Link, Node, node, node_at, is_dir, stands_at}
-use Rattle.file_tree.specs.Changes.{new_tree, most_nodes, created, create_fault}
+use Rattle.rights.specs.Limits.{most_nodes}
+use Rattle.file_tree.specs.Refusals.{new_tree, created, create_fault}
 use Rattle.file_tree.specs.WellFormed.{IsTree, has_directory, is_within_limits}
 use Rattle.file_tree.proofs.NodeLaws.{Directory, none_at, node_at_found, directory, stands_is, stands_from}
 use Rattle.file_tree.proofs.NewTree.{new_is_tree}

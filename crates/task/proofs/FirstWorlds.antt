@@ -8,10 +8,10 @@ use Rattle.rights.proofs.Tests.{both_left, both_right}
 use Rattle.prog_asm.specs.Fields.{is_name}
 use Rattle.prog_asm.specs.Programs.{Instruction, is_program, is_instruction, ends_well}
 use Rattle.fd_table.specs.Descriptions.{Descriptor}
-use Rattle.kernel.specs.Calls.{most_processes}
+use Rattle.rights.specs.Limits.{most_processes, most_programs}
 use Rattle.kernel.specs.WellFormed.{IsCode, IsPoint, IsMade, HasNone, FitsRegister, EachMessage, IsWorld}
 use Rattle.task.specs.Plans.{NamedProgram, Start, Plan, code_in, programs_of_plan}
-use Rattle.task.specs.Limits.{are_grants, most_programs, is_named, are_named_apart, all_apart, are_programs, are_descriptors, is_start, are_starts, is_tree, is_plan}
+use Rattle.task.specs.Limits.{are_grants, is_named, are_named_apart, all_apart, are_programs, are_descriptors, is_start, are_starts, is_tree, is_plan}
 use Rattle.task.specs.Begins.{nothing_open, first_opening, first_process, first_world}
 use Rattle.task.specs.Laws.{FirstWorldsAreWellFormed}
 use Rattle.task.proofs.FirstTrees.{tested_tree}

@@ -15,7 +15,8 @@ use Rattle.prog_asm.specs.Programs.{is_program}
 use Rattle.prog_asm.specs.Lines.{is_lower, is_digit}
 use Rattle.prog_asm.specs.Fields.{is_name, is_name_byte}
 use Rattle.task.specs.Plans.{Grant, NamedProgram, FirstDescriptor, Start, Plan, code_in}
-use Rattle.task.specs.Limits.{most_grants, most_programs, can_follow, are_made, is_tree, is_grant, are_apart, are_grants, is_named, are_named_apart, are_programs, all_apart, is_descriptor, are_numbered_apart, are_descriptors, is_start, is_plan}
+use Rattle.rights.specs.Limits.{most_grants, most_programs}
+use Rattle.task.specs.Limits.{can_follow, are_made, is_tree, is_grant, are_apart, are_grants, is_named, are_named_apart, are_programs, all_apart, is_descriptor, are_numbered_apart, are_descriptors, is_start, is_plan}
 use Rattle.task.specs.Policies.{grant_named}
 use Rattle.task.specs.Kept.{IsLetter, IsNameByte, IsShortName, IsUsable, KeepsGrants, KeepsPrograms, KeepsStarts, PlansKeepLimits, TreesAreMadeInOrder}
 use Rattle.task.proofs.FirstTrees.{tested_tree, made_in_order}

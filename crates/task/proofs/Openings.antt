@@ -8,9 +8,9 @@ use Rattle.rights.specs.Maps.{put}
 use Rattle.rights.proofs.Changes.{put-cases, put2-cases, put-same, put-other}
 use Rattle.rights.proofs.Tests.{both_left, both_right, not_true}
 use Rattle.file_tree.specs.Nodes.{Node, node, is_link, is_dir}
-use Rattle.file_tree.specs.Changes.{most_bytes}
-use Rattle.fd_table.specs.Descriptions.{Initial, Object, At_node, At_end, State, Descriptor, new_state, descriptor_of}
-use Rattle.kernel.specs.WellFormed.{Numbering, IsObject, IsDescriptor, IfHeld}
+use Rattle.rights.specs.Limits.{most_bytes}
+use Rattle.fd_table.specs.Descriptions.{Initial, Object, At_node, At_end, State, Descriptor, new_state, descriptor_of, IfHeld}
+use Rattle.kernel.specs.WellFormed.{Numbering, IsObject, IsDescriptor}
 use Rattle.task.specs.Plans.{FirstDescriptor, Start}
 use Rattle.task.specs.Limits.{is_accessed, is_descriptor, are_numbered_apart, all_apart, is_start}
 use Rattle.task.specs.Begins.{Opening, nothing_open, with_descriptor, with_descriptors, with_starts}

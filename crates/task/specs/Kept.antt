@@ -4,7 +4,7 @@ use Rattle.std.specs.List.{slice_get}
 use Rattle.rights.specs.Sets.{is_within, all_rights, all_commands}
 use Rattle.file_tree.specs.Places.{begins, is_name}
 use Rattle.file_tree.specs.Nodes.{Dir, Link, Node, node}
-use Rattle.file_tree.specs.Changes.{created, create_fault}
+use Rattle.file_tree.specs.Refusals.{created, create_fault}
 use Rattle.file_tree.specs.WellFormed.{IsTree, has_directory, is_content}
 use Rattle.prog_asm.specs.Programs.{is_program}
 use Rattle.task.specs.Plans.{Grant, NamedProgram, FirstDescriptor, Start, Plan, programs_of_plan}

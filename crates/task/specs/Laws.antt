@@ -1,15 +1,16 @@
 -- Laws of tasks.
-use Rattle.std.specs.Prelude.{◌≡◌, ◌≢◌, ◌==◌, ◌++◌, ◌↔◌, ℕ, true, false, List, [], ◌∷◌, codes, replicate, Option, Some, None, if◌then◌else◌}
-use Rattle.std.specs.List.{slice_get, Contains}
+use Rattle.std.specs.Prelude.{◌≡◌, ◌≢◌, ◌==◌, ◌++◌, ◌↔◌, ℕ, true, false, List, [], ◌∷◌, codes, Option, Some, None, if◌then◌else◌}
+use Rattle.std.specs.List.{slice_get}
 use Rattle.rights.specs.Operations.{Operation, Read}
-use Rattle.process.specs.State.{ProcessState}
-use Rattle.fd_table.specs.Descriptions.{At_node, Descriptor}
+use Rattle.process.specs.State.{ProcessState, new_process}
+use Rattle.fd_table.specs.Descriptions.{At_node, Descriptor, new_state}
 use Rattle.fd_table.specs.OpenFiles.{OpenFiles}
 use Rattle.kernel.specs.World.{World}
 use Rattle.kernel.specs.WellFormed.{ArePrograms, IsWellFormed}
 use Rattle.task.specs.Plans.{Grant, FirstDescriptor, Start, Plan, programs_of_plan}
 use Rattle.task.specs.Limits.{is_plan}
 use Rattle.task.specs.Policies.{is_allowed}
+use Rattle.task.specs.Sandboxed.{Allowed}
 use Rattle.task.specs.Begins.{first_world}
 
 -- A task starts in a well-formed world of its programs.
@@ -23,7 +24,7 @@ IsFirstProcess None None = Unit {0}
 IsFirstProcess None (Some s) = ⊥
 IsFirstProcess (Some start) None = ⊥
 IsFirstProcess (Some start) (Some s) =
-    s ≡ record { program = start.program; point = 0; registers = replicate 8 0; mode = start.mode; alive = true }
+    s ≡ new_process start.program start.mode
 
 -- the first descriptor of a process at a number
 abbrev pub with_number : ℕ → List FirstDescriptor → Option FirstDescriptor
@@ -40,7 +41,7 @@ pub record IsGiven (f : OpenFiles) (given : FirstDescriptor) (d : Descriptor) : 
   pub rights : d.rights ≡ given.rights
   pub fcntls : d.fcntls ≡ given.fcntls
   pub object : f.objects d.description ≡ At_node given.node given.access
-  pub state : f.states d.description ≡ record { offset = 0; append = false; nonblock = false }
+  pub state : f.states d.description ≡ new_state false
 
 abbrev pub IsFirstEntry : OpenFiles → Option FirstDescriptor → Option Descriptor → Type 0
 IsFirstEntry f None None = Unit {0}
@@ -61,15 +62,6 @@ pub record IsFirst (plan : Plan) (w : World) : Type 0 where
 
 abbrev pub FirstWorldsAreFirst : Type 0
 FirstWorldsAreFirst = (plan : Plan) → is_plan plan ≡ true → IsFirst plan (first_world plan)
-
--- An operation at a place is allowed if a grant lists it whose path the place goes on from, name by name.
-pub record Allowed (grants : List Grant) (operation : Operation) (place : List (List ℕ)) : Type 0 where
-  pub number : ℕ
-  pub grant : Grant
-  pub rest : List (List ℕ)
-  pub there : slice_get grants number ≡ Some grant
-  pub beneath : place ≡ grant.path ++ rest
-  pub listed : Contains grant.operations operation
 
 abbrev pub AllowedIsTested : Type 0
 AllowedIsTested =

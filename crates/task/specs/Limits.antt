@@ -5,19 +5,11 @@ use Rattle.std.specs.Str.{bytes_eq}
 use Rattle.rights.specs.Sets.{is_within, all_rights, all_commands}
 use Rattle.file_tree.specs.Places.{begins, above}
 use Rattle.file_tree.specs.Nodes.{Node, node, is_dir, is_link, stands_at}
-use Rattle.file_tree.specs.Changes.{most_nodes}
+use Rattle.rights.specs.Limits.{most_nodes, most_processes, most_programs, most_grants}
 use Rattle.file_tree.specs.WellFormed.{has_directory, is_within_limits}
 use Rattle.prog_asm.specs.Programs.{is_program}
 use Rattle.prog_asm.specs.Fields.{is_name}
-use Rattle.kernel.specs.Calls.{most_processes}
 use Rattle.task.specs.Plans.{Grant, NamedProgram, FirstDescriptor, Start, Plan}
-
--- how many grants and programs a task may have
-abbrev pub most_grants : ℕ
-most_grants = 8
-
-abbrev pub most_programs : ℕ
-most_programs = 8
 
 -- each passes the test with those after it
 abbrev pub all_apart : {A : Type 0} → (A → A → Bool) → List A → Bool

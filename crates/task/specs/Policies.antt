@@ -2,7 +2,8 @@
 use Rattle.std.specs.Prelude.{ℕ, Bool, false, ◌&&◌, List, [], ◌∷◌, Option, Some, None, if◌then◌else◌}
 use Rattle.std.specs.List.{list_any}
 use Rattle.std.specs.Str.{bytes_eq}
-use Rattle.rights.specs.Operations.{Operation, lists}
+use Rattle.rights.specs.Operations.{Operation}
+use Rattle.rights.specs.OperationLists.{lists}
 use Rattle.file_tree.specs.Places.{begins}
 use Rattle.task.specs.Plans.{Grant}
 

@@ -1,18 +1,26 @@
 -- When a run is sandboxed. (own, after capsicum(4), rights(4), cap_rights_limit(2) and
 -- cap_fcntls_limit(2))
-use Rattle.std.specs.Prelude.{◌≡◌, true, List, [], ◌∷◌, Option, Some, None}
-use Rattle.std.specs.List.{slice_get}
+use Rattle.std.specs.Prelude.{◌≡◌, ◌++◌, ℕ, true, List, [], ◌∷◌, Option, Some, None}
+use Rattle.std.specs.List.{slice_get, Contains}
 use Rattle.rights.specs.Errors.{Cause, CapMode, MissingRight}
+use Rattle.rights.specs.Operations.{Operation}
 use Rattle.process.specs.State.{ProcessState}
 use Rattle.kernel.specs.World.{World, Choice, IsFresh}
-use Rattle.kernel.specs.Answers.{Event, Effect}
+use Rattle.kernel.specs.Answers.{Event, Effect, AreEvents}
 use Rattle.kernel.specs.Steps.{LineResult, Failed, Programs, Acted, Stepped, step}
 use Rattle.kernel.specs.Origins.{caller_of}
 use Rattle.kernel.specs.Gains.{GainsNothing}
-use Rattle.kernel.specs.Runs.{AreEvents}
 use Rattle.task.specs.Plans.{Grant, Plan, programs_of_plan}
-use Rattle.task.specs.Laws.{Allowed}
 use Rattle.task.specs.Begins.{first_world}
+
+-- An operation at a place is allowed if a grant lists it whose path the place goes on from, name by name.
+pub record Allowed (grants : List Grant) (operation : Operation) (place : List (List ℕ)) : Type 0 where
+  pub number : ℕ
+  pub grant : Grant
+  pub rest : List (List ℕ)
+  pub there : slice_get grants number ≡ Some grant
+  pub beneath : place ≡ grant.path ++ rest
+  pub listed : Contains grant.operations operation
 
 -- the process was made and is in capability mode
 abbrev pub IsInMode : Option ProcessState → Type 0

@@ -6,7 +6,7 @@ use Rattle.rights.specs.Sets.{all_rights, all_commands}
 use Rattle.rights.specs.Operations.{Look, Read, Write, Create, Remove}
 use Rattle.file_tree.specs.Places.{is_name, is_target}
 use Rattle.file_tree.specs.Nodes.{node_at}
-use Rattle.file_tree.specs.Changes.{created}
+use Rattle.file_tree.specs.Refusals.{created}
 use Rattle.file_tree.specs.WellFormed.{is_within_limits}
 use Rattle.prog_asm.specs.Programs.{Halt}
 use Rattle.prog_asm.specs.Forms as forms

@@ -10,16 +10,16 @@ use Rattle.rights.specs.Sets.{is_within, all_rights, all_commands}
 use Rattle.rights.proofs.Tests.{both_left, both_right}
 use Rattle.file_tree.specs.Places.{begins, above}
 use Rattle.file_tree.specs.Nodes.{Dir, Node, stands_at}
-use Rattle.file_tree.specs.Changes.{most_nodes, new_tree}
+use Rattle.rights.specs.Limits.{most_nodes, most_processes, most_grants, most_programs}
+use Rattle.file_tree.specs.Refusals.{new_tree}
 use Rattle.file_tree.specs.WellFormed.{has_directory, is_within_limits}
 use Rattle.prog_asm.specs.Programs.{Instruction}
 use Rattle.prog_asm.specs.Assembly.{Fault, assembly_of}
 use Rattle.prog_asm.proofs.GoodPrograms.{assembly-good}
-use Rattle.kernel.specs.Calls.{most_processes}
 use Rattle.toml.specs.Data.{Members}
 use Rattle.task.specs.Plans.{Grant, NamedProgram, FirstDescriptor, Start, Plan}
 use Rattle.prog_asm.specs.Fields.{is_name}
-use Rattle.task.specs.Limits.{most_grants, most_programs, all_apart, can_follow, are_made, is_tree, is_grant, are_apart, are_grants, is_named, are_named_apart, are_programs, is_descriptor, are_numbered_apart, are_descriptors, is_start, are_starts, is_plan}
+use Rattle.task.specs.Limits.{all_apart, can_follow, are_made, is_tree, is_grant, are_apart, are_grants, is_named, are_named_apart, are_programs, is_descriptor, are_numbered_apart, are_descriptors, is_start, are_starts, is_plan}
 use Rattle.task_reader.specs.Documents.{is_among, are_once}
 use Rattle.task_reader.specs.Paths.{place_of}
 use Rattle.task_reader.specs.Written.{WrittenNode, WrittenGrant, WrittenProgram, WrittenDescriptor, WrittenStart, WrittenTask, names_of_grants, names_of_programs, written_task}

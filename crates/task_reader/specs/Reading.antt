@@ -3,14 +3,15 @@ use Rattle.std.specs.Prelude.{ℕ, ℤ, pos, negsuc, Bool, true, ◌&&◌, ◌||
 use Rattle.std.specs.List.{list_all, list_any}
 use Rattle.file_tree.specs.Places.{begins, above}
 use Rattle.file_tree.specs.Nodes.{Node, node, node_at, is_dir, is_link, stands_at}
-use Rattle.file_tree.specs.Changes.{most_nodes, new_tree}
+use Rattle.rights.specs.Limits.{most_nodes, most_path, most_grants, most_programs}
+use Rattle.file_tree.specs.Refusals.{new_tree}
 use Rattle.file_tree.specs.WellFormed.{has_directory, is_within_limits}
 use Rattle.prog_asm.specs.Programs.{Instruction}
 use Rattle.prog_asm.specs.Assembly.{Fault, assembly_of}
 use Rattle.fd_table.specs.Descriptions.{Access}
 use Rattle.toml.specs.Data.{Members}
 use Rattle.task.specs.Plans.{Grant, NamedProgram, FirstDescriptor, Start, Plan, plan_with}
-use Rattle.task.specs.Limits.{most_grants, most_programs, all_apart, are_numbered_apart}
+use Rattle.task.specs.Limits.{all_apart, are_numbered_apart}
 use Rattle.task_reader.specs.Documents.{document_of}
 use Rattle.task_reader.specs.Paths.{place_of}
 use Rattle.task_reader.specs.Written.{WrittenNode, WrittenGrant, WrittenProgram, WrittenDescriptor, WrittenStart, WrittenTask, written_task}
@@ -146,10 +147,7 @@ all_assembled (p ∷ programs) = do
 
 -- What is limited: the length of a node's path, of its names, and of what it holds; and how many nodes, grants, programs
 -- and processes there are.
-abbrev pub most_path : ℕ
-most_path = 1023
-
--- a document lists one process, until programs can make more
+-- A document lists one process, until programs can make more
 abbrev pub most_starts : ℕ
 most_starts = 1
 

@@ -3,7 +3,8 @@ use Rattle.std.specs.Prelude.{◌==◌, ℕ, ◌+◌, ℤ, Bool, true, false, �
 use Rattle.std.specs.List.{list_all}
 use Rattle.std.specs.Str.{bytes_eq}
 use Rattle.rights.specs.Sets.{all_rights, all_commands, right_names, command_names}
-use Rattle.rights.specs.Operations.{Operation, Look, Read, Write, Create, Remove, operation_name}
+use Rattle.rights.specs.Operations.{Operation, Look, Read, Write, Create, Remove}
+use Rattle.rights.specs.OperationLists.{operation_name}
 use Rattle.file_tree.specs.Nodes.{Kind, File, Dir, Link}
 use Rattle.fd_table.specs.Descriptions.{Access}
 use Rattle.prog_asm.specs.Fields.{is_name, named}

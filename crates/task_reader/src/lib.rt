@@ -17,5 +17,5 @@ mod words;
 mod written;
 
 pub use faults::TaskFault;
-pub use limits::{MAX_GRANTS, MAX_PATH, MAX_PROCESSES, MAX_PROGRAMS};
+pub use limits::MAX_PROCESSES;
 pub use reading::read_task;

@@ -10,17 +10,9 @@ ghost use Rattle.task.specs.Views.{node_of, nodes_of};
 ghost use Rattle.task_reader.specs.WrittenViews.{node_seen, nodes_seen, task_seen};
 
 use crate::written::{WrittenNode, WrittenTask};
-use file_tree::{Kind, MAX_BYTES, MAX_NODES, is_valid_name, is_valid_target};
+use file_tree::{Kind, is_valid_name, is_valid_target};
+use rights::limits::{MAX_BYTES, MAX_GRANTS, MAX_NODES, MAX_PATH, MAX_PROGRAMS};
 use task::TaskNode;
-
-/// How many bytes the path of a node may have. (own)
-pub const MAX_PATH: usize = 1023;
-
-/// How many grants a task may have. (own)
-pub const MAX_GRANTS: usize = 8;
-
-/// How many programs a task may have. (own)
-pub const MAX_PROGRAMS: usize = 8;
 
 /// How many first processes a task may have, until programs can make more. (own)
 pub const MAX_PROCESSES: usize = 1;

@@ -3,9 +3,10 @@
 ghost use Rattle.std.specs.Prelude.{◌<◌, length};
 
 use file_tree::{
-    Kind, MAX_BYTES, New, NodeId, PlaceTree, Tree, TreeFault, is_same_place, is_valid_name,
+    Kind, New, NodeId, PlaceTree, Tree, TreeFault, is_same_place, is_valid_name,
     is_valid_target,
 };
+use rights::limits::MAX_BYTES;
 use std::alloc::Global;
 use std::process::Abort;
 use std::test::Fail;

@@ -1,7 +1,7 @@
 use Rattle.std.proofs.Common.{◌≡◌}
 use Rattle.std.proofs.lemmas.Result.{err_from_is_err_and}
 use Rattle.lookup.specs.Looks.{walk_of}
-use Rattle.lookup.specs.Steps.{Goes, Ends, next}
+use Rattle.lookup.specs.Leads.{Goes, Ends, next}
 use Rattle.lookup.specs.Views.{fault_of, found_of, last_of, rules_of, stand_of, way_of}
 use Rattle.lookup.proofs.Walking.{begun_rest, fault_is_walk, goes_on, ends_with, ends_lost}
 use Rattle.lookup.proofs.lookups.walked.Goals as goal

@@ -1,6 +1,7 @@
 use Rattle.std.proofs.Common.{sym, subst, ◌∙◌, ap, []}
 use Rattle.file_tree.specs.Nodes.{File}
-use Rattle.file_tree.specs.Changes.{created, filled}
+use Rattle.file_tree.specs.Changes.{filled}
+use Rattle.file_tree.specs.Refusals.{created}
 use Rattle.file_tree.specs.Views.{kind_of}
 use Rattle.simulator.proofs.Planted.{IsLast, created_last, filled_last}
 use Rattle.simulator.proofs.planting.plant.Goals as goal

@@ -3,7 +3,7 @@ use Rattle.std.proofs.lemmas.List.{length-take-le, take-map}
 use Rattle.std.proofs.Math.ListN.{length-map}
 use Rattle.file_tree.specs.Nodes.{Node, node}
 use Rattle.file_tree.specs.Places.{above, at_name}
-use Rattle.file_tree.specs.Changes.{most_nodes}
+use Rattle.rights.specs.Limits.{most_nodes}
 use Rattle.file_tree.specs.Views.{names_of}
 use Rattle.file_tree.specs.WellFormed.{has_directory, is_directory_at}
 use Rattle.fd_table.proofs.QueueLaws.{on_ok_so}

@@ -5,9 +5,8 @@ use Rattle.std.proofs.lemmas.List.{get_or-map, take_all}
 use Rattle.rights.proofs.Tests.{on_err}
 use Rattle.syscalls.specs.declared.events.Event.{Event as EventCode}
 use Rattle.syscalls.specs.Views.{event_of}
-use Rattle.kernel.specs.Answers.{Event}
-use Rattle.kernel.specs.Runs.{AreEvents}
-use Rattle.kernel.specs.WellFormed.{IsEvent, IsWellFormed}
+use Rattle.kernel.specs.Answers.{Event, IsEvent, AreEvents}
+use Rattle.kernel.specs.WellFormed.{IsWellFormed}
 use Rattle.kernel.proofs.Gains.{never_gains}
 use Rattle.task.specs.Begins.{first_world}
 use Rattle.task.specs.Limits.{is_plan}

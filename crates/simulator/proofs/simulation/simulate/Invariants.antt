@@ -1,5 +1,5 @@
 use Rattle.std.proofs.Common.{◌≡◌, drop, take, map, true, false}
-use Rattle.kernel.specs.Runs.{AreEvents}
+use Rattle.kernel.specs.Answers.{AreEvents}
 use Rattle.kernel.specs.WellFormed.{IsWellFormed}
 use Rattle.syscalls.specs.Views.{event_of}
 use Rattle.task.specs.Limits.{is_plan}

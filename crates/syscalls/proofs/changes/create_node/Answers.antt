@@ -1,7 +1,7 @@
 use Rattle.std.proofs.Common.{ap, ◌∙◌, [], ◌∷◌, arith, length}
 use Rattle.rights.specs.Operations as operations
 use Rattle.file_tree.specs.Nodes.{node}
-use Rattle.file_tree.specs.Changes.{created}
+use Rattle.file_tree.specs.Refusals.{created}
 use Rattle.file_tree.specs.Views.{new_kind, new_content}
 use Rattle.file_tree.proofs.TreeLaws.{created_length, created_new}
 use Rattle.syscalls.specs.Shows.{shown_at}

@@ -9,7 +9,7 @@ use Rattle.kernel.specs.Answers.{Move}
 use Rattle.syscalls.specs.Shows.{shown_at}
 use Rattle.syscalls.specs.Views.{world_with, effect_of}
 use Rattle.syscalls.proofs.Tests.{passes, fails}
-use Rattle.syscalls.proofs.Renaming.{told_into, move_is, into_itself, other_place, free_place, renamed_place}
+use Rattle.syscalls.proofs.Renaming.{told_into, into_itself, other_place, free_place, renamed_place}
 use Rattle.syscalls.proofs.Keeping.{tree_succeeds}
 use Rattle.syscalls.proofs.renames.rename_free.Goals as goal
 
@@ -37,4 +37,4 @@ returns g c = λ refuse f processes p s e same idle.
     (c.in_ok-to-in-Ok.ensures.effect
     ∙ ap (λ after. shown_at operations.Create (node after n).place) c.in-Ok.ensures.ok
     ∙ ap (shown_at operations.Create) (renamed_place t n d name c.requires.linked other))))
-    (c.in-Ok.ensures.ok ∙ move_is t n d name)
+    c.in-Ok.ensures.ok

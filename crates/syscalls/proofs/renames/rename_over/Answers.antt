@@ -11,7 +11,7 @@ use Rattle.kernel.specs.Changes.{tree_after}
 use Rattle.syscalls.specs.Shows.{shown_at}
 use Rattle.syscalls.specs.Views.{world_with, effect_of}
 use Rattle.syscalls.proofs.Tests.{passes, fails, same_from}
-use Rattle.syscalls.proofs.Renaming.{told_full, move_is, is_full, over_rest, apart_places, named_place, renamed_place}
+use Rattle.syscalls.proofs.Renaming.{told_full, is_full, over_rest, apart_places, named_place, renamed_place}
 use Rattle.syscalls.proofs.Keeping.{tree_succeeds}
 use Rattle.syscalls.proofs.renames.rename_over.Goals as goal
 
@@ -60,4 +60,4 @@ returns g c = λ refuse f processes p s e same idle.
     (c.in_ok-to-in-Ok.ensures.effect
     ∙ ap (λ after. shown_at operations.Create (node after n).place) c.in-Ok.ensures.ok
     ∙ ap (shown_at operations.Create) (renamed_place t n d name c.requires.linked other ∙ sym place))))
-    (c.in-Ok.ensures.ok ∙ move_is t n d name ∙ ap (λ p. tree_after t (Move n p)) (sym place))
+    (c.in-Ok.ensures.ok ∙ ap (λ p. tree_after t (Move n p)) (sym place))

@@ -1,5 +1,5 @@
 use Rattle.std.proofs.Common.{◌≡◌, drop}
-use Rattle.file_tree.specs.Changes.{new_tree}
+use Rattle.file_tree.specs.Refusals.{new_tree}
 use Rattle.task_reader.specs.Reading.{tree_from}
 use Rattle.task.specs.Views.{nodes_of}
 use Rattle.task_reader.specs.WrittenViews.{nodes_seen}
