@@ -115,10 +115,10 @@ module _ (plan : Plan) (certificate : Certificate) (w : World) (e : Event) (s : 
         allowed = λ on. tt;
         bound = bound;
         leads_on = leads certificate (program_name plan s.program) (record { point = s.point + 1; bound = bound }) known.asked.successes known.asked.successes_there;
-        lies = record {
+        inside = record {
           mode = turned_on s.mode;
-          registers = register_set known.bound.registers s.registers 0 0 (only 0) refl known.lies.registers;
-          slots = known.lies.slots;
+          registers = register_set known.bound.registers s.registers 0 0 (only 0) refl known.inside.registers;
+          slots = known.inside.slots;
         };
       }
 
@@ -146,10 +146,10 @@ module _ (plan : Plan) (certificate : Certificate) (w : World) (e : Event) (s : 
               leads certificate name (record { point = s.point + 1; bound = bound })
               (subst (λ x. all_within certificate name (read_outcomes s.point known.bound x) ≡ true) is known.asked.successes)
               (subst (λ x. all_there certificate name (read_outcomes s.point known.bound x) ≡ true) is known.asked.successes_there);
-          lies = record {
-            mode = subst (λ on. mode_describes known.bound.mode on ≡ true) (sym (off_stays s.mode)) known.lies.mode;
-            registers = register_set known.bound.registers s.registers 0 value read_interval (both_true (le-leb 0 value (omega arith)) (le-leb value 256 small)) known.lies.registers;
-            slots = known.lies.slots;
+          inside = record {
+            mode = subst (λ on. mode_describes known.bound.mode on ≡ true) (sym (off_stays s.mode)) known.inside.mode;
+            registers = register_set known.bound.registers s.registers 0 value read_interval (both_true (le-leb 0 value (omega arith)) (le-leb value 256 small)) known.inside.registers;
+            slots = known.inside.slots;
           };
         }
 
@@ -166,7 +166,7 @@ module _ (plan : Plan) (certificate : Certificate) (w : World) (e : Event) (s : 
       may_read : (m : ℕ) (access : Access) → w.files.objects d.description ≡ At_node m access → s.mode ≡ true → Allowed plan.grants operations.Read (node w.tree m).place
       may_read m access is on =
           let b = known.bound in
-          let may : may_be_on b.mode ≡ true = on_may_be b.mode s.mode known.lies.mode on in
+          let may : may_be_on b.mode ≡ true = on_may_be b.mode s.mode known.inside.mode on in
           node_allowed plan operations.Read x.held.target (node w.tree m).place
           (subst (λ o. target_describes (grant_holds plan.grants) x.held.target (subject_of plan w.tree o) ≡ true) is facts.target)
           (if_on (may_be_on b.mode) (is_known x.held.target) (subst (λ h. (not (may_be_on b.mode) || goes_known h) ≡ true) x.is_held known.asked.known) may)
@@ -221,7 +221,7 @@ module _ (plan : Plan) (certificate : Certificate) (w : World) (e : Event) (s : 
             let P : ℕ → Type 0 = λ k. slot_describes (grant_holds plan.grants) (slot known.bound.slots n) (table_of plan w e.process k) ≡ true in
             let number : 0 + n ≡ n = omega arith in
             subst P number
-            (slot_at (grant_holds plan.grants) 0 known.bound.slots (table_of plan w e.process) known.lies.slots
+            (slot_at (grant_holds plan.grants) 0 known.bound.slots (table_of plan w e.process) known.inside.slots
             (λ m far. ap (option_map (seen_of plan w)) (known.world.numbers e.process m far)) n)
 
         go : (o : Option Descriptor) → w.files.table e.process n ≡ o → Owes (through read_right o (λ d. at_object (w.files.objects d.description) (read_node w e.process s e d) (λ pair side. read_end w e.process s e d pair side (w.files.queue pair (other_side side)))))

@@ -24,7 +24,7 @@ use Rattle.checker.specs.Rules.{first_seen, first_table, start_within, starts_wi
 use Rattle.checker.specs.Verdicts.{MeetsRules}
 use Rattle.checker.proofs.Describing.{described, from_described, slots_go_on}
 use Rattle.checker.proofs.Asked.{asked, started}
-use Rattle.checker.proofs.Invariant.{subject_of, seen_of, table_of, Lies, LiesIfAlive, Invariant}
+use Rattle.checker.proofs.Invariant.{subject_of, seen_of, table_of, IsDescribed, IsDescribedIfAlive, Invariant}
 
 -- an element that passes the test
 any_at : {A : Type 0} (test : A → Bool) (xs : List A) (j : ℕ) (x : A) → slice_get xs j ≡ Some x → test x ≡ true → list_any test xs ≡ true
@@ -83,10 +83,10 @@ module _ (plan : Plan) (certificate : Certificate) (valid : is_plan plan ≡ tru
   abbrev begun : ProcessState
   begun = new_process st.program st.mode
 
-  first_lies : IsPoint (instruction_at plan st.program 0) → Lies plan certificate (first_world plan) p begun
-  first_lies point = go (instruction_at plan st.program 0) refl point
+  first_inside : IsPoint (instruction_at plan st.program 0) → IsDescribed plan certificate (first_world plan) p begun
+  first_inside point = go (instruction_at plan st.program 0) refl point
     where
-      go : (o : Option Instruction) → instruction_at plan st.program 0 ≡ o → IsPoint o → Lies plan certificate (first_world plan) p begun
+      go : (o : Option Instruction) → instruction_at plan st.program 0 ≡ o → IsPoint o → IsDescribed plan certificate (first_world plan) p begun
       go None at none = absurd none
       go (Some i) at some =
           let is : is_started plan st.program ≡ true = any_at (λ (s : Start). s.program == st.program) plan.starts p st here (eq-eqb st.program st.program refl) in
@@ -99,13 +99,13 @@ first_invariant plan certificate valid meets =
     let formed = (first_well_formed plan valid).1 in
     record {
       formed = formed;
-      living = λ p. lies p (slice_get plan.starts p) refl (slice_get (first_world plan).processes p) (formed.world.processes p) ((first_is_first plan valid).processes p);
+      living = λ p. inside p (slice_get plan.starts p) refl (slice_get (first_world plan).processes p) (formed.world.processes p) ((first_is_first plan valid).processes p);
     }
   where
-    lies : (p : ℕ) (start : Option Start) → slice_get plan.starts p ≡ start → (o : Option ProcessState) → IsMade (programs_of_plan plan) o → IsFirstProcess start o → LiesIfAlive plan certificate (first_world plan) p o
-    lies p start here None made is = tt
-    lies p None here (Some s) made is = absurd is
-    lies p (Some st) here (Some s) made is = λ alive.
+    inside : (p : ℕ) (start : Option Start) → slice_get plan.starts p ≡ start → (o : Option ProcessState) → IsMade (programs_of_plan plan) o → IsFirstProcess start o → IsDescribedIfAlive plan certificate (first_world plan) p o
+    inside p start here None made is = tt
+    inside p None here (Some s) made is = absurd is
+    inside p (Some st) here (Some s) made is = λ alive.
         let placed : IsPoint (instruction_at plan s.program s.point) = made.placed alive in
-        subst (Lies plan certificate (first_world plan) p) (sym is)
-        (first_lies plan certificate valid meets p st here (subst (λ (t : ProcessState). IsPoint (instruction_at plan t.program t.point)) is placed))
+        subst (IsDescribed plan certificate (first_world plan) p) (sym is)
+        (first_inside plan certificate valid meets p st here (subst (λ (t : ProcessState). IsPoint (instruction_at plan t.program t.point)) is placed))

@@ -36,20 +36,20 @@ abbrev pub table_of : Plan → World → ℕ → ℕ → Option Seen
 table_of plan w p n = option_map (seen_of plan w) (w.files.table p n)
 
 -- A process lies in the bound of its point.
-pub record Lies (plan : Plan) (certificate : Certificate) (w : World) (p : ℕ) (s : ProcessState) : Type 0 where
+pub record IsDescribed (plan : Plan) (certificate : Certificate) (w : World) (p : ℕ) (s : ProcessState) : Type 0 where
   pub bound : Bound
   pub at : bound_at certificate (program_name plan s.program) s.point ≡ Some bound
   pub is : describes (grant_holds plan.grants) bound s.mode s.registers (table_of plan w p) ≡ true
 
 -- each living one does
-abbrev pub LiesIfAlive : Plan → Certificate → World → ℕ → Option ProcessState → Type 0
-LiesIfAlive plan certificate w p None = Unit {0}
-LiesIfAlive plan certificate w p (Some s) = s.alive ≡ true → Lies plan certificate w p s
+abbrev pub IsDescribedIfAlive : Plan → Certificate → World → ℕ → Option ProcessState → Type 0
+IsDescribedIfAlive plan certificate w p None = Unit {0}
+IsDescribedIfAlive plan certificate w p (Some s) = s.alive ≡ true → IsDescribed plan certificate w p s
 
 -- The invariant: the world is well formed, and each living process lies in the bound of its point.
 pub record Invariant (plan : Plan) (certificate : Certificate) (w : World) : Type 0 where
   pub formed : IsWellFormed (programs_of_plan plan) w
-  pub living : (p : ℕ) → LiesIfAlive plan certificate w p (slice_get w.processes p)
+  pub living : (p : ℕ) → IsDescribedIfAlive plan certificate w p (slice_get w.processes p)
 
 -- What a step of process p leaves: objects of descriptions; each node in each grant that held it; and the other
 -- processes and their tables.
@@ -104,21 +104,21 @@ module _ (plan : Plan) (w v : World) (p : ℕ) (keeps : Keeps plan w v p) where
             facts.slots;
       })
 
-  lies_stays : (certificate : Certificate) (q : ℕ) (o : Option ProcessState) → ((n : ℕ) → v.files.table q n ≡ w.files.table q n) → LiesIfAlive plan certificate w q o → LiesIfAlive plan certificate v q o
-  lies_stays certificate q None same lies = tt
-  lies_stays certificate q (Some s) same lies = λ alive.
-      let here = lies alive in
+  inside_stays : (certificate : Certificate) (q : ℕ) (o : Option ProcessState) → ((n : ℕ) → v.files.table q n ≡ w.files.table q n) → IsDescribedIfAlive plan certificate w q o → IsDescribedIfAlive plan certificate v q o
+  inside_stays certificate q None same inside = tt
+  inside_stays certificate q (Some s) same inside = λ alive.
+      let here = inside alive in
       record { bound = here.bound; at = here.at; is = describes_stays here.bound s.mode s.registers q same here.is }
 
   -- The invariant after a step: the frame gives all but the process that made it.
-  pub next : (certificate : Certificate) → Invariant plan certificate w → IsWellFormed (programs_of_plan plan) v → LiesIfAlive plan certificate v p (slice_get v.processes p) → Invariant plan certificate v
-  next certificate inv formed lies = record {
+  pub next : (certificate : Certificate) → Invariant plan certificate w → IsWellFormed (programs_of_plan plan) v → IsDescribedIfAlive plan certificate v p (slice_get v.processes p) → Invariant plan certificate v
+  next certificate inv formed inside = record {
     formed = formed;
     living = λ q. living q (ℕ_discrete q p);
   }
     where
-      living : (q : ℕ) → Dec (q ≡ p) → LiesIfAlive plan certificate v q (slice_get v.processes q)
-      living q (yes same) = subst (λ k. LiesIfAlive plan certificate v k (slice_get v.processes k)) (sym same) lies
+      living : (q : ℕ) → Dec (q ≡ p) → IsDescribedIfAlive plan certificate v q (slice_get v.processes q)
+      living q (yes same) = subst (λ k. IsDescribedIfAlive plan certificate v k (slice_get v.processes k)) (sym same) inside
       living q (no other) =
-          subst (LiesIfAlive plan certificate v q) (sym (keeps.processes q other))
-          (lies_stays certificate q (slice_get w.processes q) (keeps.tables q other) (inv.living q))
+          subst (IsDescribedIfAlive plan certificate v q) (sym (keeps.processes q other))
+          (inside_stays certificate q (slice_get w.processes q) (keeps.tables q other) (inv.living q))

@@ -27,11 +27,11 @@ use Rattle.checker.specs.Intervals.{only, sums, equal_part, other_part, lower_pa
 use Rattle.checker.specs.Outcomes.{is_covered, outcomes_in, byte_interval, outcomes}
 use Rattle.checker.specs.Verdicts.{MeetsRules}
 use Rattle.checker.proofs.Describing.{described}
-use Rattle.checker.proofs.IntervalLaws.{lies_in, only_fits, sum_fits, has_equal, has_other, has_lower, has_upper}
+use Rattle.checker.proofs.IntervalLaws.{inside_of, only_fits, sum_fits, has_equal, has_other, has_lower, has_upper}
 use Rattle.checker.proofs.Asked.{asked}
-use Rattle.checker.proofs.Invariant.{table_of, Lies, LiesIfAlive, Invariant, next}
+use Rattle.checker.proofs.Invariant.{table_of, IsDescribed, IsDescribedIfAlive, Invariant, next}
 use Rattle.checker.proofs.Changes.{keeps_all}
-use Rattle.checker.proofs.Stepping.{Standing, Owed, register_lies, owed_set, owed_jump, owed_taken, owed_passed_by, owed_halt, owed_answer}
+use Rattle.checker.proofs.Stepping.{Standing, Owed, register_inside, owed_set, owed_jump, owed_taken, owed_passed_by, owed_halt, owed_answer}
 use Rattle.checker.proofs.Calls.{owed_cap_enter, owed_read}
 use Rattle.checker.proofs.FirstStates.{first_invariant}
 
@@ -76,15 +76,15 @@ owed_executed plan certificate w e choice s (Set r v) byte known =
     owed_set plan certificate w e.process s (Set r v) known r v (only v) refl (only_fits v)
 owed_executed plan certificate w e choice s (Mov r source) byte known =
     owed_set plan certificate w e.process s (Mov r source) known r (register s source) (interval known.bound.registers source) refl
-    (register_lies plan certificate w e.process s (Mov r source) known source)
+    (register_inside plan certificate w e.process s (Mov r source) known source)
 owed_executed plan certificate w e choice s (Add r addend) byte known =
     let i : Instruction = Add r addend in
     let mine = interval known.bound.registers r in
     let other = interval known.bound.registers addend in
     owed_set plan certificate w e.process s i known r ((register s r + register s addend) % 2 ^ 32) (sums mine other) refl
-    (sum_fits mine other (register s r) (register s addend) (register_lies plan certificate w e.process s i known r) (register_lies plan certificate w e.process s i known addend))
+    (sum_fits mine other (register s r) (register s addend) (register_inside plan certificate w e.process s i known r) (register_inside plan certificate w e.process s i known addend))
 owed_executed plan certificate w e choice s (In r) byte known =
-    owed_set plan certificate w e.process s (In r) known r e.input byte_interval refl (lies_in byte_interval e.input (omega arith) (omega (arith, byte)))
+    owed_set plan certificate w e.process s (In r) known r e.input byte_interval refl (inside_of byte_interval e.input (omega arith) (omega (arith, byte)))
 owed_executed plan certificate w e choice s (Jmp target) byte known =
     owed_jump plan certificate w e.process s (Jmp target) known target refl
 owed_executed plan certificate w e choice s (Jeq r v target) byte known = jump (register s r == v) refl
@@ -95,16 +95,16 @@ owed_executed plan certificate w e choice s (Jeq r v target) byte known = jump (
     n : Interval
     n = interval known.bound.registers r
 
-    lies : interval_describes n (register s r) ≡ true
-    lies = register_lies plan certificate w e.process s i known r
+    inside : interval_describes n (register s r) ≡ true
+    inside = register_inside plan certificate w e.process s i known r
 
     jump : (taken : Bool) → (register s r == v) ≡ taken → Owed plan certificate w e.process s (plain w e.process (jumped s taken target))
     jump true is =
         owed_taken plan certificate w e.process s i known r target (equal_part n v) (outcomes_in (s.point + 1) known.bound r (other_part n v)) refl
-        (has_equal n v (register s r) lies (eqb-true _ _ is))
+        (has_equal n v (register s r) inside (eqb-true _ _ is))
     jump false is =
         owed_passed_by plan certificate w e.process s i known r (other_part n v) (outcomes_in target known.bound r (equal_part n v)) refl
-        (has_other n v (register s r) lies (λ same. absurd (let clash : true ≡ false = sym (eq-eqb _ _ same) ∙ is in cc)))
+        (has_other n v (register s r) inside (λ same. absurd (let clash : true ≡ false = sym (eq-eqb _ _ same) ∙ is in cc)))
 owed_executed plan certificate w e choice s (Jlt r v target) byte known = jump (nat_lt (register s r) v) refl
   where
     i : Instruction
@@ -113,16 +113,16 @@ owed_executed plan certificate w e choice s (Jlt r v target) byte known = jump (
     n : Interval
     n = interval known.bound.registers r
 
-    lies : interval_describes n (register s r) ≡ true
-    lies = register_lies plan certificate w e.process s i known r
+    inside : interval_describes n (register s r) ≡ true
+    inside = register_inside plan certificate w e.process s i known r
 
     jump : (taken : Bool) → nat_lt (register s r) v ≡ taken → Owed plan certificate w e.process s (plain w e.process (jumped s taken target))
     jump true is =
         owed_taken plan certificate w e.process s i known r target (lower_part n v) (outcomes_in (s.point + 1) known.bound r (upper_part n v)) refl
-        (has_lower n v (register s r) lies (ltb-true _ _ is))
+        (has_lower n v (register s r) inside (ltb-true _ _ is))
     jump false is =
         owed_passed_by plan certificate w e.process s i known r (upper_part n v) (outcomes_in target known.bound r (lower_part n v)) refl
-        (has_upper n v (register s r) lies (ltb-false _ _ is))
+        (has_upper n v (register s r) inside (ltb-false _ _ is))
 owed_executed plan certificate w e choice s Halt byte known = owed_halt plan certificate w e.process s Halt known
 owed_executed plan certificate w e choice s (Invoke call otherwise) byte known =
     owed_call plan certificate w e choice s call otherwise known.asked.covered known
@@ -133,21 +133,21 @@ unmoved plan certificate w p s inv = record {
   allowed = λ on. tt;
   unrefused = tt;
   keeps = keeps_all plan w p;
-  lies = inv.living p;
+  inside = inv.living p;
 }
 
 -- what is known of a living process at a point with an instruction
 standing : (plan : Plan) (certificate : Certificate) (w : World) (p : ℕ) (s : ProcessState) (i : Instruction) → MeetsRules plan certificate → (inv : Invariant plan certificate w) → slice_get w.processes p ≡ Some s → s.alive ≡ true → instruction_at plan s.program s.point ≡ Some i → Standing plan certificate w p s i
 standing plan certificate w p s i meets inv made alive here =
-    let lies : Lies plan certificate w p s = (subst (LiesIfAlive plan certificate w p) made (inv.living p)) alive in
+    let inside : IsDescribed plan certificate w p s = (subst (IsDescribedIfAlive plan certificate w p) made (inv.living p)) alive in
     record {
       numbering = inv.formed.numbering;
       world = inv.formed.world;
       made = made;
-      bound = lies.bound;
-      at = lies.at;
-      lies = described (grant_holds plan.grants) lies.bound s.mode s.registers (table_of plan w p) lies.is;
-      asked = asked plan certificate s.program s.point i lies.bound here lies.at (meets s.program s.point);
+      bound = inside.bound;
+      at = inside.at;
+      inside = described (grant_holds plan.grants) inside.bound s.mode s.registers (table_of plan w p) inside.is;
+      asked = asked plan certificate s.program s.point i inside.bound here inside.at (meets s.program s.point);
     }
 
 -- a step that is safe, and after which the invariant holds
@@ -167,7 +167,7 @@ module _ (plan : Plan) (certificate : Certificate) (w : World) (e : Event) (byte
       unrefused = owed.unrefused;
       gains = lawful.gained;
     },
-    next plan w x.world e.process owed.keeps certificate inv lawful.formed owed.lies,
+    next plan w x.world e.process owed.keeps certificate inv lawful.formed owed.inside,
   )
 
   at_fine : (s : ProcessState) → slice_get w.processes e.process ≡ Some s → s.alive ≡ true → (o : Option Instruction) → instruction_at plan s.program s.point ≡ o → Lawful plan w e (stepped_at w e choice s o).world → Fine plan certificate w e (stepped_at w e choice s o)

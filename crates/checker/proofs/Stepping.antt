@@ -24,7 +24,7 @@ use Rattle.checker.specs.Rules.{all_within, all_there}
 use Rattle.checker.proofs.Describing.{Described, from_described, register_at, register_set, interval_set, error_fits}
 use Rattle.checker.proofs.IntervalLaws.{HasPart}
 use Rattle.checker.proofs.Asked.{Asked, Leads, leads, all_left, all_right}
-use Rattle.checker.proofs.Invariant.{table_of, Lies, LiesIfAlive, Keeps}
+use Rattle.checker.proofs.Invariant.{table_of, IsDescribed, IsDescribedIfAlive, Keeps}
 use Rattle.checker.proofs.Changes.{quiet, keeps_process, keeps_changed, keeps_halted, keeps_all}
 
 -- What is known before the step: the world is well formed, the process lives and lies in the bound of its
@@ -35,7 +35,7 @@ pub record Standing (plan : Plan) (certificate : Certificate) (w : World) (p : �
   pub made : slice_get w.processes p ≡ Some s
   pub bound : Bound
   pub at : bound_at certificate (program_name plan s.program) s.point ≡ Some bound
-  pub lies : Described (grant_holds plan.grants) bound s.mode s.registers (table_of plan w p)
+  pub inside : Described (grant_holds plan.grants) bound s.mode s.registers (table_of plan w p)
   pub asked : Asked plan certificate s.program s.point i bound
 
 -- What is owed of it: what it does is allowed, no call is refused for a right or by the mode, all else is
@@ -44,17 +44,17 @@ pub record Owed (plan : Plan) (certificate : Certificate) (w : World) (p : ℕ) 
   pub allowed : s.mode ≡ true → AreAllowed plan.grants x.effects
   pub unrefused : IsUnrefused x.outcome
   pub keeps : Keeps plan w x.world p
-  pub lies : LiesIfAlive plan certificate x.world p (slice_get x.world.processes p)
+  pub inside : IsDescribedIfAlive plan certificate x.world p (slice_get x.world.processes p)
 
 -- the process in its place in the list
-put_there : (plan : Plan) (certificate : Certificate) (w v : World) (p : ℕ) (s t : ProcessState) → slice_get w.processes p ≡ Some s → v.processes ≡ slice_set w.processes p t → LiesIfAlive plan certificate v p (Some t) → LiesIfAlive plan certificate v p (slice_get v.processes p)
-put_there plan certificate w v p s t made is lies =
+put_there : (plan : Plan) (certificate : Certificate) (w v : World) (p : ℕ) (s t : ProcessState) → slice_get w.processes p ≡ Some s → v.processes ≡ slice_set w.processes p t → IsDescribedIfAlive plan certificate v p (Some t) → IsDescribedIfAlive plan certificate v p (slice_get v.processes p)
+put_there plan certificate w v p s t made is inside =
     let at : slice_get v.processes p ≡ Some t = ap (λ ps. slice_get ps p) is ∙ slice_get-set_same w.processes p s t made in
-    subst (LiesIfAlive plan certificate v p) (sym at) lies
+    subst (IsDescribedIfAlive plan certificate v p) (sym at) inside
 
 module _ (plan : Plan) (certificate : Certificate) (w : World) (p : ℕ) (s : ProcessState) (i : Instruction) (known : Standing plan certificate w p s i) where
   -- The process comes to a point, in a mode and with registers that an outcome describes.
-  arrives : (v : World) (o : Outcome) (on : Bool) (values : List ℕ) → Leads certificate (program_name plan s.program) o → Described (grant_holds plan.grants) o.bound on values (table_of plan v p) → Lies plan certificate v p (record s { point = o.point; registers = values; mode = on })
+  arrives : (v : World) (o : Outcome) (on : Bool) (values : List ℕ) → Leads certificate (program_name plan s.program) o → Described (grant_holds plan.grants) o.bound on values (table_of plan v p) → IsDescribed plan certificate v p (record s { point = o.point; registers = values; mode = on })
   arrives v o on values there is = record {
     bound = there.bound;
     at = there.at;
@@ -64,8 +64,8 @@ module _ (plan : Plan) (certificate : Certificate) (w : World) (p : ℕ) (s : Pr
   }
 
   -- the state of the process alone is another
-  moves : (t : ProcessState) → (t.alive ≡ true → Lies plan certificate (with_process w p t) p t) → LiesIfAlive plan certificate (with_process w p t) p (slice_get (with_process w p t).processes p)
-  moves t lies = put_there plan certificate w (with_process w p t) p s t known.made refl lies
+  moves : (t : ProcessState) → (t.alive ≡ true → IsDescribed plan certificate (with_process w p t) p t) → IsDescribedIfAlive plan certificate (with_process w p t) p (slice_get (with_process w p t).processes p)
+  moves t inside = put_there plan certificate w (with_process w p t) p s t known.made refl inside
 
   -- an instruction that changes registers and the point alone
   comes : (point : ℕ) (bound : Bound) (values : List ℕ) → Leads certificate (program_name plan s.program) (record { point = point; bound = bound }) → Described (grant_holds plan.grants) bound s.mode values (table_of plan w p) → Owed plan certificate w p s (plain w p (record s { point = point; registers = values }))
@@ -75,28 +75,28 @@ module _ (plan : Plan) (certificate : Certificate) (w : World) (p : ℕ) (s : Pr
         allowed = λ on. tt;
         unrefused = tt;
         keeps = keeps_process plan w p t;
-        lies = moves t (λ alive. arrives (with_process w p t) (record { point = point; bound = bound }) s.mode values there is);
+        inside = moves t (λ alive. arrives (with_process w p t) (record { point = point; bound = bound }) s.mode values there is);
       }
 
   -- the registers with one that is set, in the bound with its interval
-  set_lies : (r v : ℕ) (n : Interval) → interval_describes n v ≡ true → Described (grant_holds plan.grants) (with_interval known.bound r n) s.mode (slice_set s.registers r v) (table_of plan w p)
-  set_lies r v n fits = record {
-    mode = known.lies.mode;
-    registers = register_set known.bound.registers s.registers r v n fits known.lies.registers;
-    slots = known.lies.slots;
+  set_inside : (r v : ℕ) (n : Interval) → interval_describes n v ≡ true → Described (grant_holds plan.grants) (with_interval known.bound r n) s.mode (slice_set s.registers r v) (table_of plan w p)
+  set_inside r v n fits = record {
+    mode = known.inside.mode;
+    registers = register_set known.bound.registers s.registers r v n fits known.inside.registers;
+    slots = known.inside.slots;
   }
 
   -- the interval alone is another
-  same_lies : (r : ℕ) (n : Interval) → interval_describes n (register s r) ≡ true → Described (grant_holds plan.grants) (with_interval known.bound r n) s.mode s.registers (table_of plan w p)
-  same_lies r n fits = record {
-    mode = known.lies.mode;
-    registers = interval_set known.bound.registers s.registers r n fits known.lies.registers;
-    slots = known.lies.slots;
+  same_inside : (r : ℕ) (n : Interval) → interval_describes n (register s r) ≡ true → Described (grant_holds plan.grants) (with_interval known.bound r n) s.mode s.registers (table_of plan w p)
+  same_inside r n fits = record {
+    mode = known.inside.mode;
+    registers = interval_set known.bound.registers s.registers r n fits known.inside.registers;
+    slots = known.inside.slots;
   }
 
   -- what a register holds lies in its interval
-  pub register_lies : (r : ℕ) → interval_describes (interval known.bound.registers r) (register s r) ≡ true
-  register_lies r = register_at known.bound.registers s.registers known.lies.registers r
+  pub register_inside : (r : ℕ) → interval_describes (interval known.bound.registers r) (register s r) ≡ true
+  register_inside r = register_at known.bound.registers s.registers known.inside.registers r
 
   -- what the rules say of outcomes that are these
   all_lead : (os : List Outcome) → outcomes s.point known.bound i ≡ os → (all_within certificate (program_name plan s.program) os ≡ true) × (all_there certificate (program_name plan s.program) os ≡ true)
@@ -111,7 +111,7 @@ module _ (plan : Plan) (certificate : Certificate) (w : World) (p : ℕ) (s : Pr
       let lead = all_lead (outcome_to (s.point + 1) (with_interval known.bound r n)) is in
       comes (s.point + 1) (with_interval known.bound r n) (slice_set s.registers r v)
       (leads certificate (program_name plan s.program) (record { point = s.point + 1; bound = with_interval known.bound r n }) lead.0 lead.1)
-      (set_lies r v n fits)
+      (set_inside r v n fits)
 
   -- `jmp`
   pub owed_jump : (target : ℕ) → outcomes s.point known.bound i ≡ outcome_to target known.bound → Owed plan certificate w p s (plain w p (moved_to s target))
@@ -119,7 +119,7 @@ module _ (plan : Plan) (certificate : Certificate) (w : World) (p : ℕ) (s : Pr
       let lead = all_lead (outcome_to target known.bound) is in
       comes target known.bound s.registers
       (leads certificate (program_name plan s.program) (record { point = target; bound = known.bound }) lead.0 lead.1)
-      known.lies
+      known.inside
 
   -- a jump to a point where the register is in a part of its interval
   comes_in : (point r : ℕ) (part : Option Interval) → HasPart part (register s r) → all_within certificate (program_name plan s.program) (outcomes_in point known.bound r part) ≡ true → all_there certificate (program_name plan s.program) (outcomes_in point known.bound r part) ≡ true → Owed plan certificate w p s (plain w p (moved_to s point))
@@ -130,7 +130,7 @@ module _ (plan : Plan) (certificate : Certificate) (w : World) (p : ℕ) (s : Pr
       (leads certificate name (record { point = point; bound = bound })
       (subst (λ o. all_within certificate name (outcomes_in point known.bound r o) ≡ true) has.is within)
       (subst (λ o. all_there certificate name (outcomes_in point known.bound r o) ≡ true) has.is there))
-      (same_lies r has.interval has.fits)
+      (same_inside r has.interval has.fits)
 
   -- `jeq` and `jlt` to their target, and past it
   pub owed_taken : (r target : ℕ) (part : Option Interval) (rest : List Outcome) → outcomes s.point known.bound i ≡ outcomes_in target known.bound r part ++ rest → HasPart part (register s r) → Owed plan certificate w p s (plain w p (moved_to s target))
@@ -149,7 +149,7 @@ module _ (plan : Plan) (certificate : Certificate) (w : World) (p : ℕ) (s : Pr
     allowed = λ on. tt;
     unrefused = tt;
     keeps = keeps_halted plan w p s;
-    lies = put_there plan certificate w (halted w p s) p s (record s { alive = false }) known.made refl (λ alive. absurd cc);
+    inside = put_there plan certificate w (halted w p s) p s (record s { alive = false }) known.made refl (λ alive. absurd cc);
   }
 
   -- What a call owes: no forbidden cause; what it does is allowed; it changes neither the tree nor a table; and the
@@ -161,7 +161,7 @@ module _ (plan : Plan) (certificate : Certificate) (w : World) (p : ℕ) (s : Pr
     pub allowed : s.mode ≡ true → AreAllowed plan.grants effects
     pub bound : Bound
     pub leads_on : Leads certificate (program_name plan s.program) (record { point = s.point + 1; bound = bound })
-    pub lies : Described (grant_holds plan.grants) bound (s.mode || change.enters) (slice_set s.registers 0 value) (table_of plan w p)
+    pub inside : Described (grant_holds plan.grants) bound (s.mode || change.enters) (slice_set s.registers 0 value) (table_of plan w p)
 
   abbrev pub FailsTo : ℕ → Type 0
   FailsTo otherwise = Leads certificate (program_name plan s.program) (record { point = otherwise; bound = with_interval known.bound 7 error_interval })
@@ -177,12 +177,12 @@ module _ (plan : Plan) (certificate : Certificate) (w : World) (p : ℕ) (s : Pr
 
   table_same : (t : ProcessState) (choice : Choice) (queue : QueueChange) (state : StateChange) (enters : Bool) (bound : Bound) (value : ℕ) → Described (grant_holds plan.grants) bound (s.mode || enters) (slice_set s.registers 0 value) (table_of plan w p) → Described (grant_holds plan.grants) bound (s.mode || enters) (slice_set s.registers 0 value) (table_of plan (changed w p t choice (quiet queue state enters)) p)
   unfolding changed files_after
-  table_same t choice queue state enters bound value lies = lies
+  table_same t choice queue state enters bound value inside = inside
 
   -- a success that changes neither the tree nor a table
   owed_quiet : (choice : Choice) (otherwise value : ℕ) (queue : QueueChange) (state : StateChange) (enters : Bool) (effects : List Effect) (bound : Bound) → (s.mode ≡ true → AreAllowed plan.grants effects) → Leads certificate (program_name plan s.program) (record { point = s.point + 1; bound = bound }) → Described (grant_holds plan.grants) bound (s.mode || enters) (slice_set s.registers 0 value) (table_of plan w p) → Owed plan certificate w p s (answered w p s choice otherwise (Gives value (quiet queue state enters) effects))
   unfolding answered
-  owed_quiet choice otherwise value queue state enters effects bound allowed leads_on lies =
+  owed_quiet choice otherwise value queue state enters effects bound allowed leads_on inside =
       let change : Change = quiet queue state enters in
       let t : ProcessState = given s value change in
       let v : World = changed w p t choice change in
@@ -190,7 +190,7 @@ module _ (plan : Plan) (certificate : Certificate) (w : World) (p : ℕ) (s : Pr
         allowed = allowed;
         unrefused = tt;
         keeps = keeps_changed plan w p choice queue state enters t;
-        lies = put_there plan certificate w v p s t known.made (processes_same t choice queue state enters) (λ alive. arrives v (record { point = s.point + 1; bound = bound }) (s.mode || enters) (slice_set s.registers 0 value) leads_on (table_same t choice queue state enters bound value lies));
+        inside = put_there plan certificate w v p s t known.made (processes_same t choice queue state enters) (λ alive. arrives v (record { point = s.point + 1; bound = bound }) (s.mode || enters) (slice_set s.registers 0 value) leads_on (table_same t choice queue state enters bound value inside));
       }
 
   pub owed_answer : (choice : Choice) (otherwise : ℕ) (a : Answer) → OwedBy otherwise a → Owed plan certificate w p s (answered w p s choice otherwise a)
@@ -201,21 +201,21 @@ module _ (plan : Plan) (certificate : Certificate) (w : World) (p : ℕ) (s : Pr
         allowed = λ on. tt;
         unrefused = owed.0;
         keeps = keeps_process plan w p t;
-        lies = moves t (λ alive. arrives (with_process w p t) (record { point = otherwise; bound = with_interval known.bound 7 error_interval }) s.mode (slice_set s.registers 7 (errno_number errno)) owed.1 (set_lies 7 (errno_number errno) error_interval (error_fits errno)));
+        inside = moves t (λ alive. arrives (with_process w p t) (record { point = otherwise; bound = with_interval known.bound 7 error_interval }) s.mode (slice_set s.registers 7 (errno_number errno)) owed.1 (set_inside 7 (errno_number errno) error_interval (error_fits errno)));
       }
   owed_answer choice otherwise Waits owed = record {
     allowed = λ on. tt;
     unrefused = tt;
     keeps = keeps_all plan w p;
-    lies = subst (LiesIfAlive plan certificate w p) (sym known.made) (λ alive. record {
+    inside = subst (IsDescribedIfAlive plan certificate w p) (sym known.made) (λ alive. record {
       bound = known.bound;
       at = known.at;
-      is = from_described (grant_holds plan.grants) known.bound s.mode s.registers (table_of plan w p) known.lies;
+      is = from_described (grant_holds plan.grants) known.bound s.mode s.registers (table_of plan w p) known.inside;
     });
   }
   owed_answer choice otherwise (Gives value change effects) owed =
       subst (λ (c : Change). Owed plan certificate w p s (answered w p s choice otherwise (Gives value c effects))) (sym owed.is)
-      (owed_quiet choice otherwise value owed.queue owed.state change.enters effects owed.bound owed.allowed owed.leads_on owed.lies)
+      (owed_quiet choice otherwise value owed.queue owed.state change.enters effects owed.bound owed.allowed owed.leads_on owed.inside)
 
   -- the tests that a call asks
   pub owed_unless : (otherwise : ℕ) (test : Bool) (errno : Errno) (cause : Cause) (rest : Answer) → IsOtherCause cause → FailsTo otherwise → (test ≡ true → OwedBy otherwise rest) → OwedBy otherwise (unless test errno cause rest)
