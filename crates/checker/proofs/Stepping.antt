@@ -54,13 +54,13 @@ put_there plan certificate w v p s t made is inside =
 
 module _ (plan : Plan) (certificate : Certificate) (w : World) (p : ℕ) (s : ProcessState) (i : Instruction) (known : Standing plan certificate w p s i) where
   -- The process comes to a point, in a mode and with registers that an outcome describes.
-  arrives : (v : World) (o : Outcome) (on : Bool) (values : List ℕ) → Leads certificate (program_name plan s.program) o → Described (grant_holds plan.grants) o.bound on values (table_of plan v p) → IsDescribed plan certificate v p (record s { point = o.point; registers = values; mode = on })
-  arrives v o on values there is = record {
+  arrives : (v : World) (t : ProcessState) (bound : Bound) → Leads certificate (program_name plan t.program) (record { point = t.point; bound = bound }) → Described (grant_holds plan.grants) bound t.mode t.registers (table_of plan v p) → IsDescribed plan certificate v p t
+  arrives v t bound there is = record {
     bound = there.bound;
     at = there.at;
     is =
-        describes_smaller (grant_holds plan.grants) o.bound there.bound on values (table_of plan v p) there.within
-        (from_described (grant_holds plan.grants) o.bound on values (table_of plan v p) is);
+        describes_smaller (grant_holds plan.grants) bound there.bound t.mode t.registers (table_of plan v p) there.within
+        (from_described (grant_holds plan.grants) bound t.mode t.registers (table_of plan v p) is);
   }
 
   -- the state of the process alone is another
@@ -68,15 +68,13 @@ module _ (plan : Plan) (certificate : Certificate) (w : World) (p : ℕ) (s : Pr
   moves t inside = put_there plan certificate w (with_process w p t) p s t known.made refl inside
 
   -- an instruction that changes registers and the point alone
-  comes : (point : ℕ) (bound : Bound) (values : List ℕ) → Leads certificate (program_name plan s.program) (record { point = point; bound = bound }) → Described (grant_holds plan.grants) bound s.mode values (table_of plan w p) → Owed plan certificate w p s (plain w p (record s { point = point; registers = values }))
-  comes point bound values there is =
-      let t : ProcessState = record s { point = point; registers = values } in
-      record {
-        allowed = λ on. tt;
-        unrefused = tt;
-        keeps = keeps_process plan w p t;
-        inside = moves t (λ alive. arrives (with_process w p t) (record { point = point; bound = bound }) s.mode values there is);
-      }
+  comes : (t : ProcessState) (bound : Bound) → Leads certificate (program_name plan t.program) (record { point = t.point; bound = bound }) → Described (grant_holds plan.grants) bound t.mode t.registers (table_of plan w p) → Owed plan certificate w p s (plain w p t)
+  comes t bound there is = record {
+    allowed = λ on. tt;
+    unrefused = tt;
+    keeps = keeps_process plan w p t;
+    inside = moves t (λ alive. arrives (with_process w p t) t bound there is);
+  }
 
   -- the registers with one that is set, in the bound with its interval
   set_inside : (r v : ℕ) (n : Interval) → interval_describes n v ≡ true → Described (grant_holds plan.grants) (with_interval known.bound r n) s.mode (slice_set s.registers r v) (table_of plan w p)
@@ -109,7 +107,7 @@ module _ (plan : Plan) (certificate : Certificate) (w : World) (p : ℕ) (s : Pr
   pub owed_set : (r v : ℕ) (n : Interval) → outcomes s.point known.bound i ≡ outcome_to (s.point + 1) (with_interval known.bound r n) → interval_describes n v ≡ true → Owed plan certificate w p s (plain w p (goes_on (with_register s r v)))
   owed_set r v n is fits =
       let lead = all_lead (outcome_to (s.point + 1) (with_interval known.bound r n)) is in
-      comes (s.point + 1) (with_interval known.bound r n) (slice_set s.registers r v)
+      comes (goes_on (with_register s r v)) (with_interval known.bound r n)
       (leads certificate (program_name plan s.program) (record { point = s.point + 1; bound = with_interval known.bound r n }) lead.0 lead.1)
       (set_inside r v n fits)
 
@@ -117,7 +115,7 @@ module _ (plan : Plan) (certificate : Certificate) (w : World) (p : ℕ) (s : Pr
   pub owed_jump : (target : ℕ) → outcomes s.point known.bound i ≡ outcome_to target known.bound → Owed plan certificate w p s (plain w p (moved_to s target))
   owed_jump target is =
       let lead = all_lead (outcome_to target known.bound) is in
-      comes target known.bound s.registers
+      comes (moved_to s target) known.bound
       (leads certificate (program_name plan s.program) (record { point = target; bound = known.bound }) lead.0 lead.1)
       known.inside
 
@@ -126,7 +124,7 @@ module _ (plan : Plan) (certificate : Certificate) (w : World) (p : ℕ) (s : Pr
   comes_in point r part has within there =
       let name = program_name plan s.program in
       let bound : Bound = with_interval known.bound r has.interval in
-      comes point bound s.registers
+      comes (moved_to s point) bound
       (leads certificate name (record { point = point; bound = bound })
       (subst (λ o. all_within certificate name (outcomes_in point known.bound r o) ≡ true) has.is within)
       (subst (λ o. all_there certificate name (outcomes_in point known.bound r o) ≡ true) has.is there))
@@ -149,7 +147,7 @@ module _ (plan : Plan) (certificate : Certificate) (w : World) (p : ℕ) (s : Pr
     allowed = λ on. tt;
     unrefused = tt;
     keeps = keeps_halted plan w p s;
-    inside = put_there plan certificate w (halted w p s) p s (record s { alive = false }) known.made refl (λ alive. absurd cc);
+    inside = put_there plan certificate w (halted w p s) p s _ known.made refl (λ alive. absurd cc);
   }
 
   -- What a call owes: no forbidden cause; what it does is allowed; it changes neither the tree nor a table; and the
@@ -190,7 +188,7 @@ module _ (plan : Plan) (certificate : Certificate) (w : World) (p : ℕ) (s : Pr
         allowed = allowed;
         unrefused = tt;
         keeps = keeps_changed plan w p choice queue state enters t;
-        inside = put_there plan certificate w v p s t known.made (processes_same t choice queue state enters) (λ alive. arrives v (record { point = s.point + 1; bound = bound }) (s.mode || enters) (slice_set s.registers 0 value) leads_on (table_same t choice queue state enters bound value inside));
+        inside = put_there plan certificate w v p s t known.made (processes_same t choice queue state enters) (λ alive. arrives v t bound leads_on (table_same t choice queue state enters bound value inside));
       }
 
   pub owed_answer : (choice : Choice) (otherwise : ℕ) (a : Answer) → OwedBy otherwise a → Owed plan certificate w p s (answered w p s choice otherwise a)
@@ -201,7 +199,7 @@ module _ (plan : Plan) (certificate : Certificate) (w : World) (p : ℕ) (s : Pr
         allowed = λ on. tt;
         unrefused = owed.0;
         keeps = keeps_process plan w p t;
-        inside = moves t (λ alive. arrives (with_process w p t) (record { point = otherwise; bound = with_interval known.bound 7 error_interval }) s.mode (slice_set s.registers 7 (errno_number errno)) owed.1 (set_inside 7 (errno_number errno) error_interval (error_fits errno)));
+        inside = moves t (λ alive. arrives (with_process w p t) t (with_interval known.bound 7 error_interval) owed.1 (set_inside 7 (errno_number errno) error_interval (error_fits errno)));
       }
   owed_answer choice otherwise Waits owed = record {
     allowed = λ on. tt;
