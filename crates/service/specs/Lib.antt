@@ -1,4 +1,3 @@
-pub mod Breaches
 pub mod Examples
 pub mod Fails
 pub mod FaultViews

@@ -5,17 +5,9 @@ use Rattle.std.specs.Prelude.{ℕ, true, false, List, [], ◌∷◌, codes, Opti
 use Rattle.std.specs.Str.{bytes_eq}
 use Rattle.rights.specs.Sets.{all_rights, all_commands, seek_right}
 use Rattle.rights.specs.Operations.{Look, Read as Reads}
-use Rattle.file_tree.specs.Nodes.{Node, File, Dir}
 use Rattle.prog_asm.specs.Programs.{Instruction, Jeq, Halt, Invoke, Cap_enter, Read, Number}
+use Rattle.task.specs.Breaches.{small_tree}
 use Rattle.task.specs.Plans.{Plan, Grant, Start}
-
--- the root, `/work`, and the file `/work/in` with the bytes `AB`
-abbrev pub small_tree : List Node
-small_tree =
-    record { kind = Dir; place = []; linked = true; content = [] }
-    ∷ record { kind = Dir; place = codes "work" ∷ []; linked = true; content = [] }
-    ∷ record { kind = File; place = codes "work" ∷ codes "in" ∷ []; linked = true; content = codes "AB" }
-    ∷ []
 
 abbrev pub work_grant : Grant
 work_grant = record { name = codes "work"; path = codes "work" ∷ []; operations = Look ∷ Reads ∷ [] }

@@ -4,7 +4,6 @@
 ghost use Rattle.std.specs.Prelude.{◌≡◌, ◌∷◌, codes, List, Option};
 ghost use Rattle.service.specs.Named.{bare_plan, first_plan, loop_plan};
 ghost use Rattle.service.specs.NamedCertificates.{anyw_certificate, good_certificate, short_certificate, thin_certificate, wrong_certificate};
-ghost use Rattle.service.specs.Breaches.{SomeAreNotSandboxed};
 ghost use Rattle.service.specs.Examples.{AlwaysShows, absent_event, events_of_first, example_events};
 ghost use Rattle.checker.specs.Rules.{Broken};
 ghost use Rattle.checker.specs.Verdicts.{IsFirstFound, MeetsRules};
@@ -44,11 +43,4 @@ pub fn a_sandboxed_task_reads()
     ensures sandboxed { IsSandboxed first_plan }
     ensures reads { (lines : List (Option Acted)) × IsRun first_plan example_events lines × (trace_text first_plan example_events lines
         ≡ codes "0 main:0 = 0\n0 main:1 = 65 read /work/in\n") }
-{}
-
-/// To be sandboxed says something too. These tasks aren't: one whose process lacks the right for its call; one that opens a
-/// file by its path alone in the mode; one that writes in a grant that lists reading alone; and one that moves a file in a
-/// grant that lists removing alone, where the second of two effects isn't allowed.
-pub fn some_tasks_are_not_sandboxed()
-    ensures { SomeAreNotSandboxed }
 {}

@@ -2,7 +2,8 @@
 //! `/work/in` open for reading as descriptor 2, and the grant `work` to look and read beneath `/work`.
 
 ghost use Rattle.std.specs.Prelude.{◌≡◌, ◌∷◌, [], codes, true, IfOk};
-ghost use Rattle.service.specs.Named.{enter_and_read, plan_named, plan_of, read_on, small_tree, start_with, work_grant};
+ghost use Rattle.service.specs.Named.{enter_and_read, plan_named, plan_of, read_on, start_with, work_grant};
+ghost use Rattle.task.specs.Breaches.{small_tree};
 ghost use Rattle.file_tree.specs.Views.{names_of};
 ghost use Rattle.prog_asm.specs.Programs.{Invoke, Jeq, Number, Read};
 ghost use Rattle.prog_asm.specs.Views.{instruction_of};

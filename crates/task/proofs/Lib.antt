@@ -5,3 +5,4 @@ pub mod AsGiven
 pub mod Allowances
 pub mod KeptLimits
 pub mod Samples
+pub mod Breaches

@@ -6,3 +6,4 @@ pub mod Kept
 pub mod Laws
 pub mod Views
 pub mod Sandboxed
+pub mod Breaches

@@ -1,5 +1,6 @@
 //! Laws of tasks. Each is the contract of a function that does nothing.
 
+ghost use Rattle.task.specs.Breaches.{SomeAreNotSandboxed};
 ghost use Rattle.task.specs.Kept.{PlansKeepLimits, TreesAreMadeInOrder};
 ghost use Rattle.task.specs.Laws.{AllowedIsTested, FirstWorldsAreFirst, FirstWorldsAreWellFormed, PlanExists};
 
@@ -34,4 +35,11 @@ pub fn allowed_operations_are_tested()
 /// Some plan is valid, of a dozen nodes, two grants and two processes: so the laws speak of something.
 pub fn a_valid_plan_exists()
     ensures { PlanExists }
+{}
+
+/// To be sandboxed says something. These tasks aren't: one whose process lacks the right for its call; one that opens a
+/// file by its path alone in the mode; one that writes in a grant that lists reading alone; and one that moves a file in a
+/// grant that lists removing alone, where the second of two effects isn't allowed.
+pub fn some_tasks_are_not_sandboxed()
+    ensures { SomeAreNotSandboxed }
 {}

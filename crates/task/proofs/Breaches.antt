@@ -24,8 +24,7 @@ use Rattle.task.specs.Policies.{is_allowed}
 use Rattle.task.specs.Sandboxed.{IsSafe, IsSandboxed, Allowed}
 use Rattle.task.proofs.Allowances.{allowed_is_tested}
 use Rattle.task.proofs.FirstWorlds.{first_well_formed}
-use Rattle.service.specs.Breaches.{SomeAreNotSandboxed, opening_plan, writing_plan, moving_plan}
-use Rattle.service.specs.Named.{bare_plan}
+use Rattle.task.specs.Breaches.{SomeAreNotSandboxed, reading_plan, opening_plan, writing_plan, moving_plan}
 
 -- an event of the first process
 abbrev event : Event
@@ -51,9 +50,9 @@ not_true is = absurd cc
 forbidden : (grants : List Grant) (operation : Operation) (place : List (List ℕ)) → is_allowed grants operation place ≡ false → Allowed grants operation place → ⊥
 forbidden grants operation place is allowed = let tested : is_allowed grants operation place ≡ true = (allowed_is_tested grants operation place).1 allowed in absurd cc
 
-missing_right : IsSandboxed bare_plan → ⊥
+missing_right : IsSandboxed reading_plan → ⊥
 unfolding is_within_limits is_name ℕ_discrete unless held at_object answer files_after changed answered jumped executed stepped_at stepped_by stepped step first_world
-missing_right = second_step bare_plan refl (λ c d safe. safe.unrefused)
+missing_right = second_step reading_plan refl (λ c d safe. safe.unrefused)
 
 capability_mode : IsSandboxed opening_plan → ⊥
 unfolding is_within_limits is_name ℕ_discrete unless held at_object answer files_after changed answered jumped executed stepped_at stepped_by stepped step first_world
