@@ -12,8 +12,8 @@ use Rattle.file_tree.specs.Places.{begins, above}
 use Rattle.file_tree.specs.Nodes.{Kind, Dir, Link, Node, node, is_dir, is_link, stands_at}
 use Rattle.file_tree.specs.WellFormed.{has_directory, is_within_limits}
 use Rattle.prog_asm.specs.Programs.{is_program}
-use Rattle.prog_asm.specs.Lines.{is_lower, is_digit}
-use Rattle.prog_asm.specs.Fields.{is_name, is_name_byte}
+use Rattle.texts.specs.Bytes.{is_lower, is_digit}
+use Rattle.texts.specs.Names.{is_name, is_name_byte}
 use Rattle.task.specs.Plans.{Grant, NamedProgram, FirstDescriptor, Start, Plan, code_in}
 use Rattle.task.specs.Limits.{most_grants, most_programs, can_follow, are_made, is_tree, is_grant, are_apart, are_grants, is_named, are_named_apart, are_programs, all_apart, is_descriptor, are_numbered_apart, are_descriptors, is_start, is_plan}
 use Rattle.task.specs.Policies.{grant_named}

@@ -1,6 +1,6 @@
 //! The lines of a text, with where each begins.
 
-ghost use Rattle.std.specs.Prelude.{◌≡◌};
+ghost use Rattle.std.specs.Prelude.{◌≡◌, ◌<◌, ◌^◌, length};
 ghost use Rattle.std.specs.Iterator.{YieldsFirstBy, item_count};
 ghost use Rattle.texts.specs.Lines.{lines_of};
 ghost use Rattle.texts.specs.LineViews.{line_of};
@@ -39,9 +39,10 @@ impl<'t> Model for Lines<'t> {
 }
 
 impl<'t> Lines<'t> {
-    /// The lines of this text.
+    /// The lines of this text. Their number fits a `usize`.
     pub fn new(text: &'t [u8]) -> Lines<'t>
-        ensures { result ≡ lines_of text.entry.now }
+        ensures lines { result ≡ lines_of text.entry.now }
+        ensures few { length result < 2 ^ 64 }
     {
         Lines {
             rest: Some(text),

@@ -1,6 +1,6 @@
 //! Numbers in decimal digits, of any length, without leading zeros.
 
-ghost use Rattle.std.specs.Prelude.{◌≡◌, ◌↔◌, Err, None};
+ghost use Rattle.std.specs.Prelude.{◌≡◌, ◌≤◌, ◌↔◌, Err, IfOk, None};
 ghost use Rattle.std.specs.List.{list_all};
 ghost use Rattle.std.specs.Result.{result_ok};
 ghost use Rattle.texts.specs.Bytes.{is_digit};
@@ -51,6 +51,7 @@ pub fn is_number(word: &[u8]) -> bool
 /// The number in decimal digits, without leading zeros, if it is at most the limit.
 pub fn number_up_to(word: &[u8], limit: u32) -> Result<u32, NumberFault>
     ensures value { result_ok result ≡ at_most limit (number_of word.now) }
+    ensures within { IfOk result (λ number. number ≤ limit) }
     ensures form { (result ≡ Err NumberFault.Form) ↔ (number_of word.now ≡ None) }
 {
     if !is_number(word) {

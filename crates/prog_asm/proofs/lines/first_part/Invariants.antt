@@ -1,7 +1,0 @@
-use Rattle.std.proofs.Common.{◌≡◌, take, drop, []}
-use Rattle.prog_asm.specs.Lines.{parts_from}
-use Rattle.prog_asm.proofs.lines.first_part.Given as goal
-
--- what has begun, and what is left
-abbrev pub invariant-loop-at : goal.invariant-loop-at
-invariant-loop-at l = parts_from l.separator (drop l.at l.text) (take l.at l.text) ≡ parts_from l.separator l.text []
