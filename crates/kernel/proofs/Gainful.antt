@@ -1,5 +1,5 @@
 -- What no step does is refused by the relation.
-use Rattle.std.proofs.Common.{◌≡◌, ℕ, zero, suc, ◌⊎◌, inl, inr, true, false, subst, sym, ap, arith, []}
+use Rattle.std.proofs.Common.{◌≡◌, ℕ, zero, suc, ◌⊎◌, inl, inr, true, false, subst, sym, ap, arith, [], refl}
 use Rattle.std.specs.Prelude.{Option, Some, None, is_some}
 use Rattle.std.proofs.Math.Decide.{ℕ_discrete}
 use Rattle.rights.specs.Opens.{open_request}
@@ -67,9 +67,12 @@ no_unsent_message (had_waited i m here carried) = absurd cc
 no_unsent_message (was_sent c is sent) = absurd cc
 
 pub nothing_comes_from_elsewhere : NothingComesFromElsewhere
+unfolding ℕ_discrete
 nothing_comes_from_elsewhere = record {
-  no_other_table = no_other_table;
-  no_other_rights = no_other_rights;
-  no_taken_number = no_taken_number;
-  no_unsent_message = no_unsent_message;
+  no_other_table = λ gains. no_other_table (gains.entries 2 0);
+  no_other_rights = λ gains. no_other_rights (gains.entries 1 1);
+  no_taken_number = λ gains. no_taken_number (gains.entries 1 0);
+  no_unsent_message = λ gains. no_unsent_message (gains.messages 0 0).0;
+  no_left_mode = λ gains. impossible (gains.modes 0 refl);
+  no_child_outside = λ gains. impossible (gains.modes 1 refl);
 }

@@ -1,14 +1,15 @@
--- What no step does: descriptors that would come from nowhere, in a world of two processes. The first holds a descriptor with
+-- What no step does: descriptors that would come from nowhere, in a world of two processes, and a mode that is left. The first holds a descriptor with
 -- all rights, the second one to read through.
-use Rattle.std.specs.Prelude.{ℕ, true, false, [], ◌∷◌, Option, Some, None}
+use Rattle.std.specs.Prelude.{ℕ, Bool, true, false, List, [], ◌∷◌, map, Option, Some, None}
 use Rattle.rights.specs.Maps.{put2}
 use Rattle.rights.specs.Opens.{open_request}
 use Rattle.rights.specs.Sets.{all_rights, all_commands, read_right}
 use Rattle.process.specs.State.{new_process}
 use Rattle.prog_asm.specs.Programs.{Syscall, Number, Open, Dup, Fork}
-use Rattle.fd_table.specs.Descriptions.{At_node, Descriptor, descriptor_of, new_state}
+use Rattle.fd_table.specs.Descriptions.{At_node, Descriptor, descriptor_of, message_of, new_state}
 use Rattle.kernel.specs.World.{World}
-use Rattle.kernel.specs.Origins.{Caller, ComesFrom, QueuedFrom}
+use Rattle.kernel.specs.Origins.{Caller}
+use Rattle.kernel.specs.Gains.{GainsNothing}
 
 abbrev pub wide : Descriptor
 wide = descriptor_of 0 all_rights all_commands
@@ -36,10 +37,24 @@ two_processes = record {
 abbrev pub second_calls : Syscall → Option Caller
 second_calls call = Some (record { process = 1; state = new_process 0 false; call = call })
 
--- The second process's child hasn't the first one's table; a dup of the second has no rights of the first's; an open takes no
--- number that is taken; and no message carries what nobody sent.
+-- the same world with the first one's descriptor at (p, n), with it in a message, and with other processes
+abbrev pub with_wide : ℕ → ℕ → World
+with_wide p n = record two_processes { files = record two_processes.files { table = put2 two_tables p n (Some wide) } }
+
+abbrev pub with_message : World
+with_message = record two_processes {
+  files = record two_processes.files { queue = put2 two_processes.files.queue 0 0 (message_of 0 (Some wide) ∷ []) };
+}
+
+abbrev pub with_modes : List Bool → World
+with_modes modes = record two_processes { processes = map (new_process 0) modes }
+
+-- A child of the second process hasn't the first one's table; a dup of the second has no rights of the first's; an open takes
+-- no number that is taken; no message carries what nobody sent; nobody leaves the mode, and no child of one in it is outside.
 pub record NothingComesFromElsewhere : Type 0 where
-  pub no_other_table : ComesFrom two_processes (second_calls Fork) 2 0 wide → ⊥
-  pub no_other_rights : ComesFrom two_processes (second_calls (Dup (Number 0))) 1 1 wide → ⊥
-  pub no_taken_number : ComesFrom two_processes (second_calls (Open [] (open_request true false false false false))) 1 0 wide → ⊥
-  pub no_unsent_message : QueuedFrom two_processes None 0 0 wide → ⊥
+  pub no_other_table : GainsNothing two_processes 1 (second_calls Fork) (with_wide 2 0) → ⊥
+  pub no_other_rights : GainsNothing two_processes 1 (second_calls (Dup (Number 0))) (with_wide 1 1) → ⊥
+  pub no_taken_number : GainsNothing two_processes 1 (second_calls (Open [] (open_request true false false false false))) (with_wide 1 0) → ⊥
+  pub no_unsent_message : GainsNothing two_processes 1 None with_message → ⊥
+  pub no_left_mode : GainsNothing (with_modes (true ∷ false ∷ [])) 0 None (with_modes (false ∷ false ∷ [])) → ⊥
+  pub no_child_outside : GainsNothing (with_modes (true ∷ [])) 0 (Some (record { process = 0; state = new_process 0 true; call = Fork })) (with_modes (true ∷ false ∷ [])) → ⊥

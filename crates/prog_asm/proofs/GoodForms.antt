@@ -6,9 +6,10 @@ use Rattle.rights.proofs.Tests.{both_left, both_right}
 use Rattle.rights.specs.Calls.{Call}
 use Rattle.rights.specs.Calls as calls
 use Rattle.rights.specs.Opens.{OpenRequest, is_valid}
+use Rattle.texts.specs.Numbers.{at_most, number_of}
 use Rattle.prog_asm.specs.Programs.{Instruction, Operand, Register, Number, Syscall, is_instruction, is_operand, is_path, is_register, is_syscall, is_value}
 use Rattle.prog_asm.specs.Programs as programs
-use Rattle.prog_asm.specs.Fields.{at_most, before_last, begins_well, digits_from, flags_of, number_of, operand_from, operand_of, path_in, path_of, register_of, request_of, set_of, flag_names, valid_request}
+use Rattle.prog_asm.specs.Fields.{before_last, flags_of, operand_from, operand_of, path_in, path_of, register_of, request_of, set_of, flag_names, valid_request, value_of}
 use Rattle.prog_asm.specs.Forms.{Field, Always, If_equal, If_less, After_error, Mnemonic, Set, Mov, Add, In, Jmp, Jeq, Jlt, Halt, Make, Written, Alone, Leading, commands_at, directory_at, else_at, flags_at, four, label_at, led, nothing, number_at, one, operand_at, path_at, register_at, rights_at, syscall_at, three, two, whole, word_at, written_at, written_of, ◌>>=◌}
 
 -- what is read fulfils this
@@ -52,21 +53,17 @@ at_most-good (Some m) n h =
     let low : m ≤ 4294967295 = leb-true m 4294967295 found.0 in
     lt-ltb n 4294967296 (omega (arith, found.1))
 
-number-good : (word : List ℕ) (n : ℕ) → number_of word ≡ Some n → is_value n ≡ true
-number-good word n h = go (begins_well word) h
-  where
-    go : (well : Bool) → cond well (at_most 4294967295 (digits_from 0 word)) None ≡ Some n → is_value n ≡ true
-    go true h = at_most-good (digits_from 0 word) n h
-    go false h = absurd cc
+value-good : (word : List ℕ) (n : ℕ) → value_of word ≡ Some n → is_value n ≡ true
+value-good word n h = at_most-good (number_of word) n h
 
 operand-good : (word : List ℕ) (o : Operand) → operand_of word ≡ Some o → is_operand o ≡ true
 operand-good word o h = go (register_of word) refl h
   where
-    go : (r : Option ℕ) → register_of word ≡ r → operand_from r (number_of word) ≡ Some o → is_operand o ≡ true
+    go : (r : Option ℕ) → register_of word ≡ r → operand_from r (value_of word) ≡ Some o → is_operand o ≡ true
     go (Some r) is h = let same : Register r ≡ o = cc in subst (λ o. is_operand o ≡ true) same (register-good word r is)
     go None is h =
-        let found = mapped Number (number_of word) o h in
-        subst (λ o. is_operand o ≡ true) found.2 (number-good word found.0 found.1)
+        let found = mapped Number (value_of word) o h in
+        subst (λ o. is_operand o ≡ true) found.2 (value-good word found.0 found.1)
 
 path_in-good : (o : Option (List ℕ)) (p : List ℕ) → path_in o ≡ Some p → is_path p ≡ true
 path_in-good None p h = absurd cc
@@ -93,7 +90,7 @@ register_at-good = word-good register_of (λ r. is_register r ≡ true) register
 
 number_at-good : Gives number_at (λ n. is_value n ≡ true)
 unfolding number_at
-number_at-good = word-good number_of (λ n. is_value n ≡ true) number-good
+number_at-good = word-good value_of (λ n. is_value n ≡ true) value-good
 
 operand_at-good : Gives operand_at (λ o. is_operand o ≡ true)
 unfolding operand_at

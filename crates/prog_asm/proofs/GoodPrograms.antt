@@ -8,7 +8,8 @@ use Rattle.prog_asm.specs.declared.drafts.Draft.{Draft}
 use Rattle.prog_asm.specs.declared.faults.AsmFault.{AsmFault}
 use Rattle.prog_asm.specs.Programs.{Instruction, ends_well, is_instruction, is_program}
 use Rattle.prog_asm.specs.Lines.{has_stray, lines_of, uncommented, words_of}
-use Rattle.prog_asm.specs.Fields.{before_last, is_name}
+use Rattle.texts.specs.Names.{is_name}
+use Rattle.prog_asm.specs.Fields.{before_last}
 use Rattle.prog_asm.specs.Forms.{Mnemonic, Written, Alone, Leading, led, mnemonic_of, written_of}
 use Rattle.prog_asm.specs.Assembly.{Fault, FallsOff, Line, Mistake, Step, TooMany, TwiceLabel, Word, assembly_of, code_from, complete, fault, instruction_in, is_one_too_many, is_twice, labelled, last_line, line_behind, line_of, line_of_code, line_of_words, line_with, lines_behind, numbered, operands_read, placed, placed_at, point_of, program_of, read_as, steps_of, steps_on, with_label, ◌>>=◌}
 use Rattle.prog_asm.specs.Drafts.{Drafts, below, labelled_from, step_from}

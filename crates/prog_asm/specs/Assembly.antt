@@ -1,9 +1,10 @@
 -- The program that a text stands for, or its fault. (own)
 use Rattle.std.specs.Prelude.{◌+◌, ℕ, Bool, true, false, nat_le, List, [], ◌∷◌, ◌++◌, length, Option, Some, None, option_map, Result, Ok, Err, if◌then◌else◌}
 use Rattle.std.specs.Str.{bytes_eq}
+use Rattle.texts.specs.Names.{is_name}
 use Rattle.prog_asm.specs.Programs.{Instruction, ends_well}
 use Rattle.prog_asm.specs.Lines.{lines_of, uncommented, has_stray, words_of}
-use Rattle.prog_asm.specs.Fields.{is_name, before_last}
+use Rattle.prog_asm.specs.Fields.{before_last}
 use Rattle.prog_asm.specs.Forms.{Mnemonic, mnemonic_of, Written, Alone, Leading, led, written_of}
 
 -- What can be wrong. On a line the first of these that applies is told.

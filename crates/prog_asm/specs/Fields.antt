@@ -1,41 +1,20 @@
 -- What a word of a line can stand for. (own)
-use Rattle.std.specs.Prelude.{◌==◌, ◌+◌, ◌*◌, ◌-◌, ◌^◌, ℕ, Bool, true, false, ◌&&◌, ◌||◌, nat_le, nat_lt, List, [], ◌∷◌, codes, length, Option, Some, None, option_map, option_and_then, bit_or, if◌then◌else◌}
-use Rattle.std.specs.List.{list_all}
+use Rattle.std.specs.Prelude.{◌==◌, ◌-◌, ◌^◌, ℕ, Bool, false, ◌&&◌, ◌||◌, nat_le, nat_lt, List, [], ◌∷◌, codes, Option, Some, None, option_map, option_and_then, bit_or, if◌then◌else◌}
 use Rattle.std.specs.Str.{bytes_eq}
-use Rattle.std.proofs.Math.Bool.{not}
 use Rattle.rights.specs.Opens.{OpenRequest, is_valid, open_request}
 use Rattle.rights.specs.Sets.{is_within, right_names, command_names}
-use Rattle.prog_asm.specs.Lines.{parts, is_lower, is_digit}
+use Rattle.texts.specs.Names.{is_name}
+use Rattle.texts.specs.Numbers.{at_most, number_of}
+use Rattle.texts.specs.Parts.{parts}
 use Rattle.prog_asm.specs.Programs.{Operand, Register, Number, is_path}
 
--- A name: a letter from a to z, and up to 15 of a to z, 0 to 9 and `_`.
-abbrev pub is_name_byte : ℕ → Bool
-is_name_byte byte = is_lower byte || is_digit byte || (byte == 95)
-
-abbrev pub is_name : List ℕ → Bool
-is_name [] = false
-is_name (b ∷ name) = is_lower b && nat_le (length name) 15 && list_all is_name_byte name
-
+-- a label's name
 abbrev pub name_of : List ℕ → Option (List ℕ)
 name_of word = if is_name word then Some word else None
 
--- A number in decimal digits, without a leading zero, that a register can hold.
-abbrev pub digits_from : ℕ → List ℕ → Option ℕ
-digits_from n [] = Some n
-digits_from n (b ∷ digits) = if is_digit b then digits_from (n * 10 + (b - 48)) digits else None
-
--- it isn't empty, and a zero is not followed by more
-abbrev pub begins_well : List ℕ → Bool
-begins_well [] = false
-begins_well (b ∷ []) = true
-begins_well (b ∷ c ∷ digits) = not (b == 48)
-
-abbrev pub at_most : ℕ → Option ℕ → Option ℕ
-at_most limit None = None
-at_most limit (Some n) = if nat_le n limit then Some n else None
-
-abbrev pub number_of : List ℕ → Option ℕ
-number_of word = if begins_well word then at_most (2 ^ 32 - 1) (digits_from 0 word) else None
+-- A number that a register can hold.
+abbrev pub value_of : List ℕ → Option ℕ
+value_of word = at_most (2 ^ 32 - 1) (number_of word)
 
 -- r0 to r7
 abbrev pub register_of : List ℕ → Option ℕ
@@ -48,7 +27,7 @@ operand_from (Some register) number = Some (Register register)
 operand_from None number = option_map Number number
 
 abbrev pub operand_of : List ℕ → Option Operand
-operand_of word = operand_from (register_of word) (number_of word)
+operand_of word = operand_from (register_of word) (value_of word)
 
 -- The word without its last byte, where that is this one.
 abbrev pub before_last : ℕ → List ℕ → Option (List ℕ)

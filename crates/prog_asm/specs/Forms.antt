@@ -7,7 +7,7 @@ use Rattle.rights.specs.Calls as calls
 use Rattle.rights.specs.Opens.{OpenRequest}
 use Rattle.prog_asm.specs.Programs.{Operand, Syscall, Instruction}
 use Rattle.prog_asm.specs.Programs as programs
-use Rattle.prog_asm.specs.Fields.{name_of, number_of, register_of, operand_of, path_of, rights_of, commands_of, flags_of}
+use Rattle.prog_asm.specs.Fields.{name_of, value_of, register_of, operand_of, path_of, rights_of, commands_of, flags_of}
 
 -- the word that an instruction begins with
 pub data Mnemonic : Type 0 where
@@ -86,7 +86,7 @@ unfoldable pub register_at : Field ℕ
 register_at words = word_at register_of words
 
 unfoldable pub number_at : Field ℕ
-number_at words = word_at number_of words
+number_at words = word_at value_of words
 
 unfoldable pub operand_at : Field Operand
 operand_at words = word_at operand_of words

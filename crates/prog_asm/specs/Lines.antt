@@ -1,15 +1,8 @@
 -- A text's lines, and a line's words. (own)
-use Rattle.std.specs.Prelude.{◌==◌, ℕ, Bool, false, ◌&&◌, ◌||◌, nat_le, List, [], ◌∷◌, ◌++◌, if◌then◌else◌}
+use Rattle.std.specs.Prelude.{◌==◌, ℕ, Bool, false, ◌&&◌, ◌||◌, List, [], ◌∷◌, ◌++◌, if◌then◌else◌}
 use Rattle.std.proofs.Math.Bool.{not}
-
--- The parts of a text between the bytes that separate them, behind what has begun already.
-abbrev pub parts_from : ℕ → List ℕ → List ℕ → List (List ℕ)
-parts_from separator [] begun = begun ∷ []
-parts_from separator (b ∷ text) begun =
-    if b == separator then begun ∷ parts_from separator text [] else parts_from separator text (begun ++ b ∷ [])
-
-abbrev pub parts : ℕ → List ℕ → List (List ℕ)
-parts separator text = parts_from separator text []
+use Rattle.texts.specs.Bytes.{is_lower, is_upper, is_digit}
+use Rattle.texts.specs.Parts.{parts}
 
 -- Lines are parted by line feeds and by nothing else. What stands behind the last one is a line too.
 abbrev pub lines_of : List ℕ → List (List ℕ)
@@ -32,15 +25,6 @@ uncommented line = uncommented_from false line
 -- spaces and tabs
 abbrev pub is_blank : ℕ → Bool
 is_blank byte = (byte == 32) || (byte == 9)
-
-abbrev pub is_lower : ℕ → Bool
-is_lower byte = nat_le 97 byte && nat_le byte 122
-
-abbrev pub is_upper : ℕ → Bool
-is_upper byte = nat_le 65 byte && nat_le byte 90
-
-abbrev pub is_digit : ℕ → Bool
-is_digit byte = nat_le 48 byte && nat_le byte 57
 
 -- Outside quotes words have letters, digits, and the bytes `_`, `:`, `,` and `"`.
 abbrev pub is_word_byte : ℕ → Bool

@@ -1,15 +1,9 @@
 -- What the code's reading comes to, want of memory aside.
-use Rattle.std.specs.Prelude.{◌≡◌, ℕ, List, [], ◌∷◌, Option, Some, None, Result, Ok, Err}
+use Rattle.std.specs.Prelude.{◌≡◌, Option, Some, None, Result, Ok, Err}
 use Rattle.prog_asm.specs.declared.mistakes.Mistake.{Mistake as MistakeCode}
 use Rattle.prog_asm.specs.declared.mistakes.Mistake.TheVariants as code
-use Rattle.prog_asm.specs.Lines.{parts}
 use Rattle.prog_asm.specs.Assembly.{Mistake}
 use Rattle.prog_asm.specs.Assembly as assembly
-
--- The parts are the first one, and those of the rest where there is any.
-abbrev pub Begins : List (List ℕ) → ℕ → List ℕ → Option (List ℕ) → Type 0
-Begins all separator first None = all ≡ first ∷ []
-Begins all separator first (Some rest) = all ≡ first ∷ parts separator rest
 
 -- A field is what it is read as. Where it is not read, it is a wrong operand.
 abbrev pub FailsField : {Y : Type 0} → MistakeCode → Option Y → Type 0

@@ -12,12 +12,12 @@ use crate::faults::{AsmFault, fault_at};
 use crate::forms::Written;
 use crate::instructions::Instruction;
 use crate::labels::{add_label, point_of};
-use crate::lines::first_part;
 use crate::mistakes::Mistake;
 use crate::statements::{Line, read_line};
 use indexmap::IndexMap;
 use std::alloc::Global;
 use std::collections::VecDeque;
+use texts::Lines;
 
 /// How many instructions a program has at most. (own)
 pub const MAX_INSTRUCTIONS: usize = 256;
@@ -91,19 +91,12 @@ pub(crate) fn read_lines<'t>(alloc: Global, text: &'t [u8]) -> Result<Draft<'t>,
     ensures { DraftsLines result (lines_behind [] (lines_of text.now)) }
 {
     let mut draft = Draft::new(alloc);
-    let mut count: usize = 0;
-    let mut rest = text;
-    loop {
-        let (line, behind) = first_part(rest, b'\n');
-        if let Err(mistake) = draft.read(alloc, count + 1, line) {
-            return Err(fault_at(mistake, count + 1));
+    for (at, line) in Lines::new(text).enumerate() {
+        if let Err(mistake) = draft.read(alloc, at + 1, line.text) {
+            return Err(fault_at(mistake, at + 1));
         }
-        let Some(behind) = behind else {
-            return Ok(draft);
-        };
-        count += 1;
-        rest = behind;
     }
+    Ok(draft)
 }
 
 /// The point of a label, if it is one of this many points.

@@ -1,69 +1,20 @@
 //! What a word of a line can stand for.
 
 ghost use Rattle.std.specs.Prelude.{◌≡◌, option_map};
-ghost use Rattle.std.specs.List.{list_all};
-ghost use Rattle.prog_asm.specs.Fields.{before_last, begins_well, is_name, is_name_byte, number_of, operand_of as operand_in, path_of, register_of};
+ghost use Rattle.prog_asm.specs.Fields.{before_last, operand_of as operand_in, path_of, register_of, value_of};
 ghost use Rattle.prog_asm.specs.Readings.{ReadsField};
 ghost use Rattle.prog_asm.specs.Views.{operand_of};
 
 use crate::mistakes::Mistake;
 use crate::operands::{Operand, Path, Register, is_valid_path};
 use std::alloc::Global;
-
-/// Whether each byte may stand in a name.
-fn has_name_bytes(bytes: &[u8]) -> bool
-    ensures { result ≡ list_all is_name_byte bytes.now }
-{
-    for byte in bytes {
-        if !byte.is_ascii_lowercase() && !byte.is_ascii_digit() && *byte != b'_' {
-            return false;
-        }
-    }
-    true
-}
-
-/// Whether the word is a name: a letter from a to z, and up to 15 of a to z, 0 to 9 and `_`. (own)
-pub fn is_name(word: &[u8]) -> bool
-    ensures { result ≡ is_name word.now }
-{
-    match word {
-        [] => false,
-        [first, rest @ ..] => {
-            let has_name_bytes = has_name_bytes(rest);
-            first.is_ascii_lowercase() && rest.len() <= 15 && has_name_bytes
-        }
-    }
-}
-
-/// Whether a number may begin so: it isn't empty, and a zero is not followed by more.
-fn begins_well(word: &[u8]) -> bool
-    ensures { result ≡ begins_well word.now }
-{
-    match word {
-        [] => false,
-        [b'0', _, ..] => false,
-        [_, ..] => true,
-    }
-}
+use texts::number_up_to;
 
 /// The number in decimal digits, without a leading zero, if 32 bits hold it.
 pub(crate) fn number(word: &[u8]) -> Option<u32>
-    ensures { result ≡ number_of word.now }
+    ensures { result ≡ value_of word.now }
 {
-    if !begins_well(word) {
-        return None;
-    }
-    let mut number: u64 = 0;
-    for byte in word {
-        if !byte.is_ascii_digit() {
-            return None;
-        }
-        number = number * 10 + u64::from(*byte - b'0');
-        if number > u64::from(u32::MAX) {
-            return None;
-        }
-    }
-    Some(number as u32)
+    number_up_to(word, u32::MAX).ok()
 }
 
 /// The register: `r0` to `r7`.

@@ -17,6 +17,7 @@ use crate::{fields, lists};
 use rights::{Call, Fcntls, OpenFlags, Rights};
 use std::alloc::Global;
 use std::marker::Model;
+use texts::is_name;
 
 /// An instruction as it is written: with the name of a label in the place of a point.
 #[derive(Drop)]
@@ -155,7 +156,7 @@ impl<'w, 't> Words<'w, 't> {
         ensures { Takes (λ name. name.now) result self.new (label_at self.old) }
     {
         let word = self.word()?;
-        if fields::is_name(word) {
+        if is_name(word) {
             Ok(word)
         } else {
             Err(Mistake::Operand)

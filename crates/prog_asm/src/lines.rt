@@ -1,25 +1,9 @@
-//! A text's lines, and a line's words.
+//! A line's comment and words.
 
-ghost use Rattle.std.specs.Prelude.{◌≡◌, ◌<◌, ◌≤◌, length, map, option_map, IfOk, IfSome};
-ghost use Rattle.prog_asm.specs.Lines.{has_stray, is_blank, is_word_byte, parts, quoted_behind, uncommented, words_of};
-ghost use Rattle.prog_asm.specs.Readings.{Begins};
+ghost use Rattle.std.specs.Prelude.{◌≡◌, map, IfOk};
+ghost use Rattle.prog_asm.specs.Lines.{has_stray, is_blank, is_word_byte, quoted_behind, uncommented, words_of};
 
 use std::alloc::{AllocFailed, Global};
-
-/// The first part of a text before a byte that separates, and the text behind that byte if it is there. (own)
-pub fn first_part(text: &[u8], separator: u8) -> (&[u8], Option<&[u8]>)
-    ensures parts { Begins (parts separator text.now) separator result.0.now
-        (option_map (λ rest. rest.now) result.1) }
-    ensures within { length result.0.now ≤ length text.now }
-    ensures shorter { IfSome result.1 (λ rest. length rest.now < length text.now) }
-{
-    for (at, byte) in text.iter().enumerate() {
-        if *byte == separator {
-            return (&text[..at], Some(&text[at + 1..]));
-        }
-    }
-    (text, None)
-}
 
 /// Whether the bytes behind this one are quoted, if it is itself.
 fn is_quoted_behind(quoted: bool, byte: u8) -> bool

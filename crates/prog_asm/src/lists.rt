@@ -2,11 +2,11 @@
 
 ghost use Rattle.std.specs.Prelude.{⊤, ◌≡◌, map, option_map};
 ghost use Rattle.prog_asm.specs.Fields.{commands_of, flag_names, flags_of, is_among, named, rights_of, set_of as set_in};
-ghost use Rattle.prog_asm.specs.Lines.{parts};
+ghost use Rattle.texts.specs.Parts.{parts};
 
-use crate::lines::first_part;
 use bitflags::{Flag, Flags};
 use rights::{Fcntls, OpenFlags, Rights};
+use texts::first_part;
 
 /// Whether the word is one of a list's.
 fn is_among(word: &[u8], list: &[u8]) -> bool

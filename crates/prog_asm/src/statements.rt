@@ -6,12 +6,13 @@ ghost use Rattle.prog_asm.specs.FormViews.{written_from};
 ghost use Rattle.prog_asm.specs.LineViews.{line_from};
 ghost use Rattle.prog_asm.specs.Readings.{Reads};
 
-use crate::fields::{before_last, is_name};
+use crate::fields::before_last;
 use crate::forms::{Written, read_written};
 use crate::lines::{before_comment, has_stray, words};
 use crate::mistakes::Mistake;
 use crate::mnemonics::mnemonic_of;
 use std::alloc::Global;
+use texts::is_name;
 
 /// What stands on a line.
 #[derive(Drop)]

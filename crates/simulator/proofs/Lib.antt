@@ -5,5 +5,5 @@ pub mod Started
 pub mod Tracing
 pub mod ScheduleRows
 pub mod Splitting
-pub mod Numerals
+pub mod EventWords
 pub mod LinesRead

@@ -1,38 +1,15 @@
 -- The text of a schedule: lines `PROCESS BYTE` or `PROCESS BYTE refuse`, in decimal without leading
 -- zeros, each ended by a line feed. (own)
-use Rattle.std.specs.Prelude.{◌+◌, ◌*◌, ◌-◌, ◌==◌, ℕ, Bool, true, false, ◌&&◌, not, nat_le, List, [], ◌∷◌, codes, length, Option, Some, None, Result, Ok, Err, if◌then◌else◌}
-use Rattle.std.specs.Char.{is_ascii_digit}
+use Rattle.std.specs.Prelude.{◌+◌, ℕ, Bool, true, false, nat_le, List, [], ◌∷◌, codes, length, Option, Some, None, Result, Ok, Err, if◌then◌else◌}
 use Rattle.std.specs.Str.{bytes_eq}
-use Rattle.prog_asm.specs.Lines.{parts}
+use Rattle.texts.specs.Numbers.{at_most, number_of}
+use Rattle.texts.specs.Parts.{parts}
 use Rattle.kernel.specs.Answers.{Event}
 
 -- the first faulty line, counted from 1, or more than 65536 events
 pub data Fault : Type 0 where
   Faulty : (line : ℕ) → Fault
   Too_many : Fault
-
--- A number in decimal digits, without a leading zero.
-abbrev pub number_from : ℕ → List ℕ → Option ℕ
-number_from n [] = Some n
-number_from n (b ∷ digits) = if is_ascii_digit b then number_from (n * 10 + (b - 48)) digits else None
-
-abbrev pub is_long : List ℕ → Bool
-is_long [] = false
-is_long (b ∷ digits) = not (length digits == 0)
-
-abbrev pub starts_with_zero : List ℕ → Bool
-starts_with_zero [] = false
-starts_with_zero (b ∷ digits) = b == 48
-
-abbrev pub is_number : List ℕ → Bool
-is_number word = not (length word == 0) && not (starts_with_zero word && is_long word)
-
-abbrev pub number_of : List ℕ → Option ℕ
-number_of word = if is_number word then number_from 0 word else None
-
-abbrev pub at_most : ℕ → Option ℕ → Option ℕ
-at_most limit None = None
-at_most limit (Some n) = if nat_le n limit then Some n else None
 
 abbrev pub event_with : Bool → Option ℕ → Option ℕ → Option Event
 event_with refuse None input = None

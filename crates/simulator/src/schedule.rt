@@ -1,14 +1,14 @@
 //! Schedules: who runs, step by step.
 
-ghost use Rattle.std.specs.Prelude.{◌≡◌, ◌==◌, [], None, Some, option_map};
-ghost use Rattle.simulator.specs.Schedules.{at_most, event_of_line, is_number, number_of, schedule_of};
+ghost use Rattle.std.specs.Prelude.{◌≡◌, option_map};
+ghost use Rattle.simulator.specs.Schedules.{event_of_line, schedule_of};
 ghost use Rattle.simulator.specs.ScheduleViews.{Reads, fault_number};
 ghost use Rattle.syscalls.specs.Views.{event_of};
 ghost use Rattle.simulator.specs.declared.schedule.ScheduleFault.TheVariants as fault;
 
-use prog_asm::first_part;
 use std::alloc::{AllocFailed, Global};
 use syscalls::Event;
+use texts::{Lines, first_part, number_up_to};
 use thiserror::Error;
 
 /// Why a schedule isn't read.
@@ -49,37 +49,6 @@ impl<T: Drop> From<AllocFailed<T>> for ScheduleFault {
     }
 }
 
-/// Whether the word can be a number: it isn't empty, and has no leading zero.
-fn is_number(word: &[u8]) -> bool
-    ensures { result ≡ is_number word.now }
-{
-    match word {
-        [] => false,
-        [b'0', _, ..] => false,
-        [_, ..] => true,
-    }
-}
-
-/// The number in decimal digits, without leading zeros, if it is at most the limit.
-fn number_up_to(word: &[u8], limit: u8) -> Option<u8>
-    ensures { result ≡ at_most limit (number_of word.now) }
-{
-    if !is_number(word) {
-        return None;
-    }
-    let mut number: u32 = 0;
-    for byte in word {
-        if !byte.is_ascii_digit() {
-            return None;
-        }
-        number = number * 10 + u32::from(*byte - b'0');
-        if number > u32::from(limit) {
-            return None;
-        }
-    }
-    Some(number as u8)
-}
-
 /// The event that a line stands for.
 fn read_event(line: &[u8]) -> Option<Event>
     ensures { option_map event_of result ≡ event_of_line line.now }
@@ -99,11 +68,11 @@ fn read_event(line: &[u8]) -> Option<Event>
             true
         }
     };
-    let process = number_up_to(process, 15)?;
-    let input = number_up_to(input, 255)?;
+    let process = number_up_to(process, 15).ok()?;
+    let input = number_up_to(input, 255).ok()?;
     Some(Event {
-        process,
-        input,
+        process: process as u8,
+        input: input as u8,
         refuse,
     })
 }
@@ -115,25 +84,21 @@ pub fn read_schedule(alloc: Global, bytes: &[u8]) -> Result<Vec<Event>, Schedule
 {
     let mut events = Vec::new(alloc);
     let mut count: usize = 0;
-    let mut rest = bytes;
-    loop {
-        let (line, behind) = first_part(rest, b'\n');
-        let Some(behind) = behind else {
-            if !line.is_empty() {
+    for line in Lines::new(bytes) {
+        if line.is_ended {
+            let Some(event) = read_event(line.text) else {
                 return Err(ScheduleFault::Line(count + 1));
+            };
+            if count < MOST {
+                events.push(event)?;
             }
-            if count > MOST {
-                return Err(ScheduleFault::Limit);
-            }
-            return Ok(events);
-        };
-        let Some(event) = read_event(line) else {
+            count += 1;
+        } else if !line.text.is_empty() {
             return Err(ScheduleFault::Line(count + 1));
-        };
-        if count < MOST {
-            events.push(event)?;
         }
-        count += 1;
-        rest = behind;
     }
+    if count > MOST {
+        return Err(ScheduleFault::Limit);
+    }
+    Ok(events)
 }

@@ -5,7 +5,7 @@ use Rattle.std.specs.List.{slice_get, list_all}
 use Rattle.std.proofs.lemmas.Bool.{ltb-true, leb-true}
 use Rattle.std.proofs.Math.ListN.{length-map}
 use Rattle.rights.proofs.Tests.{both_left, both_right}
-use Rattle.prog_asm.specs.Fields.{is_name}
+use Rattle.texts.specs.Names.{is_name}
 use Rattle.prog_asm.specs.Programs.{Instruction, is_program, is_instruction, ends_well}
 use Rattle.fd_table.specs.Descriptions.{Descriptor}
 use Rattle.rights.specs.Limits.{most_processes, most_programs}

@@ -12,8 +12,8 @@ use Rattle.file_tree.specs.Places.{begins, above}
 use Rattle.file_tree.specs.Nodes.{Kind, Dir, Link, Node, node, is_dir, is_link, stands_at}
 use Rattle.file_tree.specs.WellFormed.{has_directory, is_within_limits}
 use Rattle.prog_asm.specs.Programs.{is_program}
-use Rattle.prog_asm.specs.Lines.{is_lower, is_digit}
-use Rattle.prog_asm.specs.Fields.{is_name, is_name_byte}
+use Rattle.texts.specs.Bytes.{is_lower, is_digit}
+use Rattle.texts.specs.Names.{is_name, is_name_byte}
 use Rattle.task.specs.Plans.{Grant, NamedProgram, FirstDescriptor, Start, Plan, code_in}
 use Rattle.rights.specs.Limits.{most_grants, most_programs}
 use Rattle.task.specs.Limits.{can_follow, are_made, is_tree, is_grant, are_apart, are_grants, is_named, are_named_apart, are_programs, all_apart, is_descriptor, are_numbered_apart, are_descriptors, is_start, is_plan}
@@ -64,13 +64,13 @@ short_name : (name : List ℕ) → is_name name ≡ true → IsShortName name
 short_name [] test = absurd cc
 short_name (b ∷ bytes) test =
     let two = both_left _ (list_all is_name_byte bytes) test in
-    let first = letter b (both_left _ (nat_le (length bytes) 15) two) in
-    let few : length bytes ≤ 15 = leb-true _ _ (both_right (is_lower b) _ two) in
+    let first = letter b (both_left _ (nat_lt (length bytes) 16) two) in
+    let few : length bytes < 16 = ltb-true _ _ (both_right (is_lower b) _ two) in
     record {
       some = omega arith;
       short = omega arith;
       first = λ c is. let same : b ≡ c = cc in subst IsLetter same first;
-      bytes = at first (both_right (is_lower b && nat_le (length bytes) 15) _ test);
+      bytes = at first (both_right (is_lower b && nat_lt (length bytes) 16) _ test);
     }
   where
     at : IsLetter b → list_all is_name_byte bytes ≡ true → (k c : ℕ) → slice_get (b ∷ bytes) k ≡ Some c → IsNameByte c

@@ -2,6 +2,7 @@
 use Rattle.std.specs.Prelude.{◌≡◌, ◌≢◌, ◌⊎◌, ◌<◌, ◌≤◌, ℕ, true, false, List, [], ◌∷◌, ◌++◌, length, Some, None}
 use Rattle.std.specs.List.{slice_get}
 use Rattle.rights.specs.Sets.{is_within, all_rights, all_commands}
+use Rattle.rights.specs.Limits.{most_word}
 use Rattle.file_tree.specs.Places.{begins, is_name}
 use Rattle.file_tree.specs.Nodes.{Dir, Link, Node, node}
 use Rattle.file_tree.specs.Refusals.{created, create_fault}
@@ -20,7 +21,7 @@ IsNameByte b = IsLetter b ⊎ ((48 ≤ b) × (b ≤ 57)) ⊎ (b ≡ 95)
 
 pub record IsShortName (name : List ℕ) : Type 0 where
   pub some : 1 ≤ length name
-  pub short : length name ≤ 16
+  pub short : length name ≤ most_word
   pub first : (b : ℕ) → slice_get name 0 ≡ Some b → IsLetter b
   pub bytes : (k b : ℕ) → slice_get name k ≡ Some b → IsNameByte b
 

@@ -2,13 +2,13 @@
 use Rattle.std.specs.Prelude.{◌==◌, ℕ, Bool, true, false, ◌&&◌, ◌||◌, not, nat_le, nat_lt, nat_eq, List, [], ◌∷◌, ◌++◌, length}
 use Rattle.std.specs.List.{list_all, list_any}
 use Rattle.std.specs.Str.{bytes_eq}
+use Rattle.texts.specs.Names.{is_name}
 use Rattle.rights.specs.Sets.{is_within, all_rights, all_commands}
 use Rattle.file_tree.specs.Places.{begins, above}
 use Rattle.file_tree.specs.Nodes.{Node, node, is_dir, is_link, stands_at}
 use Rattle.rights.specs.Limits.{most_nodes, most_processes, most_programs, most_grants}
 use Rattle.file_tree.specs.WellFormed.{has_directory, is_within_limits}
 use Rattle.prog_asm.specs.Programs.{is_program}
-use Rattle.prog_asm.specs.Fields.{is_name}
 use Rattle.task.specs.Plans.{Grant, NamedProgram, FirstDescriptor, Start, Plan}
 
 -- each passes the test with those after it

@@ -18,7 +18,7 @@ use Rattle.prog_asm.specs.Assembly.{Fault, assembly_of}
 use Rattle.prog_asm.proofs.GoodPrograms.{assembly-good}
 use Rattle.toml.specs.Data.{Members}
 use Rattle.task.specs.Plans.{Grant, NamedProgram, FirstDescriptor, Start, Plan}
-use Rattle.prog_asm.specs.Fields.{is_name}
+use Rattle.texts.specs.Names.{is_name}
 use Rattle.task.specs.Limits.{all_apart, can_follow, are_made, is_tree, is_grant, are_apart, are_grants, is_named, are_named_apart, are_programs, is_descriptor, are_numbered_apart, are_descriptors, is_start, are_starts, is_plan}
 use Rattle.task_reader.specs.Documents.{is_among, are_once}
 use Rattle.task_reader.specs.Paths.{place_of}

@@ -11,7 +11,8 @@ use Rattle.rights.specs.Operations.{Operation}
 use Rattle.rights.proofs.Subsets.{is_within-or}
 use Rattle.rights.proofs.Tests.{both_left, both_right}
 use Rattle.fd_table.specs.Descriptions.{Access}
-use Rattle.prog_asm.specs.Fields.{is_name, named}
+use Rattle.texts.specs.Names.{is_name}
+use Rattle.prog_asm.specs.Fields.{named}
 use Rattle.toml.specs.Data.{Data, Items, no_items, item, Members, get_member, as_table}
 use Rattle.task_reader.specs.Documents.{are_once, each_item, words_in, read_or, only_keys, text_at, items_at}
 use Rattle.task_reader.specs.Written.{WrittenNode, WrittenGrant, WrittenProgram, WrittenDescriptor, WrittenStart, WrittenTask, grant_in, grant_with, grants_once, descriptor_in, descriptor_keys, descriptor_with, listed_starts, name_at, names_of_grants, names_of_programs, place_among, place_from, program_in, program_with, programs_once, set_from, set_in, set_named, some_start, start_in, start_with, task_with, word_if, written_descriptor, written_grant, written_program, written_programs, written_start, written_starts, written_task}

@@ -2,7 +2,7 @@
 use Rattle.std.specs.Prelude.{ℕ, ◌==◌, Bool, ◌&&◌, not, nat_eq, List, [], ◌∷◌, length, Option, Some, None, option_map, if◌then◌else◌}
 use Rattle.std.specs.List.{list_all}
 use Rattle.file_tree.specs.Places.{is_name_byte, is_dots}
-use Rattle.prog_asm.specs.Lines.{parts}
+use Rattle.texts.specs.Parts.{parts}
 
 -- A name of a path: a node's name of any length.
 abbrev pub is_path_name : List ℕ → Bool

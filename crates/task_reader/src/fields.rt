@@ -18,9 +18,9 @@ use crate::words::{access, mode, place_among, read_operations, set};
 use crate::written::{WrittenDescriptor, WrittenGrant, WrittenNode, WrittenProgram, WrittenStart};
 use fd_table::Access;
 use file_tree::Kind;
-use prog_asm::is_name;
 use rights::{Fcntls, Op, Rights};
 use std::alloc::Global;
+use texts::is_name;
 use toml::{Table, Value};
 
 /// A directory.

@@ -1,15 +1,14 @@
 //! The places that a task's paths are.
 
-ghost use Rattle.std.specs.Prelude.{◌≡◌, ◌<◌, IfOk, IfSome, length, option_map};
+ghost use Rattle.std.specs.Prelude.{◌≡◌, IfOk, option_map};
 ghost use Rattle.std.specs.List.{list_all};
+ghost use Rattle.texts.specs.Parts.{parts};
 ghost use Rattle.file_tree.specs.Places.{is_dots, is_name_byte};
 ghost use Rattle.file_tree.specs.Views.{names_of};
-ghost use Rattle.prog_asm.specs.Lines.{parts};
-ghost use Rattle.prog_asm.specs.Readings.{Begins};
 ghost use Rattle.task_reader.specs.Paths.{is_path_name, names_behind, path_names, place_of};
 
-use prog_asm::first_part;
 use std::alloc::{AllocError, Global};
+use texts::first_part;
 
 /// Whether a byte may stand in a node's name.
 fn may_stand_in_name(byte: u8) -> bool

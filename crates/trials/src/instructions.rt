@@ -4,7 +4,7 @@
 use bitflags::Flags;
 use prog_asm::{
     AsmFault, Instruction, MAX_INSTRUCTIONS, Operand, Path, Register, Syscall, assemble,
-    first_part, is_name, is_valid_path,
+    is_valid_path,
 };
 use std::alloc::{AllocError, Global};
 use std::test::Fail;
@@ -352,13 +352,4 @@ fn makes_registers_and_paths(rt: HostRuntime) -> Result<(), Fail> {
     let path = Path::new(Vec::from_slice(rt.alloc(), b"../x")?);
     assert!(rt; path.bytes() == b"../x".as_slice());
     Ok(())
-}
-
-#[test]
-fn parts_texts_and_knows_names(rt: HostRuntime) {
-    assert!(rt; first_part(b"work/in", b'/') == (b"work".as_slice(), Some(b"in".as_slice())));
-    assert!(rt; first_part(b"work", b'/') == (b"work".as_slice(), None));
-    assert!(rt; is_name(b"main_2"));
-    assert!(rt; !is_name(b"2main"));
-    assert!(rt; !is_name(b""));
 }

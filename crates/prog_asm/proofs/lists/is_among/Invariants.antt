@@ -1,5 +1,5 @@
 use Rattle.std.proofs.Common.{◌≡◌, length}
-use Rattle.prog_asm.specs.Lines.{parts}
+use Rattle.texts.specs.Parts.{parts}
 use Rattle.prog_asm.specs.Fields.{is_among}
 use Rattle.prog_asm.proofs.lists.is_among.Given as goal
 

@@ -1,5 +1,5 @@
 use Rattle.std.proofs.Common.{◌≡◌, length}
-use Rattle.prog_asm.specs.Lines.{parts}
+use Rattle.texts.specs.Parts.{parts}
 use Rattle.prog_asm.specs.Fields.{union_from}
 use Rattle.prog_asm.proofs.lists.set.Given as goal
 

@@ -1,6 +1,7 @@
 use Rattle.std.proofs.Common.{◌≡◌, ◌∷◌, ap, sym, ◌∙◌}
-use Rattle.prog_asm.specs.Lines.{parts}
-use Rattle.simulator.proofs.Numerals.{begins_some, begins_more, four_words}
+use Rattle.texts.specs.Parts.{parts}
+use Rattle.texts.proofs.PartLaws.{begins_some, begins_more}
+use Rattle.simulator.proofs.EventWords.{four_words}
 use Rattle.simulator.proofs.schedule.read_event.Goals as goal
 
 -- a fourth word

@@ -1,6 +1,6 @@
 use Rattle.std.proofs.Common.{◌≡◌, ◌++◌, length, option_map}
 use Rattle.file_tree.specs.Views.{names_of}
-use Rattle.prog_asm.specs.Lines.{parts}
+use Rattle.texts.specs.Parts.{parts}
 use Rattle.task_reader.specs.Paths.{path_names}
 use Rattle.task_reader.proofs.paths.read_names.Given as goal
 

@@ -1,6 +1,6 @@
 use Rattle.std.proofs.Common.{◌≡◌, take, drop, []}
-use Rattle.prog_asm.specs.Lines.{parts_from}
-use Rattle.prog_asm.proofs.lines.first_part.Given as goal
+use Rattle.texts.specs.Parts.{parts_from}
+use Rattle.texts.proofs.parts.first_part.Given as goal
 
 -- what has begun, and what is left
 abbrev pub invariant-loop-at : goal.invariant-loop-at

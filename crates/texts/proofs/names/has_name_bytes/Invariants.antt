@@ -1,7 +1,7 @@
 use Rattle.std.proofs.Common.{◌≡◌, drop}
 use Rattle.std.specs.List.{list_all}
-use Rattle.prog_asm.specs.Fields.{is_name_byte}
-use Rattle.prog_asm.proofs.fields.has_name_bytes.Given as goal
+use Rattle.texts.specs.Names.{is_name_byte}
+use Rattle.texts.proofs.names.has_name_bytes.Given as goal
 
 -- what is left decides it
 abbrev pub invariant-loop-byte : goal.invariant-loop-byte

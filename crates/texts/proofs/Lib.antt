@@ -1,0 +1,4 @@
+pub mod LineSteps
+pub mod NumberOrders
+pub mod LineLaws
+pub mod PartLaws

@@ -1,0 +1,6 @@
+pub mod Bytes
+pub mod Parts
+pub mod Numbers
+pub mod Names
+pub mod Lines
+pub mod LineViews

@@ -1,0 +1,12 @@
+//! Texts: their parts and lines, and the numbers and names in them.
+#![tactic(auto)]
+
+pub mod lines;
+pub mod names;
+pub mod numbers;
+pub mod parts;
+
+pub use lines::{Line, Lines};
+pub use names::is_name;
+pub use numbers::{NumberFault, compare_numbers, is_number, number_up_to};
+pub use parts::first_part;
