@@ -214,7 +214,7 @@ abbrev pub Calls : List Node → OpenFiles → Caller → List Node → OpenFile
 Calls t f caller after left r call =
     (processes : List ProcessState) (e : Event)
     → e.refuse ≡ caller.refuse
-    → Meets (world_with t f processes) caller.number after left r (answer (world_with t f processes) caller.number caller.process e call)
+    → Meets (world_with t f processes) caller.number after left r (answer (world_with t f processes) caller.number caller.process.now e call)
 
 -- what a call that opens nothing needs of its first descriptor
 abbrev pub need : Call → ℕ

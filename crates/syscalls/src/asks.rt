@@ -25,7 +25,7 @@ pub(crate) fn sync<T: Tree>(
     alloc: Global,
     tree: &T,
     files: &Files,
-    caller: &Caller,
+    caller: &Caller<'_>,
     operand: Operand,
 ) -> Result<Success, Refusal>
     requires { IsReady (T.nodes tree.now) (open_files files.now) caller.now.number }
@@ -51,7 +51,7 @@ pub(crate) fn stat_descriptor<T: Tree>(
     alloc: Global,
     tree: &T,
     files: &Files,
-    caller: &Caller,
+    caller: &Caller<'_>,
     operand: Operand,
 ) -> Result<Success, Refusal>
     requires { IsReady (T.nodes tree.now) (open_files files.now) caller.now.number }
@@ -73,13 +73,13 @@ pub(crate) fn stat_descriptor<T: Tree>(
 #[tactic(auto, unfolding(kernel::specs::Answers::held, kernel::specs::Answers::unless))]
 fn commanded(
     files: &Files,
-    caller: &Caller,
+    caller: &Caller<'_>,
     operand: Operand,
     call: Call,
     command: Fcntls,
 ) -> Result<DescriptionId, Refusal>
     requires { HasNumbers (open_files files.now) caller.now.number }
-    ensures passes { PassesDescription (λ rest. answers.through (need call) ((open_files files.now).table caller.now.number (answers.value_of caller.now.process (operand_of operand)))
+    ensures passes { PassesDescription (λ rest. answers.through (need call) ((open_files files.now).table caller.now.number (answers.value_of caller.now.process.now (operand_of operand)))
         (λ d. answers.commanded command.0 d (rest d.description))) result }
     ensures named { IfOk result (IsNamed (open_files files.now)) }
 {
@@ -97,7 +97,7 @@ fn commanded(
 pub(crate) fn get_flags(
     alloc: Global,
     files: &Files,
-    caller: &Caller,
+    caller: &Caller<'_>,
     operand: Operand,
 ) -> Result<Success, Refusal>
     requires numbers { HasNumbers (open_files files.now) caller.now.number }
@@ -120,13 +120,13 @@ pub(crate) fn get_flags(
 fn change_flags(
     alloc: Global,
     files: &mut Files,
-    caller: &Caller,
+    caller: &Caller<'_>,
     description: DescriptionId,
     flags: Operand,
 ) -> Result<Success, Refusal>
     requires { IsNamed (open_files files.old) description }
     ensures { Part (open_files files.old) caller.now (open_files files.new) result (λ w.
-        set_flags w description (answers.value_of caller.now.process (operand_of flags))) }
+        set_flags w description (answers.value_of caller.now.process.now (operand_of flags))) }
 {
     let flags = value_of(caller, flags);
     if flags > 3 {
@@ -149,7 +149,7 @@ fn change_flags(
 pub(crate) fn set_status(
     alloc: Global,
     files: &mut Files,
-    caller: &Caller,
+    caller: &Caller<'_>,
     operand: Operand,
     flags: Operand,
 ) -> Result<Success, Refusal>

@@ -28,7 +28,7 @@ pub(crate) fn perform<T: Tree>(
     alloc: Global,
     tree: &mut T,
     files: &mut Files,
-    caller: &Caller,
+    caller: &Caller<'_>,
     call: &Syscall,
 ) -> Result<Success, Refusal>
     requires ready { IsReady (T.nodes tree.old) (open_files files.old) caller.now.number }

@@ -26,9 +26,9 @@ use rights::{Call, Cause, Errno, Fcntls, OpenFlags, Position, Rights, needs};
 
 /// Who calls: the process, its number, and whether the kernel refuses at this event.
 #[derive(Clone, Copy)]
-pub(crate) struct Caller {
+pub(crate) struct Caller<'a> {
     pub number: u8,
-    pub process: Process,
+    pub process: &'a Process,
     pub refuse: bool,
 }
 
@@ -42,24 +42,25 @@ pub(crate) struct Numbered {
 }
 
 /// What an operand stands for: what its register holds, or a number itself. (own)
-pub(crate) fn value_of(caller: &Caller, operand: Operand) -> u32
-    ensures { result ≡ answers.value_of caller.now.process (operand_of operand) }
+pub(crate) fn value_of(caller: &Caller<'_>, operand: Operand) -> u32
+    ensures { result ≡ answers.value_of caller.now.process.now (operand_of operand) }
 {
+    let process = caller.process;
     match operand {
-        Operand::Register(register) => caller.process.registers[register.number() as usize],
+        Operand::Register(register) => process.registers[register.number() as usize],
         Operand::Number(number) => number,
     }
 }
 
 /// The low byte of what an operand stands for. (own)
-pub(crate) fn byte_of(caller: &Caller, operand: Operand) -> u8
-    ensures { result ≡ answers.value_of caller.now.process (operand_of operand) % 256 }
+pub(crate) fn byte_of(caller: &Caller<'_>, operand: Operand) -> u8
+    ensures { result ≡ answers.value_of caller.now.process.now (operand_of operand) % 256 }
 {
     (value_of(caller, operand) % 256) as u8
 }
 
 /// The caller's descriptor at a number, if there is one.
-fn entry(files: &Files, caller: &Caller, number: u32) -> Option<Numbered>
+fn entry(files: &Files, caller: &Caller<'_>, number: u32) -> Option<Numbered>
     requires { HasNumbers (open_files files.now) caller.now.number }
     ensures entry { option_map held_seen result ≡ (open_files files.now).table caller.now.number number }
     ensures number { IfSome result (λ held. held.number ≡ number) }
@@ -81,11 +82,15 @@ fn entry(files: &Files, caller: &Caller, number: u32) -> Option<Numbered>
 
 /// The descriptor of an operand. (EBADF)
 #[tactic(auto, unfolding(kernel::specs::Answers::held))]
-pub(crate) fn held(files: &Files, caller: &Caller, operand: Operand) -> Result<Numbered, Refusal>
+pub(crate) fn held(
+    files: &Files,
+    caller: &Caller<'_>,
+    operand: Operand,
+) -> Result<Numbered, Refusal>
     requires { HasNumbers (open_files files.now) caller.now.number }
-    ensures passes { Passes held_seen (answers.held ((open_files files.now).table caller.now.number (answers.value_of caller.now.process (operand_of operand)))) result }
+    ensures passes { Passes held_seen (answers.held ((open_files files.now).table caller.now.number (answers.value_of caller.now.process.now (operand_of operand)))) result }
     ensures entry { IfOk result (λ held. (open_files files.now).table caller.now.number held.number ≡ Some (held_seen held)) }
-    ensures number { IfOk result (λ held. held.number ≡ answers.value_of caller.now.process (operand_of operand)) }
+    ensures number { IfOk result (λ held. held.number ≡ answers.value_of caller.now.process.now (operand_of operand)) }
     ensures named { IfOk result (λ held. IsNamed (open_files files.now) held.description) }
     ensures ready { (t : List Node) → IsReady t (open_files files.now) caller.now.number → IfOk result (λ held. IsReadyEntry t (open_files files.now) (Some (held_seen held))) }
 {
@@ -119,14 +124,14 @@ pub(crate) fn second_need(replaces: bool) -> Rights
 /// The descriptor of an operand, if it has the rights that the call needs.
 pub(crate) fn through(
     files: &Files,
-    caller: &Caller,
+    caller: &Caller<'_>,
     operand: Operand,
     call: Call,
 ) -> Result<Numbered, Refusal>
     requires { HasNumbers (open_files files.now) caller.now.number }
-    ensures passes { Passes held_seen (answers.through (need call) ((open_files files.now).table caller.now.number (answers.value_of caller.now.process (operand_of operand)))) result }
+    ensures passes { Passes held_seen (answers.through (need call) ((open_files files.now).table caller.now.number (answers.value_of caller.now.process.now (operand_of operand)))) result }
     ensures entry { IfOk result (λ held. (open_files files.now).table caller.now.number held.number ≡ Some (held_seen held)) }
-    ensures number { IfOk result (λ held. held.number ≡ answers.value_of caller.now.process (operand_of operand)) }
+    ensures number { IfOk result (λ held. held.number ≡ answers.value_of caller.now.process.now (operand_of operand)) }
     ensures named { IfOk result (λ held. IsNamed (open_files files.now) held.description) }
     ensures ready { (t : List Node) → IsReady t (open_files files.now) caller.now.number → IfOk result (λ held. IsReadyEntry t (open_files files.now) (Some (held_seen held))) }
 {
@@ -137,14 +142,14 @@ pub(crate) fn through(
 #[tactic(auto, unfolding(kernel::specs::Answers::held, kernel::specs::Answers::unless))]
 pub(crate) fn through_rights(
     files: &Files,
-    caller: &Caller,
+    caller: &Caller<'_>,
     operand: Operand,
     need: Rights,
 ) -> Result<Numbered, Refusal>
     requires { HasNumbers (open_files files.now) caller.now.number }
-    ensures passes { Passes held_seen (answers.through need.0 ((open_files files.now).table caller.now.number (answers.value_of caller.now.process (operand_of operand)))) result }
+    ensures passes { Passes held_seen (answers.through need.0 ((open_files files.now).table caller.now.number (answers.value_of caller.now.process.now (operand_of operand)))) result }
     ensures entry { IfOk result (λ held. (open_files files.now).table caller.now.number held.number ≡ Some (held_seen held)) }
-    ensures number { IfOk result (λ held. held.number ≡ answers.value_of caller.now.process (operand_of operand)) }
+    ensures number { IfOk result (λ held. held.number ≡ answers.value_of caller.now.process.now (operand_of operand)) }
     ensures named { IfOk result (λ held. IsNamed (open_files files.now) held.description) }
     ensures ready { (t : List Node) → IsReady t (open_files files.now) caller.now.number → IfOk result (λ held. IsReadyEntry t (open_files files.now) (Some (held_seen held))) }
 {
@@ -261,14 +266,14 @@ pub(crate) fn file_of<T: Tree>(
 pub(crate) fn file_through<T: Tree>(
     tree: &T,
     files: &Files,
-    caller: &Caller,
+    caller: &Caller<'_>,
     operand: Operand,
     call: Call,
 ) -> Result<Opened, Refusal>
     requires { IsReady (T.nodes tree.now) (open_files files.now) caller.now.number }
     ensures passes { (processes : List ProcessState) (e : Event) → PassesThrough
-        (λ rest. answers.through (need call) ((open_files files.now).table caller.now.number (answers.value_of caller.now.process (operand_of operand)))
-        (λ d. at_file (world_with (T.nodes tree.now) (open_files files.now) processes) caller.now.number caller.now.process e d (rest d))) result }
+        (λ rest. answers.through (need call) ((open_files files.now).table caller.now.number (answers.value_of caller.now.process.now (operand_of operand)))
+        (λ d. at_file (world_with (T.nodes tree.now) (open_files files.now) processes) caller.now.number caller.now.process.now e d (rest d))) result }
     ensures there { IfOk result (λ found. found.node < length (T.nodes tree.now)) }
     ensures file { IfOk result (λ found. (node (T.nodes tree.now) found.node).kind ≡ File) }
     ensures named { IfOk result (λ found. IsNamed (open_files files.now) found.held.description) }
@@ -287,12 +292,12 @@ pub(crate) fn file_through<T: Tree>(
 /// What the descriptor of an operand is of, through the rights that the call needs.
 pub(crate) fn reach(
     files: &Files,
-    caller: &Caller,
+    caller: &Caller<'_>,
     operand: Operand,
     call: Call,
 ) -> Result<Reached, Refusal>
     requires { HasNumbers (open_files files.now) caller.now.number }
-    ensures passes { PassesReached (λ on_node on_end. answers.through (need call) ((open_files files.now).table caller.now.number (answers.value_of caller.now.process (operand_of operand)))
+    ensures passes { PassesReached (λ on_node on_end. answers.through (need call) ((open_files files.now).table caller.now.number (answers.value_of caller.now.process.now (operand_of operand)))
         (λ d. answers.at_object ((open_files files.now).objects d.description) (on_node d) (on_end d))) result }
     ensures ready { (t : List Node) → IsReady t (open_files files.now) caller.now.number → IfOk result (IsReached t (open_files files.now)) }
 {
@@ -314,14 +319,14 @@ pub(crate) fn reach(
 pub(crate) fn directory_through<T: Tree>(
     tree: &T,
     files: &Files,
-    caller: &Caller,
+    caller: &Caller<'_>,
     operand: Operand,
     call: Call,
 ) -> Result<NodeId, Refusal>
     requires { IsReady (T.nodes tree.now) (open_files files.now) caller.now.number }
     ensures passes { (processes : List ProcessState) (e : Event) → Passes node_number
-        (λ rest. answers.through (need call) ((open_files files.now).table caller.now.number (answers.value_of caller.now.process (operand_of operand)))
-        (λ d. in_directory (world_with (T.nodes tree.now) (open_files files.now) processes) caller.now.number caller.now.process e d rest)) result }
+        (λ rest. answers.through (need call) ((open_files files.now).table caller.now.number (answers.value_of caller.now.process.now (operand_of operand)))
+        (λ d. in_directory (world_with (T.nodes tree.now) (open_files files.now) processes) caller.now.number caller.now.process.now e d rest)) result }
     ensures there { IfOk result (λ n. n < length (T.nodes tree.now)) }
     ensures opened { IfOk result (λ n. is_link (node (T.nodes tree.now) n).kind ≡ false) }
 {

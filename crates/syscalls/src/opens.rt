@@ -39,7 +39,7 @@ pub(crate) struct Opening {
 
 /// A free number, if the kernel lets the call have one. (ENFILE)
 #[tactic(auto, unfolding(kernel::specs::Answers::unless))]
-fn granted_number(files: &Files, caller: &Caller) -> Result<u8, Refusal>
+fn granted_number(files: &Files, caller: &Caller<'_>) -> Result<u8, Refusal>
     requires { caller.now.number < 16 }
     ensures free { IfOk result (λ n. IsFreeAt (open_files files.now) caller.now.number n) }
     ensures passes { PassesRefusable caller.now.refuse (λ refuse rest. answers.at_number (open_state.lowest_free ((open_files files.now).table caller.now.number)) (λ n. answers.unless (not refuse) ENFILE Refused (rest n))) result }
@@ -67,13 +67,13 @@ fn open_directory<T: Tree>(
     alloc: Global,
     tree: &T,
     files: &mut Files,
-    caller: &Caller,
+    caller: &Caller<'_>,
     n: NodeId,
     how: &Opening,
 ) -> Result<Success, Refusal>
     requires { caller.now.number < 16 }
     ensures { Does (T.nodes tree.now) (open_files files.old) caller.now (T.nodes tree.now) (open_files files.new) result
-        (λ w e. model.opened_as w caller.now.number caller.now.process e how.now.flags how.now.rights.0 how.now.fcntls.0 n Dir) }
+        (λ w e. model.opened_as w caller.now.number caller.now.process.now e how.now.flags how.now.rights.0 how.now.fcntls.0 n Dir) }
 {
     let flags = how.flags;
     if changes(flags) {
@@ -118,7 +118,7 @@ fn open_file<T: Tree>(
     alloc: Global,
     tree: &mut T,
     files: &mut Files,
-    caller: &Caller,
+    caller: &Caller<'_>,
     n: NodeId,
     how: &Opening,
 ) -> Result<Success, Refusal>
@@ -126,7 +126,7 @@ fn open_file<T: Tree>(
     requires there { n < length (T.nodes tree.old) }
     requires file { (nodes.node (T.nodes tree.old) n).kind ≡ File }
     ensures { Does (T.nodes tree.old) (open_files files.old) caller.now (T.nodes tree.new) (open_files files.new) result
-        (λ w e. model.opened_as w caller.now.number caller.now.process e how.now.flags how.now.rights.0 how.now.fcntls.0 n File) }
+        (λ w e. model.opened_as w caller.now.number caller.now.process.now e how.now.flags how.now.rights.0 how.now.fcntls.0 n File) }
 {
     let number = match granted_number(files, caller) {
         Err(refused) => return Err(refused),
@@ -147,7 +147,7 @@ fn open_new<T: Tree>(
     alloc: Global,
     tree: &mut T,
     files: &mut Files,
-    caller: &Caller,
+    caller: &Caller<'_>,
     dir: NodeId,
     name: &[u8],
     how: &Opening,
@@ -159,7 +159,7 @@ fn open_new<T: Tree>(
     requires absent { nodes.child_of (T.nodes tree.old) dir name.now ≡ None }
     requires name { is_name name.now ≡ true }
     ensures { Does (T.nodes tree.old) (open_files files.old) caller.now (T.nodes tree.new) (open_files files.new) result
-        (λ w e. model.opened_new w caller.now.number caller.now.process e how.now.flags how.now.rights.0 how.now.fcntls.0 (at_name (nodes.node (T.nodes tree.old) dir).place name.now)) }
+        (λ w e. model.opened_new w caller.now.number caller.now.process.now e how.now.flags how.now.rights.0 how.now.fcntls.0 (at_name (nodes.node (T.nodes tree.old) dir).place name.now)) }
 {
     let number = match free_number(files, caller) {
         Err(refused) => return Err(refused),
@@ -191,7 +191,7 @@ pub(crate) fn open_found<T: Tree>(
     alloc: Global,
     tree: &mut T,
     files: &mut Files,
-    caller: &Caller,
+    caller: &Caller<'_>,
     start: NodeId,
     path: &[u8],
     way: Way,
@@ -202,7 +202,7 @@ pub(crate) fn open_found<T: Tree>(
     requires opened { is_link (nodes.node (T.nodes tree.old) start).kind ≡ false }
     requires text { is_path path.now ≡ true }
     ensures { Does (T.nodes tree.old) (open_files files.old) caller.now (T.nodes tree.new) (open_files files.new) result
-        (λ w e. model.opened w caller.now.number caller.now.process e how.now.flags how.now.rights.0 how.now.fcntls.0 path.now
+        (λ w e. model.opened w caller.now.number caller.now.process.now e how.now.flags how.now.rights.0 how.now.fcntls.0 path.now
         (find_of (T.nodes tree.old) start path.now (way_of way) (model.last_if how.now.flags.create))) }
 {
     let last = if how.flags.create() {

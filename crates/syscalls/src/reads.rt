@@ -83,13 +83,13 @@ pub(crate) fn read_node<T: Tree>(
 fn move_to(
     alloc: Global,
     files: &mut Files,
-    caller: &Caller,
+    caller: &Caller<'_>,
     description: DescriptionId,
     to: Operand,
 ) -> Result<Success, Refusal>
     requires { IsNamed (open_files files.old) description }
     ensures { Part (open_files files.old) caller.now (open_files files.new) result (λ w.
-        moved_to w description (answers.value_of caller.now.process (operand_of to))) }
+        moved_to w description (answers.value_of caller.now.process.now (operand_of to))) }
 {
     let offset = value_of(caller, to);
     if offset > 4096 {
@@ -107,7 +107,7 @@ pub(crate) fn seek<T: Tree>(
     alloc: Global,
     tree: &T,
     files: &mut Files,
-    caller: &Caller,
+    caller: &Caller<'_>,
     operand: Operand,
     to: Operand,
 ) -> Result<Success, Refusal>
@@ -125,7 +125,7 @@ pub(crate) fn read<T: Tree>(
     alloc: Global,
     tree: &T,
     files: &mut Files,
-    caller: &Caller,
+    caller: &Caller<'_>,
     operand: Operand,
 ) -> Result<Success, Refusal>
     requires { IsReady (T.nodes tree.now) (open_files files.old) caller.now.number }

@@ -44,7 +44,7 @@ pub(crate) fn write_node<T: Tree>(
     alloc: Global,
     tree: &mut T,
     files: &mut Files,
-    caller: &Caller,
+    caller: &Caller<'_>,
     description: DescriptionId,
     node: NodeId,
     access: Access,
@@ -54,7 +54,7 @@ pub(crate) fn write_node<T: Tree>(
     requires there { node < length (T.nodes tree.old) }
     requires opened { is_link (nodes.node (T.nodes tree.old) node).kind ≡ false }
     ensures { Goes (T.nodes tree.old) (open_files files.old) caller.now.refuse (T.nodes tree.new) (open_files files.new) result
-        (λ w p s e. model.write_node w p s e (descriptor_of description 0 0) node (access_seen access) (answers.value_of caller.now.process (operand_of value) % 256)) }
+        (λ w p s e. model.write_node w p s e (descriptor_of description 0 0) node (access_seen access) (answers.value_of caller.now.process.now (operand_of value) % 256)) }
 {
     if is_directory(tree, node) {
         return Err(Refusal::Fails(Errno::EISDIR, Cause::Kind));
@@ -85,7 +85,7 @@ pub(crate) fn write_node<T: Tree>(
 fn cut<T: Tree>(
     alloc: Global,
     tree: &mut T,
-    caller: &Caller,
+    caller: &Caller<'_>,
     node: NodeId,
     access: Access,
     to: Operand,
@@ -93,7 +93,7 @@ fn cut<T: Tree>(
     requires there { node < length (T.nodes tree.old) }
     requires file { (nodes.node (T.nodes tree.old) node).kind ≡ File }
     ensures { OnTree (T.nodes tree.old) (T.nodes tree.new) caller.now.refuse result (λ w p s e.
-        cut_to w node (access_seen access) (answers.value_of caller.now.process (operand_of to))) }
+        cut_to w node (access_seen access) (answers.value_of caller.now.process.now (operand_of to))) }
 {
     if !access.writable {
         return Err(Refusal::Fails(Errno::EINVAL, Cause::Access));
@@ -114,7 +114,7 @@ pub(crate) fn truncate<T: Tree>(
     alloc: Global,
     tree: &mut T,
     files: &Files,
-    caller: &Caller,
+    caller: &Caller<'_>,
     operand: Operand,
     to: Operand,
 ) -> Result<Success, Refusal>
@@ -132,7 +132,7 @@ pub(crate) fn truncate<T: Tree>(
 fn write_socket(
     alloc: Global,
     files: &mut Files,
-    caller: &Caller,
+    caller: &Caller<'_>,
     description: DescriptionId,
     pair: PairId,
     side: Side,
@@ -141,8 +141,8 @@ fn write_socket(
     requires named { IsNamed (open_files files.old) description }
     requires there { IsEndThere (open_files files.old) pair (side_seen side) }
     ensures { (t : List nodes.Node) → Does t (open_files files.old) caller.now t (open_files files.new) result
-        (λ w e. answers.unless (not e.refuse) ENOSPC Refused (model.sent_end w caller.now.number caller.now.process e (descriptor_of description 0 0) pair (side_seen side)
-        (message_of (answers.value_of caller.now.process (operand_of value) % 256) None))) }
+        (λ w e. answers.unless (not e.refuse) ENOSPC Refused (model.sent_end w caller.now.number caller.now.process.now e (descriptor_of description 0 0) pair (side_seen side)
+        (message_of (answers.value_of caller.now.process.now (operand_of value) % 256) None))) }
 {
     if caller.refuse {
         return Err(Refusal::Fails(Errno::ENOSPC, Cause::Refused));
@@ -156,7 +156,7 @@ pub(crate) fn write<T: Tree>(
     alloc: Global,
     tree: &mut T,
     files: &mut Files,
-    caller: &Caller,
+    caller: &Caller<'_>,
     operand: Operand,
     value: Operand,
 ) -> Result<Success, Refusal>

@@ -21,7 +21,7 @@ returns-in-Node g c = λ processes e same.
     let p = c.args.caller.now.number in
     subst (Meets (world_with t f processes) p t f c.stat.result)
     (sym (reaches_node _ _ c.in-Node.found c.in-Ok.ensures.passes c.in-Node.is _ _))
-    (told_meets (world_with t f processes) p c.stat.result _ c.requires.idle (c.stat.ensures f processes p c.args.caller.now.process e))
+    (told_meets (world_with t f processes) p c.stat.result _ c.requires.idle (c.stat.ensures f processes p c.args.caller.now.process.now e))
 
 pub returns-in-End : goal.returns-in-End
 unfolding answer

@@ -18,5 +18,5 @@ returns-in-Ok g c = λ processes e same.
     let f = open_files c.args.files.now in
     let w = world_with t f processes in
     let p = c.args.caller.now.number in
-    let s = c.args.caller.now.process in
+    let s = c.args.caller.now.process.now in
     subst (Meets w p (g.T.Tree.nodes c.make_directory.new.tree) f c.make_directory.result) (sym (c.in-Ok.ensures.passes processes e _)) (c.make_directory.ensures f processes p s e same c.requires.ready.idle)

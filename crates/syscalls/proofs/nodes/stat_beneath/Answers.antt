@@ -19,5 +19,5 @@ returns-in-Ok g c = λ processes e same.
     let f = open_files c.args.files.now in
     let w = world_with t f processes in
     let p = c.args.caller.now.number in
-    let s = c.args.caller.now.process in
+    let s = c.args.caller.now.process.now in
     subst (Meets w p t f c.stat_at.result) (sym (c.in-Ok.ensures.passes processes e _)) (told_meets w p c.stat_at.result _ c.requires.idle (c.stat_at.ensures f processes p s e))

@@ -23,6 +23,6 @@ returns-in-Ok g c = λ processes e same.
     let f = open_files c.args.files.now in
     let w = world_with t f processes in
     let p = c.args.caller.now.number in
-    let s = c.args.caller.now.process in
+    let s = c.args.caller.now.process.now in
     subst (Meets w p t f c.stat_at.result) (sym (passes _ _ _ _ (ap not c.in-Ok.ensures.ok)))
     (subst (λ n. Meets w p t f c.stat_at.result (looked_at w p s e (find_of t n c.args.path.now Global Follow))) c.root.ensures.first (told_meets w p c.stat_at.result _ c.requires.idle (c.stat_at.ensures f processes p s e)))

@@ -25,7 +25,7 @@ unfolding answer
 returns-in-End c = λ t processes e same.
     let w = world_with t (open_files c.args.files.now) processes in
     let p = c.args.caller.now.number in
-    let s = c.args.caller.now.process in
+    let s = c.args.caller.now.process.now in
     let after = Meets w p t (open_files c.write_end.new.files) c.write_end.result in
     subst after (sym (c.in-Ok.ensures.passes _ ∙ c.in-Ok-held.ensures.passes _
     ∙ passes _ _ _ _ (ap (λ n. is_within n c.in-Ok.held.rights.0) (sym c.need_of.ensures) ∙ sym c.contains.ensures.computes ∙ c.if-not-contains.false)

@@ -19,7 +19,7 @@ returns-in-Node g c = λ processes e same.
     let p = c.args.caller.now.number in
     subst (Meets (world_with t (open_files c.args.files.now) processes) p t (open_files c.read_node.new.files) c.read_node.result)
     (sym (reaches_node _ _ c.in-Node.found c.in-Ok.ensures.passes c.in-Node.is _ _))
-    (c.read_node.ensures c.args.caller.now.refuse processes p c.args.caller.now.process e same)
+    (c.read_node.ensures c.args.caller.now.refuse processes p c.args.caller.now.process.now e same)
 
 pub returns-in-End : goal.returns-in-End
 unfolding answer

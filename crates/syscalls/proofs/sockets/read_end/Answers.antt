@@ -19,7 +19,7 @@ returns-then-is_open c = λ t processes e same.
     let f = open_files c.args.files.now in
     let w = world_with t f processes in
     let p = c.args.caller.now.number in
-    let s = c.args.caller.now.process in
+    let s = c.args.caller.now.process.now in
     let d = descriptor_of c.args.description 0 0 in
     let side = side_seen c.args.side in
     refused_alone c.blocked.result w t f _
@@ -31,7 +31,7 @@ returns-else-is_open c = λ t processes e same.
     let f = open_files c.args.files.now in
     let w = world_with t f processes in
     let p = c.args.caller.now.number in
-    let s = c.args.caller.now.process in
+    let s = c.args.caller.now.process.now in
     let d = descriptor_of c.args.description 0 0 in
     let side = side_seen c.args.side in
     same_succeeds w p _ _ _ [] c.requires.idle
@@ -44,7 +44,7 @@ returns-in-Some c = λ t processes e same.
     let f = open_files c.args.files.now in
     let w = world_with t f processes in
     let p = c.args.caller.now.number in
-    let s = c.args.caller.now.process in
+    let s = c.args.caller.now.process.now in
     let d = descriptor_of c.args.description 0 0 in
     let side = side_seen c.args.side in
     queue_succeeds w p _ _ _ _ (Pop c.args.pair (other_side side)) []

@@ -18,4 +18,4 @@ returns-in-Ok g c = λ processes e same.
     let f = open_files c.args.files.now in
     let p = c.args.caller.now.number in
     subst (Meets (world_with t f processes) p (g.T.Tree.nodes c.cut.new.tree) f c.cut.result)
-    (sym (c.in-Ok.ensures.passes processes e _)) (c.cut.ensures f processes p c.args.caller.now.process e same c.requires.idle)
+    (sym (c.in-Ok.ensures.passes processes e _)) (c.cut.ensures f processes p c.args.caller.now.process.now e same c.requires.idle)

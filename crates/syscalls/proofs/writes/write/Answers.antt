@@ -19,7 +19,7 @@ returns-in-Node g c = λ processes e same.
     let p = c.args.caller.now.number in
     subst (Meets (world_with t (open_files c.args.files.now) processes) p (g.T.Tree.nodes c.write_node.new.tree) (open_files c.write_node.new.files) c.write_node.result)
     (sym (reaches_node _ _ c.in-Node.found c.in-Ok.ensures.passes c.in-Node.is _ _))
-    (c.write_node.ensures processes p c.args.caller.now.process e same)
+    (c.write_node.ensures processes p c.args.caller.now.process.now e same)
 
 pub returns-in-End : goal.returns-in-End
 unfolding answer

@@ -27,7 +27,7 @@ returns-in-Ok g c = λ processes p s e same.
     let shows = effects_of c.in_ok-effects.effects.items in
     subst (Succeeds w p after left 1 shows)
     (sym (passes _ _ _ _ (ap not (sym c.is_directory.ensures ∙ c.if-is_directory.false)) ∙ passes _ _ _ _ (kept _ c.if-not-access.false)))
-    (subst (λ o. Succeeds w p after left 1 shows (write_at w p s e d n o (value_of c.args.caller.now.process (operand_of c.args.value) % 256))) c.write_offset-offset.ensures
+    (subst (λ o. Succeeds w p after left 1 shows (write_at w p s e d n o (value_of c.args.caller.now.process.now (operand_of c.args.value) % 256))) c.write_offset-offset.ensures
     (subst (λ v. Succeeds w p after left 1 shows (write_at w p s e d n offset v)) c.byte_of-byte.ensures
     (write_succeeds w p after left 1 shows _ (Fill n (written (node t n).content offset byte)) c.args.description (record (f.states c.args.description) { offset = offset + 1 }) _
     (passes _ _ _ _ (below offset 4096 (omega arith)) ∙ passes _ _ _ _ (ap not (same ∙ c.if-caller.false)))
