@@ -29,7 +29,7 @@ use Rattle.kernel.proofs.Fresh.{fresh_some}
 use Rattle.kernel.proofs.Keeping.{fresh_numbers}
 use Rattle.syscalls.specs.Shows.{Shown, shown}
 use Rattle.syscalls.specs.Views.{world_with}
-use Rattle.syscalls.specs.Meets.{Suits, IsOrdinary, IsPlain, Succeeds, RefusesAlone, Meets, IsIdle, IsReady, IsReadyEntry, IsReadyObject}
+use Rattle.syscalls.specs.Meets.{Suits, IsOrdinary, IsPlain, Succeeds, RefusesAlone, Meets, IsIdle, IsReady, IsReadyDescription, IsReadyObject}
 use Rattle.syscalls.specs.MayCall.{MayCall, is_entering, is_making, is_pairing}
 use Rattle.syscalls.specs.NodeCalls.{is_on_nodes}
 use Rattle.syscalls.specs.Called.{Comes, FailsAs, succeeded_as}
@@ -153,9 +153,11 @@ ready_object : (t : List Node) (numbering : Numbering) (d : ℕ) (o : Object) �
 ready_object t numbering d (At_node n access) is = (there_if_opened t n is, is)
 ready_object t numbering d (At_end pair side class) is = tt
 
-ready_entry : (t : List Node) (numbering : Numbering) (f : OpenFiles) (o : Option Descriptor) → IfHeld (IsDescriptor t numbering f.objects f.states) o → IsReadyEntry t f o
-ready_entry t numbering f None is = tt
-ready_entry t numbering f (Some d) is = (ready_object t numbering d.description (f.objects d.description) is.object, is.offset)
+ready_entry : (t : List Node) (numbering : Numbering) (f : OpenFiles) (o : Option Descriptor) → IfHeld (IsDescriptor t numbering f.objects f.states) o → (d : Descriptor) → o ≡ Some d → IsReadyDescription t f d.description
+ready_entry t numbering f None is d there = absurd cc
+ready_entry t numbering f (Some c) is d there =
+    let good = subst (IfHeld (IsDescriptor t numbering f.objects f.states)) there is in
+    (ready_object t numbering d.description (f.objects d.description) good.object, good.offset)
 
 pub made_few : (t : List Node) (f : OpenFiles) (processes : List ProcessState) (p : ℕ) → MayCall (world_with t f processes) p → p < length processes
 made_few t f processes p may = slice_get_within processes p may.process may.made

@@ -4,17 +4,13 @@ ghost use Rattle.std.specs.Prelude.{◌≡◌, ◌%◌, ◌<◌, ◌≤◌, List
 ghost use Rattle.rights.specs.Calls as calls;
 ghost use Rattle.rights.specs.Needs.{second_needs};
 ghost use Rattle.file_tree.specs.Nodes.{File, Node, is_link, node};
-ghost use Rattle.fd_table.specs.Descriptions.{descriptor_of};
 ghost use Rattle.fd_table.specs.Filled.{IsNamed};
 ghost use Rattle.fd_table.specs.Kept.{open_files};
 ghost use Rattle.fd_table.specs.Views.{object_seen};
 ghost use Rattle.prog_asm.specs.Views.{operand_of};
-ghost use Rattle.process.specs.State.{ProcessState};
 ghost use Rattle.kernel.specs.Answers as answers;
-ghost use Rattle.kernel.specs.Answers.{Event};
 ghost use Rattle.kernel.specs.Calls.{at_file, in_directory};
-ghost use Rattle.syscalls.specs.Views.{world_with};
-ghost use Rattle.syscalls.specs.Meets.{HasNumbers, IsReached, IsReady, IsTarget, IsReadyEntry, Passes, PassesBoth, PassesReached, PassesThrough, held_seen, need, node_number};
+ghost use Rattle.syscalls.specs.Meets.{HasNumbers, IsReached, IsReady, IsReadyDescription, IsTarget, Passes, PassesIn, held_seen, need, node_seen, number_seen, opened_seen, reached_seen};
 
 use crate::directories::is_directory;
 use crate::outcomes::Refusal;
@@ -92,7 +88,7 @@ pub(crate) fn held(
     ensures entry { IfOk result (λ held. (open_files files.now).table caller.now.number held.number ≡ Some (held_seen held)) }
     ensures number { IfOk result (λ held. held.number ≡ answers.value_of caller.now.process.now (operand_of operand)) }
     ensures named { IfOk result (λ held. IsNamed (open_files files.now) held.description) }
-    ensures ready { (t : List Node) → IsReady t (open_files files.now) caller.now.number → IfOk result (λ held. IsReadyEntry t (open_files files.now) (Some (held_seen held))) }
+    ensures ready { (t : List Node) → IsReady t (open_files files.now) caller.now.number → IfOk result (λ held. IsReadyDescription t (open_files files.now) held.description) }
 {
     match entry(files, caller, value_of(caller, operand)) {
         None => Err(Refusal::Fails(Errno::EBADF, Cause::BadDescriptor)),
@@ -133,7 +129,7 @@ pub(crate) fn through(
     ensures entry { IfOk result (λ held. (open_files files.now).table caller.now.number held.number ≡ Some (held_seen held)) }
     ensures number { IfOk result (λ held. held.number ≡ answers.value_of caller.now.process.now (operand_of operand)) }
     ensures named { IfOk result (λ held. IsNamed (open_files files.now) held.description) }
-    ensures ready { (t : List Node) → IsReady t (open_files files.now) caller.now.number → IfOk result (λ held. IsReadyEntry t (open_files files.now) (Some (held_seen held))) }
+    ensures ready { (t : List Node) → IsReady t (open_files files.now) caller.now.number → IfOk result (λ held. IsReadyDescription t (open_files files.now) held.description) }
 {
     through_rights(files, caller, operand, need_of(call))
 }
@@ -151,7 +147,7 @@ pub(crate) fn through_rights(
     ensures entry { IfOk result (λ held. (open_files files.now).table caller.now.number held.number ≡ Some (held_seen held)) }
     ensures number { IfOk result (λ held. held.number ≡ answers.value_of caller.now.process.now (operand_of operand)) }
     ensures named { IfOk result (λ held. IsNamed (open_files files.now) held.description) }
-    ensures ready { (t : List Node) → IsReady t (open_files files.now) caller.now.number → IfOk result (λ held. IsReadyEntry t (open_files files.now) (Some (held_seen held))) }
+    ensures ready { (t : List Node) → IsReady t (open_files files.now) caller.now.number → IfOk result (λ held. IsReadyDescription t (open_files files.now) held.description) }
 {
     let held = held(files, caller, operand)?;
     if !held.rights.contains(need) {
@@ -175,25 +171,18 @@ pub(crate) struct Opened {
     pub access: Access,
 }
 
-/// A descriptor of an end of a socket pair.
-#[derive(Clone, Copy)]
-pub(crate) struct OpenEnd {
-    pub held: Numbered,
-    pub end: End,
-}
-
-/// A descriptor with what it is of.
-#[derive(Clone, Copy)]
-pub(crate) enum Reached {
-    Node(Opened),
-    End(OpenEnd),
-}
-
 /// What a descriptor is of.
 #[derive(Clone, Copy)]
 pub(crate) enum Target {
     Node(OpenNode),
     End(End),
+}
+
+/// A descriptor with what it is of.
+#[derive(Clone, Copy)]
+pub(crate) struct Reached {
+    pub held: Numbered,
+    pub target: Target,
 }
 
 fn target_in(object: Object) -> Target
@@ -222,8 +211,8 @@ pub(crate) fn directory_of<T: Tree>(
     description: DescriptionId,
 ) -> Result<NodeId, Refusal>
     requires named { IsNamed (open_files files.now) description }
-    requires ready { IsReadyEntry (T.nodes tree.now) (open_files files.now) (Some (descriptor_of description 0 0)) }
-    ensures passes { (processes : List ProcessState) (p : ℕ) (s : ProcessState) (e : Event) → Passes node_number (in_directory (world_with (T.nodes tree.now) (open_files files.now) processes) p s e (descriptor_of description 0 0)) result }
+    requires ready { IsReadyDescription (T.nodes tree.now) (open_files files.now) description }
+    ensures passes { PassesIn (T.nodes tree.now) (open_files files.now) number_seen (λ w p s e. in_directory w p s e description) result }
     ensures there { IfOk result (λ n. n < length (T.nodes tree.now)) }
     ensures opened { IfOk result (λ n. is_link (node (T.nodes tree.now) n).kind ≡ false) }
 {
@@ -246,8 +235,8 @@ pub(crate) fn file_of<T: Tree>(
     description: DescriptionId,
 ) -> Result<OpenNode, Refusal>
     requires named { IsNamed (open_files files.now) description }
-    requires ready { IsReadyEntry (T.nodes tree.now) (open_files files.now) (Some (descriptor_of description 0 0)) }
-    ensures passes { (processes : List ProcessState) (p : ℕ) (s : ProcessState) (e : Event) → PassesBoth (at_file (world_with (T.nodes tree.now) (open_files files.now) processes) p s e (descriptor_of description 0 0)) result }
+    requires ready { IsReadyDescription (T.nodes tree.now) (open_files files.now) description }
+    ensures passes { PassesIn (T.nodes tree.now) (open_files files.now) node_seen (λ w p s e rest. at_file w p s e description (λ n access. rest (n, access))) result }
     ensures there { IfOk result (λ found. found.node < length (T.nodes tree.now)) }
     ensures file { IfOk result (λ found. (node (T.nodes tree.now) found.node).kind ≡ File) }
 {
@@ -271,9 +260,9 @@ pub(crate) fn file_through<T: Tree>(
     call: Call,
 ) -> Result<Opened, Refusal>
     requires { IsReady (T.nodes tree.now) (open_files files.now) caller.now.number }
-    ensures passes { (processes : List ProcessState) (e : Event) → PassesThrough
-        (λ rest. answers.through (need call) ((open_files files.now).table caller.now.number (answers.value_of caller.now.process.now (operand_of operand)))
-        (λ d. at_file (world_with (T.nodes tree.now) (open_files files.now) processes) caller.now.number caller.now.process.now e d (rest d))) result }
+    ensures passes { PassesIn (T.nodes tree.now) (open_files files.now) opened_seen (λ w p s e rest.
+        answers.through (need call) ((open_files files.now).table caller.now.number (answers.value_of caller.now.process.now (operand_of operand)))
+        (λ d. at_file w p s e d.description (λ n access. rest (d, n, access)))) result }
     ensures there { IfOk result (λ found. found.node < length (T.nodes tree.now)) }
     ensures file { IfOk result (λ found. (node (T.nodes tree.now) found.node).kind ≡ File) }
     ensures named { IfOk result (λ found. IsNamed (open_files files.now) found.held.description) }
@@ -297,22 +286,18 @@ pub(crate) fn reach(
     call: Call,
 ) -> Result<Reached, Refusal>
     requires { HasNumbers (open_files files.now) caller.now.number }
-    ensures passes { PassesReached (λ on_node on_end. answers.through (need call) ((open_files files.now).table caller.now.number (answers.value_of caller.now.process.now (operand_of operand)))
-        (λ d. answers.at_object ((open_files files.now).objects d.description) (on_node d) (on_end d))) result }
+    ensures passes { Passes reached_seen (answers.through (need call) ((open_files files.now).table caller.now.number (answers.value_of caller.now.process.now (operand_of operand)))) result }
+    ensures target { IfOk result (λ reached. IsTarget reached.target ((open_files files.now).objects reached.held.description)) }
     ensures ready { (t : List Node) → IsReady t (open_files files.now) caller.now.number → IfOk result (IsReached t (open_files files.now)) }
 {
     let held = match through(files, caller, operand, call) {
         Err(refused) => return Err(refused),
         Ok(held) => held,
     };
-    match target_of(files, held.description) {
-        Target::Node(found) => Ok(Reached::Node(Opened {
-            held,
-            node: found.node,
-            access: found.access,
-        })),
-        Target::End(end) => Ok(Reached::End(OpenEnd { held, end })),
-    }
+    Ok(Reached {
+        held,
+        target: target_of(files, held.description),
+    })
 }
 
 /// The directory of an operand, through the rights that the call needs.
@@ -324,9 +309,9 @@ pub(crate) fn directory_through<T: Tree>(
     call: Call,
 ) -> Result<NodeId, Refusal>
     requires { IsReady (T.nodes tree.now) (open_files files.now) caller.now.number }
-    ensures passes { (processes : List ProcessState) (e : Event) → Passes node_number
-        (λ rest. answers.through (need call) ((open_files files.now).table caller.now.number (answers.value_of caller.now.process.now (operand_of operand)))
-        (λ d. in_directory (world_with (T.nodes tree.now) (open_files files.now) processes) caller.now.number caller.now.process.now e d rest)) result }
+    ensures passes { PassesIn (T.nodes tree.now) (open_files files.now) number_seen (λ w p s e rest.
+        answers.through (need call) ((open_files files.now).table caller.now.number (answers.value_of caller.now.process.now (operand_of operand)))
+        (λ d. in_directory w p s e d.description rest)) result }
     ensures there { IfOk result (λ n. n < length (T.nodes tree.now)) }
     ensures opened { IfOk result (λ n. is_link (node (T.nodes tree.now) n).kind ≡ false) }
 {

@@ -10,10 +10,9 @@ ghost use Rattle.kernel.specs.Answers.{Answer, unless};
 ghost use Rattle.rights.specs.Calls as calls;
 ghost use Rattle.rights.specs.Needs.{First, needs_of};
 ghost use Rattle.file_tree.specs.Nodes.{Node};
-ghost use Rattle.fd_table.specs.Descriptions.{descriptor_of};
 ghost use Rattle.fd_table.specs.Filled.{IsNamed};
 ghost use Rattle.kernel.specs.Answers as answers;
-ghost use Rattle.syscalls.specs.Meets.{Calls, HasNumbers, IsReady, IsReadyEntry, PassesBeneath, Refuses};
+ghost use Rattle.syscalls.specs.Meets.{Calls, HasNumbers, IsReady, IsReadyDescription, Passes, Refuses, beneath_seen};
 
 use crate::descriptors::{
     Caller, directory_of, directory_through, held, need_of, second_need, through_rights,
@@ -198,10 +197,10 @@ fn opening_beneath(
     flags: OpenFlags,
 ) -> Result<Beneath, Refusal>
     requires { HasNumbers (open_files files.now) caller.now.number }
-    ensures passes { PassesBeneath (answers.through (needs_of calls.Openat flags First false) ((open_files files.now).table caller.now.number (answers.value_of caller.now.process.now (operand_of operand)))) result }
+    ensures passes { Passes beneath_seen (answers.through (needs_of calls.Openat flags First false) ((open_files files.now).table caller.now.number (answers.value_of caller.now.process.now (operand_of operand)))) result }
     ensures flags { IfOk result (λ b. b.how.flags ≡ flags) }
     ensures named { IfOk result (λ b. IsNamed (open_files files.now) b.description) }
-    ensures ready { (t : List Node) → IsReady t (open_files files.now) caller.now.number → IfOk result (λ b. IsReadyEntry t (open_files files.now) (Some (descriptor_of b.description 0 0))) }
+    ensures ready { (t : List Node) → IsReady t (open_files files.now) caller.now.number → IfOk result (λ b. IsReadyDescription t (open_files files.now) b.description) }
 {
     let need = needs(Call::Openat, flags, Position::First, false);
     match through_rights(files, caller, operand, need) {

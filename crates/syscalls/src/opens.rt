@@ -1,6 +1,6 @@
 //! open and openat.
 
-ghost use Rattle.std.specs.Prelude.{◌≡◌, ◌<◌, ◌||◌, IfOk, IfErr, None, length, map, not, true, false};
+ghost use Rattle.std.specs.Prelude.{◌≡◌, ◌<◌, ◌||◌, Bool, IfOk, IfErr, None, length, map, not, true, false};
 ghost use Rattle.rights.specs.Errors.{ENFILE, Refused};
 ghost use Rattle.file_tree.specs.Nodes.{Dir, File, is_link};
 ghost use Rattle.file_tree.specs.Nodes as nodes;
@@ -13,7 +13,7 @@ ghost use Rattle.kernel.specs.Calls as model;
 ghost use Rattle.lookup.specs.Looks.{find_of};
 ghost use Rattle.lookup.specs.Views.{way_of};
 ghost use Rattle.prog_asm.specs.Programs.{is_path};
-ghost use Rattle.syscalls.specs.Meets.{Does, PassesRefusable, truncated_to, truncates_at};
+ghost use Rattle.syscalls.specs.Meets.{Does, Passes, number_seen};
 ghost use Rattle.kernel.specs.Changes.{tree_after};
 ghost use Rattle.syscalls.specs.Shows.{shown};
 ghost use Rattle.syscalls.specs.Views.{effects_of};
@@ -42,7 +42,8 @@ pub(crate) struct Opening {
 fn granted_number(files: &Files, caller: &Caller<'_>) -> Result<u8, Refusal>
     requires { caller.now.number < 16 }
     ensures free { IfOk result (λ n. IsFreeAt (open_files files.now) caller.now.number n) }
-    ensures passes { PassesRefusable caller.now.refuse (λ refuse rest. answers.at_number (open_state.lowest_free ((open_files files.now).table caller.now.number)) (λ n. answers.unless (not refuse) ENFILE Refused (rest n))) result }
+    ensures passes { (refuse : Bool) → refuse ≡ caller.now.refuse
+        → Passes number_seen (λ rest. answers.at_number (open_state.lowest_free ((open_files files.now).table caller.now.number)) (λ n. answers.unless (not refuse) ENFILE Refused (rest n))) result }
 {
     let number = match free_number(files, caller) {
         Err(refused) => return Err(refused),
@@ -99,8 +100,8 @@ fn emptied<T: Tree>(
 ) -> Result<Vec<Effect>, Refusal>
     requires there { n < length (T.nodes tree.old) }
     requires file { (nodes.node (T.nodes tree.old) n).kind ≡ File }
-    ensures tree { IfOk result (λ effects. T.nodes tree.new ≡ tree_after (T.nodes tree.old) (truncated_to trunc n)) }
-    ensures effects { IfOk result (λ effects. effects_of effects.items ≡ map shown (truncates_at trunc (nodes.node (T.nodes tree.old) n).place)) }
+    ensures tree { IfOk result (λ effects. T.nodes tree.new ≡ tree_after (T.nodes tree.old) (model.truncated trunc n)) }
+    ensures effects { IfOk result (λ effects. effects_of effects.items ≡ map shown (model.truncates trunc (nodes.node (T.nodes tree.old) n).place)) }
     ensures only_memory { IfErr result (λ e. e ≡ Refusal.Memory) }
 {
     if !trunc {

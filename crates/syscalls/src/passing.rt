@@ -2,7 +2,7 @@
 
 ghost use Rattle.std.specs.Prelude.{◌≡◌, ◌<◌, List, None, Some};
 ghost use Rattle.file_tree.specs.Nodes.{Node};
-ghost use Rattle.fd_table.specs.Descriptions.{descriptor_of, other_side};
+ghost use Rattle.fd_table.specs.Descriptions.{other_side};
 ghost use Rattle.fd_table.specs.Filled.{IsEndThere, IsFreeAt, IsNamed};
 ghost use Rattle.fd_table.specs.Kept.{open_files};
 ghost use Rattle.fd_table.specs.Views.{side_seen};
@@ -84,7 +84,7 @@ fn receive_end(
     requires there { IsEndThere (open_files files.old) pair (side_seen side) }
     requires free { IsFreeAt (open_files files.old) caller.now.number number }
     ensures { (t : List Node) → Does t (open_files files.old) caller.now t (open_files files.new) result
-        (λ w e. model.receive_end w caller.now.number caller.now.process.now e (descriptor_of description 0 0) pair (side_seen side) number (w.files.queue pair (other_side (side_seen side)))) }
+        (λ w e. model.receive_end w caller.now.number caller.now.process.now e description pair (side_seen side) number (w.files.queue pair (other_side (side_seen side)))) }
 {
     let front = match files.front(End { pair, side }) {
         None => {

@@ -2,7 +2,6 @@ use Rattle.std.proofs.Common.{◌+◌, ◌%◌, sym, ap, subst, ◌∙◌, arith
 use Rattle.std.specs.Prelude.{not}
 use Rattle.file_tree.specs.Nodes.{node}
 use Rattle.file_tree.specs.Changes.{written}
-use Rattle.fd_table.specs.Descriptions.{descriptor_of}
 use Rattle.fd_table.specs.Kept.{open_files}
 use Rattle.prog_asm.specs.Views.{operand_of}
 use Rattle.kernel.specs.Answers.{Fill, value_of}
@@ -14,11 +13,13 @@ use Rattle.syscalls.proofs.Keeping.{write_succeeds}
 use Rattle.syscalls.proofs.writes.write_node.Goals as goal
 
 pub returns-in-Ok : goal.returns-in-Ok
-returns-in-Ok g c = λ processes p s e same.
+returns-in-Ok g c = λ processes e same.
     let t = g.T.Tree.nodes c.args.tree.now in
+    let p = c.args.caller.now.number in
+    let s = c.args.caller.now.process.now in
     let f = open_files c.args.files.now in
     let w = world_with t f processes in
-    let d = descriptor_of c.args.description 0 0 in
+    let d = c.args.description in
     let n = c.args.node in
     let offset = c.write_offset-offset.result in
     let byte = c.byte_of-byte.result in

@@ -1,6 +1,6 @@
 use Rattle.std.proofs.Common.{sym, subst, ap, ◌∙◌}
 use Rattle.std.specs.Prelude.{None, not}
-use Rattle.fd_table.specs.Descriptions.{descriptor_of, message_of}
+use Rattle.fd_table.specs.Descriptions.{message_of}
 use Rattle.fd_table.specs.Kept.{open_files}
 use Rattle.fd_table.specs.Views.{side_seen}
 use Rattle.kernel.specs.Calls.{sent_end}
@@ -16,4 +16,4 @@ returns c = λ t processes e same.
     let s = c.args.caller.now.process.now in
     let after = Meets w p t (open_files c.write_end.new.files) c.write_end.result in
     subst after (sym (passes _ _ _ _ (ap not (same ∙ c.if-caller.false))))
-    (subst (λ b. after (sent_end w p s e (descriptor_of c.args.description 0 0) c.args.pair (side_seen c.args.side) (message_of b None))) c.byte_of-byte.ensures (c.write_end.ensures t processes e same))
+    (subst (λ b. after (sent_end w p s e c.args.description c.args.pair (side_seen c.args.side) (message_of b None))) c.byte_of-byte.ensures (c.write_end.ensures t processes e same))
