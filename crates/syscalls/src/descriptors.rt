@@ -3,6 +3,7 @@
 ghost use Rattle.std.specs.Prelude.{◌≡◌, ◌%◌, ◌<◌, ◌≤◌, List, None, Some, Err, IfOk, IfSome, option_map, true, false, length, ℕ};
 ghost use Rattle.rights.specs.Calls as calls;
 ghost use Rattle.rights.specs.Needs.{second_needs};
+ghost use Rattle.rights.specs.Opens.{open_request};
 ghost use Rattle.file_tree.specs.Nodes.{File, Node, is_link, node};
 ghost use Rattle.fd_table.specs.Filled.{IsNamed};
 ghost use Rattle.fd_table.specs.Kept.{open_files};
@@ -96,25 +97,28 @@ pub(crate) fn held(
     }
 }
 
+/// Flags for a call that opens nothing: an open alone looks at them.
+fn no_flags() -> OpenFlags
+    ensures { result ≡ open_request true false false false false }
+{
+    match OpenFlags::new(true, false, false, false, false) {
+        None => unreachable!(),
+        Some(flags) => flags,
+    }
+}
+
 /// What a call needs of the rights of its first descriptor. (rights(4))
 pub(crate) fn need_of(call: Call) -> Rights
     ensures { result.0 ≡ need call }
 {
-    // The flags are looked at by an open alone.
-    match OpenFlags::new(true, false, false, false, false) {
-        None => Rights::empty(),
-        Some(flags) => needs(call, flags, Position::First, false),
-    }
+    needs(call, no_flags(), Position::First, false)
 }
 
 /// What a rename needs of its second descriptor, where it replaces a node or not. (rights(4), renameat(2))
 pub(crate) fn second_need(replaces: bool) -> Rights
     ensures { result.0 ≡ second_needs calls.Renameat replaces }
 {
-    match OpenFlags::new(true, false, false, false, false) {
-        None => Rights::empty(),
-        Some(flags) => needs(Call::Renameat, flags, Position::Second, replaces),
-    }
+    needs(Call::Renameat, no_flags(), Position::Second, replaces)
 }
 
 /// The descriptor of an operand, if it has the rights that the call needs.

@@ -133,7 +133,11 @@ pub(crate) fn remove<T: Tree>(
     let effects = effects_at(alloc, tree, Op::Remove, n)?;
     match tree.remove(n) {
         Ok(()) => Ok(Success { value: 0, effects }),
-        Err(TreeFault::NotEmpty) => Err(Refusal::Fails(Errno::ENOTEMPTY, Cause::Path)),
-        Err(_) => Err(Refusal::Memory),
+        Err(fault) => match fault {
+            TreeFault::NotEmpty => Err(Refusal::Fails(Errno::ENOTEMPTY, Cause::Path)),
+            TreeFault::Memory => Err(Refusal::Memory),
+            TreeFault::Exists | TreeFault::Full | TreeFault::IntoItself | TreeFault::Gone =>
+                unreachable!(),
+        },
     }
 }

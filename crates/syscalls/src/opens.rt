@@ -20,7 +20,7 @@ ghost use Rattle.syscalls.specs.Views.{effects_of};
 
 use crate::changes::create_node;
 use crate::descriptors::Caller;
-use crate::outcomes::{Effect, Refusal, Success, effects_at};
+use crate::outcomes::{Effect, Refusal, Success, effects_at, want_of_memory};
 use crate::paths::sought;
 use crate::tables::free_number;
 use fd_table::Files;
@@ -109,7 +109,7 @@ fn emptied<T: Tree>(
     }
     let effects = effects_at(alloc, tree, Op::Write, n)?;
     match tree.truncate(n, 0) {
-        Err(_) => Err(Refusal::Memory),
+        Err(fault) => Err(want_of_memory(fault)),
         Ok(()) => Ok(effects),
     }
 }

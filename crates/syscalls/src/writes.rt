@@ -16,7 +16,7 @@ ghost use Rattle.syscalls.specs.Meets.{Calls, Does, IsReady, OnTree};
 
 use crate::descriptors::{Caller, Target, byte_of, file_through, reach, value_of};
 use crate::directories::is_directory;
-use crate::outcomes::{Refusal, Success, effects_at};
+use crate::outcomes::{Refusal, Success, effects_at, want_of_memory};
 use crate::sockets::write_end;
 use fd_table::{Access, DescriptionId, Files, PairId, Side};
 use file_tree::{MAX_BYTES, NodeId, Tree};
@@ -72,7 +72,7 @@ pub(crate) fn write_node<T: Tree>(
     let effects = effects_at(alloc, tree, Op::Write, node)?;
     let byte = byte_of(caller, value);
     match tree.put_byte(node, offset, byte) {
-        Err(_) => Err(Refusal::Memory),
+        Err(fault) => Err(want_of_memory(fault)),
         Ok(()) => {
             files.set_offset(description, offset as u16 + 1);
             Ok(Success { value: 1, effects })
@@ -104,7 +104,7 @@ fn cut<T: Tree>(
     }
     let effects = effects_at(alloc, tree, Op::Write, node)?;
     match tree.truncate(node, len) {
-        Err(_) => Err(Refusal::Memory),
+        Err(fault) => Err(want_of_memory(fault)),
         Ok(()) => Ok(Success { value: 0, effects }),
     }
 }
