@@ -172,7 +172,7 @@ module _ (plan : Plan) (certificate : Certificate) (w : World) (e : Event) (s : 
           (if_on (may_be_on b.mode) (is_known x.held.target) (subst (λ h. (not (may_be_on b.mode) || goes_known h) ≡ true) x.is_held known.asked.known) may)
           (if_on (may_be_on b.mode) (target_lists plan operations.Read x.held.target) (subst (λ h. (not (may_be_on b.mode) || goes_listed plan operations.Read h) ≡ true) x.is_held known.asked.policy) may)
 
-      owed_byte : (place : List (List ℕ)) (o : Option ℕ) → ((byte : ℕ) → o ≡ Some byte → byte < 256) → (s.mode ≡ true → Allowed plan.grants operations.Read place) → Owes (read_byte w e.process s e d place o)
+      owed_byte : (place : List (List ℕ)) (o : Option ℕ) → ((byte : ℕ) → o ≡ Some byte → byte < 256) → (s.mode ≡ true → Allowed plan.grants operations.Read place) → Owes (read_byte w e.process s e d.description place o)
       unfolding OwedBy
       owed_byte place None fits allowed = given_read x.held 256 Same_queue Same_state _ x.is_held (omega arith) (λ on. (allowed on, tt))
       owed_byte place (Some byte) fits allowed =
@@ -180,7 +180,7 @@ module _ (plan : Plan) (certificate : Certificate) (w : World) (e : Event) (s : 
           let old = w.files.states d.description in
           given_read x.held byte Same_queue (Set_state d.description (record old { offset = old.offset + 1 })) _ x.is_held (omega arith) (λ on. (allowed on, tt))
 
-      owed_node : (m : ℕ) (access : Access) → w.files.objects d.description ≡ At_node m access → is_link (node w.tree m).kind ≡ false → Owes (read_node w e.process s e d m access)
+      owed_node : (m : ℕ) (access : Access) → w.files.objects d.description ≡ At_node m access → is_link (node w.tree m).kind ≡ false → Owes (read_node w e.process s e d.description m access)
       owed_node m access is no_link =
           owed_unless plan certificate w e.process s (Invoke (Read (Number n)) otherwise) known otherwise (not (is_dir (node w.tree m).kind)) _ _ _ tt fails_to (λ no_dir.
           owed_unless plan certificate w e.process s (Invoke (Read (Number n)) otherwise) known otherwise access.readable _ _ _ tt fails_to (λ readable.
@@ -199,14 +199,14 @@ module _ (plan : Plan) (certificate : Certificate) (w : World) (e : Event) (s : 
       owed_empty false nonblock = given_read x.held 256 Same_queue Same_state [] x.is_held (omega arith) (λ on. tt)
       owed_empty true nonblock = owed_blocked nonblock
 
-      owed_end : (Good : Descriptor → Type 0) (pair side : ℕ) (messages : List Message) → EachMessage Good messages → Owes (read_end w e.process s e d pair side messages)
+      owed_end : (Good : Descriptor → Type 0) (pair side : ℕ) (messages : List Message) → EachMessage Good messages → Owes (read_end w e.process s e d.description pair side messages)
       unfolding OwedBy
       owed_end Good pair side [] good = owed_empty (is_open w.files pair (other_side side)) (w.files.states d.description).nonblock
       owed_end Good pair side (m ∷ messages) good =
           let small : m.byte < 256 = good.0 in
           given_read x.held m.byte (Pop pair (other_side side)) Same_state [] x.is_held (omega arith) (λ on. tt)
 
-      owed_object : (o : Object) → w.files.objects d.description ≡ o → IsObject w.tree known.numbering d.description o → Owes (at_object o (read_node w e.process s e d) (λ pair side. read_end w e.process s e d pair side (w.files.queue pair (other_side side))))
+      owed_object : (o : Object) → w.files.objects d.description ≡ o → IsObject w.tree known.numbering d.description o → Owes (at_object o (read_node w e.process s e d.description) (λ pair side. read_end w e.process s e d.description pair side (w.files.queue pair (other_side side))))
       unfolding at_object
       owed_object (At_node m access) is good = owed_node m access is good
       owed_object (At_end pair side class) is good =
@@ -224,7 +224,7 @@ module _ (plan : Plan) (certificate : Certificate) (w : World) (e : Event) (s : 
             (slot_at (grant_holds plan.grants) 0 known.bound.slots (table_of plan w e.process) known.inside.slots
             (λ m far. ap (option_map (seen_of plan w)) (known.world.numbers e.process m far)) n)
 
-        go : (o : Option Descriptor) → w.files.table e.process n ≡ o → Owes (through read_right o (λ d. at_object (w.files.objects d.description) (read_node w e.process s e d) (λ pair side. read_end w e.process s e d pair side (w.files.queue pair (other_side side)))))
+        go : (o : Option Descriptor) → w.files.table e.process n ≡ o → Owes (through read_right o (λ d. at_object (w.files.objects d.description) (read_node w e.process s e d.description) (λ pair side. read_end w e.process s e d.description pair side (w.files.queue pair (other_side side)))))
         go None here = (tt, fails_to)
         go (Some d) here =
             let x = slotted plan (slot known.bound.slots n) (seen_of plan w d) (subst (λ o. slot_describes (grant_holds plan.grants) (slot known.bound.slots n) (option_map (seen_of plan w) o) ≡ true) here at) in

@@ -26,7 +26,7 @@ use Rattle.fd_table.specs.Descriptions.{Access, State, Descriptor, Message, othe
 use Rattle.fd_table.specs.OpenFiles.{is_open, lowest_from, lowest_free}
 use Rattle.kernel.specs.World.{World}
 use Rattle.kernel.specs.Answers.{Event, TreeChange, Answer, same, held, value_of}
-use Rattle.kernel.specs.Calls.{looks, looks_twice, answer, truncated, opened, opened_as, read_byte, read_node, read_end, write_node, write_at, sent_end, received, receive_end, looked, looked_at, kind_number, made_directory, unlinked, renamed_to, renamed_from, pair_at, blocked, in_directory, at_file, at_socket, last_if}
+use Rattle.kernel.specs.Calls.{looks, looks_twice, answer, truncated, opened, opened_as, read_byte, read_node, read_end, write_node, write_at, sent_end, received, receive_end, looked, looked_at, kind_number, made_directory, unlinked, renamed_to, renamed_from, pair_at, blocked, in_directory, at_file, at_socket}
 use Rattle.kernel.specs.Changes.{tree_after}
 use Rattle.kernel.specs.Steps.{Programs}
 use Rattle.kernel.specs.WellFormed.{EachMessage, IsWorld}
@@ -111,19 +111,19 @@ module _ (programs : Programs) (g : Ground) (standing : Standing programs g) (p 
   sound-entry : (n : ℕ) (rest : Descriptor → Answer) → ((d : Descriptor) → n < 16 → Known g d → Sound g (rest d)) → Sound g (held (w.files.table p n) rest)
   sound-entry n rest sound = sound-held g (w.files.table p n) rest (standing.entries p n) (λ d is fine. sound d (entry_low n d is) fine)
 
-  sound-directory : (d : Descriptor) (rest : ℕ → Answer) → Known g d → ((n : ℕ) → is_link (node w.tree n).kind ≡ false → Sound g (rest n)) → Sound g (in_directory w p s e d rest)
+  sound-directory : (d : Descriptor) (rest : ℕ → Answer) → Known g d → ((n : ℕ) → is_link (node w.tree n).kind ≡ false → Sound g (rest n)) → Sound g (in_directory w p s e d.description rest)
   sound-directory d rest fine sound =
       sound-object g d.description (w.files.objects d.description) _ _ fine.0.object
       (λ n access opened. sound-unless g _ _ _ _ (λ dir. sound n opened))
       (λ pair side low. sound-fails g _ _)
 
-  sound-file : (d : Descriptor) (rest : ℕ → Access → Answer) → Known g d → ((n : ℕ) (access : Access) → (node w.tree n).kind ≡ File → Sound g (rest n access)) → Sound g (at_file w p s e d rest)
+  sound-file : (d : Descriptor) (rest : ℕ → Access → Answer) → Known g d → ((n : ℕ) (access : Access) → (node w.tree n).kind ≡ File → Sound g (rest n access)) → Sound g (at_file w p s e d.description rest)
   sound-file d rest fine sound =
       sound-object g d.description (w.files.objects d.description) _ _ fine.0.object
       (λ n access opened. sound-unless g _ _ _ _ (λ file. sound n access (file_kind (node w.tree n).kind file)))
       (λ pair side low. sound-fails g _ _)
 
-  sound-socket : (d : Descriptor) (rest : ℕ → ℕ → Answer) → Known g d → ((pair side : ℕ) → side < 2 → Sound g (rest pair side)) → Sound g (at_socket w p s e d rest)
+  sound-socket : (d : Descriptor) (rest : ℕ → ℕ → Answer) → Known g d → ((pair side : ℕ) → side < 2 → Sound g (rest pair side)) → Sound g (at_socket w p s e d.description rest)
   sound-socket d rest fine sound =
       sound-object g d.description (w.files.objects d.description) _ _ fine.0.object
       (λ n access opened. sound-fails g _ _) sound
@@ -132,7 +132,7 @@ module _ (programs : Programs) (g : Ground) (standing : Standing programs g) (p 
   file_there : (n : ℕ) → (node w.tree n).kind ≡ File → n < length w.tree
   file_there n file = there_if_opened w.tree n (ap is_link file)
 
-  truncated_is_tree : (trunc : Bool) (n : ℕ) → (node w.tree n).kind ≡ File → IsTree (tree_after w.tree (truncated w p s e trunc n))
+  truncated_is_tree : (trunc : Bool) (n : ℕ) → (node w.tree n).kind ≡ File → IsTree (tree_after w.tree (truncated trunc n))
   truncated_is_tree true n file = filled_is_tree w.tree n [] standing.good.tree file (file_there n file) (omega arith) refl
   truncated_is_tree false n file = standing.good.tree
 
@@ -144,7 +144,7 @@ module _ (programs : Programs) (g : Ground) (standing : Standing programs g) (p 
       let within : offset < length (node w.tree n).content = slice_get_within (node w.tree n).content offset byte here in
       (ltb-true byte 256 (list_all-slice_get is_byte (node w.tree n).content offset byte old.bytes here), omega arith)
 
-  sound-byte : (d : Descriptor) (n : ℕ) (place : List (List ℕ)) (o : Option ℕ) → (node w.tree n).kind ≡ File → slice_get (node w.tree n).content (w.files.states d.description).offset ≡ o → Sound g (read_byte w p s e d place o)
+  sound-byte : (d : Descriptor) (n : ℕ) (place : List (List ℕ)) (o : Option ℕ) → (node w.tree n).kind ≡ File → slice_get (node w.tree n).content (w.files.states d.description).offset ≡ o → Sound g (read_byte w p s e d.description place o)
   sound-byte d n place None file here = sound-gives g _ _ _ (nothing 256 (omega arith))
   sound-byte d n place (Some byte) file here =
       let facts = file_byte n (w.files.states d.description).offset byte file here in
@@ -152,13 +152,13 @@ module _ (programs : Programs) (g : Ground) (standing : Standing programs g) (p 
       let within : (w.files.states d.description).offset + 1 ≤ most_bytes = omega (arith, facts.1) in
       sound-gives g _ _ _ (record { small = small; tree = standing.good.tree; table = tt; queue = tt; state = within })
 
-  sound-read_node : (d : Descriptor) (n : ℕ) (access : Access) → is_link (node w.tree n).kind ≡ false → Sound g (read_node w p s e d n access)
+  sound-read_node : (d : Descriptor) (n : ℕ) (access : Access) → is_link (node w.tree n).kind ≡ false → Sound g (read_node w p s e d.description n access)
   sound-read_node d n access opened =
       sound-unless g _ _ _ _ (λ no_dir. sound-unless g _ _ _ _ (λ readable.
       sound-byte d n _ (slice_get (node w.tree n).content (w.files.states d.description).offset)
       (no_directory (node w.tree n).kind opened (not_true _ no_dir)) refl))
 
-  sound-write_at : (d : Descriptor) (n offset byte : ℕ) → (node w.tree n).kind ≡ File → byte < 256 → Sound g (write_at w p s e d n offset byte)
+  sound-write_at : (d : Descriptor) (n offset byte : ℕ) → (node w.tree n).kind ≡ File → byte < 256 → Sound g (write_at w p s e d.description n offset byte)
   sound-write_at d n offset byte file small =
       sound-unless g _ _ _ _ (λ room. sound-unless g _ _ _ _ (λ allowed.
       let low : offset < most_bytes = ltb-true offset most_bytes room in
@@ -171,13 +171,13 @@ module _ (programs : Programs) (g : Ground) (standing : Standing programs g) (p 
         state = within;
       })))
 
-  sound-write_node : (d : Descriptor) (n : ℕ) (access : Access) (byte : ℕ) → is_link (node w.tree n).kind ≡ false → byte < 256 → Sound g (write_node w p s e d n access byte)
+  sound-write_node : (d : Descriptor) (n : ℕ) (access : Access) (byte : ℕ) → is_link (node w.tree n).kind ≡ false → byte < 256 → Sound g (write_node w p s e d.description n access byte)
   sound-write_node d n access byte opened small =
       sound-unless g _ _ _ _ (λ no_dir. sound-unless g _ _ _ _ (λ writable.
       sound-write_at d n _ byte (no_directory (node w.tree n).kind opened (not_true _ no_dir)) small))
 
   -- ## Pairs
-  sound-read_end : (d : Descriptor) (pair side : ℕ) (messages : List Message) → EachMessage (Known g) messages → Sound g (read_end w p s e d pair side messages)
+  sound-read_end : (d : Descriptor) (pair side : ℕ) (messages : List Message) → EachMessage (Known g) messages → Sound g (read_end w p s e d.description pair side messages)
   sound-read_end d pair side [] fine =
       sound-if g (is_open w.files pair (other_side side)) (blocked w p s e (w.files.states d.description).nonblock) _ (λ _. sound-blocked (w.files.states d.description).nonblock) (sound-gives g _ _ [] (nothing 256 (omega arith)))
   sound-read_end d pair side (m ∷ messages) fine =
@@ -185,7 +185,7 @@ module _ (programs : Programs) (g : Ground) (standing : Standing programs g) (p 
       let small : m.byte < 2 ^ 32 = omega arith in
       sound-gives g _ _ _ (record { small = small; tree = standing.good.tree; table = tt; queue = tt; state = tt })
 
-  sound-sent : (d : Descriptor) (pair side : ℕ) (m : Message) → side < 2 → m.byte < 256 → IfHeld (Known g) m.passed → Sound g (sent_end w p s e d pair side m)
+  sound-sent : (d : Descriptor) (pair side : ℕ) (m : Message) → side < 2 → m.byte < 256 → IfHeld (Known g) m.passed → Sound g (sent_end w p s e d.description pair side m)
   sound-sent d pair side m low byte passed =
       sound-unless g _ _ _ _ (λ there.
       sound-if g (nat_lt (length (w.files.queue pair side)) most_messages) _ _
@@ -203,7 +203,7 @@ module _ (programs : Programs) (g : Ground) (standing : Standing programs g) (p 
   sound-received pair side number (Some d) low fine =
       sound-gives g _ _ _ (record { small = low_small number low; tree = standing.good.tree; table = (low, fine); queue = tt; state = tt })
 
-  sound-receive_end : (d : Descriptor) (pair side number : ℕ) (messages : List Message) → number < 16 → EachMessage (Known g) messages → Sound g (receive_end w p s e d pair side number messages)
+  sound-receive_end : (d : Descriptor) (pair side number : ℕ) (messages : List Message) → number < 16 → EachMessage (Known g) messages → Sound g (receive_end w p s e d.description pair side number messages)
   sound-receive_end d pair side number [] low fine = sound-unless g _ _ _ _ (λ there. sound-blocked (w.files.states d.description).nonblock)
   sound-receive_end d pair side number (m ∷ messages) low fine = sound-received pair side number m.passed low fine.1
 
@@ -231,7 +231,7 @@ module _ (programs : Programs) (g : Ground) (standing : Standing programs g) (p 
       sound-gives g _ _ _ (record {
         small = low_small number low;
         tree = truncated_is_tree f.trunc n is;
-        table = (low, opened_kept w.tree (truncated w p s e f.trunc n) n (ap is_link is), all, also);
+        table = (low, opened_kept w.tree (truncated f.trunc n) n (ap is_link is), all, also);
         queue = tt;
         state = tt;
       })))

@@ -128,16 +128,16 @@ module _ (w : World) (p : ℕ) (s : ProcessState) where
           fair-number call _ _ (λ number is. fair-unless call _ _ _ _ (λ _. fair-unless call _ _ _ _ (λ _. gives call _ _ _ (λ k. may number k (free number is)) tt)))
       fair-opened f path (Found_node n) = fair-opened_as f n (node w.tree n).kind
 
-    fair-byte : (call : Syscall) (d : Descriptor) (place : List (List ℕ)) (o : Option ℕ) → Fair call (read_byte w p s e d place o)
+    fair-byte : (call : Syscall) (d : Descriptor) (place : List (List ℕ)) (o : Option ℕ) → Fair call (read_byte w p s e d.description place o)
     fair-byte call d place None = gives call _ _ _ tt tt
     fair-byte call d place (Some byte) = gives call _ _ _ tt tt
 
-    fair-read_end : (call : Syscall) (d : Descriptor) (pair side : ℕ) (messages : List Message) → Fair call (read_end w p s e d pair side messages)
+    fair-read_end : (call : Syscall) (d : Descriptor) (pair side : ℕ) (messages : List Message) → Fair call (read_end w p s e d.description pair side messages)
     fair-read_end call d pair side [] = fair-if call _ _ _ (fair-blocked call _) (gives call _ _ _ tt tt)
     fair-read_end call d pair side (m ∷ messages) = gives call _ _ _ tt tt
 
     -- a message with what it carries
-    fair-sent : (call : Syscall) (d : Descriptor) (pair side : ℕ) (message : Message) → IfHeld (IsSent w p s call pair side) message.passed → Fair call (sent_end w p s e d pair side message)
+    fair-sent : (call : Syscall) (d : Descriptor) (pair side : ℕ) (message : Message) → IfHeld (IsSent w p s call pair side) message.passed → Fair call (sent_end w p s e d.description pair side message)
     fair-sent call d pair side message sent =
         fair-unless call _ _ _ _ (λ _. fair-if call _ _ _ (gives call _ _ _ tt sent) (fair-blocked call _))
 
@@ -145,11 +145,11 @@ module _ (w : World) (p : ℕ) (s : ProcessState) where
     fair-received call pair side number None may = fails call _ _
     fair-received call pair side number (Some d) may = gives call _ _ _ (may d refl) tt
 
-    fair-receive_end : (call : Syscall) (d : Descriptor) (pair side number : ℕ) (messages : List Message) → ((carried : Descriptor) → front_of messages ≡ Some carried → IsMade w (caller call) number carried) → Fair call (receive_end w p s e d pair side number messages)
+    fair-receive_end : (call : Syscall) (d : Descriptor) (pair side number : ℕ) (messages : List Message) → ((carried : Descriptor) → front_of messages ≡ Some carried → IsMade w (caller call) number carried) → Fair call (receive_end w p s e d.description pair side number messages)
     fair-receive_end call d pair side number [] may = fair-unless call _ _ _ _ (λ _. fair-blocked call _)
     fair-receive_end call d pair side number (m ∷ messages) may = fair-received call pair side number m.passed may
 
-    fair-write_node : (call : Syscall) (d : Descriptor) (n : ℕ) (access : Access) (byte : ℕ) → Fair call (write_node w p s e d n access byte)
+    fair-write_node : (call : Syscall) (d : Descriptor) (n : ℕ) (access : Access) (byte : ℕ) → Fair call (write_node w p s e d.description n access byte)
     fair-write_node call d n access byte =
         fair-unless call _ _ _ _ (λ _. fair-unless call _ _ _ _ (λ _. fair-unless call _ _ _ _ (λ _. fair-unless call _ _ _ _ (λ _. gives call _ _ _ tt tt))))
 
@@ -196,11 +196,11 @@ module _ (w : World) (p : ℕ) (s : ProcessState) where
     fair-renamed_from call (Found_node n) rest fair = fair n
 
     -- a descriptor's directory and file
-    fair-directory : (call : Syscall) (d : Descriptor) (rest : ℕ → Answer) → ((n : ℕ) → Fair call (rest n)) → Fair call (in_directory w p s e d rest)
+    fair-directory : (call : Syscall) (d : Descriptor) (rest : ℕ → Answer) → ((n : ℕ) → Fair call (rest n)) → Fair call (in_directory w p s e d.description rest)
     fair-directory call d rest fair =
         fair-object call _ _ _ (λ n access is. fair-unless call _ _ _ _ (λ _. fair n)) (λ pair side class is. fails call _ _)
 
-    fair-file : (call : Syscall) (d : Descriptor) (rest : ℕ → Access → Answer) → ((n : ℕ) (access : Access) → Fair call (rest n access)) → Fair call (at_file w p s e d rest)
+    fair-file : (call : Syscall) (d : Descriptor) (rest : ℕ → Access → Answer) → ((n : ℕ) (access : Access) → Fair call (rest n access)) → Fair call (at_file w p s e d.description rest)
     fair-file call d rest fair =
         fair-object call _ _ _ (λ n access is. fair-unless call _ _ _ _ (λ _. fair n access)) (λ pair side class is. fails call _ _)
 

@@ -16,7 +16,7 @@ use Rattle.fd_table.specs.OpenFiles.{OpenFiles, is_open, lowest_from, lowest_fre
 use Rattle.kernel.specs.World.{World}
 use Rattle.kernel.specs.Answers.{Event, Effect, TableChange, Same_table, Set_entry, Clear_entry, New_file, New_pair, New_process, QueueChange, Same_queue, Push, Pop, StateChange, Same_state, Set_state, Fill, Change, Answer, Fails, Waits, Gives, same, gives, does, unless, held, at_object, at_number, lost, value_of}
 use Rattle.rights.specs.Limits.{most_messages}
-use Rattle.kernel.specs.Calls.{looks, looks_twice, answer, opened, opened_as, read_byte, read_node, read_end, write_node, write_at, write_offset, sent_end, received, receive_end, looked_at, made_directory, unlinked, renamed_to, renamed_from, pair_at, blocked, in_directory, at_file, at_socket, last_if}
+use Rattle.kernel.specs.Calls.{looks, looks_twice, answer, opened, opened_as, read_byte, read_node, read_end, write_node, write_at, write_offset, sent_end, received, receive_end, looked_at, made_directory, unlinked, renamed_to, renamed_from, pair_at, blocked, in_directory, at_file, at_socket}
 use Rattle.kernel.specs.Renamings.{Renaming, SameDescription, SameFiles, renamed_object, renamed_descriptor, renamed_entry, renamed_message, renamed_messages}
 
 -- A change, and an answer, under the other numbers.
@@ -138,15 +138,15 @@ module _ (r : Renaming) (w : World) (g : OpenFiles) (alike : SameFiles r w.files
       along_path r _ _ _ (ap (λ o. at_number o more) (free-same r 16 0 (w.files.table p) (g.table p) (alike.table p)))
       (both-number r (lowest_free (w.files.table p)) rest more (λ n free. is n))
 
-  both-directory : (d : Descriptor) → SameDescription r w.files g d.description → (rest more : ℕ → Answer) → ((n : ℕ) → Matches r (rest n) (more n)) → Matches r (in_directory w p s e d rest) (in_directory other p s e (renamed_descriptor r d) more)
+  both-directory : (d : Descriptor) → SameDescription r w.files g d.description → (rest more : ℕ → Answer) → ((n : ℕ) → Matches r (rest n) (more n)) → Matches r (in_directory w p s e d.description rest) (in_directory other p s e (renamed_descriptor r d).description more)
   both-directory d twin rest more is =
       both-object d twin _ _ _ _ (λ n access. both-unless r _ _ _ _ _ (is n)) (λ pair side. fails r _ _)
 
-  both-file : (d : Descriptor) → SameDescription r w.files g d.description → (rest more : ℕ → Access → Answer) → ((n : ℕ) (access : Access) → Matches r (rest n access) (more n access)) → Matches r (at_file w p s e d rest) (at_file other p s e (renamed_descriptor r d) more)
+  both-file : (d : Descriptor) → SameDescription r w.files g d.description → (rest more : ℕ → Access → Answer) → ((n : ℕ) (access : Access) → Matches r (rest n access) (more n access)) → Matches r (at_file w p s e d.description rest) (at_file other p s e (renamed_descriptor r d).description more)
   both-file d twin rest more is =
       both-object d twin _ _ _ _ (λ n access. both-unless r _ _ _ _ _ (is n access)) (λ pair side. fails r _ _)
 
-  both-socket : (d : Descriptor) → SameDescription r w.files g d.description → (rest more : ℕ → ℕ → Answer) → ((pair side : ℕ) → Matches r (rest pair side) (more (r.pair pair) side)) → Matches r (at_socket w p s e d rest) (at_socket other p s e (renamed_descriptor r d) more)
+  both-socket : (d : Descriptor) → SameDescription r w.files g d.description → (rest more : ℕ → ℕ → Answer) → ((pair side : ℕ) → Matches r (rest pair side) (more (r.pair pair) side)) → Matches r (at_socket w p s e d.description rest) (at_socket other p s e (renamed_descriptor r d).description more)
   both-socket d twin rest more is = both-object d twin _ _ _ _ (λ n access. fails r _ _) is
 
   both-blocked : (nonblock : Bool) → Matches r (blocked w p s e nonblock) (blocked w p s e nonblock)
@@ -154,33 +154,33 @@ module _ (r : Renaming) (w : World) (g : OpenFiles) (alike : SameFiles r w.files
   both-blocked false = waits r
 
   -- ## Reads and writes
-  both-byte : (d : Descriptor) → SameDescription r w.files g d.description → (place : List (List ℕ)) (o : Option ℕ) → Matches r (read_byte w p s e d place o) (read_byte other p s e (renamed_descriptor r d) place o)
+  both-byte : (d : Descriptor) → SameDescription r w.files g d.description → (place : List (List ℕ)) (o : Option ℕ) → Matches r (read_byte w p s e d.description place o) (read_byte other p s e (renamed_descriptor r d).description place o)
   both-byte d twin place None = given r _ _ _
   both-byte d twin place (Some byte) =
       along_path r _ _ _
       (ap (λ (state : State). Gives byte (record same { state = Set_state (r.description d.description) (record state { offset = state.offset + 1 }) }) (does Reads place)) twin.state)
       (given r byte (record same { state = Set_state d.description (record (w.files.states d.description) { offset = (w.files.states d.description).offset + 1 }) }) (does Reads place))
 
-  both-read_node : (d : Descriptor) → SameDescription r w.files g d.description → (n : ℕ) (access : Access) → Matches r (read_node w p s e d n access) (read_node other p s e (renamed_descriptor r d) n access)
+  both-read_node : (d : Descriptor) → SameDescription r w.files g d.description → (n : ℕ) (access : Access) → Matches r (read_node w p s e d.description n access) (read_node other p s e (renamed_descriptor r d).description n access)
   both-read_node d twin n access =
       both-unless r _ _ _ _ _ (both-unless r _ _ _ _ _
       (along_path r _ _ _
-      (ap (λ (state : State). read_byte other p s e (renamed_descriptor r d) (node w.tree n).place (slice_get (node w.tree n).content state.offset)) twin.state)
+      (ap (λ (state : State). read_byte other p s e (renamed_descriptor r d).description (node w.tree n).place (slice_get (node w.tree n).content state.offset)) twin.state)
       (both-byte d twin (node w.tree n).place (slice_get (node w.tree n).content (w.files.states d.description).offset))))
 
-  both-write_at : (d : Descriptor) → SameDescription r w.files g d.description → (n offset byte : ℕ) → Matches r (write_at w p s e d n offset byte) (write_at other p s e (renamed_descriptor r d) n offset byte)
+  both-write_at : (d : Descriptor) → SameDescription r w.files g d.description → (n offset byte : ℕ) → Matches r (write_at w p s e d.description n offset byte) (write_at other p s e (renamed_descriptor r d).description n offset byte)
   both-write_at d twin n offset byte =
       both-unless r _ _ _ _ _ (both-unless r _ _ _ _ _
       (along_path r _ _ _
       (ap (λ (state : State). Gives 1 (record same { tree = Fill n (written (node w.tree n).content offset byte); state = Set_state (r.description d.description) (record state { offset = offset + 1 }) }) (does Writes (node w.tree n).place)) twin.state)
       (given r 1 (record same { tree = Fill n (written (node w.tree n).content offset byte); state = Set_state d.description (record (w.files.states d.description) { offset = offset + 1 }) }) (does Writes (node w.tree n).place))))
 
-  both-write_node : (d : Descriptor) → SameDescription r w.files g d.description → (n : ℕ) (access : Access) (byte : ℕ) → Matches r (write_node w p s e d n access byte) (write_node other p s e (renamed_descriptor r d) n access byte)
+  both-write_node : (d : Descriptor) → SameDescription r w.files g d.description → (n : ℕ) (access : Access) (byte : ℕ) → Matches r (write_node w p s e d.description n access byte) (write_node other p s e (renamed_descriptor r d).description n access byte)
   both-write_node d twin n access byte =
       both-unless r _ _ _ _ _ (both-unless r _ _ _ _ _
       (along_path r _ _ _
-      (ap (λ (state : State). write_at other p s e (renamed_descriptor r d) n (write_offset w p s e state (node w.tree n).content) byte) twin.state)
-      (both-write_at d twin n (write_offset w p s e (w.files.states d.description) (node w.tree n).content) byte)))
+      (ap (λ (state : State). write_at other p s e (renamed_descriptor r d).description n (write_offset state (node w.tree n).content) byte) twin.state)
+      (both-write_at d twin n (write_offset (w.files.states d.description) (node w.tree n).content) byte)))
 
   -- ## Pairs
   abbrev send_with : Bool → ℕ → Bool → ℕ → ℕ → Message → Answer
@@ -188,17 +188,17 @@ module _ (r : Renaming) (w : World) (g : OpenFiles) (alike : SameFiles r w.files
       unless there EPIPE Refused
       (cond (nat_lt count most_messages) (Gives 1 (record same { queue = Push pair side m }) []) (blocked w p s e nonblock))
 
-  both-sent : (d : Descriptor) → SameDescription r w.files g d.description → (pair side : ℕ) (m : Message) → Matches r (sent_end w p s e d pair side m) (sent_end other p s e (renamed_descriptor r d) (r.pair pair) side (renamed_message r m))
+  both-sent : (d : Descriptor) → SameDescription r w.files g d.description → (pair side : ℕ) (m : Message) → Matches r (sent_end w p s e d.description pair side m) (sent_end other p s e (renamed_descriptor r d).description (r.pair pair) side (renamed_message r m))
   both-sent d twin pair side m =
       let there : is_open g (r.pair pair) (other_side side) ≡ is_open w.files pair (other_side side) = sym (opens pair (other_side side)) in
       let count : length (g.queue (r.pair pair) side) ≡ length (w.files.queue pair side) = ap length (alike.queue pair side) ∙ length-same r (w.files.queue pair side) in
-      along_path r (sent_end w p s e d pair side m)
+      along_path r (sent_end w p s e d.description pair side m)
       (send_with (is_open w.files pair (other_side side)) (length (w.files.queue pair side)) (w.files.states d.description).nonblock (r.pair pair) side (renamed_message r m))
-      (sent_end other p s e (renamed_descriptor r d) (r.pair pair) side (renamed_message r m))
+      (sent_end other p s e (renamed_descriptor r d).description (r.pair pair) side (renamed_message r m))
       (λ i. send_with (there i) (count i) (twin.state i).nonblock (r.pair pair) side (renamed_message r m))
       (both-unless r _ _ _ _ _ (both-if r (nat_lt (length (w.files.queue pair side)) most_messages) _ _ _ _ (given r 1 _ []) (both-blocked (w.files.states d.description).nonblock)))
 
-  both-read_end : (d : Descriptor) → SameDescription r w.files g d.description → (pair side : ℕ) (messages : List Message) → Matches r (read_end w p s e d pair side messages) (read_end other p s e (renamed_descriptor r d) (r.pair pair) side (renamed_messages r messages))
+  both-read_end : (d : Descriptor) → SameDescription r w.files g d.description → (pair side : ℕ) (messages : List Message) → Matches r (read_end w p s e d.description pair side messages) (read_end other p s e (renamed_descriptor r d).description (r.pair pair) side (renamed_messages r messages))
   both-read_end d twin pair side [] =
       along_path r _ _ _
       (λ i. cond (sym (opens pair (other_side side)) i) (blocked w p s e (twin.state i).nonblock) (gives 256))
@@ -209,7 +209,7 @@ module _ (r : Renaming) (w : World) (g : OpenFiles) (alike : SameFiles r w.files
   both-received pair side number None = fails r _ _
   both-received pair side number (Some d) = given r _ _ _
 
-  both-receive_end : (d : Descriptor) → SameDescription r w.files g d.description → (pair side number : ℕ) (messages : List Message) → Matches r (receive_end w p s e d pair side number messages) (receive_end other p s e (renamed_descriptor r d) (r.pair pair) side number (renamed_messages r messages))
+  both-receive_end : (d : Descriptor) → SameDescription r w.files g d.description → (pair side number : ℕ) (messages : List Message) → Matches r (receive_end w p s e d.description pair side number messages) (receive_end other p s e (renamed_descriptor r d).description (r.pair pair) side number (renamed_messages r messages))
   both-receive_end d twin pair side number [] =
       along_path r _ _ _
       (λ i. unless (sym (opens pair (other_side side)) i) EINVAL Refused (blocked w p s e (twin.state i).nonblock))
@@ -281,7 +281,7 @@ module _ (r : Renaming) (w : World) (g : OpenFiles) (alike : SameFiles r w.files
       both-entry (value_of s x) _ _ (λ d twin. both-unless r _ _ _ _ _ (both-object d twin _ _ _ _
       (λ n access. both-read_node d twin n access)
       (λ pair side.
-      along_path r _ _ _ (ap (read_end other p s e (renamed_descriptor r d) (r.pair pair) side) (alike.queue pair (other_side side)))
+      along_path r _ _ _ (ap (read_end other p s e (renamed_descriptor r d).description (r.pair pair) side) (alike.queue pair (other_side side)))
       (both-read_end d twin pair side (w.files.queue pair (other_side side))))))
   matches (Write x v) =
       both-entry (value_of s x) _ _ (λ d twin. both-unless r _ _ _ _ _ (both-object d twin _ _ _ _
@@ -292,7 +292,7 @@ module _ (r : Renaming) (w : World) (g : OpenFiles) (alike : SameFiles r w.files
       (both-socket d twin _ _ (λ pair side. both-sent d twin pair side (record { byte = value_of s v % 256; passed = Some passed })))))
   matches (Recvfd x) =
       both-entry (value_of s x) _ _ (λ d twin. both-unless r _ _ _ _ _ (both-socket d twin _ _ (λ pair side. both-free _ _ (λ number.
-      along_path r _ _ _ (ap (receive_end other p s e (renamed_descriptor r d) (r.pair pair) side number) (alike.queue pair (other_side side)))
+      along_path r _ _ _ (ap (receive_end other p s e (renamed_descriptor r d).description (r.pair pair) side number) (alike.queue pair (other_side side)))
       (both-receive_end d twin pair side number (w.files.queue pair (other_side side)))))))
   matches (Lseek x v) =
       both-entry (value_of s x) _ _ (λ d twin. both-unless r _ _ _ _ _ (both-file d twin _ _ (λ n access. both-unless r _ _ _ _ _

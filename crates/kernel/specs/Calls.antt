@@ -38,6 +38,19 @@ kind_number File = 1
 kind_number Dir = 2
 kind_number Link = 3
 
+-- an open that empties its file, and what that does
+abbrev pub truncated : Bool → ℕ → TreeChange
+truncated true n = Fill n []
+truncated false n = Same_tree
+
+abbrev pub truncates : Bool → List (List ℕ) → List Effect
+truncates true place = does Writes place
+truncates false place = []
+
+-- where a write goes: to the end with append, else to the offset
+abbrev pub write_offset : State → List ℕ → ℕ
+write_offset state content = if state.append then length content else state.offset
+
 -- In this world, process p, which stands at s, makes its call at this event.
 module _ (w : World) (p : ℕ) (s : ProcessState) (e : Event) where
   abbrev pub at : ℕ → Node
@@ -46,8 +59,8 @@ module _ (w : World) (p : ℕ) (s : ProcessState) (e : Event) where
   abbrev pub entry : Operand → Option Descriptor
   entry x = w.files.table p (value_of s x)
 
-  abbrev pub state_of : Descriptor → State
-  state_of d = w.files.states d.description
+  abbrev pub state_of : ℕ → State
+  state_of description = w.files.states description
 
   abbrev pub free : Option ℕ
   free = lowest_free (w.files.table p)
@@ -64,23 +77,23 @@ module _ (w : World) (p : ℕ) (s : ProcessState) (e : Event) where
   abbrev pub unrefused : Errno → Answer → Answer
   unrefused errno rest = unless (not e.refuse) errno Refused rest
 
-  -- the descriptor's directory (openat(2), ENOTDIR)
-  abbrev pub in_directory : Descriptor → (ℕ → Answer) → Answer
-  in_directory d rest =
-      at_object (w.files.objects d.description)
+  -- the description's directory (openat(2), ENOTDIR)
+  abbrev pub in_directory : ℕ → (ℕ → Answer) → Answer
+  in_directory description rest =
+      at_object (w.files.objects description)
       (λ n access. unless (is_dir (at n).kind) ENOTDIR errors.Kind (rest n))
       (λ pair side. Fails ENOTDIR errors.Kind)
 
-  -- the descriptor's file
-  abbrev pub at_file : Descriptor → (ℕ → Access → Answer) → Answer
-  at_file d rest =
-      at_object (w.files.objects d.description)
+  -- the description's file
+  abbrev pub at_file : ℕ → (ℕ → Access → Answer) → Answer
+  at_file description rest =
+      at_object (w.files.objects description)
       (λ n access. unless (is_file (at n).kind) EINVAL errors.Kind (rest n access))
       (λ pair side. Fails EINVAL errors.Kind)
 
-  -- the descriptor's socket
-  abbrev pub at_socket : Descriptor → (ℕ → ℕ → Answer) → Answer
-  at_socket d rest = at_object (w.files.objects d.description) (λ n access. Fails ENOTSOCK errors.Kind) rest
+  -- the description's socket
+  abbrev pub at_socket : ℕ → (ℕ → ℕ → Answer) → Answer
+  at_socket description rest = at_object (w.files.objects description) (λ n access. Fails ENOTSOCK errors.Kind) rest
 
   -- a call that can't go on waits, or fails if its socket is told not to block (fcntl(2), O_NONBLOCK)
   abbrev pub blocked : Bool → Answer
@@ -103,14 +116,6 @@ module _ (w : World) (p : ℕ) (s : ProcessState) (e : Event) where
   abbrev pub new_file : OpenRequest → ℕ → ℕ → ℕ → ℕ → TreeChange → Change
   new_file f rights fcntls number n tree =
       record same { tree = tree; table = New_file number n (access_for f) f.append rights fcntls }
-
-  abbrev pub truncated : Bool → ℕ → TreeChange
-  truncated true n = Fill n []
-  truncated false n = Same_tree
-
-  abbrev pub truncates : Bool → List (List ℕ) → List Effect
-  truncates true place = does Writes place
-  truncates false place = []
 
   abbrev pub opened_as : OpenRequest → ℕ → ℕ → ℕ → Kind → Answer
   opened_as f rights fcntls n Link = Fails ELOOP Path
@@ -137,49 +142,66 @@ module _ (w : World) (p : ℕ) (s : ProcessState) (e : Event) where
   -- ## read (read(2), recv(2))
   -- A byte of a file, or 256 at its end; a directory isn't read. A message of a socket gives its byte, and
   -- the descriptor that it carries is dropped.
-  abbrev pub read_byte : Descriptor → List (List ℕ) → Option ℕ → Answer
-  read_byte d place None = Gives 256 same (does Reads place)
-  read_byte d place (Some byte) =
-      Gives byte (record same { state = Set_state d.description (record (state_of d) { offset = (state_of d).offset + 1 }) }) (does Reads place)
+  abbrev pub read_byte : ℕ → List (List ℕ) → Option ℕ → Answer
+  read_byte description place None = Gives 256 same (does Reads place)
+  read_byte description place (Some byte) =
+      Gives byte (record same { state = Set_state description (record (state_of description) { offset = (state_of description).offset + 1 }) }) (does Reads place)
 
-  abbrev pub read_node : Descriptor → ℕ → Access → Answer
-  read_node d n access =
+  abbrev pub read_node : ℕ → ℕ → Access → Answer
+  read_node description n access =
       unless (not (is_dir (at n).kind)) EISDIR errors.Kind
       (unless access.readable EBADF errors.Access
-      (read_byte d (at n).place (slice_get (at n).content (state_of d).offset)))
+      (read_byte description (at n).place (slice_get (at n).content (state_of description).offset)))
 
-  abbrev pub read_end : Descriptor → ℕ → ℕ → List Message → Answer
-  read_end d pair side [] = if is_open w.files pair (other_side side) then blocked (state_of d).nonblock else gives 256
-  read_end d pair side (m ∷ messages) = Gives m.byte (record same { queue = Pop pair (other_side side) }) []
+  abbrev pub read_end : ℕ → ℕ → ℕ → List Message → Answer
+  read_end description pair side [] = if is_open w.files pair (other_side side) then blocked (state_of description).nonblock else gives 256
+  read_end description pair side (m ∷ messages) = Gives m.byte (record same { queue = Pop pair (other_side side) }) []
 
   -- ## write (write(2), send(2))
   -- One byte at the offset, or at the end with append; a gap is filled with zeros.
-  abbrev pub write_offset : State → List ℕ → ℕ
-  write_offset state content = if state.append then length content else state.offset
-
-  abbrev pub write_at : Descriptor → ℕ → ℕ → ℕ → Answer
-  write_at d n offset byte =
+  abbrev pub write_at : ℕ → ℕ → ℕ → ℕ → Answer
+  write_at description n offset byte =
       unless (nat_lt offset most_bytes) EFBIG Full
       (unrefused ENOSPC
       (Gives 1
       (record same {
         tree = Fill n (written (at n).content offset byte);
-        state = Set_state d.description (record (state_of d) { offset = offset + 1 });
+        state = Set_state description (record (state_of description) { offset = offset + 1 });
       })
       (does Writes (at n).place)))
 
-  abbrev pub write_node : Descriptor → ℕ → Access → ℕ → Answer
-  write_node d n access byte =
+  abbrev pub write_node : ℕ → ℕ → Access → ℕ → Answer
+  write_node description n access byte =
       unless (not (is_dir (at n).kind)) EISDIR errors.Kind
-      (unless access.writable EBADF errors.Access (write_at d n (write_offset (state_of d) (at n).content) byte))
+      (unless access.writable EBADF errors.Access (write_at description n (write_offset (state_of description) (at n).content) byte))
 
   -- A message goes behind what the side has sent, if the other end is open and there is room. (EPIPE)
-  abbrev pub sent_end : Descriptor → ℕ → ℕ → Message → Answer
-  sent_end d pair side message =
+  abbrev pub sent_end : ℕ → ℕ → ℕ → Message → Answer
+  sent_end description pair side message =
       unless (is_open w.files pair (other_side side)) EPIPE Refused
       (if nat_lt (length (w.files.queue pair side)) most_messages
       then Gives 1 (record same { queue = Push pair side message }) []
-      else blocked (state_of d).nonblock)
+      else blocked (state_of description).nonblock)
+
+  -- ## lseek, ftruncate and fcntl (lseek(2), ftruncate(2), fcntl(2))
+  -- The offset is set, at most to a file's greatest length.
+  abbrev pub seeks : ℕ → ℕ → Answer
+  seeks description offset =
+      unless (nat_le offset most_bytes) EINVAL Refused
+      (Gives offset (record same { state = Set_state description (record (state_of description) { offset = offset }) }) [])
+
+  -- The file gets another length.
+  abbrev pub resizes : ℕ → Access → ℕ → Answer
+  resizes n access len =
+      unless access.writable EINVAL errors.Access
+      (unless (nat_le len most_bytes) EFBIG Full
+      (Gives 0 (record same { tree = Fill n (resized (at n).content len) }) (does Writes (at n).place)))
+
+  -- The status flags are set, if the number is one of flags.
+  abbrev pub sets_flags : ℕ → ℕ → Answer
+  sets_flags description flags =
+      unless (nat_le flags 3) EINVAL Refused
+      (Gives 0 (record same { state = Set_state description (with_status (state_of description) flags) }) [])
 
   -- ## recvfd (recvmsg(2), SCM_RIGHTS)
   -- The front message's descriptor, with the rights that it has; a message without one stays.
@@ -188,10 +210,10 @@ module _ (w : World) (p : ℕ) (s : ProcessState) (e : Event) where
   received pair side number (Some d) =
       Gives number (record same { queue = Pop pair (other_side side); table = Set_entry number d }) []
 
-  abbrev pub receive_end : Descriptor → ℕ → ℕ → ℕ → List Message → Answer
-  receive_end d pair side number [] =
-      unless (is_open w.files pair (other_side side)) EINVAL Refused (blocked (state_of d).nonblock)
-  receive_end d pair side number (m ∷ messages) = received pair side number m.passed
+  abbrev pub receive_end : ℕ → ℕ → ℕ → ℕ → List Message → Answer
+  receive_end description pair side number [] =
+      unless (is_open w.files pair (other_side side)) EINVAL Refused (blocked (state_of description).nonblock)
+  receive_end description pair side number (m ∷ messages) = received pair side number m.passed
 
   -- ## fstat, fstatat and stat (fstat(2))
   abbrev pub looked : ℕ → Answer
@@ -271,36 +293,31 @@ module _ (w : World) (p : ℕ) (s : ProcessState) (e : Event) where
   answer (Open path f) = outside_mode (looks 0 Global path (last_if f.create) (opened f all_rights all_commands path))
   answer (Openat x path f) =
       through (first_need (Openat x path f) f) (entry x) (λ d.
-      in_directory d (λ n. looks n Beneath path (last_if f.create) (opened f d.rights d.fcntls path)))
+      in_directory d.description (λ n. looks n Beneath path (last_if f.create) (opened f d.rights d.fcntls path)))
   answer (Read x) =
       through (first_need (Read x) no_request) (entry x) (λ d.
-      at_object (w.files.objects d.description) (read_node d)
-      (λ pair side. read_end d pair side (w.files.queue pair (other_side side))))
+      at_object (w.files.objects d.description) (read_node d.description)
+      (λ pair side. read_end d.description pair side (w.files.queue pair (other_side side))))
   answer (Write x v) =
       through (first_need (Write x v) no_request) (entry x) (λ d.
       at_object (w.files.objects d.description)
-      (λ n access. write_node d n access (value_of s v % 256))
-      (λ pair side. unrefused ENOSPC (sent_end d pair side (record { byte = value_of s v % 256; passed = None }))))
+      (λ n access. write_node d.description n access (value_of s v % 256))
+      (λ pair side. unrefused ENOSPC (sent_end d.description pair side (record { byte = value_of s v % 256; passed = None }))))
   answer (Sendfd x y v) =
       held (entry x) (λ d.
       held (entry y) (λ passed.
       granted (first_need (Sendfd x y v) no_request) d
-      (at_socket d (λ pair side. sent_end d pair side (record { byte = value_of s v % 256; passed = Some passed })))))
+      (at_socket d.description (λ pair side. sent_end d.description pair side (record { byte = value_of s v % 256; passed = Some passed })))))
   answer (Recvfd x) =
       through (first_need (Recvfd x) no_request) (entry x) (λ d.
-      at_socket d (λ pair side.
-      at_number free (λ number. receive_end d pair side number (w.files.queue pair (other_side side)))))
+      at_socket d.description (λ pair side.
+      at_number free (λ number. receive_end d.description pair side number (w.files.queue pair (other_side side)))))
   answer (Lseek x v) =
       through (first_need (Lseek x v) no_request) (entry x) (λ d.
-      at_file d (λ n access.
-      unless (nat_le (value_of s v) most_bytes) EINVAL Refused
-      (Gives (value_of s v) (record same { state = Set_state d.description (record (state_of d) { offset = value_of s v }) }) [])))
+      at_file d.description (λ n access. seeks d.description (value_of s v)))
   answer (Ftruncate x v) =
       through (first_need (Ftruncate x v) no_request) (entry x) (λ d.
-      at_file d (λ n access.
-      unless access.writable EINVAL errors.Access
-      (unless (nat_le (value_of s v) most_bytes) EFBIG Full
-      (Gives 0 (record same { tree = Fill n (resized (at n).content (value_of s v)) }) (does Writes (at n).place)))))
+      at_file d.description (λ n access. resizes n access (value_of s v)))
   answer (Fsync x) =
       through (first_need (Fsync x) no_request) (entry x) (λ d.
       at_object (w.files.objects d.description) (λ n access. gives 0) (λ pair side. Fails EINVAL errors.Kind))
@@ -309,34 +326,29 @@ module _ (w : World) (p : ℕ) (s : ProcessState) (e : Event) where
       at_object (w.files.objects d.description) (λ n access. looked n) (λ pair side. gives 3))
   answer (Fcntl_getfl x) =
       through (first_need (Fcntl_getfl x) no_request) (entry x) (λ d.
-      commanded getfl_command d (gives (status_number (state_of d))))
+      commanded getfl_command d (gives (status_number (state_of d.description))))
   answer (Fcntl_setfl x v) =
       through (first_need (Fcntl_setfl x v) no_request) (entry x) (λ d.
-      commanded setfl_command d
-      (unless (nat_le (value_of s v) 3) EINVAL Refused
-      (Gives 0
-      (record same {
-        state = Set_state d.description (with_status (state_of d) (value_of s v));
-      }) [])))
+      commanded setfl_command d (sets_flags d.description (value_of s v)))
   answer (Fstatat x path) =
       through (first_need (Fstatat x path) no_request) (entry x) (λ d.
-      in_directory d (λ n. looks n Beneath path Follow looked_at))
+      in_directory d.description (λ n. looks n Beneath path Follow looked_at))
   answer (Stat path) = outside_mode (looks 0 Global path Follow looked_at)
   answer (Mkdirat x path) =
       through (first_need (Mkdirat x path) no_request) (entry x) (λ d.
-      in_directory d (λ n. looks n Beneath path Keep (made_directory path)))
+      in_directory d.description (λ n. looks n Beneath path Keep (made_directory path)))
   answer (Mkdir path) = outside_mode (looks 0 Global path Keep (made_directory path))
   answer (Unlinkat x path directory) =
       through (first_need (Unlinkat x path directory) no_request) (entry x) (λ d.
-      in_directory d (λ n. looks n Beneath path Keep (unlinked directory)))
+      in_directory d.description (λ n. looks n Beneath path Keep (unlinked directory)))
   answer (Unlink path directory) = outside_mode (looks 0 Global path Keep (unlinked directory))
   answer (Renameat x from y to) =
       held (entry x) (λ d.
       held (entry y) (λ target.
       granted (first_need (Renameat x from y to) no_request) d
       (granted (needs_of (called (Renameat x from y to)) no_request Second false) target
-      (in_directory d (λ n.
-      in_directory target (λ m.
+      (in_directory d.description (λ n.
+      in_directory target.description (λ m.
       looks_twice n from m to (λ source place.
       renamed_from source (λ k. renamed_to (Renameat x from y to) target k to place))))))))
   answer (Dup x) = held (entry x) (λ d. at_number free (λ number. Gives number (record same { table = Set_entry number d }) []))

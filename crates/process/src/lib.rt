@@ -10,7 +10,7 @@ use std::marker::Model;
 pub const REGISTERS: usize = 8;
 
 /// A process. Its mode goes from off to on and never back. (cap_enter(2))
-#[derive(Clone, Copy, PartialEq, Eq)]
+#[derive(Clone, PartialEq, Eq, Drop)]
 pub struct Process {
     /// The program's place in the task.
     pub program: u8,

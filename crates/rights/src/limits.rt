@@ -16,10 +16,10 @@ pub const MAX_PATH: usize = 1023;
 pub const MAX_LINKS: u8 = 32;
 
 /// Processes made in a run, those that have ended counted.
-pub const MAX_PROCESSES: u8 = 16;
+pub const MAX_PROCESSES: usize = 16;
 
 /// Descriptors of one process.
-pub const MAX_DESCRIPTORS: u8 = 16;
+pub const MAX_DESCRIPTORS: usize = 16;
 
 /// Messages of one queue.
 pub const MAX_MESSAGES: usize = 16;

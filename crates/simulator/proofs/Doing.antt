@@ -4,7 +4,9 @@ use Rattle.std.specs.Prelude.{slice_set, Option, Some, None, Result, Ok, Err, If
 use Rattle.std.specs.List.{slice_get, list_all}
 use Rattle.std.specs.Option.{option_map}
 use Rattle.std.proofs.lemmas.Bool.{leb-true}
-use Rattle.std.proofs.lemmas.Option.{slice_get_within}
+use Rattle.std.proofs.Math.ListN.{get_or}
+use Rattle.std.proofs.lemmas.List.{set-get_or}
+use Rattle.std.proofs.lemmas.Option.{slice_get_within, get_or_from_slice_get, slice_get-get_or}
 use Rattle.rights.proofs.Tests.{both_left}
 use Rattle.process.specs.State.{ProcessState}
 use Rattle.prog_asm.specs.Programs.{Instruction, Set, Mov, Add, In, Jmp, Jeq, Jlt, Halt, Invoke, is_instruction, is_last}
@@ -15,11 +17,11 @@ use Rattle.kernel.specs.Alike.{AlikeWorlds}
 use Rattle.kernel.specs.WellFormed.{IsCode, IsPoint, IsWellFormed}
 use Rattle.kernel.proofs.Fresh.{fresh_some}
 use Rattle.kernel.proofs.Points.{placed}
-use Rattle.syscalls.specs.MayCall.{CallComes, IsCall, MayBeCalled}
+use Rattle.syscalls.specs.MayCall.{CallComes, IsCall, MayCall}
 use Rattle.syscalls.specs.Shows.{Shown, shown}
 use Rattle.syscalls.proofs.Keeping.{alike_refl}
 use Rattle.simulator.specs.Lines.{line_at, shown_step}
-use Rattle.simulator.specs.Steps.{Calls, DoesAs, Ends, Executes, Moves, NeedsNext, StandsAt, Steps, action}
+use Rattle.simulator.specs.Steps.{Calls, DoesAs, Ends, Executes, Moves, NeedsNext, StandsAt, Steps, acted_on, action}
 
 -- what holds of a value holds of it further
 pub if_ok_so : {A E : Type 0} (r : Result A E) (P Q : A → Type 0) → ((x : A) → P x → Q x) → IfOk r P → IfOk r Q
@@ -39,79 +41,114 @@ point_there code k there = by_answer (slice_get code k) refl there
     by_answer None is there = absurd there
     by_answer (Some i) is there = slice_get_within code k i is
 
-next_below : (w : World) (p : ℕ) (s : ProcessState) (i : Instruction) → StandsAt w p s i → is_last i ≡ false → s.point + 1 < 256
-next_below w p s i at on =
-    let code = at.programs s.program in
-    let there : s.point + 1 < length code = point_there code (s.point + 1) ((placed code s.point i (at.valid s.program) at.here).next on) in
-    let few : length code ≤ 256 = few_points code (at.valid s.program) in
+next_below : (w : World) (p : ℕ) (i : Instruction) → (at : StandsAt w p i) → is_last i ≡ false → at.process.point + 1 < 256
+next_below w p i at on =
+    let code = at.programs at.process.program in
+    let there : at.process.point + 1 < length code = point_there code (at.process.point + 1) ((placed code at.process.point i (at.valid at.process.program) at.here).next on) in
+    let few : length code ≤ 256 = few_points code (at.valid at.process.program) in
     omega arith
 
-pub needs_next : (w : World) (p : ℕ) (s : ProcessState) (i : Instruction) → StandsAt w p s i → NeedsNext i (s.point + 1 < 256)
-needs_next w p s (Set r value) at = next_below w p s _ at refl
-needs_next w p s (Mov r source) at = next_below w p s _ at refl
-needs_next w p s (Add r addend) at = next_below w p s _ at refl
-needs_next w p s (In r) at = next_below w p s _ at refl
-needs_next w p s (Jmp target) at = tt
-needs_next w p s (Jeq r value target) at = next_below w p s _ at refl
-needs_next w p s (Jlt r value target) at = next_below w p s _ at refl
-needs_next w p s Halt at = tt
-needs_next w p s (Invoke call otherwise) at = next_below w p s _ at refl
+needs_there : (w : World) (p : ℕ) (i : Instruction) → (at : StandsAt w p i) → NeedsNext i (at.process.point + 1 < 256)
+needs_there w p (Set r value) at = next_below w p _ at refl
+needs_there w p (Mov r source) at = next_below w p _ at refl
+needs_there w p (Add r addend) at = next_below w p _ at refl
+needs_there w p (In r) at = next_below w p _ at refl
+needs_there w p (Jmp target) at = tt
+needs_there w p (Jeq r value target) at = next_below w p _ at refl
+needs_there w p (Jlt r value target) at = next_below w p _ at refl
+needs_there w p Halt at = tt
+needs_there w p (Invoke call otherwise) at = next_below w p _ at refl
 
 -- ## Processes
-pub made_within : (w : World) (p : ℕ) (s : ProcessState) (i : Instruction) → StandsAt w p s i → p < length w.processes
-made_within w p s i at = slice_get_within w.processes p s at.made
+-- what stands at a number is what the list gives there, and put back it changes nothing
+pub stands : (processes : List ProcessState) (p : ℕ) (s x : ProcessState) → slice_get processes p ≡ Some s → x ≡ get_or processes p x → x ≡ s
+stands processes p s x made read = read ∙ get_or_from_slice_get processes p s x made
 
-pub made_few : (w : World) (p : ℕ) (s : ProcessState) (i : Instruction) → StandsAt w p s i → p < 16
-made_few w p s i at =
-    let low : p < length w.processes = made_within w p s i at in
+pub put_back : (processes : List ProcessState) (p : ℕ) (s : ProcessState) → slice_get processes p ≡ Some s → slice_set processes p s ≡ processes
+put_back processes p s made = ap (slice_set processes p) (sym (get_or_from_slice_get processes p s s made)) ∙ set-get_or processes p s
+
+pub made_at : (processes : List ProcessState) (p : ℕ) (x : ProcessState) → p < length processes → x ≡ get_or processes p x → slice_get processes p ≡ Some x
+made_at processes p x there read = slice_get-get_or processes p x there ∙ ap Some (sym read)
+
+pub needs_next : (w : World) (p : ℕ) (i : Instruction) (x : ProcessState) → StandsAt w p i → x ≡ get_or w.processes p x → NeedsNext i (x.point + 1 < 256)
+needs_next w p i x at read = subst (λ (y : ProcessState). NeedsNext i (y.point + 1 < 256)) (sym (stands w.processes p at.process x at.made read)) (needs_there w p i at)
+
+pub made_within : (w : World) (p : ℕ) (i : Instruction) → StandsAt w p i → p < length w.processes
+made_within w p i at = slice_get_within w.processes p at.process at.made
+
+pub made_few : (w : World) (p : ℕ) (i : Instruction) → StandsAt w p i → p < 16
+made_few w p i at =
+    let low : p < length w.processes = made_within w p i at in
     let few : length w.processes ≤ 16 = at.good.world.few in
     omega arith
 
-pub is_call : (s : ProcessState) (input : ℕ) (i : Instruction) → Calls ≡ action s input i → IsCall i
-is_call s input (Set r value) is = absurd cc
-is_call s input (Mov r source) is = absurd cc
-is_call s input (Add r addend) is = absurd cc
-is_call s input (In r) is = absurd cc
-is_call s input (Jmp target) is = absurd cc
-is_call s input (Jeq r value target) is = absurd cc
-is_call s input (Jlt r value target) is = absurd cc
-is_call s input Halt is = absurd cc
-is_call s input (Invoke call otherwise) is = tt
+-- an instruction that ends its process, or that is a call, leaves the world for others to change
+module _ (w : World) (p : ℕ) (x next : ProcessState) (input : ℕ) (read : x ≡ get_or w.processes p x) where
+  unchanged : (i : Instruction) → StandsAt w p i → acted_on x input i ≡ x → next ≡ acted_on x input i → slice_set w.processes p next ≡ w.processes
+  unchanged i at stays is =
+      ap (slice_set w.processes p) (is ∙ stays ∙ stands w.processes p at.process x at.made read) ∙ put_back w.processes p at.process at.made
 
-pub may_be_called : (w : World) (p input : ℕ) (s : ProcessState) (i : Instruction) → StandsAt w p s i → Calls ≡ action s input i → MayBeCalled w p
-may_be_called w p input s (Set r value) at is = absurd cc
-may_be_called w p input s (Mov r source) at is = absurd cc
-may_be_called w p input s (Add r addend) at is = absurd cc
-may_be_called w p input s (In r) at is = absurd cc
-may_be_called w p input s (Jmp target) at is = absurd cc
-may_be_called w p input s (Jeq r value target) at is = absurd cc
-may_be_called w p input s (Jlt r value target) at is = absurd cc
-may_be_called w p input s Halt at is = absurd cc
-may_be_called w p input s (Invoke call otherwise) at is = record {
-  process = s;
-  may = record { programs = at.programs; good = at.good; made = at.made; next = next_below w p s _ at refl };
-}
+  pub ends_unchanged : (i : Instruction) → StandsAt w p i → Ends ≡ action i → next ≡ acted_on x input i → slice_set w.processes p next ≡ w.processes
+  ends_unchanged (Set r value) at ends is = absurd cc
+  ends_unchanged (Mov r source) at ends is = absurd cc
+  ends_unchanged (Add r addend) at ends is = absurd cc
+  ends_unchanged (In r) at ends is = absurd cc
+  ends_unchanged (Jmp target) at ends is = absurd cc
+  ends_unchanged (Jeq r value target) at ends is = absurd cc
+  ends_unchanged (Jlt r value target) at ends is = absurd cc
+  ends_unchanged Halt at ends is = unchanged Halt at refl is
+  ends_unchanged (Invoke call otherwise) at ends is = absurd cc
+
+  pub calls_unchanged : (i : Instruction) → StandsAt w p i → Calls ≡ action i → next ≡ acted_on x input i → slice_set w.processes p next ≡ w.processes
+  calls_unchanged (Set r value) at calls is = absurd cc
+  calls_unchanged (Mov r source) at calls is = absurd cc
+  calls_unchanged (Add r addend) at calls is = absurd cc
+  calls_unchanged (In r) at calls is = absurd cc
+  calls_unchanged (Jmp target) at calls is = absurd cc
+  calls_unchanged (Jeq r value target) at calls is = absurd cc
+  calls_unchanged (Jlt r value target) at calls is = absurd cc
+  calls_unchanged Halt at calls is = absurd cc
+  calls_unchanged (Invoke call otherwise) at calls is = unchanged (Invoke call otherwise) at refl is
+
+pub is_call : (i : Instruction) → Calls ≡ action i → IsCall i
+is_call (Set r value) is = absurd cc
+is_call (Mov r source) is = absurd cc
+is_call (Add r addend) is = absurd cc
+is_call (In r) is = absurd cc
+is_call (Jmp target) is = absurd cc
+is_call (Jeq r value target) is = absurd cc
+is_call (Jlt r value target) is = absurd cc
+is_call Halt is = absurd cc
+is_call (Invoke call otherwise) is = tt
+
+pub may_call : (w : World) (p : ℕ) (i : Instruction) → StandsAt w p i → Calls ≡ action i → MayCall w p
+may_call w p (Set r value) at is = absurd cc
+may_call w p (Mov r source) at is = absurd cc
+may_call w p (Add r addend) at is = absurd cc
+may_call w p (In r) at is = absurd cc
+may_call w p (Jmp target) at is = absurd cc
+may_call w p (Jeq r value target) at is = absurd cc
+may_call w p (Jlt r value target) at is = absurd cc
+may_call w p Halt at is = absurd cc
+may_call w p (Invoke call otherwise) at is = record { programs = at.programs; good = at.good; process = at.process; made = at.made; next = next_below w p _ at refl }
 
 -- ## Instructions that are no calls
-alike_world : (w : World) (p : ℕ) (s : ProcessState) (i : Instruction) → StandsAt w p s i → (ps : List ProcessState) → AlikeWorlds (record w { processes = ps }) (record w { processes = ps })
-alike_world w p s i at ps = record { tree = refl; processes = refl; files = alike_refl w.files at.good.world.idle }
+alike_world : (w : World) (p : ℕ) (i : Instruction) → StandsAt w p i → (ps : List ProcessState) → AlikeWorlds (record w { processes = ps }) (record w { processes = ps })
+alike_world w p i at ps = record { tree = refl; processes = refl; files = alike_refl w.files at.good.world.idle }
 
-moves_same : (s t : ProcessState) → Moves s ≡ Moves t → t ≡ s
-moves_same s t is = cc
-
-moved : (w : World) (e : Event) (choice : Choice) (s t : ProcessState) (i : Instruction) → Moves t ≡ action s e.input i → executed w e choice s i ≡ plain w e.process t
+moved : (w : World) (e : Event) (choice : Choice) (s : ProcessState) (i : Instruction) → Moves ≡ action i → executed w e choice s i ≡ plain w e.process (acted_on s e.input i)
 unfolding executed
-moved w e choice s t (Set r value) is = ap (plain w e.process) (moves_same t _ is)
-moved w e choice s t (Mov r source) is = ap (plain w e.process) (moves_same t _ is)
-moved w e choice s t (Add r addend) is = ap (plain w e.process) (moves_same t _ is)
-moved w e choice s t (In r) is = ap (plain w e.process) (moves_same t _ is)
-moved w e choice s t (Jmp target) is = ap (plain w e.process) (moves_same t _ is)
-moved w e choice s t (Jeq r value target) is = ap (plain w e.process) (moves_same t _ is)
-moved w e choice s t (Jlt r value target) is = ap (plain w e.process) (moves_same t _ is)
-moved w e choice s t Halt is = absurd cc
-moved w e choice s t (Invoke call otherwise) is = absurd cc
+moved w e choice s (Set r value) is = refl
+moved w e choice s (Mov r source) is = refl
+moved w e choice s (Add r addend) is = refl
+moved w e choice s (In r) is = refl
+moved w e choice s (Jmp target) is = refl
+moved w e choice s (Jeq r value target) is = refl
+moved w e choice s (Jlt r value target) is = refl
+moved w e choice s Halt is = absurd cc
+moved w e choice s (Invoke call otherwise) is = absurd cc
 
-ended : (w : World) (e : Event) (choice : Choice) (s : ProcessState) (i : Instruction) → Ends ≡ action s e.input i → executed w e choice s i ≡ record { world = halted w e.process s; outcome = Halted; effects = [] }
+ended : (w : World) (e : Event) (choice : Choice) (s : ProcessState) (i : Instruction) → Ends ≡ action i → executed w e choice s i ≡ record { world = halted w e.process s; outcome = Halted; effects = [] }
 unfolding executed
 ended w e choice s (Set r value) is = absurd cc
 ended w e choice s (Mov r source) is = absurd cc
@@ -124,8 +161,10 @@ ended w e choice s Halt is = refl
 ended w e choice s (Invoke call otherwise) is = absurd cc
 
 -- what was done is what the model does
-as_executed : (w : World) (e : Event) (s : ProcessState) (i : Instruction) (outcome : LineResult) (effects : List Shown) (next : World) → (choice : Choice) → IsFresh w.files choice → (x : Executed) → executed w e choice s i ≡ x → outcome ≡ x.outcome → effects ≡ map shown x.effects → AlikeWorlds x.world next → Executes w e s i outcome effects next
-as_executed w e s i outcome effects next choice fresh x is told prints alike = record {
+as_executed : (w : World) (e : Event) (i : Instruction) (outcome : LineResult) (effects : List Shown) (next : World) → (at : StandsAt w e.process i) → (choice : Choice) → IsFresh w.files choice → (x : Executed) → executed w e choice at.process i ≡ x → outcome ≡ x.outcome → effects ≡ map shown x.effects → AlikeWorlds x.world next → Executes w e i outcome effects next
+as_executed w e i outcome effects next at choice fresh x is told prints alike = record {
+  process = at.process;
+  made = at.made;
   choice = choice;
   fresh = fresh;
   outcome_is = told ∙ ap (λ (y : Executed). y.outcome) (sym is);
@@ -133,34 +172,41 @@ as_executed w e s i outcome effects next choice fresh x is told prints alike = r
   world_is = subst (λ (y : Executed). AlikeWorlds y.world next) (sym is) alike;
 }
 
-pub executes_moved : (w : World) (e : Event) (s t : ProcessState) (i : Instruction) (outcome : LineResult) (effects : List Shown) → StandsAt w e.process s i → Moves t ≡ action s e.input i → outcome ≡ Done → effects ≡ [] → Executes w e s i outcome effects (record w { processes = slice_set w.processes e.process t })
-executes_moved w e s t i outcome effects at is told none =
+pub executes_moved : (w : World) (e : Event) (x next : ProcessState) (i : Instruction) (outcome : LineResult) (effects : List Shown) → StandsAt w e.process i → x ≡ get_or w.processes e.process x → Moves ≡ action i → next ≡ acted_on x e.input i → outcome ≡ Done → effects ≡ [] → Executes w e i outcome effects (record w { processes = slice_set w.processes e.process next })
+executes_moved w e x next i outcome effects at read moves is told none =
     let some = fresh_some at.programs at.good.numbering w at.good.world in
-    as_executed w e s i outcome effects _ some.0 some.1 (plain w e.process t) (moved w e some.0 s t i is) told none (alike_world w e.process s i at (slice_set w.processes e.process t))
+    let same : acted_on at.process e.input i ≡ next = ap (λ y. acted_on y e.input i) (sym (stands w.processes e.process at.process x at.made read)) ∙ sym is in
+    as_executed w e i outcome effects _ at some.0 some.1 (plain w e.process next) (moved w e some.0 at.process i moves ∙ ap (plain w e.process) same) told none (alike_world w e.process i at (slice_set w.processes e.process next))
 
-pub executes_ended : (w : World) (e : Event) (s : ProcessState) (i : Instruction) (outcome : LineResult) (effects : List Shown) (next : World) → StandsAt w e.process s i → Ends ≡ action s e.input i → outcome ≡ Halted → effects ≡ [] → AlikeWorlds (halted w e.process s) next → Executes w e s i outcome effects next
-executes_ended w e s i outcome effects next at is told none alike =
+pub executes_ended : (w : World) (e : Event) (i : Instruction) (outcome : LineResult) (effects : List Shown) (next : World) → StandsAt w e.process i → Ends ≡ action i → outcome ≡ Halted → effects ≡ [] → ((s : ProcessState) → slice_get w.processes e.process ≡ Some s → AlikeWorlds (halted w e.process s) next) → Executes w e i outcome effects next
+executes_ended w e i outcome effects next at is told none alike =
     let some = fresh_some at.programs at.good.numbering w at.good.world in
-    as_executed w e s i outcome effects next some.0 some.1 (record { world = halted w e.process s; outcome = Halted; effects = [] }) (ended w e some.0 s i is) told none alike
+    as_executed w e i outcome effects next at some.0 some.1 (record { world = halted w e.process at.process; outcome = Halted; effects = [] }) (ended w e some.0 at.process i is) told none (alike at.process at.made)
 
-pub executes_called : (w : World) (e : Event) (s : ProcessState) (i : Instruction) (outcome : LineResult) (effects : List Shown) (next : World) → CallComes w e.process s e i outcome effects next → Executes w e s i outcome effects next
+pub executes_called : (w : World) (e : Event) (i : Instruction) (outcome : LineResult) (effects : List Shown) (next : World) → StandsAt w e.process i → CallComes w e.process e i outcome effects next → Executes w e i outcome effects next
 unfolding executed
-executes_called w e s (Set r value) outcome effects next comes = absurd comes
-executes_called w e s (Mov r source) outcome effects next comes = absurd comes
-executes_called w e s (Add r addend) outcome effects next comes = absurd comes
-executes_called w e s (In r) outcome effects next comes = absurd comes
-executes_called w e s (Jmp target) outcome effects next comes = absurd comes
-executes_called w e s (Jeq r value target) outcome effects next comes = absurd comes
-executes_called w e s (Jlt r value target) outcome effects next comes = absurd comes
-executes_called w e s Halt outcome effects next comes = absurd comes
-executes_called w e s (Invoke call otherwise) outcome effects next comes =
-    record { choice = comes.choice; fresh = comes.fresh; outcome_is = comes.outcome; prints = comes.prints; world_is = comes.world }
+executes_called w e (Set r value) outcome effects next at comes = absurd comes
+executes_called w e (Mov r source) outcome effects next at comes = absurd comes
+executes_called w e (Add r addend) outcome effects next at comes = absurd comes
+executes_called w e (In r) outcome effects next at comes = absurd comes
+executes_called w e (Jmp target) outcome effects next at comes = absurd comes
+executes_called w e (Jeq r value target) outcome effects next at comes = absurd comes
+executes_called w e (Jlt r value target) outcome effects next at comes = absurd comes
+executes_called w e Halt outcome effects next at comes = absurd comes
+executes_called w e (Invoke call otherwise) outcome effects next at comes =
+    let x = comes at.process at.made in
+    record { process = at.process; made = at.made; choice = x.choice; fresh = x.fresh; outcome_is = x.outcome; prints = x.prints; world_is = x.world }
 
 -- ## Steps
-does_nothing : (programs : Programs) (w : World) (e : Event) (s : ProcessState) (outcome : LineResult) (effects : List Shown) → IsWellFormed programs w → ((choice : Choice) → stepped programs w e choice (Some s) ≡ record { world = w; acted = Some (record { program = s.program; point = s.point; outcome = Ended; effects = [] }) }) → outcome ≡ Ended → effects ≡ [] → DoesAs programs w e s outcome effects w
-does_nothing programs w e s outcome effects good is told none =
+pub some_same : {x y : ProcessState} → Some x ≡ Some y → x ≡ y
+some_same is = cc
+
+does_nothing : (programs : Programs) (w : World) (e : Event) (s : ProcessState) (outcome : LineResult) (effects : List Shown) → IsWellFormed programs w → ((choice : Choice) → stepped programs w e choice (Some s) ≡ record { world = w; acted = Some (record { program = s.program; point = s.point; outcome = Ended; effects = [] }) }) → slice_get w.processes e.process ≡ Some s → outcome ≡ Ended → effects ≡ [] → DoesAs programs w e outcome effects w
+does_nothing programs w e s outcome effects good is made told none =
     let some = fresh_some programs good.numbering w good.world in
     record {
+      process = s;
+      made = made;
       choice = some.0;
       fresh = some.1;
       does =
@@ -169,30 +215,33 @@ does_nothing programs w e s outcome effects good is told none =
       world_is = subst (λ (x : Stepped). AlikeWorlds x.world w) (sym (is some.0)) (record { tree = refl; processes = refl; files = alike_refl w.files good.world.idle });
     }
 
-pub does_ended : (programs : Programs) (w : World) (e : Event) (s : ProcessState) (outcome : LineResult) (effects : List Shown) → IsWellFormed programs w → s.alive ≡ false → outcome ≡ Ended → effects ≡ [] → DoesAs programs w e s outcome effects w
+pub does_ended : (programs : Programs) (w : World) (e : Event) (s : ProcessState) (outcome : LineResult) (effects : List Shown) → IsWellFormed programs w → s.alive ≡ false → slice_get w.processes e.process ≡ Some s → outcome ≡ Ended → effects ≡ [] → DoesAs programs w e outcome effects w
 unfolding stepped stepped_by
-does_ended programs w e s outcome effects good dead told none =
+does_ended programs w e s outcome effects good dead made told none =
     does_nothing programs w e s outcome effects good
-    (λ choice. ap (stepped_by programs w e choice s) dead) told none
+    (λ choice. ap (stepped_by programs w e choice s) dead) made told none
 
-pub does_nowhere : (programs : Programs) (w : World) (e : Event) (s : ProcessState) (outcome : LineResult) (effects : List Shown) → IsWellFormed programs w → s.alive ≡ true → slice_get (programs s.program) s.point ≡ None → outcome ≡ Ended → effects ≡ [] → DoesAs programs w e s outcome effects w
+pub does_nowhere : (programs : Programs) (w : World) (e : Event) (s : ProcessState) (outcome : LineResult) (effects : List Shown) → IsWellFormed programs w → s.alive ≡ true → slice_get (programs s.program) s.point ≡ None → slice_get w.processes e.process ≡ Some s → outcome ≡ Ended → effects ≡ [] → DoesAs programs w e outcome effects w
 unfolding stepped stepped_by stepped_at
-does_nowhere programs w e s outcome effects good lives nowhere told none =
+does_nowhere programs w e s outcome effects good lives nowhere made told none =
     does_nothing programs w e s outcome effects good
-    (λ choice. ap (stepped_by programs w e choice s) lives ∙ ap (stepped_at w e choice s) nowhere) told none
+    (λ choice. ap (stepped_by programs w e choice s) lives ∙ ap (stepped_at w e choice s) nowhere) made told none
 
-pub does_executed : (programs : Programs) (w : World) (e : Event) (s : ProcessState) (i : Instruction) (outcome : LineResult) (effects : List Shown) (next : World) → s.alive ≡ true → slice_get (programs s.program) s.point ≡ Some i → Executes w e s i outcome effects next → DoesAs programs w e s outcome effects next
+pub does_executed : (programs : Programs) (w : World) (e : Event) (s : ProcessState) (i : Instruction) (outcome : LineResult) (effects : List Shown) (next : World) → slice_get w.processes e.process ≡ Some s → s.alive ≡ true → slice_get (programs s.program) s.point ≡ Some i → Executes w e i outcome effects next → DoesAs programs w e outcome effects next
 unfolding stepped stepped_by stepped_at
-does_executed programs w e s i outcome effects next lives here x =
-    let is : (choice : Choice) → stepped programs w e choice (Some s) ≡ stepped_at w e choice s (Some i) =
-    λ choice. ap (stepped_by programs w e choice s) lives ∙ ap (stepped_at w e choice s) here
+does_executed programs w e s i outcome effects next made lives here x =
+    let same : x.process ≡ s = some_same (sym x.made ∙ made) in
+    let is : (choice : Choice) → stepped programs w e choice (Some x.process) ≡ stepped_at w e choice x.process (Some i) =
+    λ choice. ap (stepped_by programs w e choice x.process) (ap (λ (y : ProcessState). y.alive) same ∙ lives) ∙ ap (stepped_at w e choice x.process) (ap (λ (y : ProcessState). slice_get (programs y.program) y.point) same ∙ here)
     in
     record {
+      process = x.process;
+      made = x.made;
       choice = x.choice;
       fresh = x.fresh;
       does =
           ap (λ (y : Stepped). option_map shown_step y.acted) (is x.choice)
-          ∙ (λ k. Some (record { program = s.program; point = s.point; outcome = sym x.outcome_is k; effects = sym x.prints k }));
+          ∙ (λ k. Some (record { program = x.process.program; point = x.process.point; outcome = sym x.outcome_is k; effects = sym x.prints k }));
       world_is = subst (λ (y : Stepped). AlikeWorlds y.world next) (sym (is x.choice)) x.world_is;
     }
 
@@ -208,13 +257,14 @@ steps_unmade programs w e good none =
       world_is = subst (λ (x : Stepped). AlikeWorlds x.world w) (sym is) (record { tree = refl; processes = refl; files = alike_refl w.files good.world.idle });
     }
 
-pub steps_done : (programs : Programs) (w : World) (e : Event) (s : ProcessState) (outcome : LineResult) (effects : List Shown) (next : World) → slice_get w.processes e.process ≡ Some s → DoesAs programs w e s outcome effects next → Steps programs w e (record { process = e.process; acted = Some (record { program = s.program; point = s.point; outcome = outcome; effects = effects }) }) next
+pub steps_done : (programs : Programs) (w : World) (e : Event) (program point : ℕ) (outcome : LineResult) (effects : List Shown) (next : World) → ((s : ProcessState) → slice_get w.processes e.process ≡ Some s → (program ≡ s.program) × (point ≡ s.point)) → DoesAs programs w e outcome effects next → Steps programs w e (record { process = e.process; acted = Some (record { program = program; point = point; outcome = outcome; effects = effects }) }) next
 unfolding step
-steps_done programs w e s outcome effects next made x =
-    let is : step programs w e x.choice ≡ stepped programs w e x.choice (Some s) = ap (stepped programs w e x.choice) made in
+steps_done programs w e program point outcome effects next here x =
+    let is : step programs w e x.choice ≡ stepped programs w e x.choice (Some x.process) = ap (stepped programs w e x.choice) x.made in
+    let at = here x.process x.made in
     record {
       choice = x.choice;
       fresh = x.fresh;
-      line_is = (λ k. record { process = e.process; acted = sym x.does k }) ∙ ap (λ (y : Stepped). line_at e y.acted) (sym is);
+      line_is = (λ k. record { process = e.process; acted = Some (record { program = at.0 k; point = at.1 k; outcome = outcome; effects = effects }) }) ∙ (λ k. record { process = e.process; acted = sym x.does k }) ∙ ap (λ (y : Stepped). line_at e y.acted) (sym is);
       world_is = subst (λ (y : Stepped). AlikeWorlds y.world next) (sym is) x.world_is;
     }

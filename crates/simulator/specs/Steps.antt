@@ -19,47 +19,58 @@ pub record Steps (programs : Programs) (w : World) (e : Event) (line : Line) (ne
   pub line_is : line ≡ line_at e (step programs w e choice).acted
   pub world_is : AlikeWorlds (step programs w e choice).world next
 
--- The same of an instruction of a process.
-pub record Executes (w : World) (e : Event) (s : ProcessState) (i : Instruction) (outcome : LineResult) (effects : List Shown) (next : World) : Type 0 where
+-- The same of an instruction of the event's process.
+pub record Executes (w : World) (e : Event) (i : Instruction) (outcome : LineResult) (effects : List Shown) (next : World) : Type 0 where
+  pub process : ProcessState
+  pub made : slice_get w.processes e.process ≡ Some process
   pub choice : Choice
   pub fresh : IsFresh w.files choice
-  pub outcome_is : outcome ≡ (executed w e choice s i).outcome
-  pub prints : effects ≡ map shown (executed w e choice s i).effects
-  pub world_is : AlikeWorlds (executed w e choice s i).world next
+  pub outcome_is : outcome ≡ (executed w e choice process i).outcome
+  pub prints : effects ≡ map shown (executed w e choice process i).effects
+  pub world_is : AlikeWorlds (executed w e choice process i).world next
 
 -- A process of a well-formed world stands at this instruction of its program.
-pub record StandsAt (w : World) (p : ℕ) (s : ProcessState) (i : Instruction) : Type 0 where
+pub record StandsAt (w : World) (p : ℕ) (i : Instruction) : Type 0 where
   pub programs : Programs
   pub valid : ArePrograms programs
   pub good : IsWellFormed programs w
-  pub made : slice_get w.processes p ≡ Some s
-  pub here : slice_get (programs s.program) s.point ≡ Some i
+  pub process : ProcessState
+  pub made : slice_get w.processes p ≡ Some process
+  pub here : slice_get (programs process.program) process.point ≡ Some i
 
--- The same of a process that was made, which may have ended.
-pub record DoesAs (programs : Programs) (w : World) (e : Event) (s : ProcessState) (outcome : LineResult) (effects : List Shown) (next : World) : Type 0 where
+-- The same of the event's process, which was made, and may have ended.
+pub record DoesAs (programs : Programs) (w : World) (e : Event) (outcome : LineResult) (effects : List Shown) (next : World) : Type 0 where
+  pub process : ProcessState
+  pub made : slice_get w.processes e.process ≡ Some process
   pub choice : Choice
   pub fresh : IsFresh w.files choice
   pub does :
-      option_map shown_step (stepped programs w e choice (Some s)).acted
-      ≡ Some (record { program = s.program; point = s.point; outcome = outcome; effects = effects })
-  pub world_is : AlikeWorlds (stepped programs w e choice (Some s)).world next
+      option_map shown_step (stepped programs w e choice (Some process)).acted
+      ≡ Some (record { program = process.program; point = process.point; outcome = outcome; effects = effects })
+  pub world_is : AlikeWorlds (stepped programs w e choice (Some process)).world next
 
--- What an instruction does: it makes this of its process alone, it ends it, or it is a call.
+-- What an instruction does: it changes its process alone, it ends it, or it is a call.
 pub data Action : Type 0 where
-  Moves : (process : ProcessState) → Action
+  Moves : Action
   Ends : Action
   Calls : Action
 
-abbrev pub action : ProcessState → ℕ → Instruction → Action
-action s input (Set r value) = Moves (goes_on (with_register s r value))
-action s input (Mov r source) = Moves (goes_on (with_register s r (register s source)))
-action s input (Add r addend) = Moves (goes_on (with_register s r ((register s r + register s addend) % 2 ^ 32)))
-action s input (In r) = Moves (goes_on (with_register s r input))
-action s input (Jmp target) = Moves (moved_to s target)
-action s input (Jeq r value target) = Moves (jumped s (register s r == value) target)
-action s input (Jlt r value target) = Moves (jumped s (nat_lt (register s r) value) target)
-action s input Halt = Ends
-action s input (Invoke call otherwise) = Calls
+abbrev pub action : Instruction → Action
+action Halt = Ends
+action (Invoke call otherwise) = Calls
+action _ = Moves
+
+-- what it makes of its process by itself
+abbrev pub acted_on : ProcessState → ℕ → Instruction → ProcessState
+acted_on s input (Set r value) = goes_on (with_register s r value)
+acted_on s input (Mov r source) = goes_on (with_register s r (register s source))
+acted_on s input (Add r addend) = goes_on (with_register s r ((register s r + register s addend) % 2 ^ 32))
+acted_on s input (In r) = goes_on (with_register s r input)
+acted_on s input (Jmp target) = moved_to s target
+acted_on s input (Jeq r value target) = jumped s (register s r == value) target
+acted_on s input (Jlt r value target) = jumped s (nat_lt (register s r) value) target
+acted_on s input Halt = s
+acted_on s input (Invoke call otherwise) = s
 
 -- what holds of an instruction behind which there is another
 abbrev pub NeedsNext : Instruction → Type 0 → Type 0

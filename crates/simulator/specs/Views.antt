@@ -27,6 +27,6 @@ abbrev pub line_of : LineCode → Line
 line_of l = record { process = l.process; acted = option_map acted_of l.acted }
 
 abbrev pub action_of : ActionCode → Action
-action_of (does.Moves process) = Moves process
+action_of does.Moves = Moves
 action_of does.Ends = Ends
 action_of does.Calls = Calls

@@ -3,7 +3,7 @@
 ghost use Rattle.std.specs.Prelude.{◌≡◌, ◌<◌, ◌+◌, ◌==◌, slice_set, true, false};
 ghost use Rattle.prog_asm.specs.Views.{instruction_of};
 ghost use Rattle.kernel.specs.Steps as steps;
-ghost use Rattle.simulator.specs.Steps.{NeedsNext, action};
+ghost use Rattle.simulator.specs.Steps.{NeedsNext, acted_on, action};
 ghost use Rattle.simulator.specs.Views.{action_of};
 
 use process::Process;
@@ -12,93 +12,88 @@ use prog_asm::{Instruction, Register};
 /// What an instruction does.
 #[derive(Clone, Copy)]
 pub(crate) enum Action {
-    /// It makes this of its process, and nothing else changes.
-    Moves(Process),
+    /// It changes its process, and nothing else.
+    Moves,
     /// It ends its process.
     Ends,
     /// It is a system call.
     Calls,
 }
 
-/// The process at another point.
-fn moved_to(mut process: Process, point: u8) -> Process
-    ensures { result ≡ steps.moved_to process point }
+/// The process goes on to the next point.
+fn go_on(process: &mut Process)
+    requires { process.old.point + 1 < 256 }
+    ensures { process.new ≡ steps.goes_on process.old }
 {
-    process.point = point;
-    process
-}
-
-/// The process at the next point.
-fn gone_on(process: Process) -> Process
-    requires { process.point + 1 < 256 }
-    ensures { result ≡ steps.goes_on process }
-{
-    moved_to(process, process.point + 1)
+    process.point += 1;
 }
 
 /// What a register holds.
-fn value_in(process: Process, register: Register) -> u32
-    ensures { result ≡ steps.register process register }
+fn value_in(process: &Process, register: Register) -> u32
+    ensures { result ≡ steps.register process.now register }
 {
     process.registers[register.number() as usize]
 }
 
-/// The process with a register set.
-fn with_register(mut process: Process, register: Register, value: u32) -> Process
-    ensures { result ≡ steps.with_register process register value }
+/// Sets a register, and the process goes on.
+fn set_register(process: &mut Process, register: Register, value: u32)
+    requires { process.old.point + 1 < 256 }
+    ensures { process.new ≡ steps.goes_on (steps.with_register process.old register value) }
 {
     process.registers[register.number() as usize] = value;
-    process
+    go_on(process);
 }
 
-/// The process at the target, or at the next point.
+/// The process goes to the target, or on to the next point.
 #[tactic(auto, unfolding(kernel::specs::Steps::jumped))]
-fn jumped(process: Process, jumps: bool, target: u8) -> Process
-    requires { process.point + 1 < 256 }
-    ensures { result ≡ steps.jumped process jumps target }
+fn jump(process: &mut Process, jumps: bool, target: u8)
+    requires { process.old.point + 1 < 256 }
+    ensures { process.new ≡ steps.jumped process.old jumps target }
 {
     if jumps {
-        moved_to(process, target)
+        process.point = target;
     } else {
-        gone_on(process)
+        go_on(process);
     }
 }
 
-/// What the instruction does to a process at this byte of an event.
-pub(crate) fn act(process: Process, instruction: &Instruction, input: u8) -> Action
-    requires { NeedsNext (instruction_of instruction.now) (process.point + 1 < 256) }
-    ensures { action_of result ≡ action process input (instruction_of instruction.now) }
+/// What the instruction does to a process at this byte of an event. A process that it ends, or that calls, stays as it
+/// is.
+pub(crate) fn act(process: &mut Process, instruction: &Instruction, input: u8) -> Action
+    requires { NeedsNext (instruction_of instruction.now) (process.old.point + 1 < 256) }
+    ensures action { action_of result ≡ action (instruction_of instruction.now) }
+    ensures process { process.new ≡ acted_on process.old input (instruction_of instruction.now) }
 {
     match instruction {
-        Instruction::Set { register, value } => {
-            Action::Moves(gone_on(with_register(process, *register, *value)))
+        Instruction::Set { register, value } => set_register(process, *register, *value),
+        Instruction::Mov { register, source } => {
+            let value = value_in(process, *source);
+            set_register(process, *register, value);
         }
-        Instruction::Mov { register, source } => Action::Moves(gone_on(with_register(
-            process,
-            *register,
-            value_in(process, *source),
-        ))),
         Instruction::Add { register, addend } => {
             let sum = value_in(process, *register).wrapping_add(value_in(process, *addend));
-            Action::Moves(gone_on(with_register(process, *register, sum)))
+            set_register(process, *register, sum);
         }
-        Instruction::In { register } => Action::Moves(gone_on(with_register(
-            process,
-            *register,
-            u32::from(input),
-        ))),
-        Instruction::Jmp { target } => Action::Moves(moved_to(process, *target)),
+        Instruction::In { register } => set_register(process, *register, u32::from(input)),
+        Instruction::Jmp { target } => process.point = *target,
         Instruction::Jeq {
             register,
             value,
             target,
-        } => Action::Moves(jumped(process, value_in(process, *register) == *value, *target)),
+        } => {
+            let jumps = value_in(process, *register) == *value;
+            jump(process, jumps, *target);
+        }
         Instruction::Jlt {
             register,
             value,
             target,
-        } => Action::Moves(jumped(process, value_in(process, *register) < *value, *target)),
-        Instruction::Halt => Action::Ends,
-        Instruction::Invoke { .. } => Action::Calls,
+        } => {
+            let jumps = value_in(process, *register) < *value;
+            jump(process, jumps, *target);
+        }
+        Instruction::Halt => return Action::Ends,
+        Instruction::Invoke { .. } => return Action::Calls,
     }
+    Action::Moves
 }

@@ -5,7 +5,7 @@ ghost use Rattle.std.specs.List.{list_all};
 ghost use Rattle.fd_table.specs.Kept.{open_files};
 ghost use Rattle.kernel.specs.Renamings.{DiffersInNumbers};
 ghost use Rattle.kernel.specs.WellFormed.{IsWellFormed};
-ghost use Rattle.syscalls.specs.Views.{world_with};
+ghost use Rattle.syscalls.specs.Views.{world_of};
 ghost use Rattle.task.specs.Begins.{Opening, first_process, first_world, with_descriptor, with_descriptors, with_starts};
 ghost use Rattle.task.specs.Limits.{all_apart, are_numbered_apart, is_plan};
 ghost use Rattle.task.specs.Plans.{programs_of_plan};
@@ -114,9 +114,9 @@ fn first_processes(alloc: Global, starts: &[Start]) -> Result<Vec<Process>, Memo
 /// The world in which a task starts; the numbers of its descriptions may be others than the model's.
 pub(crate) fn first_world<T: Tree>(alloc: Global, task: &Task) -> Result<World<T>, Memory>
     ensures same { IfOk result (λ w. DiffersInNumbers (first_world task.now)
-        (world_with (T.nodes w.tree) (open_files w.files) w.processes.items)) }
+        (world_of T.nodes w)) }
     ensures good { IfOk result (λ w. IsWellFormed (programs_of_plan task.now)
-        (world_with (T.nodes w.tree) (open_files w.files) w.processes.items)) }
+        (world_of T.nodes w)) }
     ensures valid { OnOk result (is_plan task.now ≡ true) }
 {
     let planted = plant_all(alloc, task.nodes())?;

@@ -1,12 +1,12 @@
 //! The step of an event.
 
 ghost use Rattle.std.specs.Prelude.{◌≡◌, ◌<◌, [], IfOk, length, option_map, slice_get, Some};
-ghost use Rattle.fd_table.specs.Kept.{open_files};
 ghost use Rattle.kernel.specs.Alike.{AlikeWorlds};
 ghost use Rattle.kernel.specs.Steps.{Halted, halted};
 ghost use Rattle.kernel.specs.WellFormed.{IsWellFormed};
+ghost use Rattle.process.specs.State.{ProcessState};
 ghost use Rattle.prog_asm.specs.Views.{instruction_of};
-ghost use Rattle.syscalls.specs.Views.{effects_of, event_of, world_with};
+ghost use Rattle.syscalls.specs.Views.{effects_of, event_of, world_of};
 ghost use Rattle.task.specs.Plans.{code_in, programs_of_plan};
 ghost use Rattle.task.specs.Views.{programs_of};
 ghost use Rattle.simulator.specs.Steps.{DoesAs, Executes, StandsAt, Steps};
@@ -15,12 +15,10 @@ ghost use Rattle.simulator.specs.Views.{line_of, result_of};
 use crate::actions::{Action, act};
 use crate::lines::{Acted, Line, LineResult, result_of_call};
 use file_tree::Tree;
-use process::Process;
 use prog_asm::Instruction;
 use rights::Memory;
 use std::alloc::Global;
-use syscalls::world::call;
-use syscalls::{Effect, Event, World};
+use syscalls::{Effect, Event, World, call};
 use task::{NamedProgram, Task};
 
 /// What a step came to, with its effects.
@@ -42,18 +40,17 @@ fn without_effects(alloc: Global, outcome: LineResult) -> Executed
 }
 
 /// Ends the process, and closes its table.
-fn halt<T: Tree>(alloc: Global, world: &mut World<T>, number: u8, mut process: Process) -> Executed
+fn halt<T: Tree>(alloc: Global, world: &mut World<T>, number: u8) -> Executed
     requires made { number < length world.old.processes.items }
     requires few { number < 16 }
-    ensures world { AlikeWorlds
-        (halted (world_with (T.nodes world.old.tree) (open_files world.old.files) world.old.processes.items) number process)
-        (world_with (T.nodes world.new.tree) (open_files world.new.files) world.new.processes.items) }
+    ensures world { (s : ProcessState) → slice_get world.old.processes.items number ≡ Some s
+        → AlikeWorlds (halted (world_of T.nodes world.old) number s) (world_of T.nodes world.new) }
     ensures outcome { result_of result.outcome ≡ Halted }
     ensures effects { effects_of result.effects.items ≡ [] }
 {
     world.files.close_all(number);
+    let process = &mut world.processes[number as usize];
     process.alive = false;
-    world.processes[number as usize] = process;
     without_effects(alloc, LineResult::Halted)
 }
 
@@ -63,43 +60,25 @@ fn execute<T: Tree>(
     world: &mut World<T>,
     event: Event,
     input: u8,
-    process: Process,
     instruction: &Instruction,
 ) -> Result<Executed, Memory>
     requires byte { input ≡ event.input }
-    requires stands { StandsAt (world_with (T.nodes world.old.tree) (open_files world.old.files) world.old.processes.items) event.process process (instruction_of instruction.now) }
-    ensures { IfOk result (λ done. Executes
-        (world_with (T.nodes world.old.tree) (open_files world.old.files) world.old.processes.items) (event_of event) process (instruction_of instruction.now)
-        (result_of done.outcome) (effects_of done.effects.items)
-        (world_with (T.nodes world.new.tree) (open_files world.new.files) world.new.processes.items)) }
+    requires stands { StandsAt (world_of T.nodes world.old) event.process (instruction_of instruction.now) }
+    ensures { IfOk result (λ done. Executes (world_of T.nodes world.old) (event_of event) (instruction_of instruction.now)
+        (result_of done.outcome) (effects_of done.effects.items) (world_of T.nodes world.new)) }
 {
-    match act(process, instruction, input) {
-        Action::Moves(moved) => {
-            world.processes[event.process as usize] = moved;
-            Ok(without_effects(alloc, LineResult::Done))
-        }
-        Action::Ends => Ok(halt(alloc, world, event.process, process)),
+    let number = event.process as usize;
+    match act(&mut world.processes[number], instruction, input) {
+        Action::Moves => Ok(without_effects(alloc, LineResult::Done)),
+        Action::Ends => Ok(halt(alloc, world, event.process)),
         Action::Calls => {
-            let (outcome, effects) = call(
-                alloc,
-                world,
-                event.process as usize,
-                instruction,
-                event,
-            )?;
+            let (outcome, effects) = call(alloc, world, number, instruction, event)?;
             Ok(Executed {
                 outcome: result_of_call(outcome),
                 effects,
             })
         }
     }
-}
-
-/// The process of this number, if it was made.
-fn process_at(processes: &[Process], number: u8) -> Option<Process>
-    ensures { result ≡ slice_get processes.now number }
-{
-    processes.get(number as usize).copied()
 }
 
 /// The instruction at a point of a program, if both are there.
@@ -119,22 +98,20 @@ fn step_process<T: Tree>(
     world: &mut World<T>,
     event: Event,
     input: u8,
-    process: Process,
 ) -> Result<Executed, Memory>
     requires byte { input ≡ event.input }
-    requires good { IsWellFormed (programs_of_plan task.now) (world_with (T.nodes world.old.tree) (open_files world.old.files) world.old.processes.items) }
-    requires made { slice_get world.old.processes.items event.process ≡ Some process }
-    ensures { IfOk result (λ done. DoesAs (programs_of_plan task.now)
-        (world_with (T.nodes world.old.tree) (open_files world.old.files) world.old.processes.items) (event_of event) process
-        (result_of done.outcome) (effects_of done.effects.items)
-        (world_with (T.nodes world.new.tree) (open_files world.new.files) world.new.processes.items)) }
+    requires good { IsWellFormed (programs_of_plan task.now) (world_of T.nodes world.old) }
+    requires made { event.process < length world.old.processes.items }
+    ensures { IfOk result (λ done. DoesAs (programs_of_plan task.now) (world_of T.nodes world.old) (event_of event)
+        (result_of done.outcome) (effects_of done.effects.items) (world_of T.nodes world.new)) }
 {
+    let process = &world.processes[event.process as usize];
     if !process.alive {
         return Ok(without_effects(alloc, LineResult::Ended));
     }
     match instruction_at(task.programs(), process.program, process.point) {
         None => Ok(without_effects(alloc, LineResult::Ended)),
-        Some(instruction) => execute(alloc, world, event, input, process, instruction),
+        Some(instruction) => execute(alloc, world, event, input, instruction),
     }
 }
 
@@ -153,25 +130,27 @@ pub(crate) fn step_world<T: Tree>(
     world: &mut World<T>,
     event: Event,
 ) -> Result<Line, Memory>
-    requires { IsWellFormed (programs_of_plan task.now) (world_with (T.nodes world.old.tree) (open_files world.old.files) world.old.processes.items) }
+    requires { IsWellFormed (programs_of_plan task.now) (world_of T.nodes world.old) }
     ensures step { IfOk result (λ line. Steps (programs_of_plan task.now)
-        (world_with (T.nodes world.old.tree) (open_files world.old.files) world.old.processes.items) (event_of event) (line_of line)
-        (world_with (T.nodes world.new.tree) (open_files world.new.files) world.new.processes.items)) }
+        (world_of T.nodes world.old) (event_of event) (line_of line)
+        (world_of T.nodes world.new)) }
     ensures byte { event.input < 256 }
 {
     let input = input_of(event);
-    let Some(process) = process_at(&world.processes, event.process) else {
+    let Some(process) = world.processes.get(event.process as usize) else {
         return Ok(Line {
             process: event.process,
             acted: None,
         });
     };
-    let done = step_process(alloc, task, world, event, input, process)?;
+    let program = process.program;
+    let point = process.point;
+    let done = step_process(alloc, task, world, event, input)?;
     Ok(Line {
         process: event.process,
         acted: Some(Acted {
-            program: process.program,
-            point: process.point,
+            program,
+            point,
             outcome: done.outcome,
             effects: done.effects,
         }),

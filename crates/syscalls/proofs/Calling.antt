@@ -1,7 +1,9 @@
 -- From the parts of a call to the whole: its process, and its fresh numbers.
 use Rattle.std.proofs.Common.{◌≡◌, ◌+◌, ◌<◌, ◌≤◌, arith, ℕ, Bool, true, false, List, [], ◌++◌, map, length, slice_set, refl, ap, sym, subst, ◌∙◌, append-nil}
-use Rattle.std.specs.Prelude.{◌||◌, Option, Some, None}
-use Rattle.std.proofs.lemmas.Option.{slice_get_within}
+use Rattle.std.specs.Prelude.{◌||◌, Option, Some, None, Result}
+use Rattle.std.specs.List.{slice_get}
+use Rattle.std.proofs.Math.ListN.{get_or}
+use Rattle.std.proofs.lemmas.Option.{slice_get_within, get_or_from_slice_get}
 use Rattle.process.specs.State.{ProcessState}
 use Rattle.file_tree.specs.Nodes.{Node}
 use Rattle.fd_table.specs.Descriptions.{Object, At_node, At_end, Descriptor, IfHeld}
@@ -10,6 +12,7 @@ use Rattle.rights.specs.Errors.{Errno, Cause}
 use Rattle.rights.specs.Views.{errno_of, cause_of}
 use Rattle.rights.specs.declared.errors.Errno.{Errno as ErrnoCode}
 use Rattle.rights.specs.declared.errors.Cause.{Cause as CauseCode}
+use Rattle.syscalls.specs.declared.outcomes.Success.{Success}
 use Rattle.syscalls.specs.declared.outcomes.Refusal.{Refusal}
 use Rattle.syscalls.specs.declared.outcomes.Refusal.TheVariants as refusal
 use Rattle.prog_asm.specs.Programs.{Syscall, Open, Openat, Read, Write, Sendfd, Recvfd, Lseek, Ftruncate, Fsync, Fstat, Fcntl_getfl, Fcntl_setfl, Fstatat, Stat, Mkdirat, Mkdir, Unlinkat, Unlink, Renameat, Dup, Close, Cap_rights_limit, Cap_fcntls_limit, Cap_enter, Cap_getmode, Socketpair, Fork}
@@ -26,7 +29,7 @@ use Rattle.kernel.proofs.Fresh.{fresh_some}
 use Rattle.kernel.proofs.Keeping.{fresh_numbers}
 use Rattle.syscalls.specs.Shows.{Shown, shown}
 use Rattle.syscalls.specs.Views.{world_with}
-use Rattle.syscalls.specs.Meets.{Suits, IsOrdinary, IsPlain, Succeeds, RefusesAlone, IsIdle, IsReady, IsReadyEntry, IsReadyObject}
+use Rattle.syscalls.specs.Meets.{Suits, IsOrdinary, IsPlain, Succeeds, RefusesAlone, Meets, IsIdle, IsReady, IsReadyDescription, IsReadyObject}
 use Rattle.syscalls.specs.MayCall.{MayCall, is_entering, is_making, is_pairing}
 use Rattle.syscalls.specs.NodeCalls.{is_on_nodes}
 use Rattle.syscalls.specs.Called.{Comes, FailsAs, succeeded_as}
@@ -150,25 +153,46 @@ ready_object : (t : List Node) (numbering : Numbering) (d : ℕ) (o : Object) �
 ready_object t numbering d (At_node n access) is = (there_if_opened t n is, is)
 ready_object t numbering d (At_end pair side class) is = tt
 
-ready_entry : (t : List Node) (numbering : Numbering) (f : OpenFiles) (o : Option Descriptor) → IfHeld (IsDescriptor t numbering f.objects f.states) o → IsReadyEntry t f o
-ready_entry t numbering f None is = tt
-ready_entry t numbering f (Some d) is = (ready_object t numbering d.description (f.objects d.description) is.object, is.offset)
+ready_entry : (t : List Node) (numbering : Numbering) (f : OpenFiles) (o : Option Descriptor) → IfHeld (IsDescriptor t numbering f.objects f.states) o → (d : Descriptor) → o ≡ Some d → IsReadyDescription t f d.description
+ready_entry t numbering f None is d there = absurd cc
+ready_entry t numbering f (Some c) is d there =
+    let good = subst (IfHeld (IsDescriptor t numbering f.objects f.states)) there is in
+    (ready_object t numbering d.description (f.objects d.description) good.object, good.offset)
 
-pub made_few : (t : List Node) (f : OpenFiles) (processes : List ProcessState) (p : ℕ) (s : ProcessState) → MayCall (world_with t f processes) p s → p < length processes
-made_few t f processes p s may = slice_get_within processes p s may.made
+pub made_few : (t : List Node) (f : OpenFiles) (processes : List ProcessState) (p : ℕ) → MayCall (world_with t f processes) p → p < length processes
+made_few t f processes p may = slice_get_within processes p may.process may.made
 
-pub ready : (t : List Node) (f : OpenFiles) (processes : List ProcessState) (p : ℕ) (s : ProcessState) → MayCall (world_with t f processes) p s → IsReady t f p
-ready t f processes p s may =
+pub few : (t : List Node) (f : OpenFiles) (processes : List ProcessState) (p : ℕ) → MayCall (world_with t f processes) p → p < 16
+few t f processes p may =
+    let low : p < length processes = made_few t f processes p may in
+    let most : length processes ≤ 16 = may.good.world.few in
+    omega arith
+
+pub ready : (t : List Node) (f : OpenFiles) (processes : List ProcessState) (p : ℕ) → MayCall (world_with t f processes) p → IsReady t f p
+ready t f processes p may =
     let good = may.good.world in
-    let low : p < length processes = made_few t f processes p s may in
-    let few : length processes ≤ 16 = good.few in
     record {
       tree = good.tree;
-      process = omega arith;
+      process = few t f processes p may;
       numbers = good.numbers p;
       entries = λ n. ready_entry t may.good.numbering f (f.table p n) (good.entries p n);
       idle = good.idle;
     }
+
+-- what stands at a number is what the list gives there
+pub stands : (processes : List ProcessState) (p : ℕ) (s x : ProcessState) → slice_get processes p ≡ Some s → x ≡ get_or processes p x → x ≡ s
+stands processes p s x made read = read ∙ get_or_from_slice_get processes p s x made
+
+pub has_next : (t : List Node) (f : OpenFiles) (processes : List ProcessState) (p : ℕ) (x : ProcessState) → MayCall (world_with t f processes) p → x ≡ get_or processes p x → x.point + 1 < 256
+has_next t f processes p x may read = subst (λ (y : ProcessState). y.point + 1 < 256) (sym (stands processes p may.process x may.made read)) may.next
+
+-- what failed there
+pub failed_at : (processes : List ProcessState) (p : ℕ) (s x : ProcessState) (otherwise : ℕ) (errno : Errno) (cause : Cause) (told : LineResult) (shows : List Shown) (next : ProcessState) → slice_get processes p ≡ Some s → x ≡ get_or processes p x → FailsAs x otherwise errno cause told shows next → FailsAs s otherwise errno cause told shows next
+failed_at processes p s x otherwise errno cause told shows next made read is = subst (λ y. FailsAs y otherwise errno cause told shows next) (stands processes p s x made read) is
+
+-- what was answered there
+pub meets_at : (t : List Node) (f : OpenFiles) (processes : List ProcessState) (p : ℕ) (s x : ProcessState) (e : Event) (call : Syscall) (after : List Node) (left : OpenFiles) (r : Result Success Refusal) → slice_get processes p ≡ Some s → x ≡ get_or processes p x → Meets (world_with t f processes) p after left r (answer (world_with t f processes) p x e call) → Meets (world_with t f processes) p after left r (answer (world_with t f processes) p s e call)
+meets_at t f processes p s x e call after left r made read is = subst (λ y. Meets (world_with t f processes) p after left r (answer (world_with t f processes) p y e call)) (stands processes p s x made read) is
 
 -- ## The same of what the code left
 only_entering : (call : Syscall) → is_entering call ≡ true → call ≡ Cap_enter
@@ -235,21 +259,21 @@ same_world : {t u : List Node} {f h : OpenFiles} {processes others : List Proces
 same_world tree files processes i = world_with (tree i) (files i) (processes i)
 
 -- a failure, where it is told as it has to be
-pub falls : (programs : Programs) (t : List Node) (f : OpenFiles) (processes : List ProcessState) → IsWellFormed programs (world_with t f processes) → (p : ℕ) (s : ProcessState) (e : Event) (call : Syscall) (otherwise : ℕ) (errno : Errno) (cause : Cause) → answer (world_with t f processes) p s e call ≡ Fails errno cause → (told : LineResult) (shows : List Shown) (after : List ProcessState) → FailsAs processes p s otherwise errno cause told shows after → Comes (world_with t f processes) p s e call otherwise told shows (world_with t f after)
-falls programs t f processes good p s e call otherwise errno cause is told shows after y =
+pub falls : (programs : Programs) (t : List Node) (f : OpenFiles) (processes : List ProcessState) → IsWellFormed programs (world_with t f processes) → (p : ℕ) (s : ProcessState) (e : Event) (call : Syscall) (otherwise : ℕ) (errno : Errno) (cause : Cause) → answer (world_with t f processes) p s e call ≡ Fails errno cause → (told : LineResult) (shows : List Shown) (next : ProcessState) → FailsAs s otherwise errno cause told shows next → Comes (world_with t f processes) p s e call otherwise told shows (world_with t f (slice_set processes p next))
+falls programs t f processes good p s e call otherwise errno cause is told shows next y =
     let w = world_with t f processes in
-    subst (λ x. Comes w p s e call otherwise x shows (world_with t f after)) (sym y.told)
-    (subst (λ x. Comes w p s e call otherwise (Failed errno cause) x (world_with t f after)) (sym y.nothing)
-    (subst (λ x. Comes w p s e call otherwise (Failed errno cause) [] (world_with t f x)) (sym y.processes)
+    subst (λ x. Comes w p s e call otherwise x shows (world_with t f (slice_set processes p next))) (sym y.told)
+    (subst (λ x. Comes w p s e call otherwise (Failed errno cause) x (world_with t f (slice_set processes p next))) (sym y.nothing)
+    (subst (λ x. Comes w p s e call otherwise (Failed errno cause) [] (world_with t f (slice_set processes p x))) (sym y.process)
     (fails programs t f processes good p s e call otherwise errno cause is)))
 
 -- and where nothing was done before
-pub falls_as : (programs : Programs) (t : List Node) (f : OpenFiles) (processes : List ProcessState) → IsWellFormed programs (world_with t f processes) → (p : ℕ) (s : ProcessState) (e : Event) (call : Syscall) (otherwise : ℕ) (after : List Node) (left : OpenFiles) (refused : Refusal) (errno : ErrnoCode) (cause : CauseCode) → refused ≡ refusal.Fails errno cause → RefusesAlone refused (world_with t f processes) after left (answer (world_with t f processes) p s e call) → (told : LineResult) (shows : List Shown) (stand : List ProcessState) → FailsAs processes p s otherwise (errno_of errno) (cause_of cause) told shows stand → Comes (world_with t f processes) p s e call otherwise told shows (world_with after left stand)
-falls_as programs t f processes good p s e call otherwise after left refused errno cause same alone told shows stand y =
+pub falls_as : (programs : Programs) (t : List Node) (f : OpenFiles) (processes : List ProcessState) → IsWellFormed programs (world_with t f processes) → (p : ℕ) (s : ProcessState) (e : Event) (call : Syscall) (otherwise : ℕ) (after : List Node) (left : OpenFiles) (refused : Refusal) (errno : ErrnoCode) (cause : CauseCode) → refused ≡ refusal.Fails errno cause → RefusesAlone refused (world_with t f processes) after left (answer (world_with t f processes) p s e call) → (told : LineResult) (shows : List Shown) (next : ProcessState) → FailsAs s otherwise (errno_of errno) (cause_of cause) told shows next → Comes (world_with t f processes) p s e call otherwise told shows (world_with after left (slice_set processes p next))
+falls_as programs t f processes good p s e call otherwise after left refused errno cause same alone told shows next y =
     let w = world_with t f processes in
     let (answers, nothing) = subst (λ r. RefusesAlone r w after left (answer w p s e call)) same alone in
     subst (λ (v : World). Comes w p s e call otherwise told shows v) (same_world (sym nothing.tree) (sym nothing.files) refl)
-    (falls programs t f processes good p s e call otherwise (errno_of errno) (cause_of cause) answers told shows stand y)
+    (falls programs t f processes good p s e call otherwise (errno_of errno) (cause_of cause) answers told shows next y)
 
 module _ (programs : Programs) (t : List Node) (f : OpenFiles) (processes : List ProcessState) (good : IsWellFormed programs (world_with t f processes)) (p : ℕ) (s : ProcessState) (e : Event) (call : Syscall) (otherwise : ℕ) (after : List Node) (left : OpenFiles) (next : ProcessState) (shows : List Shown) where
   pub succeeds_as : (value : ℕ) → Succeeds (world_with t f processes) p after left value shows (answer (world_with t f processes) p s e call) → next ≡ succeeded_as s value false → Comes (world_with t f processes) p s e call otherwise (Value value) shows (world_with after left (slice_set processes p next))
@@ -264,12 +288,14 @@ module _ (programs : Programs) (t : List Node) (f : OpenFiles) (processes : List
       subst (λ (v : World). Comes w p s e call otherwise Waiting shows v) (same_world (sym nothing.tree) (sym nothing.files) refl)
       (subst (λ x. Comes w p s e call otherwise Waiting x w) (sym none) (waits programs t f processes good p s e call otherwise answers))
 
-  pub enters_as : is_entering call ≡ true → next ≡ succeeded_as s 0 true → shows ≡ [] → Comes (world_with t f processes) p s e call otherwise (Value 0) shows (world_with t f (slice_set processes p next))
-  enters_as entering is none =
-      let w = world_with t f processes in
-      subst (λ (v : World). Comes w p s e call otherwise (Value 0) shows v) (same_world refl refl (ap (slice_set processes p) (sym is)))
-      (subst (λ x. Comes w p s e call otherwise (Value 0) x (world_with t f (slice_set processes p (succeeded_as s 0 true)))) (sym none)
-      (subst (λ x. Comes w p s e x otherwise (Value 0) [] (world_with t f (slice_set processes p (succeeded_as s 0 true)))) (sym (only_entering call entering)) (enters programs t f processes good p s e otherwise)))
+pub enters_as : (programs : Programs) (t : List Node) (f : OpenFiles) (processes : List ProcessState) → IsWellFormed programs (world_with t f processes) → (p : ℕ) (s : ProcessState) (e : Event) (call : Syscall) (otherwise : ℕ) (next : ProcessState) (shows : List Shown) → is_entering call ≡ true → next ≡ succeeded_as s 0 true → shows ≡ [] → (told : LineResult) → told ≡ Value 0 → Comes (world_with t f processes) p s e call otherwise told shows (world_with t f (slice_set processes p next))
+enters_as programs t f processes good p s e call otherwise next shows entering is none told value =
+    let w = world_with t f processes in
+    let after = world_with t f (slice_set processes p (succeeded_as s 0 true)) in
+    subst (λ (v : World). Comes w p s e call otherwise told shows v) (same_world refl refl (ap (slice_set processes p) (sym is)))
+    (subst (λ x. Comes w p s e call otherwise x shows after) (sym value)
+    (subst (λ x. Comes w p s e call otherwise (Value 0) x after) (sym none)
+    (subst (λ x. Comes w p s e x otherwise (Value 0) [] after) (sym (only_entering call entering)) (enters programs t f processes good p s e otherwise))))
 
 pub or_false : (b : Bool) → (b || false) ≡ b
 or_false true = refl

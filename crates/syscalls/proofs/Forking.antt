@@ -31,12 +31,12 @@ module _ (programs : Programs) (t : List Node) (f : OpenFiles) (processes : List
   made = length processes
 
   -- too many were made
-  pub full : (n : ℕ) → n ≡ length processes → 16 ≤ n → (told : LineResult) (shows : List Shown) (after : List ProcessState) → FailsAs processes p s otherwise EAGAIN Full told shows after → Comes w p s e Fork otherwise told shows (world_with t f after)
+  pub full : (n : ℕ) → n ≡ length processes → 16 ≤ n → (told : LineResult) (shows : List Shown) (next : ProcessState) → FailsAs s otherwise EAGAIN Full told shows next → Comes w p s e Fork otherwise told shows (world_with t f (slice_set processes p next))
   unfolding answer
   full n counts many = calling.falls programs t f processes good p s e Fork otherwise EAGAIN Full (fails _ _ _ _ (not_below made 16 (subst (λ m. 16 ≤ m) counts many)))
 
   -- the kernel refuses
-  pub refused : (n : ℕ) → n ≡ length processes → n < 16 → e.refuse ≡ true → (told : LineResult) (shows : List Shown) (after : List ProcessState) → FailsAs processes p s otherwise EAGAIN Refused told shows after → Comes w p s e Fork otherwise told shows (world_with t f after)
+  pub refused : (n : ℕ) → n ≡ length processes → n < 16 → e.refuse ≡ true → (told : LineResult) (shows : List Shown) (next : ProcessState) → FailsAs s otherwise EAGAIN Refused told shows next → Comes w p s e Fork otherwise told shows (world_with t f (slice_set processes p next))
   unfolding answer
   refused n counts few is = calling.falls programs t f processes good p s e Fork otherwise EAGAIN Refused
       (passes _ _ _ _ (below made 16 (subst (λ m. m < 16) counts few)) ∙ fails _ _ _ _ (ap not is))

@@ -13,11 +13,7 @@ use Rattle.kernel.specs.World.{World, Choice}
 use Rattle.kernel.specs.Answers.{Effect, TreeChange, TableChange, QueueChange, New_file, Make, Set_state, Answer, Gives, same, Set_entry}
 use Rattle.kernel.specs.Changes.{tree_after, files_after}
 use Rattle.syscalls.specs.Shows.{Shown, shown}
-use Rattle.std.specs.Prelude.{Result, Ok, Err}
-use Rattle.syscalls.specs.declared.outcomes.Success.{Success}
-use Rattle.syscalls.specs.declared.outcomes.Refusal.{Refusal}
-use Rattle.syscalls.proofs.Finding.{refused_alone}
-use Rattle.syscalls.specs.Meets.{Succeeds, Suits, IsOrdinary, Tells, Meets, IsIdle}
+use Rattle.syscalls.specs.Meets.{Succeeds, Suits, IsOrdinary, IsIdle}
 
 same_description : (f : OpenFiles) (o : Option Descriptor) → SameDescription f f o
 same_description f None = tt
@@ -95,11 +91,6 @@ same_succeeds w p value shows a effects idle is prints = record {
   tree = refl;
   files = alike_refl w.files idle;
 }
-
--- what changes nothing, told with the world
-pub told_meets : (w : World) (p : ℕ) (r : Result Success Refusal) (a : Answer) → IsIdle w.files → Tells r a → Meets w p w.tree w.files r a
-told_meets w p (Ok success) a idle tells = same_succeeds w p success.value _ a tells.effects idle tells.is tells.prints
-told_meets w p (Err refused) a idle tells = refused_alone refused w w.tree w.files a tells (record { tree = refl; files = refl })
 
 -- a change of the tree and of a description's state
 pub write_succeeds : (w : World) (p : ℕ) (t : List Node) (f : OpenFiles) (value : ℕ) (shows : List Shown) (a : Answer) (change : TreeChange) (n : ℕ) (state : State) (effects : List Effect) → a ≡ Gives value (record same { tree = change; state = Set_state n state }) effects → map shown effects ≡ shows → t ≡ tree_after w.tree change → Alike (with_state w.files n state) f → Succeeds w p t f value shows a

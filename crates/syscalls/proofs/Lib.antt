@@ -1,6 +1,7 @@
 pub mod Tests
 pub mod Numbers
 pub mod Pairing
+mod Growth
 pub mod Finding
 pub mod Forking
 pub mod Queues

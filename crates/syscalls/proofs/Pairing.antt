@@ -41,16 +41,16 @@ module _ (programs : Programs) (t : List Node) (f : OpenFiles) (processes : List
   with_second first second one two = with_first first one ∙ ap (λ o. at_number o (λ second. unrefused w p s e ENFILE (made first second))) two
 
   -- no number is free, or one alone
-  pub no_first : lowest_free (f.table p) ≡ None → (told : LineResult) (shows : List Shown) (after : List ProcessState) → FailsAs processes p s otherwise EMFILE Full told shows after → Comes w p s e Socketpair otherwise told shows (world_with t f after)
+  pub no_first : lowest_free (f.table p) ≡ None → (told : LineResult) (shows : List Shown) (next : ProcessState) → FailsAs s otherwise EMFILE Full told shows next → Comes w p s e Socketpair otherwise told shows (world_with t f (slice_set processes p next))
   unfolding answer
   no_first is = calling.falls programs t f processes good p s e Socketpair otherwise EMFILE Full (ap (pair_at w p s e) is)
 
-  pub no_second : (first : ℕ) → lowest_free (f.table p) ≡ Some first → second_from first ≡ None → (told : LineResult) (shows : List Shown) (after : List ProcessState) → FailsAs processes p s otherwise EMFILE Full told shows after → Comes w p s e Socketpair otherwise told shows (world_with t f after)
+  pub no_second : (first : ℕ) → lowest_free (f.table p) ≡ Some first → second_from first ≡ None → (told : LineResult) (shows : List Shown) (next : ProcessState) → FailsAs s otherwise EMFILE Full told shows next → Comes w p s e Socketpair otherwise told shows (world_with t f (slice_set processes p next))
   unfolding at_number
   no_second first one two = calling.falls programs t f processes good p s e Socketpair otherwise EMFILE Full (with_first first one ∙ ap (λ o. at_number o (λ second. unrefused w p s e ENFILE (made first second))) two)
 
   -- the kernel refuses
-  pub refused : (first second : ℕ) → lowest_free (f.table p) ≡ Some first → second_from first ≡ Some second → e.refuse ≡ true → (told : LineResult) (shows : List Shown) (after : List ProcessState) → FailsAs processes p s otherwise ENFILE Refused told shows after → Comes w p s e Socketpair otherwise told shows (world_with t f after)
+  pub refused : (first second : ℕ) → lowest_free (f.table p) ≡ Some first → second_from first ≡ Some second → e.refuse ≡ true → (told : LineResult) (shows : List Shown) (next : ProcessState) → FailsAs s otherwise ENFILE Refused told shows next → Comes w p s e Socketpair otherwise told shows (world_with t f (slice_set processes p next))
   refused first second one two is = calling.falls programs t f processes good p s e Socketpair otherwise ENFILE Refused (with_second first second one two ∙ fails _ _ _ _ (ap not is))
 
   -- a pair is made

@@ -14,11 +14,11 @@ use Rattle.fd_table.specs.declared.faults.SendFault.TheVariants as fault
 use Rattle.fd_table.specs.Views.{Tells}
 use Rattle.syscalls.proofs.Tests.{passes, fails}
 
-pub read_none : (w : World) (p : ℕ) (s : ProcessState) (e : Event) (d : Descriptor) (pair side : ℕ) (messages : List Message) → None ≡ front_of messages → read_end w p s e d pair side messages ≡ (if is_open w.files pair (other_side side) then blocked w p s e (w.files.states d.description).nonblock else gives 256)
+pub read_none : (w : World) (p : ℕ) (s : ProcessState) (e : Event) (d : ℕ) (pair side : ℕ) (messages : List Message) → None ≡ front_of messages → read_end w p s e d pair side messages ≡ (if is_open w.files pair (other_side side) then blocked w p s e (w.files.states d).nonblock else gives 256)
 read_none w p s e d pair side [] is = refl
 read_none w p s e d pair side (m ∷ messages) is = absurd cc
 
-pub read_some : (w : World) (p : ℕ) (s : ProcessState) (e : Event) (d : Descriptor) (pair side : ℕ) (messages : List Message) (front : Front) → Some front ≡ front_of messages → read_end w p s e d pair side messages ≡ Gives front.byte (record same { queue = Pop pair (other_side side) }) []
+pub read_some : (w : World) (p : ℕ) (s : ProcessState) (e : Event) (d : ℕ) (pair side : ℕ) (messages : List Message) (front : Front) → Some front ≡ front_of messages → read_end w p s e d pair side messages ≡ Gives front.byte (record same { queue = Pop pair (other_side side) }) []
 read_some w p s e d pair side [] front is = absurd cc
 read_some w p s e d pair side (m ∷ messages) front is =
     let byte : m.byte ≡ front.byte = ap (λ (f : Front). f.byte) (sym (some_same is)) in
@@ -43,19 +43,19 @@ refusal_full true true is = absurd cc
 refusal_full true false is = (refl, refl)
 refusal_full false room is = absurd cc
 
-module _ (w : World) (p : ℕ) (s : ProcessState) (e : Event) (d : Descriptor) (pair side : ℕ) (message : Message) where
+module _ (w : World) (p : ℕ) (s : ProcessState) (e : Event) (d : ℕ) (pair side : ℕ) (message : Message) where
   pub sends : send_refusal w.files pair side ≡ None → sent_end w p s e d pair side message ≡ Gives 1 (record same { queue = Push pair side message }) []
   sends is =
       let (other, room) = refusal_none (is_open w.files pair (other_side side)) (nat_lt (length (w.files.queue pair side)) 16) is in
-      passes _ _ _ _ other ∙ ap (λ b. if b then Gives 1 (record same { queue = Push pair side message }) [] else blocked w p s e (w.files.states d.description).nonblock) room
+      passes _ _ _ _ other ∙ ap (λ b. if b then Gives 1 (record same { queue = Push pair side message }) [] else blocked w p s e (w.files.states d).nonblock) room
 
   pub sends_closed : send_refusal w.files pair side ≡ Some Closed → sent_end w p s e d pair side message ≡ Fails EPIPE Refused
   sends_closed is = fails _ _ _ _ (refusal_closed (is_open w.files pair (other_side side)) (nat_lt (length (w.files.queue pair side)) 16) is)
 
-  pub sends_full : send_refusal w.files pair side ≡ Some Full → sent_end w p s e d pair side message ≡ blocked w p s e (w.files.states d.description).nonblock
+  pub sends_full : send_refusal w.files pair side ≡ Some Full → sent_end w p s e d pair side message ≡ blocked w p s e (w.files.states d).nonblock
   sends_full is =
       let (other, room) = refusal_full (is_open w.files pair (other_side side)) (nat_lt (length (w.files.queue pair side)) 16) is in
-      passes _ _ _ _ other ∙ ap (λ b. if b then Gives 1 (record same { queue = Push pair side message }) [] else blocked w p s e (w.files.states d.description).nonblock) room
+      passes _ _ _ _ other ∙ ap (λ b. if b then Gives 1 (record same { queue = Push pair side message }) [] else blocked w p s e (w.files.states d).nonblock) room
 
 pub told_closed : (o : Option SendRefusal) (e : SendFault) → Tells o e → e ≡ fault.Closed → o ≡ Some Closed
 told_closed o e tells is = subst (Tells o) is tells (λ same. absurd cc)
@@ -64,8 +64,8 @@ pub told_full : (o : Option SendRefusal) (e : SendFault) → Tells o e → e ≡
 told_full o e tells is = subst (Tells o) is tells (λ same. absurd cc)
 
 -- ## Receiving a descriptor
-module _ (w : World) (p : ℕ) (s : ProcessState) (e : Event) (d : Descriptor) (pair side number : ℕ) where
-  pub receives_none : (messages : List Message) → None ≡ front_of messages → receive_end w p s e d pair side number messages ≡ unless (is_open w.files pair (other_side side)) EINVAL Refused (blocked w p s e (w.files.states d.description).nonblock)
+module _ (w : World) (p : ℕ) (s : ProcessState) (e : Event) (d : ℕ) (pair side number : ℕ) where
+  pub receives_none : (messages : List Message) → None ≡ front_of messages → receive_end w p s e d pair side number messages ≡ unless (is_open w.files pair (other_side side)) EINVAL Refused (blocked w p s e (w.files.states d).nonblock)
   receives_none [] is = refl
   receives_none (m ∷ messages) is = absurd cc
 

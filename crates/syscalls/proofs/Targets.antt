@@ -1,17 +1,13 @@
 -- What a description is of, to the code and to the model.
 use Rattle.std.proofs.Common.{◌≡◌, ℕ, ap, subst, ◌∙◌}
-use Rattle.fd_table.specs.Descriptions.{Access, Descriptor, Object, At_node, At_end}
+use Rattle.fd_table.specs.Descriptions.{Access, Object, At_node, At_end}
 use Rattle.fd_table.specs.Views.{access_seen, side_seen}
 use Rattle.fd_table.specs.declared.ends.End.{End}
 use Rattle.kernel.specs.Answers.{Answer, at_object}
 use Rattle.syscalls.specs.declared.descriptors.OpenNode.{OpenNode}
 use Rattle.syscalls.specs.declared.descriptors.Target.{Target}
 use Rattle.syscalls.specs.declared.descriptors.Target.TheVariants as target
-use Rattle.syscalls.specs.declared.descriptors.Opened.{Opened}
-use Rattle.syscalls.specs.declared.descriptors.OpenEnd.{OpenEnd}
-use Rattle.syscalls.specs.declared.descriptors.Reached.{Reached}
-use Rattle.syscalls.specs.declared.descriptors.Reached.TheVariants as reached
-use Rattle.syscalls.specs.Meets.{IsTarget, Reaches, held_seen}
+use Rattle.syscalls.specs.Meets.{IsTarget}
 
 at_node_there : (o : Object) (found : OpenNode) → IsTarget (target.Node found) o → (on_node : ℕ → Access → Answer) (on_end : ℕ → ℕ → Answer) → at_object o on_node on_end ≡ on_node found.node (access_seen found.access)
 unfolding at_object
@@ -28,10 +24,3 @@ at_node o code found is same = at_node_there o found (subst (λ x. IsTarget x o)
 
 pub at_end : (o : Object) (code : Target) (end : End) → IsTarget code o → code ≡ target.End end → (on_node : ℕ → Access → Answer) (on_end : ℕ → ℕ → Answer) → at_object o on_node on_end ≡ on_end end.pair (side_seen end.side)
 at_end o code end is same = at_end_there o end (subst (λ x. IsTarget x o) same is)
-
--- the same of what was reached
-pub reaches_node : (test : (Descriptor → ℕ → Access → Answer) → (Descriptor → ℕ → ℕ → Answer) → Answer) (code : Reached) (found : Opened) → Reaches test code → code ≡ reached.Node found → (on_node : Descriptor → ℕ → Access → Answer) (on_end : Descriptor → ℕ → ℕ → Answer) → test on_node on_end ≡ on_node (held_seen found.held) found.node (access_seen found.access)
-reaches_node test code found is same = subst (Reaches test) same is
-
-pub reaches_end : (test : (Descriptor → ℕ → Access → Answer) → (Descriptor → ℕ → ℕ → Answer) → Answer) (code : Reached) (socket : OpenEnd) → Reaches test code → code ≡ reached.End socket → (on_node : Descriptor → ℕ → Access → Answer) (on_end : Descriptor → ℕ → ℕ → Answer) → test on_node on_end ≡ on_end (held_seen socket.held) socket.end.pair (side_seen socket.end.side)
-reaches_end test code socket is same = subst (Reaches test) same is

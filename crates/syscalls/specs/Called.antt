@@ -26,11 +26,11 @@ succeeded_as s value enters = record s { registers = slice_set s.registers 0 val
 abbrev pub paired_as : ProcessState → ℕ → ℕ → ProcessState
 paired_as s first second = record s { registers = slice_set (slice_set s.registers 0 first) 1 second; point = s.point + 1 }
 
--- A call that fails is told with its cause, shows nothing, and leaves this of the processes.
-pub record FailsAs (before : List ProcessState) (p : ℕ) (s : ProcessState) (otherwise : ℕ) (errno : Errno) (cause : Cause) (result : LineResult) (shows : List Shown) (after : List ProcessState) : Type 0 where
+-- A call that fails is told with its cause, shows nothing, and leaves this of its process.
+pub record FailsAs (s : ProcessState) (otherwise : ℕ) (errno : Errno) (cause : Cause) (result : LineResult) (shows : List Shown) (after : ProcessState) : Type 0 where
   pub told : result ≡ Failed errno cause
   pub nothing : shows ≡ []
-  pub processes : after ≡ slice_set before p (failed s errno otherwise)
+  pub process : after ≡ failed s errno otherwise
 
 -- Under some fresh numbers the call comes to this, with these effects, and to a world that is alike.
 pub record Comes (w : World) (p : ℕ) (s : ProcessState) (e : Event) (call : Syscall) (otherwise : ℕ) (told : LineResult) (shows : List Shown) (v : World) : Type 0 where

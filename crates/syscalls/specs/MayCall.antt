@@ -27,18 +27,15 @@ IsCall (Invoke call otherwise) = Unit {0}
 IsCall _ = ⊥
 
 -- The world is well formed, for some programs; the process was made; and it has a next point.
-pub record MayCall (w : World) (p : ℕ) (s : ProcessState) : Type 0 where
+pub record MayCall (w : World) (p : ℕ) : Type 0 where
   pub programs : Programs
   pub good : IsWellFormed programs w
-  pub made : slice_get w.processes p ≡ Some s
-  pub next : s.point + 1 < 256
-
--- what an instruction that is a call comes to
-abbrev pub CallComes : World → ℕ → ProcessState → Event → Instruction → LineResult → List Shown → World → Type 0
-CallComes w p s e (Invoke call otherwise) told shows v = Comes w p s e call otherwise told shows v
-CallComes w p s e _ told shows v = ⊥
-
--- so for the process that was made under this number
-pub record MayBeCalled (w : World) (p : ℕ) : Type 0 where
   pub process : ProcessState
-  pub may : MayCall w p process
+  pub made : slice_get w.processes p ≡ Some process
+  pub next : process.point + 1 < 256
+
+-- what an instruction that is a call comes to, for the process of this number
+abbrev pub CallComes : World → ℕ → Event → Instruction → LineResult → List Shown → World → Type 0
+CallComes w p e (Invoke call otherwise) told shows v =
+    (s : ProcessState) → slice_get w.processes p ≡ Some s → Comes w p s e call otherwise told shows v
+CallComes w p e _ told shows v = ⊥

@@ -1,42 +1,33 @@
 -- When what a call came to is what the model answers.
-use Rattle.std.specs.Prelude.{◌≡◌, ◌≤◌, ◌<◌, ◌≢◌, ℕ, Bool, true, false, List, [], length, nat_le, map, Option, Some, None, Result, Ok, Err, if◌then◌else◌}
+use Rattle.std.specs.Prelude.{◌≡◌, ◌≤◌, ◌<◌, ◌≢◌, ℕ, Bool, true, false, List, [], length, map, Some, None, Result, Ok, Err}
 use Rattle.rights.specs.declared.calls.Call.{Call}
-use Rattle.rights.specs.Errors.{EINVAL, EFBIG, Full, Refused}
-use Rattle.rights.specs.Errors as causes
-use Rattle.rights.specs.Operations.{Write}
 use Rattle.rights.specs.Needs.{First, Second, needs_of}
 use Rattle.rights.specs.Sets.{is_within}
 use Rattle.rights.specs.Opens.{open_request}
 use Rattle.rights.specs.Views.{call_of, errno_of, cause_of}
 use Rattle.process.specs.State.{ProcessState}
 use Rattle.file_tree.specs.Nodes.{Node, node, is_link}
-use Rattle.rights.specs.Limits.{most_bytes}
-use Rattle.file_tree.specs.Changes.{resized}
 use Rattle.file_tree.specs.WellFormed.{IsTree}
-use Rattle.fd_table.specs.Descriptions.{Access, Object, State, At_node, At_end, Descriptor, descriptor_of, with_status}
+use Rattle.fd_table.specs.Descriptions.{Access, Object, At_node, At_end, Descriptor, descriptor_of}
 use Rattle.fd_table.specs.Filled.{IsNamed, IsEndThere}
 use Rattle.fd_table.specs.OpenFiles.{OpenFiles, IsUnnamed, IsUnused, Alike}
 use Rattle.lookup.specs.declared.ways.Found.{Found}
 use Rattle.lookup.specs.Views.{found_of}
 use Rattle.lookup.specs.Answers as lookups
 use Rattle.kernel.specs.World.{World, Choice}
-use Rattle.kernel.specs.Answers.{Event, Effect, TableChange, New_file, New_pair, Set_state, Change, Answer, Fails, Waits, Gives, TreeChange, Fill, Same_tree, same, does, lost, unless, New_process}
+use Rattle.kernel.specs.Answers.{Event, Effect, TableChange, New_file, New_pair, Change, Answer, Fails, Waits, Gives, lost, New_process}
 use Rattle.kernel.specs.Changes.{tree_after, files_after}
 use Rattle.syscalls.specs.declared.outcomes.Success.{Success}
 use Rattle.syscalls.specs.declared.outcomes.Refusal.{Refusal}
 use Rattle.syscalls.specs.declared.outcomes.Refusal.TheVariants as refusal
 use Rattle.fd_table.specs.Views.{access_seen, side_seen}
-use Rattle.file_tree.specs.declared.nodes.NodeId.{NodeId}
-use Rattle.fd_table.specs.declared.descriptors.DescriptionId.{DescriptionId}
 use Rattle.prog_asm.specs.Programs.{Syscall, called}
 use Rattle.kernel.specs.Calls.{answer, no_request}
 use Rattle.syscalls.specs.declared.nodes.Beneath.{Beneath}
 use Rattle.syscalls.specs.declared.descriptors.Caller.{Caller}
 use Rattle.syscalls.specs.declared.descriptors.OpenNode.{OpenNode}
 use Rattle.syscalls.specs.declared.descriptors.Opened.{Opened}
-use Rattle.syscalls.specs.declared.descriptors.OpenEnd.{OpenEnd}
 use Rattle.syscalls.specs.declared.descriptors.Reached.{Reached}
-use Rattle.syscalls.specs.declared.descriptors.Reached.TheVariants as reached
 use Rattle.syscalls.specs.declared.descriptors.Target.{Target}
 use Rattle.syscalls.specs.declared.descriptors.Target.TheVariants as target
 use Rattle.syscalls.specs.declared.descriptors.Numbered.{Numbered}
@@ -92,16 +83,6 @@ abbrev pub Meets : World → ℕ → List Node → OpenFiles → Result Success 
 Meets w p t f (Ok success) a = Succeeds w p t f success.value (effects_of success.effects.items) a
 Meets w p t f (Err refused) a = RefusesAlone refused w t f a
 
--- the same where nothing is changed
-pub record GivesAlone (value : ℕ) (shows : List Shown) (a : Answer) : Type 0 where
-  pub effects : List Effect
-  pub is : a ≡ Gives value same effects
-  pub prints : map shown effects ≡ shows
-
-abbrev pub Tells : Result Success Refusal → Answer → Type 0
-Tells (Ok success) a = GivesAlone success.value (effects_of success.effects.items) a
-Tells (Err refused) a = Refuses refused a
-
 -- A test of the model goes on with what the code found, or is refused as the code is.
 abbrev pub Passes : {A B : Type 0} → (A → B) → ((B → Answer) → Answer) → Result A Refusal → Type 0
 Passes {B = B} view test (Ok found) = (rest : B → Answer) → test rest ≡ rest (view found)
@@ -121,12 +102,7 @@ Finds sought (Err refused) = refused ≢ refusal.Memory → IsLost refused sough
 abbrev pub IsIdle : OpenFiles → Type 0
 IsIdle f = (pair side : ℕ) → f.pairs ≤ pair → f.queue pair side ≡ []
 
--- What a call on the tree alone came to, whatever is open and whoever calls: nothing is changed, or the tree alone.
-abbrev pub Asks : List Node → Result Success Refusal → (World → ℕ → ProcessState → Event → Answer) → Type 0
-Asks t r answer =
-    (f : OpenFiles) (processes : List ProcessState) (p : ℕ) (s : ProcessState) (e : Event)
-    → Tells r (answer (world_with t f processes) p s e)
-
+-- What a call on the tree alone came to, whatever is open and whoever calls: the tree alone may be changed.
 abbrev pub OnTree : List Node → List Node → Bool → Result Success Refusal → (World → ℕ → ProcessState → Event → Answer) → Type 0
 OnTree t after refuse r answer =
     (f : OpenFiles) (processes : List ProcessState) (p : ℕ) (s : ProcessState) (e : Event)
@@ -141,33 +117,43 @@ HasNumbers f p = (n : ℕ) → 16 ≤ n → f.table p n ≡ None
 abbrev pub held_seen : Numbered → Descriptor
 held_seen held = descriptor_of held.description held.rights.0 held.fcntls.0
 
--- What a call relies on of an entry: a node is a file or directory of the tree, and an offset is within a file.
+-- What a call relies on of a description: a node is a file or directory of the tree, and an offset is within a file.
 abbrev pub IsReadyObject : List Node → Object → Type 0
 IsReadyObject t (At_node n access) = (n < length t) × (is_link (node t n).kind ≡ false)
 IsReadyObject t (At_end pair side class) = Unit {0}
 
-abbrev pub IsReadyEntry : List Node → OpenFiles → Option Descriptor → Type 0
-IsReadyEntry t f None = Unit {0}
-IsReadyEntry t f (Some d) = IsReadyObject t (f.objects d.description) × ((f.states d.description).offset ≤ 4096)
+abbrev pub IsReadyDescription : List Node → OpenFiles → ℕ → Type 0
+IsReadyDescription t f n = IsReadyObject t (f.objects n) × ((f.states n).offset ≤ 4096)
 
 -- and of the world, when process p calls
 pub record IsReady (t : List Node) (f : OpenFiles) (p : ℕ) : Type 0 where
   pub tree : IsTree t
   pub process : p < 16
   pub numbers : HasNumbers f p
-  pub entries : (n : ℕ) → IsReadyEntry t f (f.table p n)
+  pub entries : (n : ℕ) (d : Descriptor) → f.table p n ≡ Some d → IsReadyDescription t f d.description
   pub idle : IsIdle f
 
-abbrev pub byte_number : ℕ → ℕ
-byte_number n = n
+-- The same of a test that looks at the tree and at what is open, whoever calls.
+abbrev pub PassesIn : {A B : Type 0} → List Node → OpenFiles → (A → B) → (World → ℕ → ProcessState → Event → (B → Answer) → Answer) → Result A Refusal → Type 0
+PassesIn t f view test r =
+    (processes : List ProcessState) (p : ℕ) (s : ProcessState) (e : Event) → Passes view (test (world_with t f processes) p s e) r
 
-abbrev pub node_number : NodeId → ℕ
-node_number n = n
+-- What the code found, as the model goes on with it: a number, a node with what it was opened for, both with their
+-- descriptor, or a descriptor.
+abbrev pub number_seen : ℕ → ℕ
+number_seen n = n
 
--- a test that goes on with an open node and what it was opened for
-abbrev pub PassesBoth : ((ℕ → Access → Answer) → Answer) → Result OpenNode Refusal → Type 0
-PassesBoth test (Ok found) = (rest : ℕ → Access → Answer) → test rest ≡ rest found.node (access_seen found.access)
-PassesBoth test (Err refused) = (rest : ℕ → Access → Answer) → Refuses refused (test rest)
+abbrev pub node_seen : OpenNode → ℕ × Access
+node_seen found = (found.node, access_seen found.access)
+
+abbrev pub opened_seen : Opened → Descriptor × ℕ × Access
+opened_seen found = (held_seen found.held, found.node, access_seen found.access)
+
+abbrev pub reached_seen : Reached → Descriptor
+reached_seen reached = held_seen reached.held
+
+abbrev pub beneath_seen : Beneath → Descriptor
+beneath_seen b = descriptor_of b.description b.how.rights.0 b.how.fcntls.0
 
 -- what a description is of, a node or an end
 abbrev pub IsTarget : Target → Object → Type 0
@@ -176,120 +162,33 @@ IsTarget (target.Node found) (At_end pair side class) = ⊥
 IsTarget (target.End end) (At_node n access) = ⊥
 IsTarget (target.End end) (At_end pair side class) = (pair ≡ end.pair) × (side ≡ side_seen end.side)
 
--- a test that goes on with a description
-abbrev pub PassesDescription : ((ℕ → Answer) → Answer) → Result DescriptionId Refusal → Type 0
-PassesDescription test (Ok description) = (rest : ℕ → Answer) → test rest ≡ rest description
-PassesDescription test (Err refused) = (rest : ℕ → Answer) → Refuses refused (test rest)
-
--- a test that goes on with a descriptor and a node, or with a descriptor and an end
-abbrev pub Reaches : ((Descriptor → ℕ → Access → Answer) → (Descriptor → ℕ → ℕ → Answer) → Answer) → Reached → Type 0
-Reaches test (reached.Node found) =
-    (on_node : Descriptor → ℕ → Access → Answer) (on_end : Descriptor → ℕ → ℕ → Answer)
-    → test on_node on_end ≡ on_node (held_seen found.held) found.node (access_seen found.access)
-Reaches test (reached.End socket) =
-    (on_node : Descriptor → ℕ → Access → Answer) (on_end : Descriptor → ℕ → ℕ → Answer)
-    → test on_node on_end ≡ on_end (held_seen socket.held) socket.end.pair (side_seen socket.end.side)
-
-abbrev pub PassesReached : ((Descriptor → ℕ → Access → Answer) → (Descriptor → ℕ → ℕ → Answer) → Answer) → Result Reached Refusal → Type 0
-PassesReached test (Ok reached) = Reaches test reached
-PassesReached test (Err refused) =
-    (on_node : Descriptor → ℕ → Access → Answer) (on_end : Descriptor → ℕ → ℕ → Answer) → Refuses refused (test on_node on_end)
-
 -- what is reached is there
-pub record IsOpenNode (t : List Node) (f : OpenFiles) (found : Opened) : Type 0 where
-  pub named : IsNamed f found.held.description
-  pub ready : IsReadyEntry t f (Some (held_seen found.held))
-  pub there : found.node < length t
-  pub opened : is_link (node t found.node).kind ≡ false
+abbrev pub IsTargetThere : List Node → OpenFiles → Target → Type 0
+IsTargetThere t f (target.Node found) = (found.node < length t) × (is_link (node t found.node).kind ≡ false)
+IsTargetThere t f (target.End end) = IsEndThere f end.pair (side_seen end.side)
 
-pub record IsOpenEnd (f : OpenFiles) (socket : OpenEnd) : Type 0 where
-  pub named : IsNamed f socket.held.description
-  pub there : IsEndThere f socket.end.pair (side_seen socket.end.side)
+pub record IsReached (t : List Node) (f : OpenFiles) (reached : Reached) : Type 0 where
+  pub named : IsNamed f reached.held.description
+  pub ready : IsReadyDescription t f reached.held.description
+  pub there : IsTargetThere t f reached.target
 
-abbrev pub IsReached : List Node → OpenFiles → Reached → Type 0
-IsReached t f (reached.Node found) = IsOpenNode t f found
-IsReached t f (reached.End socket) = IsOpenEnd f socket
-
--- What the code came to of that call, with the tree and what is open before and after it, is what the model answers.
-abbrev pub Calls : List Node → OpenFiles → Caller → List Node → OpenFiles → Result Success Refusal → Syscall → Type 0
-Calls t f caller after left r call =
-    (processes : List ProcessState) (e : Event)
-    → e.refuse ≡ caller.refuse
-    → Meets (world_with t f processes) caller.number after left r (answer (world_with t f processes) caller.number caller.process e call)
-
--- what a call that opens nothing needs of its first descriptor
-abbrev pub need : Call → ℕ
-need call = needs_of (call_of call) (open_request true false false false false) First false
-
--- a test that goes on with a descriptor, its node, and what it was opened for
-abbrev pub PassesThrough : ((Descriptor → ℕ → Access → Answer) → Answer) → Result Opened Refusal → Type 0
-PassesThrough test (Ok found) = (rest : Descriptor → ℕ → Access → Answer) → test rest ≡ rest (held_seen found.held) found.node (access_seen found.access)
-PassesThrough test (Err refused) = (rest : Descriptor → ℕ → Access → Answer) → Refuses refused (test rest)
-
--- The same of a part of a call, whoever calls.
-abbrev pub Goes : List Node → OpenFiles → Bool → List Node → OpenFiles → Result Success Refusal → (World → ℕ → ProcessState → Event → Answer) → Type 0
-Goes t f refuse after left r answer =
-    (processes : List ProcessState) (p : ℕ) (s : ProcessState) (e : Event)
-    → e.refuse ≡ refuse
-    → Meets (world_with t f processes) p after left r (answer (world_with t f processes) p s e)
-
--- The same where the tree isn't looked at, and stays.
-abbrev pub Part : OpenFiles → Caller → OpenFiles → Result Success Refusal → (World → Answer) → Type 0
-Part f caller left r answer =
-    (t : List Node) (processes : List ProcessState) (e : Event)
-    → e.refuse ≡ caller.refuse
-    → Meets (world_with t f processes) caller.number t left r (answer (world_with t f processes))
-
--- The same of a part of a call that changes the tree and what is open.
+-- What the code came to of a part of a call, with the tree and what is open before and after it, is what the model
+-- answers.
 abbrev pub Does : List Node → OpenFiles → Caller → List Node → OpenFiles → Result Success Refusal → (World → Event → Answer) → Type 0
 Does t f caller after left r answer =
     (processes : List ProcessState) (e : Event)
     → e.refuse ≡ caller.refuse
     → Meets (world_with t f processes) caller.number after left r (answer (world_with t f processes) e)
 
--- A test of what the kernel refuses, too.
-abbrev pub PassesRefusable : Bool → (Bool → (ℕ → Answer) → Answer) → Result ℕ Refusal → Type 0
-PassesRefusable refuse test (Ok found) = (asked : Bool) → asked ≡ refuse → (rest : ℕ → Answer) → test asked rest ≡ rest found
-PassesRefusable refuse test (Err refused) = (asked : Bool) → asked ≡ refuse → (rest : ℕ → Answer) → Refuses refused (test asked rest)
+-- The same of that call as a whole.
+abbrev pub Calls : List Node → OpenFiles → Caller → List Node → OpenFiles → Result Success Refusal → Syscall → Type 0
+Calls t f caller after left r call =
+    Does t f caller after left r (λ w e. answer w caller.number caller.process.now e call)
 
--- a test that goes on with a directory's descriptor
-abbrev pub PassesBeneath : ((Descriptor → Answer) → Answer) → Result Beneath Refusal → Type 0
-PassesBeneath test (Ok b) = (rest : Descriptor → Answer) → test rest ≡ rest (descriptor_of b.description b.how.rights.0 b.how.fcntls.0)
-PassesBeneath test (Err refused) = (rest : Descriptor → Answer) → Refuses refused (test rest)
+-- what a call that opens nothing needs of its first descriptor
+abbrev pub need : Call → ℕ
+need call = needs_of (call_of call) (open_request true false false false false) First false
 
 -- whether a call may replace a node through its second descriptor
 abbrev pub MayReplace : Syscall → Descriptor → Bool → Type 0
 MayReplace call target may = is_within (needs_of (called call) no_request Second true) target.rights ≡ may
-
--- ## Parts of the model's answers
--- an open that truncates
-abbrev pub truncated_to : Bool → ℕ → TreeChange
-truncated_to true n = Fill n []
-truncated_to false n = Same_tree
-
-abbrev pub truncates_at : Bool → List (List ℕ) → List Effect
-truncates_at true place = does Write place
-truncates_at false place = []
-
--- the description's offset is set, unless it is past a file's greatest length
-abbrev pub moved_to : World → ℕ → ℕ → Answer
-moved_to w n offset =
-    unless (nat_le offset most_bytes) EINVAL Refused
-    (Gives offset (record same { state = Set_state n (record (w.files.states n) { offset = offset }) }) [])
-
--- the description's status flags are set, unless the number isn't one of flags
-abbrev pub set_flags : World → ℕ → ℕ → Answer
-set_flags w n flags =
-    unless (nat_le flags 3) EINVAL Refused
-    (Gives 0 (record same { state = Set_state n (with_status (w.files.states n) flags) }) [])
-
--- a file gets another length, unless it isn't open for writing or the length is too great
-abbrev pub cut_to : World → ℕ → Access → ℕ → Answer
-cut_to w n access len =
-    unless access.writable EINVAL causes.Access
-    (unless (nat_le len most_bytes) EFBIG Full
-    (Gives 0 (record same { tree = Fill n (resized (node w.tree n).content len) }) (does Write (node w.tree n).place)))
-
--- where a write goes: to the end with append, else to the offset
-abbrev pub writes_at : State → List ℕ → ℕ
-writes_at state content = if state.append then length content else state.offset

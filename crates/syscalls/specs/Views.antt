@@ -4,10 +4,12 @@ use Rattle.rights.specs.Views.{operation_of}
 use Rattle.process.specs.State.{ProcessState}
 use Rattle.file_tree.specs.Nodes.{Node}
 use Rattle.fd_table.specs.OpenFiles.{OpenFiles}
+use Rattle.fd_table.specs.Kept.{open_files}
 use Rattle.kernel.specs.World.{World}
 use Rattle.kernel.specs.Answers.{Event}
 use Rattle.syscalls.specs.declared.events.Event.{Event as EventCode}
 use Rattle.syscalls.specs.declared.outcomes.Effect.{Effect as EffectCode}
+use Rattle.syscalls.specs.declared.world.World.{World as WorldCode}
 use Rattle.syscalls.specs.Shows.{Shown}
 
 abbrev pub event_of : EventCode → Event
@@ -22,3 +24,7 @@ effects_of effects = map effect_of effects
 -- the world of these parts
 abbrev pub world_with : List Node → OpenFiles → List ProcessState → World
 world_with tree files processes = record { tree = tree; files = files; processes = processes }
+
+-- and that of the code, whose tree has these nodes
+abbrev pub world_of : {T : Type 0} → (T → List Node) → WorldCode T → World
+world_of nodes w = world_with (nodes w.tree) (open_files w.files) w.processes.items

@@ -8,10 +8,11 @@ ghost use Rattle.fd_table.specs.Kept.{open_files};
 ghost use Rattle.prog_asm.specs.Programs as programs;
 ghost use Rattle.prog_asm.specs.Views.{operand_of};
 ghost use Rattle.kernel.specs.Answers as answers;
+ghost use Rattle.kernel.specs.Calls as model;
 ghost use Rattle.file_tree.specs.Nodes.{Node};
-ghost use Rattle.syscalls.specs.Meets.{Calls, HasNumbers, IsIdle, IsReady, Part, PassesDescription, need, set_flags};
+ghost use Rattle.syscalls.specs.Meets.{Calls, Does, HasNumbers, IsIdle, IsReady, Passes, need, number_seen};
 
-use crate::descriptors::{Caller, Reached, reach, through, value_of};
+use crate::descriptors::{Caller, Target, reach, through, value_of};
 use crate::directories::stat;
 use crate::outcomes::{Refusal, Success};
 use fd_table::{DescriptionId, Files, Status};
@@ -25,21 +26,23 @@ pub(crate) fn sync<T: Tree>(
     alloc: Global,
     tree: &T,
     files: &Files,
-    caller: &Caller,
+    caller: &Caller<'_>,
     operand: Operand,
 ) -> Result<Success, Refusal>
     requires { IsReady (T.nodes tree.now) (open_files files.now) caller.now.number }
     ensures { Calls (T.nodes tree.now) (open_files files.now) caller.now (T.nodes tree.now) (open_files files.now) result (programs.Fsync (operand_of operand)) }
 {
-    match reach(files, caller, operand, Call::Fsync) {
-        Err(refused) => Err(refused),
-        Ok(reached) => match reached {
-            Reached::End(_) => Err(Refusal::Fails(Errno::EINVAL, Cause::Kind)),
-            Reached::Node(_) => Ok(Success {
-                value: 0,
-                effects: Vec::new(alloc),
-            }),
-        },
+    let reached = match reach(files, caller, operand, Call::Fsync) {
+        Err(refused) => return Err(refused),
+        Ok(reached) => reached,
+    };
+    let target = reached.target;
+    match target {
+        Target::End(_) => Err(Refusal::Fails(Errno::EINVAL, Cause::Kind)),
+        Target::Node(_) => Ok(Success {
+            value: 0,
+            effects: Vec::new(alloc),
+        }),
     }
 }
 
@@ -51,21 +54,23 @@ pub(crate) fn stat_descriptor<T: Tree>(
     alloc: Global,
     tree: &T,
     files: &Files,
-    caller: &Caller,
+    caller: &Caller<'_>,
     operand: Operand,
 ) -> Result<Success, Refusal>
     requires { IsReady (T.nodes tree.now) (open_files files.now) caller.now.number }
     ensures { Calls (T.nodes tree.now) (open_files files.now) caller.now (T.nodes tree.now) (open_files files.now) result (programs.Fstat (operand_of operand)) }
 {
-    match reach(files, caller, operand, Call::Fstat) {
-        Err(refused) => Err(refused),
-        Ok(reached) => match reached {
-            Reached::Node(found) => stat(alloc, tree, found.node),
-            Reached::End(_) => Ok(Success {
-                value: SOCKET,
-                effects: Vec::new(alloc),
-            }),
-        },
+    let reached = match reach(files, caller, operand, Call::Fstat) {
+        Err(refused) => return Err(refused),
+        Ok(reached) => reached,
+    };
+    let target = reached.target;
+    match target {
+        Target::Node(found) => stat(alloc, tree, found.node),
+        Target::End(_) => Ok(Success {
+            value: SOCKET,
+            effects: Vec::new(alloc),
+        }),
     }
 }
 
@@ -73,13 +78,13 @@ pub(crate) fn stat_descriptor<T: Tree>(
 #[tactic(auto, unfolding(kernel::specs::Answers::held, kernel::specs::Answers::unless))]
 fn commanded(
     files: &Files,
-    caller: &Caller,
+    caller: &Caller<'_>,
     operand: Operand,
     call: Call,
     command: Fcntls,
 ) -> Result<DescriptionId, Refusal>
     requires { HasNumbers (open_files files.now) caller.now.number }
-    ensures passes { PassesDescription (λ rest. answers.through (need call) ((open_files files.now).table caller.now.number (answers.value_of caller.now.process (operand_of operand)))
+    ensures passes { Passes number_seen (λ rest. answers.through (need call) ((open_files files.now).table caller.now.number (answers.value_of caller.now.process.now (operand_of operand)))
         (λ d. answers.commanded command.0 d (rest d.description))) result }
     ensures named { IfOk result (IsNamed (open_files files.now)) }
 {
@@ -97,7 +102,7 @@ fn commanded(
 pub(crate) fn get_flags(
     alloc: Global,
     files: &Files,
-    caller: &Caller,
+    caller: &Caller<'_>,
     operand: Operand,
 ) -> Result<Success, Refusal>
     requires numbers { HasNumbers (open_files files.now) caller.now.number }
@@ -120,13 +125,13 @@ pub(crate) fn get_flags(
 fn change_flags(
     alloc: Global,
     files: &mut Files,
-    caller: &Caller,
+    caller: &Caller<'_>,
     description: DescriptionId,
     flags: Operand,
 ) -> Result<Success, Refusal>
     requires { IsNamed (open_files files.old) description }
-    ensures { Part (open_files files.old) caller.now (open_files files.new) result (λ w.
-        set_flags w description (answers.value_of caller.now.process (operand_of flags))) }
+    ensures { (t : List Node) → Does t (open_files files.old) caller.now t (open_files files.new) result (λ w e.
+        model.sets_flags w caller.now.number caller.now.process.now e description (answers.value_of caller.now.process.now (operand_of flags))) }
 {
     let flags = value_of(caller, flags);
     if flags > 3 {
@@ -149,7 +154,7 @@ fn change_flags(
 pub(crate) fn set_status(
     alloc: Global,
     files: &mut Files,
-    caller: &Caller,
+    caller: &Caller<'_>,
     operand: Operand,
     flags: Operand,
 ) -> Result<Success, Refusal>

@@ -28,7 +28,7 @@ pub(crate) fn perform<T: Tree>(
     alloc: Global,
     tree: &mut T,
     files: &mut Files,
-    caller: &Caller,
+    caller: &Caller<'_>,
     call: &Syscall,
 ) -> Result<Success, Refusal>
     requires ready { IsReady (T.nodes tree.old) (open_files files.old) caller.now.number }
@@ -123,6 +123,6 @@ pub(crate) fn perform<T: Tree>(
             commands,
         } => limit_fcntls(alloc, files, caller, *descriptor, *commands),
         Syscall::CapGetmode => Ok(get_mode(alloc, caller)),
-        Syscall::CapEnter | Syscall::Socketpair | Syscall::Fork => Err(Refusal::Memory),
+        Syscall::CapEnter | Syscall::Socketpair | Syscall::Fork => unreachable!(),
     }
 }

@@ -11,7 +11,7 @@ ghost use Rattle.kernel.specs.Changes.{tree_after};
 ghost use Rattle.syscalls.specs.Shows.{shown_at};
 ghost use Rattle.syscalls.specs.Views.{effects_of};
 
-use crate::outcomes::{Effect, Refusal, effects_at};
+use crate::outcomes::{Effect, Refusal, effects_at, want_of_memory};
 use file_tree::{New, NodeId, Tree};
 use rights::Op;
 use std::alloc::Global;
@@ -43,7 +43,7 @@ pub(crate) fn create_node<T: Tree>(
     ensures effects { IfOk result (λ made. effects_of made.effects.items ≡ shown_at operations.Create (at_name (node (T.nodes tree.old) dir).place name.now) ∷ []) }
 {
     match tree.create(dir, name, what) {
-        Err(_) => Err(Refusal::Memory),
+        Err(fault) => Err(want_of_memory(fault)),
         Ok(node) => Ok(Made {
             node,
             effects: effects_at(alloc, tree, Op::Create, node)?,

@@ -3,18 +3,15 @@
 ghost use Rattle.std.specs.Prelude.{◌≡◌, ◌%◌, ◌<◌, ◌≤◌, List, None, Some, Err, IfOk, IfSome, option_map, true, false, length, ℕ};
 ghost use Rattle.rights.specs.Calls as calls;
 ghost use Rattle.rights.specs.Needs.{second_needs};
+ghost use Rattle.rights.specs.Opens.{open_request};
 ghost use Rattle.file_tree.specs.Nodes.{File, Node, is_link, node};
-ghost use Rattle.fd_table.specs.Descriptions.{descriptor_of};
 ghost use Rattle.fd_table.specs.Filled.{IsNamed};
 ghost use Rattle.fd_table.specs.Kept.{open_files};
 ghost use Rattle.fd_table.specs.Views.{object_seen};
 ghost use Rattle.prog_asm.specs.Views.{operand_of};
-ghost use Rattle.process.specs.State.{ProcessState};
 ghost use Rattle.kernel.specs.Answers as answers;
-ghost use Rattle.kernel.specs.Answers.{Event};
 ghost use Rattle.kernel.specs.Calls.{at_file, in_directory};
-ghost use Rattle.syscalls.specs.Views.{world_with};
-ghost use Rattle.syscalls.specs.Meets.{HasNumbers, IsReached, IsReady, IsTarget, IsReadyEntry, Passes, PassesBoth, PassesReached, PassesThrough, held_seen, need, node_number};
+ghost use Rattle.syscalls.specs.Meets.{HasNumbers, IsReached, IsReady, IsReadyDescription, IsTarget, Passes, PassesIn, held_seen, need, node_seen, number_seen, opened_seen, reached_seen};
 
 use crate::directories::is_directory;
 use crate::outcomes::Refusal;
@@ -26,9 +23,9 @@ use rights::{Call, Cause, Errno, Fcntls, OpenFlags, Position, Rights, needs};
 
 /// Who calls: the process, its number, and whether the kernel refuses at this event.
 #[derive(Clone, Copy)]
-pub(crate) struct Caller {
+pub(crate) struct Caller<'a> {
     pub number: u8,
-    pub process: Process,
+    pub process: &'a Process,
     pub refuse: bool,
 }
 
@@ -42,24 +39,25 @@ pub(crate) struct Numbered {
 }
 
 /// What an operand stands for: what its register holds, or a number itself. (own)
-pub(crate) fn value_of(caller: &Caller, operand: Operand) -> u32
-    ensures { result ≡ answers.value_of caller.now.process (operand_of operand) }
+pub(crate) fn value_of(caller: &Caller<'_>, operand: Operand) -> u32
+    ensures { result ≡ answers.value_of caller.now.process.now (operand_of operand) }
 {
+    let process = caller.process;
     match operand {
-        Operand::Register(register) => caller.process.registers[register.number() as usize],
+        Operand::Register(register) => process.registers[register.number() as usize],
         Operand::Number(number) => number,
     }
 }
 
 /// The low byte of what an operand stands for. (own)
-pub(crate) fn byte_of(caller: &Caller, operand: Operand) -> u8
-    ensures { result ≡ answers.value_of caller.now.process (operand_of operand) % 256 }
+pub(crate) fn byte_of(caller: &Caller<'_>, operand: Operand) -> u8
+    ensures { result ≡ answers.value_of caller.now.process.now (operand_of operand) % 256 }
 {
     (value_of(caller, operand) % 256) as u8
 }
 
 /// The caller's descriptor at a number, if there is one.
-fn entry(files: &Files, caller: &Caller, number: u32) -> Option<Numbered>
+fn entry(files: &Files, caller: &Caller<'_>, number: u32) -> Option<Numbered>
     requires { HasNumbers (open_files files.now) caller.now.number }
     ensures entry { option_map held_seen result ≡ (open_files files.now).table caller.now.number number }
     ensures number { IfSome result (λ held. held.number ≡ number) }
@@ -81,13 +79,17 @@ fn entry(files: &Files, caller: &Caller, number: u32) -> Option<Numbered>
 
 /// The descriptor of an operand. (EBADF)
 #[tactic(auto, unfolding(kernel::specs::Answers::held))]
-pub(crate) fn held(files: &Files, caller: &Caller, operand: Operand) -> Result<Numbered, Refusal>
+pub(crate) fn held(
+    files: &Files,
+    caller: &Caller<'_>,
+    operand: Operand,
+) -> Result<Numbered, Refusal>
     requires { HasNumbers (open_files files.now) caller.now.number }
-    ensures passes { Passes held_seen (answers.held ((open_files files.now).table caller.now.number (answers.value_of caller.now.process (operand_of operand)))) result }
+    ensures passes { Passes held_seen (answers.held ((open_files files.now).table caller.now.number (answers.value_of caller.now.process.now (operand_of operand)))) result }
     ensures entry { IfOk result (λ held. (open_files files.now).table caller.now.number held.number ≡ Some (held_seen held)) }
-    ensures number { IfOk result (λ held. held.number ≡ answers.value_of caller.now.process (operand_of operand)) }
+    ensures number { IfOk result (λ held. held.number ≡ answers.value_of caller.now.process.now (operand_of operand)) }
     ensures named { IfOk result (λ held. IsNamed (open_files files.now) held.description) }
-    ensures ready { (t : List Node) → IsReady t (open_files files.now) caller.now.number → IfOk result (λ held. IsReadyEntry t (open_files files.now) (Some (held_seen held))) }
+    ensures ready { (t : List Node) → IsReady t (open_files files.now) caller.now.number → IfOk result (λ held. IsReadyDescription t (open_files files.now) held.description) }
 {
     match entry(files, caller, value_of(caller, operand)) {
         None => Err(Refusal::Fails(Errno::EBADF, Cause::BadDescriptor)),
@@ -95,40 +97,43 @@ pub(crate) fn held(files: &Files, caller: &Caller, operand: Operand) -> Result<N
     }
 }
 
+/// Flags for a call that opens nothing: an open alone looks at them.
+fn no_flags() -> OpenFlags
+    ensures { result ≡ open_request true false false false false }
+{
+    match OpenFlags::new(true, false, false, false, false) {
+        None => unreachable!(),
+        Some(flags) => flags,
+    }
+}
+
 /// What a call needs of the rights of its first descriptor. (rights(4))
 pub(crate) fn need_of(call: Call) -> Rights
     ensures { result.0 ≡ need call }
 {
-    // The flags are looked at by an open alone.
-    match OpenFlags::new(true, false, false, false, false) {
-        None => Rights::empty(),
-        Some(flags) => needs(call, flags, Position::First, false),
-    }
+    needs(call, no_flags(), Position::First, false)
 }
 
 /// What a rename needs of its second descriptor, where it replaces a node or not. (rights(4), renameat(2))
 pub(crate) fn second_need(replaces: bool) -> Rights
     ensures { result.0 ≡ second_needs calls.Renameat replaces }
 {
-    match OpenFlags::new(true, false, false, false, false) {
-        None => Rights::empty(),
-        Some(flags) => needs(Call::Renameat, flags, Position::Second, replaces),
-    }
+    needs(Call::Renameat, no_flags(), Position::Second, replaces)
 }
 
 /// The descriptor of an operand, if it has the rights that the call needs.
 pub(crate) fn through(
     files: &Files,
-    caller: &Caller,
+    caller: &Caller<'_>,
     operand: Operand,
     call: Call,
 ) -> Result<Numbered, Refusal>
     requires { HasNumbers (open_files files.now) caller.now.number }
-    ensures passes { Passes held_seen (answers.through (need call) ((open_files files.now).table caller.now.number (answers.value_of caller.now.process (operand_of operand)))) result }
+    ensures passes { Passes held_seen (answers.through (need call) ((open_files files.now).table caller.now.number (answers.value_of caller.now.process.now (operand_of operand)))) result }
     ensures entry { IfOk result (λ held. (open_files files.now).table caller.now.number held.number ≡ Some (held_seen held)) }
-    ensures number { IfOk result (λ held. held.number ≡ answers.value_of caller.now.process (operand_of operand)) }
+    ensures number { IfOk result (λ held. held.number ≡ answers.value_of caller.now.process.now (operand_of operand)) }
     ensures named { IfOk result (λ held. IsNamed (open_files files.now) held.description) }
-    ensures ready { (t : List Node) → IsReady t (open_files files.now) caller.now.number → IfOk result (λ held. IsReadyEntry t (open_files files.now) (Some (held_seen held))) }
+    ensures ready { (t : List Node) → IsReady t (open_files files.now) caller.now.number → IfOk result (λ held. IsReadyDescription t (open_files files.now) held.description) }
 {
     through_rights(files, caller, operand, need_of(call))
 }
@@ -137,16 +142,16 @@ pub(crate) fn through(
 #[tactic(auto, unfolding(kernel::specs::Answers::held, kernel::specs::Answers::unless))]
 pub(crate) fn through_rights(
     files: &Files,
-    caller: &Caller,
+    caller: &Caller<'_>,
     operand: Operand,
     need: Rights,
 ) -> Result<Numbered, Refusal>
     requires { HasNumbers (open_files files.now) caller.now.number }
-    ensures passes { Passes held_seen (answers.through need.0 ((open_files files.now).table caller.now.number (answers.value_of caller.now.process (operand_of operand)))) result }
+    ensures passes { Passes held_seen (answers.through need.0 ((open_files files.now).table caller.now.number (answers.value_of caller.now.process.now (operand_of operand)))) result }
     ensures entry { IfOk result (λ held. (open_files files.now).table caller.now.number held.number ≡ Some (held_seen held)) }
-    ensures number { IfOk result (λ held. held.number ≡ answers.value_of caller.now.process (operand_of operand)) }
+    ensures number { IfOk result (λ held. held.number ≡ answers.value_of caller.now.process.now (operand_of operand)) }
     ensures named { IfOk result (λ held. IsNamed (open_files files.now) held.description) }
-    ensures ready { (t : List Node) → IsReady t (open_files files.now) caller.now.number → IfOk result (λ held. IsReadyEntry t (open_files files.now) (Some (held_seen held))) }
+    ensures ready { (t : List Node) → IsReady t (open_files files.now) caller.now.number → IfOk result (λ held. IsReadyDescription t (open_files files.now) held.description) }
 {
     let held = held(files, caller, operand)?;
     if !held.rights.contains(need) {
@@ -170,25 +175,18 @@ pub(crate) struct Opened {
     pub access: Access,
 }
 
-/// A descriptor of an end of a socket pair.
-#[derive(Clone, Copy)]
-pub(crate) struct OpenEnd {
-    pub held: Numbered,
-    pub end: End,
-}
-
-/// A descriptor with what it is of.
-#[derive(Clone, Copy)]
-pub(crate) enum Reached {
-    Node(Opened),
-    End(OpenEnd),
-}
-
 /// What a descriptor is of.
 #[derive(Clone, Copy)]
 pub(crate) enum Target {
     Node(OpenNode),
     End(End),
+}
+
+/// A descriptor with what it is of.
+#[derive(Clone, Copy)]
+pub(crate) struct Reached {
+    pub held: Numbered,
+    pub target: Target,
 }
 
 fn target_in(object: Object) -> Target
@@ -217,8 +215,8 @@ pub(crate) fn directory_of<T: Tree>(
     description: DescriptionId,
 ) -> Result<NodeId, Refusal>
     requires named { IsNamed (open_files files.now) description }
-    requires ready { IsReadyEntry (T.nodes tree.now) (open_files files.now) (Some (descriptor_of description 0 0)) }
-    ensures passes { (processes : List ProcessState) (p : ℕ) (s : ProcessState) (e : Event) → Passes node_number (in_directory (world_with (T.nodes tree.now) (open_files files.now) processes) p s e (descriptor_of description 0 0)) result }
+    requires ready { IsReadyDescription (T.nodes tree.now) (open_files files.now) description }
+    ensures passes { PassesIn (T.nodes tree.now) (open_files files.now) number_seen (λ w p s e. in_directory w p s e description) result }
     ensures there { IfOk result (λ n. n < length (T.nodes tree.now)) }
     ensures opened { IfOk result (λ n. is_link (node (T.nodes tree.now) n).kind ≡ false) }
 {
@@ -241,8 +239,8 @@ pub(crate) fn file_of<T: Tree>(
     description: DescriptionId,
 ) -> Result<OpenNode, Refusal>
     requires named { IsNamed (open_files files.now) description }
-    requires ready { IsReadyEntry (T.nodes tree.now) (open_files files.now) (Some (descriptor_of description 0 0)) }
-    ensures passes { (processes : List ProcessState) (p : ℕ) (s : ProcessState) (e : Event) → PassesBoth (at_file (world_with (T.nodes tree.now) (open_files files.now) processes) p s e (descriptor_of description 0 0)) result }
+    requires ready { IsReadyDescription (T.nodes tree.now) (open_files files.now) description }
+    ensures passes { PassesIn (T.nodes tree.now) (open_files files.now) node_seen (λ w p s e rest. at_file w p s e description (λ n access. rest (n, access))) result }
     ensures there { IfOk result (λ found. found.node < length (T.nodes tree.now)) }
     ensures file { IfOk result (λ found. (node (T.nodes tree.now) found.node).kind ≡ File) }
 {
@@ -261,14 +259,14 @@ pub(crate) fn file_of<T: Tree>(
 pub(crate) fn file_through<T: Tree>(
     tree: &T,
     files: &Files,
-    caller: &Caller,
+    caller: &Caller<'_>,
     operand: Operand,
     call: Call,
 ) -> Result<Opened, Refusal>
     requires { IsReady (T.nodes tree.now) (open_files files.now) caller.now.number }
-    ensures passes { (processes : List ProcessState) (e : Event) → PassesThrough
-        (λ rest. answers.through (need call) ((open_files files.now).table caller.now.number (answers.value_of caller.now.process (operand_of operand)))
-        (λ d. at_file (world_with (T.nodes tree.now) (open_files files.now) processes) caller.now.number caller.now.process e d (rest d))) result }
+    ensures passes { PassesIn (T.nodes tree.now) (open_files files.now) opened_seen (λ w p s e rest.
+        answers.through (need call) ((open_files files.now).table caller.now.number (answers.value_of caller.now.process.now (operand_of operand)))
+        (λ d. at_file w p s e d.description (λ n access. rest (d, n, access)))) result }
     ensures there { IfOk result (λ found. found.node < length (T.nodes tree.now)) }
     ensures file { IfOk result (λ found. (node (T.nodes tree.now) found.node).kind ≡ File) }
     ensures named { IfOk result (λ found. IsNamed (open_files files.now) found.held.description) }
@@ -287,41 +285,37 @@ pub(crate) fn file_through<T: Tree>(
 /// What the descriptor of an operand is of, through the rights that the call needs.
 pub(crate) fn reach(
     files: &Files,
-    caller: &Caller,
+    caller: &Caller<'_>,
     operand: Operand,
     call: Call,
 ) -> Result<Reached, Refusal>
     requires { HasNumbers (open_files files.now) caller.now.number }
-    ensures passes { PassesReached (λ on_node on_end. answers.through (need call) ((open_files files.now).table caller.now.number (answers.value_of caller.now.process (operand_of operand)))
-        (λ d. answers.at_object ((open_files files.now).objects d.description) (on_node d) (on_end d))) result }
+    ensures passes { Passes reached_seen (answers.through (need call) ((open_files files.now).table caller.now.number (answers.value_of caller.now.process.now (operand_of operand)))) result }
+    ensures target { IfOk result (λ reached. IsTarget reached.target ((open_files files.now).objects reached.held.description)) }
     ensures ready { (t : List Node) → IsReady t (open_files files.now) caller.now.number → IfOk result (IsReached t (open_files files.now)) }
 {
     let held = match through(files, caller, operand, call) {
         Err(refused) => return Err(refused),
         Ok(held) => held,
     };
-    match target_of(files, held.description) {
-        Target::Node(found) => Ok(Reached::Node(Opened {
-            held,
-            node: found.node,
-            access: found.access,
-        })),
-        Target::End(end) => Ok(Reached::End(OpenEnd { held, end })),
-    }
+    Ok(Reached {
+        held,
+        target: target_of(files, held.description),
+    })
 }
 
 /// The directory of an operand, through the rights that the call needs.
 pub(crate) fn directory_through<T: Tree>(
     tree: &T,
     files: &Files,
-    caller: &Caller,
+    caller: &Caller<'_>,
     operand: Operand,
     call: Call,
 ) -> Result<NodeId, Refusal>
     requires { IsReady (T.nodes tree.now) (open_files files.now) caller.now.number }
-    ensures passes { (processes : List ProcessState) (e : Event) → Passes node_number
-        (λ rest. answers.through (need call) ((open_files files.now).table caller.now.number (answers.value_of caller.now.process (operand_of operand)))
-        (λ d. in_directory (world_with (T.nodes tree.now) (open_files files.now) processes) caller.now.number caller.now.process e d rest)) result }
+    ensures passes { PassesIn (T.nodes tree.now) (open_files files.now) number_seen (λ w p s e rest.
+        answers.through (need call) ((open_files files.now).table caller.now.number (answers.value_of caller.now.process.now (operand_of operand)))
+        (λ d. in_directory w p s e d.description rest)) result }
     ensures there { IfOk result (λ n. n < length (T.nodes tree.now)) }
     ensures opened { IfOk result (λ n. is_link (node (T.nodes tree.now) n).kind ≡ false) }
 {

@@ -2,13 +2,14 @@
 
 ghost use Rattle.std.specs.Prelude.{◌≡◌, ◌<◌, Bool, true, false, length};
 ghost use Rattle.file_tree.specs.Nodes.{is_dir, is_link, node};
+ghost use Rattle.file_tree.specs.Views.{kind_of};
 ghost use Rattle.file_tree.specs.WellFormed.{IsTree};
 ghost use Rattle.lookup.specs.Looks.{find_of};
 ghost use Rattle.lookup.specs.Answers as lookups;
 ghost use Rattle.lookup.specs.Views.{way_of};
-ghost use Rattle.kernel.specs.Calls.{looked, looked_at, made_directory, unlinked};
+ghost use Rattle.kernel.specs.Calls.{kind_number, looked, looked_at, made_directory, unlinked};
 ghost use Rattle.prog_asm.specs.Programs.{is_path};
-ghost use Rattle.syscalls.specs.Meets.{Asks, OnTree};
+ghost use Rattle.syscalls.specs.Meets.{OnTree};
 
 use crate::changes::create_node;
 use crate::outcomes::{Refusal, Success, effects_at};
@@ -19,16 +20,23 @@ use rights::{Cause, Errno, Op};
 use rights::limits::MAX_NODES;
 use std::alloc::Global;
 
-/// What a node is: 1 for a file and 2 for a directory. (fstat(2))
-pub(crate) fn stat<T: Tree>(alloc: Global, tree: &T, n: NodeId) -> Result<Success, Refusal>
-    requires { n < length (T.nodes tree.now) }
-    ensures { Asks (T.nodes tree.now) result (λ w p s e. looked w p s e n) }
+/// 1 for a file, 2 for a directory. (fstat(2))
+fn number_of(kind: Kind) -> u32
+    ensures { result ≡ kind_number (kind_of kind) }
 {
-    let value = match tree.kind(n) {
+    match kind {
         Kind::File => 1,
         Kind::Dir => 2,
         Kind::Link => 3,
-    };
+    }
+}
+
+/// What a node is. (fstat(2))
+pub(crate) fn stat<T: Tree>(alloc: Global, tree: &T, n: NodeId) -> Result<Success, Refusal>
+    requires { n < length (T.nodes tree.now) }
+    ensures { (refuse : Bool) → OnTree (T.nodes tree.now) (T.nodes tree.now) refuse result (λ w p s e. looked w p s e n) }
+{
+    let value = number_of(tree.kind(n));
     let effects = effects_at(alloc, tree, Op::Look, n)?;
     Ok(Success { value, effects })
 }
@@ -43,7 +51,7 @@ pub(crate) fn stat_at<T: Tree>(
 ) -> Result<Success, Refusal>
     requires there { start < length (T.nodes tree.now) }
     requires opened { is_link (node (T.nodes tree.now) start).kind ≡ false }
-    ensures { Asks (T.nodes tree.now) result (λ w p s e.
+    ensures { (refuse : Bool) → OnTree (T.nodes tree.now) (T.nodes tree.now) refuse result (λ w p s e.
         looked_at w p s e (find_of (T.nodes tree.now) start path.now (way_of way) lookups.Follow)) }
 {
     match sought(alloc, tree, start, path, way, Last::Follow)? {
@@ -126,7 +134,11 @@ pub(crate) fn remove<T: Tree>(
     let effects = effects_at(alloc, tree, Op::Remove, n)?;
     match tree.remove(n) {
         Ok(()) => Ok(Success { value: 0, effects }),
-        Err(TreeFault::NotEmpty) => Err(Refusal::Fails(Errno::ENOTEMPTY, Cause::Path)),
-        Err(_) => Err(Refusal::Memory),
+        Err(fault) => match fault {
+            TreeFault::NotEmpty => Err(Refusal::Fails(Errno::ENOTEMPTY, Cause::Path)),
+            TreeFault::Memory => Err(Refusal::Memory),
+            TreeFault::Exists | TreeFault::Full | TreeFault::IntoItself | TreeFault::Gone =>
+                unreachable!(),
+        },
     }
 }

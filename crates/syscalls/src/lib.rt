@@ -24,4 +24,4 @@ mod writes;
 
 pub use events::Event;
 pub use outcomes::{Effect, Outcome};
-pub use world::World;
+pub use world::{World, call};

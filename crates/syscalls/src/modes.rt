@@ -20,12 +20,11 @@ fn mode_number(mode: bool) -> u32
 }
 
 /// Asks whether the process is in capability mode: 1 for yes. (cap_getmode(2))
-pub(crate) fn get_mode(alloc: Global, caller: &Caller) -> Success
+pub(crate) fn get_mode(alloc: Global, caller: &Caller<'_>) -> Success
     ensures { (t : List Node) (f : OpenFiles) → IsIdle f → Calls t f caller.now t f (Ok result) programs.Cap_getmode }
 {
-    let process = caller.process;
     Success {
-        value: mode_number(process.mode()),
+        value: mode_number(caller.process.mode()),
         effects: Vec::new(alloc),
     }
 }

@@ -10,10 +10,9 @@ ghost use Rattle.kernel.specs.Answers.{Answer, unless};
 ghost use Rattle.rights.specs.Calls as calls;
 ghost use Rattle.rights.specs.Needs.{First, needs_of};
 ghost use Rattle.file_tree.specs.Nodes.{Node};
-ghost use Rattle.fd_table.specs.Descriptions.{descriptor_of};
 ghost use Rattle.fd_table.specs.Filled.{IsNamed};
 ghost use Rattle.kernel.specs.Answers as answers;
-ghost use Rattle.syscalls.specs.Meets.{Calls, HasNumbers, IsReady, IsReadyEntry, PassesBeneath, Refuses};
+ghost use Rattle.syscalls.specs.Meets.{Calls, HasNumbers, IsReady, IsReadyDescription, Passes, Refuses, beneath_seen};
 
 use crate::descriptors::{
     Caller, directory_of, directory_through, held, need_of, second_need, through_rights,
@@ -41,7 +40,7 @@ pub(crate) fn stat_beneath<T: Tree>(
     alloc: Global,
     tree: &T,
     files: &Files,
-    caller: &Caller,
+    caller: &Caller<'_>,
     operand: Operand,
     path: &[u8],
 ) -> Result<Success, Refusal>
@@ -59,7 +58,7 @@ pub(crate) fn make_beneath<T: Tree>(
     alloc: Global,
     tree: &mut T,
     files: &Files,
-    caller: &Caller,
+    caller: &Caller<'_>,
     operand: Operand,
     path: &[u8],
 ) -> Result<Success, Refusal>
@@ -78,7 +77,7 @@ pub(crate) fn remove_beneath<T: Tree>(
     alloc: Global,
     tree: &mut T,
     files: &Files,
-    caller: &Caller,
+    caller: &Caller<'_>,
     operand: Operand,
     path: &[u8],
     directory: bool,
@@ -94,12 +93,11 @@ pub(crate) fn remove_beneath<T: Tree>(
 
 /// Global name spaces can't be reached in capability mode. (capsicum(4), cap_enter(2), ECAPMODE)
 #[tactic(auto, unfolding(kernel::specs::Answers::unless))]
-pub(crate) fn outside_mode(caller: &Caller) -> Result<(), Refusal>
-    ensures ok { OnOk result (caller.now.process.mode ≡ false) }
-    ensures refused { (rest : Answer) → IfErr result (λ refused. Refuses refused (unless (not caller.now.process.mode) ECAPMODE CapMode rest)) }
+pub(crate) fn outside_mode(caller: &Caller<'_>) -> Result<(), Refusal>
+    ensures ok { OnOk result (caller.now.process.now.mode ≡ false) }
+    ensures refused { (rest : Answer) → IfErr result (λ refused. Refuses refused (unless (not caller.now.process.now.mode) ECAPMODE CapMode rest)) }
 {
-    let process = caller.process;
-    if process.mode() {
+    if caller.process.mode() {
         return Err(Refusal::Fails(Errno::ECAPMODE, Cause::CapMode));
     }
     Ok(())
@@ -110,7 +108,7 @@ pub(crate) fn stat_path<T: Tree>(
     alloc: Global,
     tree: &T,
     files: &Files,
-    caller: &Caller,
+    caller: &Caller<'_>,
     path: &[u8],
 ) -> Result<Success, Refusal>
     requires { IsReady (T.nodes tree.now) (open_files files.now) caller.now.number }
@@ -127,7 +125,7 @@ pub(crate) fn make_path<T: Tree>(
     alloc: Global,
     tree: &mut T,
     files: &Files,
-    caller: &Caller,
+    caller: &Caller<'_>,
     path: &[u8],
 ) -> Result<Success, Refusal>
     requires ready { IsReady (T.nodes tree.old) (open_files files.now) caller.now.number }
@@ -148,7 +146,7 @@ pub(crate) fn remove_path<T: Tree>(
     alloc: Global,
     tree: &mut T,
     files: &Files,
-    caller: &Caller,
+    caller: &Caller<'_>,
     path: &[u8],
     directory: bool,
 ) -> Result<Success, Refusal>
@@ -169,7 +167,7 @@ pub(crate) fn open_path<T: Tree>(
     alloc: Global,
     tree: &mut T,
     files: &mut Files,
-    caller: &Caller,
+    caller: &Caller<'_>,
     path: &[u8],
     flags: OpenFlags,
 ) -> Result<Success, Refusal>
@@ -194,15 +192,15 @@ pub(crate) fn open_path<T: Tree>(
 /// What `openat` needs of its directory, and what it opens gets from it. (openat(2); that it gets these is own)
 fn opening_beneath(
     files: &Files,
-    caller: &Caller,
+    caller: &Caller<'_>,
     operand: Operand,
     flags: OpenFlags,
 ) -> Result<Beneath, Refusal>
     requires { HasNumbers (open_files files.now) caller.now.number }
-    ensures passes { PassesBeneath (answers.through (needs_of calls.Openat flags First false) ((open_files files.now).table caller.now.number (answers.value_of caller.now.process (operand_of operand)))) result }
+    ensures passes { Passes beneath_seen (answers.through (needs_of calls.Openat flags First false) ((open_files files.now).table caller.now.number (answers.value_of caller.now.process.now (operand_of operand)))) result }
     ensures flags { IfOk result (λ b. b.how.flags ≡ flags) }
     ensures named { IfOk result (λ b. IsNamed (open_files files.now) b.description) }
-    ensures ready { (t : List Node) → IsReady t (open_files files.now) caller.now.number → IfOk result (λ b. IsReadyEntry t (open_files files.now) (Some (descriptor_of b.description 0 0))) }
+    ensures ready { (t : List Node) → IsReady t (open_files files.now) caller.now.number → IfOk result (λ b. IsReadyDescription t (open_files files.now) b.description) }
 {
     let need = needs(Call::Openat, flags, Position::First, false);
     match through_rights(files, caller, operand, need) {
@@ -224,7 +222,7 @@ pub(crate) fn open_beneath<T: Tree>(
     alloc: Global,
     tree: &mut T,
     files: &mut Files,
-    caller: &Caller,
+    caller: &Caller<'_>,
     operand: Operand,
     path: &[u8],
     flags: OpenFlags,
@@ -258,7 +256,7 @@ pub(crate) fn rename_beneath<T: Tree>(
     alloc: Global,
     tree: &mut T,
     files: &Files,
-    caller: &Caller,
+    caller: &Caller<'_>,
     operand: Operand,
     path: &[u8],
     target: Operand,

@@ -1,6 +1,6 @@
 //! open and openat.
 
-ghost use Rattle.std.specs.Prelude.{◌≡◌, ◌<◌, ◌||◌, IfOk, IfErr, None, length, map, not, true, false};
+ghost use Rattle.std.specs.Prelude.{◌≡◌, ◌<◌, ◌||◌, Bool, IfOk, IfErr, None, length, map, not, true, false};
 ghost use Rattle.rights.specs.Errors.{ENFILE, Refused};
 ghost use Rattle.file_tree.specs.Nodes.{Dir, File, is_link};
 ghost use Rattle.file_tree.specs.Nodes as nodes;
@@ -13,14 +13,14 @@ ghost use Rattle.kernel.specs.Calls as model;
 ghost use Rattle.lookup.specs.Looks.{find_of};
 ghost use Rattle.lookup.specs.Views.{way_of};
 ghost use Rattle.prog_asm.specs.Programs.{is_path};
-ghost use Rattle.syscalls.specs.Meets.{Does, PassesRefusable, truncated_to, truncates_at};
+ghost use Rattle.syscalls.specs.Meets.{Does, Passes, number_seen};
 ghost use Rattle.kernel.specs.Changes.{tree_after};
 ghost use Rattle.syscalls.specs.Shows.{shown};
 ghost use Rattle.syscalls.specs.Views.{effects_of};
 
 use crate::changes::create_node;
 use crate::descriptors::Caller;
-use crate::outcomes::{Effect, Refusal, Success, effects_at};
+use crate::outcomes::{Effect, Refusal, Success, effects_at, want_of_memory};
 use crate::paths::sought;
 use crate::tables::free_number;
 use fd_table::Files;
@@ -40,10 +40,11 @@ pub(crate) struct Opening {
 
 /// A free number, if the kernel lets the call have one. (ENFILE)
 #[tactic(auto, unfolding(kernel::specs::Answers::unless))]
-fn granted_number(files: &Files, caller: &Caller) -> Result<u8, Refusal>
+fn granted_number(files: &Files, caller: &Caller<'_>) -> Result<u8, Refusal>
     requires { caller.now.number < 16 }
     ensures free { IfOk result (λ n. IsFreeAt (open_files files.now) caller.now.number n) }
-    ensures passes { PassesRefusable caller.now.refuse (λ refuse rest. answers.at_number (open_state.lowest_free ((open_files files.now).table caller.now.number)) (λ n. answers.unless (not refuse) ENFILE Refused (rest n))) result }
+    ensures passes { (refuse : Bool) → refuse ≡ caller.now.refuse
+        → Passes number_seen (λ rest. answers.at_number (open_state.lowest_free ((open_files files.now).table caller.now.number)) (λ n. answers.unless (not refuse) ENFILE Refused (rest n))) result }
 {
     let number = match free_number(files, caller) {
         Err(refused) => return Err(refused),
@@ -68,13 +69,13 @@ fn open_directory<T: Tree>(
     alloc: Global,
     tree: &T,
     files: &mut Files,
-    caller: &Caller,
+    caller: &Caller<'_>,
     n: NodeId,
     how: &Opening,
 ) -> Result<Success, Refusal>
     requires { caller.now.number < 16 }
     ensures { Does (T.nodes tree.now) (open_files files.old) caller.now (T.nodes tree.now) (open_files files.new) result
-        (λ w e. model.opened_as w caller.now.number caller.now.process e how.now.flags how.now.rights.0 how.now.fcntls.0 n Dir) }
+        (λ w e. model.opened_as w caller.now.number caller.now.process.now e how.now.flags how.now.rights.0 how.now.fcntls.0 n Dir) }
 {
     let flags = how.flags;
     if changes(flags) {
@@ -100,8 +101,8 @@ fn emptied<T: Tree>(
 ) -> Result<Vec<Effect>, Refusal>
     requires there { n < length (T.nodes tree.old) }
     requires file { (nodes.node (T.nodes tree.old) n).kind ≡ File }
-    ensures tree { IfOk result (λ effects. T.nodes tree.new ≡ tree_after (T.nodes tree.old) (truncated_to trunc n)) }
-    ensures effects { IfOk result (λ effects. effects_of effects.items ≡ map shown (truncates_at trunc (nodes.node (T.nodes tree.old) n).place)) }
+    ensures tree { IfOk result (λ effects. T.nodes tree.new ≡ tree_after (T.nodes tree.old) (model.truncated trunc n)) }
+    ensures effects { IfOk result (λ effects. effects_of effects.items ≡ map shown (model.truncates trunc (nodes.node (T.nodes tree.old) n).place)) }
     ensures only_memory { IfErr result (λ e. e ≡ Refusal.Memory) }
 {
     if !trunc {
@@ -109,7 +110,7 @@ fn emptied<T: Tree>(
     }
     let effects = effects_at(alloc, tree, Op::Write, n)?;
     match tree.truncate(n, 0) {
-        Err(_) => Err(Refusal::Memory),
+        Err(fault) => Err(want_of_memory(fault)),
         Ok(()) => Ok(effects),
     }
 }
@@ -119,7 +120,7 @@ fn open_file<T: Tree>(
     alloc: Global,
     tree: &mut T,
     files: &mut Files,
-    caller: &Caller,
+    caller: &Caller<'_>,
     n: NodeId,
     how: &Opening,
 ) -> Result<Success, Refusal>
@@ -127,7 +128,7 @@ fn open_file<T: Tree>(
     requires there { n < length (T.nodes tree.old) }
     requires file { (nodes.node (T.nodes tree.old) n).kind ≡ File }
     ensures { Does (T.nodes tree.old) (open_files files.old) caller.now (T.nodes tree.new) (open_files files.new) result
-        (λ w e. model.opened_as w caller.now.number caller.now.process e how.now.flags how.now.rights.0 how.now.fcntls.0 n File) }
+        (λ w e. model.opened_as w caller.now.number caller.now.process.now e how.now.flags how.now.rights.0 how.now.fcntls.0 n File) }
 {
     let number = match granted_number(files, caller) {
         Err(refused) => return Err(refused),
@@ -148,7 +149,7 @@ fn open_new<T: Tree>(
     alloc: Global,
     tree: &mut T,
     files: &mut Files,
-    caller: &Caller,
+    caller: &Caller<'_>,
     dir: NodeId,
     name: &[u8],
     how: &Opening,
@@ -160,7 +161,7 @@ fn open_new<T: Tree>(
     requires absent { nodes.child_of (T.nodes tree.old) dir name.now ≡ None }
     requires name { is_name name.now ≡ true }
     ensures { Does (T.nodes tree.old) (open_files files.old) caller.now (T.nodes tree.new) (open_files files.new) result
-        (λ w e. model.opened_new w caller.now.number caller.now.process e how.now.flags how.now.rights.0 how.now.fcntls.0 (at_name (nodes.node (T.nodes tree.old) dir).place name.now)) }
+        (λ w e. model.opened_new w caller.now.number caller.now.process.now e how.now.flags how.now.rights.0 how.now.fcntls.0 (at_name (nodes.node (T.nodes tree.old) dir).place name.now)) }
 {
     let number = match free_number(files, caller) {
         Err(refused) => return Err(refused),
@@ -192,7 +193,7 @@ pub(crate) fn open_found<T: Tree>(
     alloc: Global,
     tree: &mut T,
     files: &mut Files,
-    caller: &Caller,
+    caller: &Caller<'_>,
     start: NodeId,
     path: &[u8],
     way: Way,
@@ -203,7 +204,7 @@ pub(crate) fn open_found<T: Tree>(
     requires opened { is_link (nodes.node (T.nodes tree.old) start).kind ≡ false }
     requires text { is_path path.now ≡ true }
     ensures { Does (T.nodes tree.old) (open_files files.old) caller.now (T.nodes tree.new) (open_files files.new) result
-        (λ w e. model.opened w caller.now.number caller.now.process e how.now.flags how.now.rights.0 how.now.fcntls.0 path.now
+        (λ w e. model.opened w caller.now.number caller.now.process.now e how.now.flags how.now.rights.0 how.now.fcntls.0 path.now
         (find_of (T.nodes tree.old) start path.now (way_of way) (model.last_if how.now.flags.create))) }
 {
     let last = if how.flags.create() {

@@ -8,7 +8,7 @@ ghost use Rattle.syscalls.specs.Shows.{shown_at};
 ghost use Rattle.syscalls.specs.Views.{effect_of, effects_of};
 ghost use Rattle.syscalls.specs.declared.outcomes.Refusal.TheVariants as refusal;
 
-use file_tree::{NodeId, Tree};
+use file_tree::{NodeId, Tree, TreeFault};
 use rights::{Cause, Errno, Memory, Op};
 use std::alloc::{AllocError, AllocFailed, Global};
 
@@ -66,6 +66,17 @@ impl<T: Drop> From<AllocFailed<T>> for Refusal {
 
     fn from(_failed: AllocFailed<T>) -> Refusal {
         Refusal::Memory
+    }
+}
+
+/// What a change that the tree allows is refused for: want of memory alone.
+pub(crate) fn want_of_memory(fault: TreeFault) -> Refusal
+    requires { fault ≡ TreeFault.Memory }
+    ensures { result ≡ Refusal.Memory }
+{
+    match fault {
+        TreeFault::Memory => Refusal::Memory,
+        _ => unreachable!(),
     }
 }
 

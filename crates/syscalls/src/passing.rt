@@ -2,7 +2,7 @@
 
 ghost use Rattle.std.specs.Prelude.{◌≡◌, ◌<◌, List, None, Some};
 ghost use Rattle.file_tree.specs.Nodes.{Node};
-ghost use Rattle.fd_table.specs.Descriptions.{descriptor_of, other_side};
+ghost use Rattle.fd_table.specs.Descriptions.{other_side};
 ghost use Rattle.fd_table.specs.Filled.{IsEndThere, IsFreeAt, IsNamed};
 ghost use Rattle.fd_table.specs.Kept.{open_files};
 ghost use Rattle.fd_table.specs.Views.{side_seen};
@@ -26,7 +26,7 @@ use std::alloc::Global;
 pub(crate) fn send_descriptor(
     alloc: Global,
     files: &mut Files,
-    caller: &Caller,
+    caller: &Caller<'_>,
     operand: Operand,
     sent: Operand,
     value: Operand,
@@ -74,7 +74,7 @@ pub(crate) fn send_descriptor(
 fn receive_end(
     alloc: Global,
     files: &mut Files,
-    caller: &Caller,
+    caller: &Caller<'_>,
     description: DescriptionId,
     pair: PairId,
     side: Side,
@@ -84,7 +84,7 @@ fn receive_end(
     requires there { IsEndThere (open_files files.old) pair (side_seen side) }
     requires free { IsFreeAt (open_files files.old) caller.now.number number }
     ensures { (t : List Node) → Does t (open_files files.old) caller.now t (open_files files.new) result
-        (λ w e. model.receive_end w caller.now.number caller.now.process e (descriptor_of description 0 0) pair (side_seen side) number (w.files.queue pair (other_side (side_seen side)))) }
+        (λ w e. model.receive_end w caller.now.number caller.now.process.now e description pair (side_seen side) number (w.files.queue pair (other_side (side_seen side)))) }
 {
     let front = match files.front(End { pair, side }) {
         None => {
@@ -110,7 +110,7 @@ fn receive_end(
 pub(crate) fn receive_descriptor(
     alloc: Global,
     files: &mut Files,
-    caller: &Caller,
+    caller: &Caller<'_>,
     operand: Operand,
 ) -> Result<Success, Refusal>
     requires numbers { HasNumbers (open_files files.old) caller.now.number }

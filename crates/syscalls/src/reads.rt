@@ -15,9 +15,10 @@ ghost use Rattle.prog_asm.specs.Programs as programs;
 ghost use Rattle.prog_asm.specs.Views.{operand_of};
 ghost use Rattle.kernel.specs.Answers as answers;
 ghost use Rattle.kernel.specs.Calls as model;
-ghost use Rattle.syscalls.specs.Meets.{Calls, Goes, IsIdle, IsReady, IsReadyEntry, Part, moved_to};
+ghost use Rattle.syscalls.specs.declared.descriptors.Caller.{Caller as CallerSeen};
+ghost use Rattle.syscalls.specs.Meets.{Calls, Does, IsIdle, IsReady, IsReadyDescription};
 
-use crate::descriptors::{Caller, Reached, file_through, reach, value_of};
+use crate::descriptors::{Caller, Target, file_through, reach, value_of};
 use crate::directories::is_directory;
 use crate::outcomes::{Refusal, Success, effects_at};
 use crate::sockets::read_end;
@@ -51,11 +52,11 @@ pub(crate) fn read_node<T: Tree>(
     access: Access,
 ) -> Result<Success, Refusal>
     requires named { IsNamed (open_files files.old) description }
-    requires ready { IsReadyEntry (T.nodes tree.now) (open_files files.old) (Some (descriptor_of description 0 0)) }
+    requires ready { IsReadyDescription (T.nodes tree.now) (open_files files.old) description }
     requires there { node < length (T.nodes tree.now) }
     requires idle { IsIdle (open_files files.old) }
-    ensures { (refuse : Bool) → Goes (T.nodes tree.now) (open_files files.old) refuse (T.nodes tree.now) (open_files files.new) result
-        (λ w p s e. model.read_node w p s e (descriptor_of description 0 0) node (access_seen access)) }
+    ensures { (caller : CallerSeen) → Does (T.nodes tree.now) (open_files files.old) caller (T.nodes tree.now) (open_files files.new) result
+        (λ w e. model.read_node w caller.number caller.process.now e description node (access_seen access)) }
 {
     if is_directory(tree, node) {
         return Err(Refusal::Fails(Errno::EISDIR, Cause::Kind));
@@ -85,13 +86,13 @@ pub(crate) fn read_node<T: Tree>(
 fn move_to(
     alloc: Global,
     files: &mut Files,
-    caller: &Caller,
+    caller: &Caller<'_>,
     description: DescriptionId,
     to: Operand,
 ) -> Result<Success, Refusal>
     requires { IsNamed (open_files files.old) description }
-    ensures { Part (open_files files.old) caller.now (open_files files.new) result (λ w.
-        moved_to w description (answers.value_of caller.now.process (operand_of to))) }
+    ensures { (t : List Node) → Does t (open_files files.old) caller.now t (open_files files.new) result (λ w e.
+        model.seeks w caller.now.number caller.now.process.now e description (answers.value_of caller.now.process.now (operand_of to))) }
 {
     let offset = value_of(caller, to);
     if offset as usize > MAX_BYTES {
@@ -109,7 +110,7 @@ pub(crate) fn seek<T: Tree>(
     alloc: Global,
     tree: &T,
     files: &mut Files,
-    caller: &Caller,
+    caller: &Caller<'_>,
     operand: Operand,
     to: Operand,
 ) -> Result<Success, Refusal>
@@ -127,7 +128,7 @@ pub(crate) fn read<T: Tree>(
     alloc: Global,
     tree: &T,
     files: &mut Files,
-    caller: &Caller,
+    caller: &Caller<'_>,
     operand: Operand,
 ) -> Result<Success, Refusal>
     requires { IsReady (T.nodes tree.now) (open_files files.old) caller.now.number }
@@ -137,22 +138,12 @@ pub(crate) fn read<T: Tree>(
         Err(refused) => return Err(refused),
         Ok(reached) => reached,
     };
-    match reached {
-        Reached::Node(found) => read_node(
-            alloc,
-            tree,
-            files,
-            found.held.description,
-            found.node,
-            found.access,
-        ),
-        Reached::End(socket) => read_end(
-            alloc,
-            files,
-            caller,
-            socket.held.description,
-            socket.end.pair,
-            socket.end.side,
-        ),
+    let description = reached.held.description;
+    let target = reached.target;
+    match target {
+        Target::Node(found) => {
+            read_node(alloc, tree, files, description, found.node, found.access)
+        }
+        Target::End(end) => read_end(alloc, files, caller, description, end.pair, end.side),
     }
 }

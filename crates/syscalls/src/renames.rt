@@ -70,8 +70,12 @@ pub(crate) fn rename_free<T: Tree>(
 {
     let from = effect_at(alloc, tree, Op::Remove, n)?;
     match tree.rename(n, dir, name) {
-        Err(TreeFault::IntoItself) => Err(Refusal::Fails(Errno::EINVAL, Cause::Path)),
-        Err(_) => Err(Refusal::Memory),
+        Err(fault) => match fault {
+            TreeFault::IntoItself => Err(Refusal::Fails(Errno::EINVAL, Cause::Path)),
+            TreeFault::Memory => Err(Refusal::Memory),
+            TreeFault::Exists | TreeFault::NotEmpty | TreeFault::Full | TreeFault::Gone =>
+                unreachable!(),
+        },
         Ok(()) => {
             let to = effect_at(alloc, tree, Op::Create, n)?;
             let effects = two_effects(alloc, from, to)?;
@@ -124,15 +128,18 @@ pub(crate) fn rename_over<T: Tree>(
         };
         return Err(Refusal::Fails(errno, Cause::Path));
     }
-    let dir = match tree.parent(over) {
-        None => return Err(Refusal::Memory),
-        Some(dir) => dir,
+    let Some(dir) = tree.parent(over) else {
+        unreachable!()
     };
     let replaced = effect_at(alloc, tree, Op::Remove, over)?;
     let from = effect_at(alloc, tree, Op::Remove, n)?;
     match tree.rename(n, dir, name) {
-        Err(TreeFault::NotEmpty) => Err(Refusal::Fails(Errno::ENOTEMPTY, Cause::Path)),
-        Err(_) => Err(Refusal::Memory),
+        Err(fault) => match fault {
+            TreeFault::NotEmpty => Err(Refusal::Fails(Errno::ENOTEMPTY, Cause::Path)),
+            TreeFault::Memory => Err(Refusal::Memory),
+            TreeFault::Exists | TreeFault::Full | TreeFault::IntoItself | TreeFault::Gone =>
+                unreachable!(),
+        },
         Ok(()) => {
             let to = effect_at(alloc, tree, Op::Create, n)?;
             let effects = three_effects(alloc, replaced, from, to)?;

@@ -2,7 +2,7 @@
 
 ghost use Rattle.std.specs.Prelude.{◌≡◌, List, None, Some, option_map, if◌then◌else◌};
 ghost use Rattle.file_tree.specs.Nodes.{Node};
-ghost use Rattle.fd_table.specs.Descriptions.{descriptor_of, other_side};
+ghost use Rattle.fd_table.specs.Descriptions.{other_side};
 ghost use Rattle.fd_table.specs.Filled.{IsEndThere, IsNamed, MayPass};
 ghost use Rattle.fd_table.specs.Kept.{open_files};
 ghost use Rattle.fd_table.specs.Views.{descriptor_seen, side_seen};
@@ -42,7 +42,7 @@ pub(crate) fn is_nonblocking(files: &Files, description: DescriptionId) -> bool
 pub(crate) fn read_end(
     alloc: Global,
     files: &mut Files,
-    caller: &Caller,
+    caller: &Caller<'_>,
     description: DescriptionId,
     pair: PairId,
     side: Side,
@@ -51,7 +51,7 @@ pub(crate) fn read_end(
     requires there { IsEndThere (open_files files.old) pair (side_seen side) }
     requires idle { IsIdle (open_files files.old) }
     ensures { (t : List Node) → Does t (open_files files.old) caller.now t (open_files files.new) result
-        (λ w e. model.read_end w caller.now.number caller.now.process e (descriptor_of description 0 0) pair (side_seen side) (w.files.queue pair (other_side (side_seen side)))) }
+        (λ w e. model.read_end w caller.now.number caller.now.process.now e description pair (side_seen side) (w.files.queue pair (other_side (side_seen side)))) }
 {
     match files.front(End { pair, side }) {
         None => {
@@ -77,7 +77,7 @@ pub(crate) fn read_end(
 pub(crate) fn write_end(
     alloc: Global,
     files: &mut Files,
-    caller: &Caller,
+    caller: &Caller<'_>,
     description: DescriptionId,
     pair: PairId,
     side: Side,
@@ -88,7 +88,7 @@ pub(crate) fn write_end(
     requires there { IsEndThere (open_files files.old) pair (side_seen side) }
     requires passed { MayPass (open_files files.old) (option_map descriptor_seen passed) }
     ensures { (t : List Node) → Does t (open_files files.old) caller.now t (open_files files.new) result
-        (λ w e. model.sent_end w caller.now.number caller.now.process e (descriptor_of description 0 0) pair (side_seen side) (record { byte = byte; passed = option_map descriptor_seen passed })) }
+        (λ w e. model.sent_end w caller.now.number caller.now.process.now e description pair (side_seen side) (record { byte = byte; passed = option_map descriptor_seen passed })) }
 {
     let nonblock = is_nonblocking(files, description);
     match files.send(End { pair, side }, byte, passed) {

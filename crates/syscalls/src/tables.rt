@@ -8,7 +8,7 @@ ghost use Rattle.fd_table.specs.OpenFiles as open_state;
 ghost use Rattle.prog_asm.specs.Programs as programs;
 ghost use Rattle.prog_asm.specs.Views.{operand_of};
 ghost use Rattle.kernel.specs.Answers as answers;
-ghost use Rattle.syscalls.specs.Meets.{Calls, HasNumbers, IsIdle, Passes, byte_number};
+ghost use Rattle.syscalls.specs.Meets.{Calls, HasNumbers, IsIdle, Passes, number_seen};
 
 use crate::descriptors::{Caller, held};
 use crate::outcomes::{Refusal, Success};
@@ -19,9 +19,9 @@ use std::alloc::Global;
 
 /// The lowest number that is free. (open(2), EMFILE)
 #[tactic(auto, unfolding(kernel::specs::Answers::at_number))]
-pub(crate) fn free_number(files: &Files, caller: &Caller) -> Result<u8, Refusal>
+pub(crate) fn free_number(files: &Files, caller: &Caller<'_>) -> Result<u8, Refusal>
     requires { caller.now.number < 16 }
-    ensures passes { Passes byte_number (answers.at_number (open_state.lowest_free ((open_files files.now).table caller.now.number))) result }
+    ensures passes { Passes number_seen (answers.at_number (open_state.lowest_free ((open_files files.now).table caller.now.number))) result }
     ensures free { IfOk result (λ n. IsFreeAt (open_files files.now) caller.now.number n) }
 {
     match files.lowest_free(caller.number) {
@@ -34,7 +34,7 @@ pub(crate) fn free_number(files: &Files, caller: &Caller) -> Result<u8, Refusal>
 pub(crate) fn duplicate(
     alloc: Global,
     files: &mut Files,
-    caller: &Caller,
+    caller: &Caller<'_>,
     operand: Operand,
 ) -> Result<Success, Refusal>
     requires numbers { HasNumbers (open_files files.old) caller.now.number }
@@ -60,7 +60,7 @@ pub(crate) fn duplicate(
 pub(crate) fn close(
     alloc: Global,
     files: &mut Files,
-    caller: &Caller,
+    caller: &Caller<'_>,
     operand: Operand,
 ) -> Result<Success, Refusal>
     requires { HasNumbers (open_files files.old) caller.now.number }
@@ -81,7 +81,7 @@ pub(crate) fn close(
 pub(crate) fn limit_rights(
     alloc: Global,
     files: &mut Files,
-    caller: &Caller,
+    caller: &Caller<'_>,
     operand: Operand,
     rights: Rights,
 ) -> Result<Success, Refusal>
@@ -106,7 +106,7 @@ pub(crate) fn limit_rights(
 pub(crate) fn limit_fcntls(
     alloc: Global,
     files: &mut Files,
-    caller: &Caller,
+    caller: &Caller<'_>,
     operand: Operand,
     commands: Fcntls,
 ) -> Result<Success, Refusal>

@@ -1,15 +1,13 @@
 //! The state of a run, and a system call of one of its processes.
 
-ghost use Rattle.std.specs.Prelude.{◌≡◌, ◌<◌, ◌+◌, IfOk, Some, length, true, false};
-ghost use Rattle.std.specs.List.{slice_get};
+ghost use Rattle.std.specs.Prelude.{◌≡◌, ◌<◌, ◌+◌, [], IfOk, true, false};
 ghost use Rattle.rights.specs.Views.{cause_of, errno_of};
-ghost use Rattle.fd_table.specs.Kept.{open_files};
+ghost use Rattle.prog_asm.specs.Programs as programs;
 ghost use Rattle.prog_asm.specs.Views.{instruction_of, syscall_of};
-ghost use Rattle.process.specs.State.{ProcessState};
 ghost use Rattle.kernel.specs.Steps as steps;
-ghost use Rattle.syscalls.specs.Called.{Comes, FailsAs, result_of, succeeded_as};
-ghost use Rattle.syscalls.specs.MayCall.{CallComes, IsCall, MayBeCalled, MayCall, is_entering, is_making, is_pairing};
-ghost use Rattle.syscalls.specs.Views.{effects_of, event_of, world_with};
+ghost use Rattle.syscalls.specs.Called.{FailsAs, result_of, succeeded_as};
+ghost use Rattle.syscalls.specs.MayCall.{CallComes, IsCall, MayCall, is_entering, is_making, is_pairing};
+ghost use Rattle.syscalls.specs.Views.{effects_of, event_of, world_of};
 
 use crate::calls::perform;
 use crate::descriptors::Caller;
@@ -32,26 +30,31 @@ pub struct World<T: Tree> {
     pub processes: Vec<Process>,
 }
 
-/// The calling process after a success: register 0 has the value, and it goes on.
-pub(crate) fn succeeded(mut process: Process, value: u32, enters: bool) -> Process
-    requires { process.point + 1 < 256 }
-    ensures { result ≡ succeeded_as process value enters }
+/// A call succeeds: register 0 has the value, and the process goes on.
+pub(crate) fn succeed(process: &mut Process, value: u32)
+    requires { process.old.point + 1 < 256 }
+    ensures { process.new ≡ succeeded_as process.old value false }
 {
     process.registers[0] = value;
     process.point += 1;
-    if enters {
-        process.enter();
-    }
-    process
 }
 
-/// The calling process after an error: register 7 has its number, and it goes to the label.
-fn failed(mut process: Process, errno: Errno, otherwise: u8) -> Process
-    ensures { result ≡ steps.failed process (errno_of errno) otherwise }
+/// A call fails: register 7 has the error's number, and the process goes to the label.
+pub(crate) fn fail(
+    alloc: Global,
+    process: &mut Process,
+    otherwise: u8,
+    errno: Errno,
+    cause: Cause,
+) -> Called
+    ensures { FailsAs process.old otherwise (errno_of errno) (cause_of cause) (result_of result.outcome) (effects_of result.effects.items) process.new }
 {
     process.registers[7] = u32::from(errno.number());
     process.point = otherwise;
-    process
+    Called {
+        outcome: Outcome::Error(errno, cause),
+        effects: Vec::new(alloc),
+    }
 }
 
 /// Whether the call enters capability mode.
@@ -86,27 +89,22 @@ fn is_socketpair(call: &Syscall) -> bool
 
 /// What a call came to, with its effects.
 #[derive(Drop)]
-pub struct Called {
+pub(crate) struct Called {
     pub outcome: Outcome,
     pub effects: Vec<Effect>,
 }
 
-/// The call fails: register 7 has the error's number, and the process goes to the label.
-pub(crate) fn fail(
-    alloc: Global,
-    processes: &mut Vec<Process>,
-    number: u8,
-    process: Process,
-    otherwise: u8,
-    errno: Errno,
-    cause: Cause,
-) -> Called
-    requires { number < length processes.old.items }
-    ensures { FailsAs processes.old.items number process otherwise (errno_of errno) (cause_of cause) (result_of result.outcome) (effects_of result.effects.items) processes.new.items }
+/// Puts the calling process into capability mode. (cap_enter(2))
+fn enter(alloc: Global, process: &mut Process) -> Called
+    requires { process.old.point + 1 < 256 }
+    ensures process { process.new ≡ succeeded_as process.old 0 true }
+    ensures value { result_of result.outcome ≡ steps.Value 0 }
+    ensures effects { effects_of result.effects.items ≡ [] }
 {
-    processes[number as usize] = failed(process, errno, otherwise);
+    succeed(process, 0);
+    process.enter();
     Called {
-        outcome: Outcome::Error(errno, cause),
+        outcome: Outcome::Value(0),
         effects: Vec::new(alloc),
     }
 }
@@ -114,40 +112,34 @@ pub(crate) fn fail(
 /// The call of a process, which gets its registers, its point and its mode.
 fn invoke<T: Tree>(
     alloc: Global,
-    tree: &mut T,
-    files: &mut Files,
-    processes: &mut Vec<Process>,
-    process: Process,
+    world: &mut World<T>,
+    number: u8,
     call: &Syscall,
     otherwise: u8,
     event: Event,
 ) -> Result<Called, Memory>
-    requires { MayCall (world_with (T.nodes tree.old) (open_files files.old) processes.old.items) event.process process }
-    ensures { IfOk result (λ called. Comes (world_with (T.nodes tree.old) (open_files files.old) processes.old.items) event.process process (event_of event) (syscall_of call.now) otherwise
-        (result_of called.outcome) (effects_of called.effects.items) (world_with (T.nodes tree.new) (open_files files.new) processes.new.items)) }
+    requires { MayCall (world_of T.nodes world.old) number }
+    ensures { IfOk result (λ called. CallComes (world_of T.nodes world.old) number (event_of event) (programs.Invoke (syscall_of call.now) otherwise)
+        (result_of called.outcome) (effects_of called.effects.items) (world_of T.nodes world.new)) }
 {
     if is_fork(call) {
-        return fork(alloc, tree, files, processes, process, otherwise, event);
+        return fork(alloc, world, number, otherwise, event);
     }
     if is_socketpair(call) {
-        return make_pair(alloc, tree, files, processes, process, otherwise, event);
+        return make_pair(alloc, world, number, otherwise, event);
     }
-    let number = event.process as usize;
     if is_cap_enter(call) {
-        processes[number] = succeeded(process, 0, true);
-        return Ok(Called {
-            outcome: Outcome::Value(0),
-            effects: Vec::new(alloc),
-        });
+        return Ok(enter(alloc, &mut world.processes[number as usize]));
     }
     let caller = Caller {
-        number: event.process,
-        process,
+        number,
+        process: &world.processes[number as usize],
         refuse: event.refuse,
     };
-    match perform(alloc, tree, files, &caller, call) {
+    let came = perform(alloc, &mut world.tree, &mut world.files, &caller, call);
+    match came {
         Ok(success) => {
-            processes[number] = succeeded(process, success.value, false);
+            succeed(&mut world.processes[number as usize], success.value);
             Ok(Called {
                 outcome: Outcome::Value(success.value),
                 effects: success.effects,
@@ -156,9 +148,7 @@ fn invoke<T: Tree>(
         Err(refused) => match refused {
             Refusal::Fails(errno, cause) => Ok(fail(
                 alloc,
-                processes,
-                event.process,
-                process,
+                &mut world.processes[number as usize],
                 otherwise,
                 errno,
                 cause,
@@ -178,8 +168,8 @@ fn invoke<T: Tree>(
 /// changes, or nothing at all. A refused growth is `Memory`, and then nothing is said of the world but that it may be
 /// dropped.
 ///
-/// Its caller knows that the world is well formed, that the process was made and has a next point, that the event is
-/// this process's, and that the instruction is a call.
+/// Its caller knows that the world is well formed, that the process was made and has a next point, and that the
+/// instruction is a call. Of the event it asks only whether the kernel refuses.
 pub fn call<T: Tree>(
     alloc: Global,
     world: &mut World<T>,
@@ -187,29 +177,14 @@ pub fn call<T: Tree>(
     instruction: &Instruction,
     event: Event,
 ) -> Result<(Outcome, Vec<Effect>), Memory>
-    requires own { process ≡ event.process }
-    requires may { MayBeCalled (world_with (T.nodes world.old.tree) (open_files world.old.files) world.old.processes.items) process }
+    requires may { MayCall (world_of T.nodes world.old) process }
     requires code { IsCall (instruction_of instruction.now) }
-    ensures { (s : ProcessState) → slice_get world.old.processes.items process ≡ Some s → IfOk result (λ told.
-        CallComes (world_with (T.nodes world.old.tree) (open_files world.old.files) world.old.processes.items) process s (event_of event) (instruction_of instruction.now)
-        (result_of told.0) (effects_of told.1.items) (world_with (T.nodes world.new.tree) (open_files world.new.files) world.new.processes.items)) }
+    ensures { IfOk result (λ told. CallComes (world_of T.nodes world.old) process (event_of event) (instruction_of instruction.now)
+        (result_of told.0) (effects_of told.1.items) (world_of T.nodes world.new)) }
 {
-    let state = world.processes[process];
-    match instruction {
-        Instruction::Invoke { call, otherwise } => {
-            let called = invoke(
-                alloc,
-                &mut world.tree,
-                &mut world.files,
-                &mut world.processes,
-                state,
-                call,
-                *otherwise,
-                event,
-            )?;
-            Ok((called.outcome, called.effects))
-        }
-        // No call: its caller knows that it is one.
-        _ => Err(Memory),
-    }
+    let Instruction::Invoke { call, otherwise } = instruction else {
+        unreachable!()
+    };
+    let called = invoke(alloc, world, process as u8, call, *otherwise, event)?;
+    Ok((called.outcome, called.effects))
 }

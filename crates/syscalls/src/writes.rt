@@ -4,7 +4,7 @@ ghost use Rattle.std.specs.Prelude.{◌≡◌, ◌<◌, ◌≤◌, ◌%◌, List
 ghost use Rattle.rights.specs.Errors.{ENOSPC, Refused};
 ghost use Rattle.file_tree.specs.Nodes.{File, is_link};
 ghost use Rattle.file_tree.specs.Nodes as nodes;
-ghost use Rattle.fd_table.specs.Descriptions.{descriptor_of, message_of};
+ghost use Rattle.fd_table.specs.Descriptions.{message_of};
 ghost use Rattle.fd_table.specs.Filled.{IsEndThere, IsNamed};
 ghost use Rattle.fd_table.specs.Kept.{open_files};
 ghost use Rattle.fd_table.specs.Views.{access_seen, side_seen};
@@ -12,11 +12,11 @@ ghost use Rattle.prog_asm.specs.Programs as programs;
 ghost use Rattle.prog_asm.specs.Views.{operand_of};
 ghost use Rattle.kernel.specs.Answers as answers;
 ghost use Rattle.kernel.specs.Calls as model;
-ghost use Rattle.syscalls.specs.Meets.{Calls, Does, Goes, IsIdle, IsReady, IsReadyEntry, OnTree, cut_to, writes_at};
+ghost use Rattle.syscalls.specs.Meets.{Calls, Does, IsReady, OnTree};
 
-use crate::descriptors::{Caller, Reached, byte_of, file_through, reach, value_of};
+use crate::descriptors::{Caller, Target, byte_of, file_through, reach, value_of};
 use crate::directories::is_directory;
-use crate::outcomes::{Refusal, Success, effects_at};
+use crate::outcomes::{Refusal, Success, effects_at, want_of_memory};
 use crate::sockets::write_end;
 use fd_table::{Access, DescriptionId, Files, PairId, Side};
 use file_tree::{NodeId, Tree};
@@ -29,7 +29,7 @@ use std::alloc::Global;
 fn write_offset<T: Tree>(tree: &T, files: &Files, description: DescriptionId, node: NodeId) -> usize
     requires named { IsNamed (open_files files.now) description }
     requires there { node < length (T.nodes tree.now) }
-    ensures { result ≡ writes_at ((open_files files.now).states description) (nodes.node (T.nodes tree.now) node).content }
+    ensures { result ≡ model.write_offset ((open_files files.now).states description) (nodes.node (T.nodes tree.now) node).content }
 {
     let description = files.what(description);
     if description.status.append {
@@ -45,7 +45,7 @@ pub(crate) fn write_node<T: Tree>(
     alloc: Global,
     tree: &mut T,
     files: &mut Files,
-    caller: &Caller,
+    caller: &Caller<'_>,
     description: DescriptionId,
     node: NodeId,
     access: Access,
@@ -54,8 +54,8 @@ pub(crate) fn write_node<T: Tree>(
     requires named { IsNamed (open_files files.old) description }
     requires there { node < length (T.nodes tree.old) }
     requires opened { is_link (nodes.node (T.nodes tree.old) node).kind ≡ false }
-    ensures { Goes (T.nodes tree.old) (open_files files.old) caller.now.refuse (T.nodes tree.new) (open_files files.new) result
-        (λ w p s e. model.write_node w p s e (descriptor_of description 0 0) node (access_seen access) (answers.value_of caller.now.process (operand_of value) % 256)) }
+    ensures { Does (T.nodes tree.old) (open_files files.old) caller.now (T.nodes tree.new) (open_files files.new) result
+        (λ w e. model.write_node w caller.now.number caller.now.process.now e description node (access_seen access) (answers.value_of caller.now.process.now (operand_of value) % 256)) }
 {
     if is_directory(tree, node) {
         return Err(Refusal::Fails(Errno::EISDIR, Cause::Kind));
@@ -73,7 +73,7 @@ pub(crate) fn write_node<T: Tree>(
     let effects = effects_at(alloc, tree, Op::Write, node)?;
     let byte = byte_of(caller, value);
     match tree.put_byte(node, offset, byte) {
-        Err(_) => Err(Refusal::Memory),
+        Err(fault) => Err(want_of_memory(fault)),
         Ok(()) => {
             files.set_offset(description, offset as u16 + 1);
             Ok(Success { value: 1, effects })
@@ -86,7 +86,7 @@ pub(crate) fn write_node<T: Tree>(
 fn cut<T: Tree>(
     alloc: Global,
     tree: &mut T,
-    caller: &Caller,
+    caller: &Caller<'_>,
     node: NodeId,
     access: Access,
     to: Operand,
@@ -94,7 +94,7 @@ fn cut<T: Tree>(
     requires there { node < length (T.nodes tree.old) }
     requires file { (nodes.node (T.nodes tree.old) node).kind ≡ File }
     ensures { OnTree (T.nodes tree.old) (T.nodes tree.new) caller.now.refuse result (λ w p s e.
-        cut_to w node (access_seen access) (answers.value_of caller.now.process (operand_of to))) }
+        model.resizes w p s e node (access_seen access) (answers.value_of caller.now.process.now (operand_of to))) }
 {
     if !access.writable {
         return Err(Refusal::Fails(Errno::EINVAL, Cause::Access));
@@ -105,7 +105,7 @@ fn cut<T: Tree>(
     }
     let effects = effects_at(alloc, tree, Op::Write, node)?;
     match tree.truncate(node, len) {
-        Err(_) => Err(Refusal::Memory),
+        Err(fault) => Err(want_of_memory(fault)),
         Ok(()) => Ok(Success { value: 0, effects }),
     }
 }
@@ -115,7 +115,7 @@ pub(crate) fn truncate<T: Tree>(
     alloc: Global,
     tree: &mut T,
     files: &Files,
-    caller: &Caller,
+    caller: &Caller<'_>,
     operand: Operand,
     to: Operand,
 ) -> Result<Success, Refusal>
@@ -133,7 +133,7 @@ pub(crate) fn truncate<T: Tree>(
 fn write_socket(
     alloc: Global,
     files: &mut Files,
-    caller: &Caller,
+    caller: &Caller<'_>,
     description: DescriptionId,
     pair: PairId,
     side: Side,
@@ -142,8 +142,8 @@ fn write_socket(
     requires named { IsNamed (open_files files.old) description }
     requires there { IsEndThere (open_files files.old) pair (side_seen side) }
     ensures { (t : List nodes.Node) → Does t (open_files files.old) caller.now t (open_files files.new) result
-        (λ w e. answers.unless (not e.refuse) ENOSPC Refused (model.sent_end w caller.now.number caller.now.process e (descriptor_of description 0 0) pair (side_seen side)
-        (message_of (answers.value_of caller.now.process (operand_of value) % 256) None))) }
+        (λ w e. answers.unless (not e.refuse) ENOSPC Refused (model.sent_end w caller.now.number caller.now.process.now e description pair (side_seen side)
+        (message_of (answers.value_of caller.now.process.now (operand_of value) % 256) None))) }
 {
     if caller.refuse {
         return Err(Refusal::Fails(Errno::ENOSPC, Cause::Refused));
@@ -157,7 +157,7 @@ pub(crate) fn write<T: Tree>(
     alloc: Global,
     tree: &mut T,
     files: &mut Files,
-    caller: &Caller,
+    caller: &Caller<'_>,
     operand: Operand,
     value: Operand,
 ) -> Result<Success, Refusal>
@@ -168,25 +168,21 @@ pub(crate) fn write<T: Tree>(
         Err(refused) => return Err(refused),
         Ok(reached) => reached,
     };
-    match reached {
-        Reached::Node(found) => write_node(
+    let description = reached.held.description;
+    let target = reached.target;
+    match target {
+        Target::Node(found) => write_node(
             alloc,
             tree,
             files,
             caller,
-            found.held.description,
+            description,
             found.node,
             found.access,
             value,
         ),
-        Reached::End(socket) => write_socket(
-            alloc,
-            files,
-            caller,
-            socket.held.description,
-            socket.end.pair,
-            socket.end.side,
-            value,
-        ),
+        Target::End(end) => {
+            write_socket(alloc, files, caller, description, end.pair, end.side, value)
+        }
     }
 }

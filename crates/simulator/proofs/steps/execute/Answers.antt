@@ -1,43 +1,55 @@
-use Rattle.std.proofs.Common.{◌<◌, ap, sym, subst, ◌∙◌}
+use Rattle.std.proofs.Common.{◌<◌, ◌≡◌, ◌∙◌, List, ap, length, subst, sym}
+use Rattle.std.specs.Prelude.{Some}
+use Rattle.std.specs.List.{slice_get}
 use Rattle.fd_table.specs.Kept.{open_files}
+use Rattle.process.specs.State.{ProcessState}
+use Rattle.kernel.specs.Alike.{AlikeWorlds}
+use Rattle.kernel.specs.Steps.{halted}
 use Rattle.prog_asm.specs.Views.{instruction_of}
-use Rattle.syscalls.specs.MayCall.{CallComes}
-use Rattle.syscalls.specs.Views.{effects_of, event_of, world_with}
-use Rattle.simulator.specs.Steps.{action}
+use Rattle.syscalls.specs.Called.{result_of as outcome_of}
+use Rattle.syscalls.specs.MayCall.{CallComes, MayCall}
+use Rattle.syscalls.specs.Views.{effects_of, event_of, world_of, world_with}
+use Rattle.simulator.specs.Steps.{acted_on}
 use Rattle.simulator.specs.Views.{result_of}
-use Rattle.simulator.proofs.Doing.{executes_called, executes_ended, executes_moved, made_few, made_within, may_be_called, needs_next}
+use Rattle.simulator.proofs.Doing.{calls_unchanged, ends_unchanged, executes_called, executes_ended, executes_moved, made_few, made_within, may_call, needs_next}
 use Rattle.simulator.proofs.steps.execute.Goals as goal
 
 pub act-requires : goal.act-requires
-act-requires g c = needs_next _ c.args.event.process c.args.process (instruction_of c.args.instruction.now) c.requires.stands
-
-pub index_mut-requires : goal.index_mut-requires
-index_mut-requires g c =
-    subst (λ n. c.args.event.process < n) (sym c.args.world.now.processes.ok.0)
-    (made_within _ c.args.event.process c.args.process (instruction_of c.args.instruction.now) c.requires.stands)
+act-requires g c = needs_next (world_of g.T.Tree.nodes c.args.world.now) c.args.event.process (instruction_of c.args.instruction.now) c.index_mut.result.now c.requires.stands c.index_mut.ensures.value
 
 pub halt-requires-clause-made : goal.halt-requires-clause-made
-halt-requires-clause-made g c = made_within _ c.args.event.process c.args.process (instruction_of c.args.instruction.now) c.requires.stands
+halt-requires-clause-made g c =
+    subst (λ (ps : List ProcessState). c.args.event.process < length ps)
+    (sym (ends_unchanged (world_of g.T.Tree.nodes c.args.world.now) c.args.event.process c.index_mut.result.now c.act.new.process c.args.input c.index_mut.ensures.value (instruction_of c.args.instruction.now) c.requires.stands c.in-Ends.ensures.action c.in-Ends.ensures.process))
+    (made_within (world_of g.T.Tree.nodes c.args.world.now) c.args.event.process (instruction_of c.args.instruction.now) c.requires.stands)
 
 pub halt-requires-clause-few : goal.halt-requires-clause-few
-halt-requires-clause-few g c = made_few _ c.args.event.process c.args.process (instruction_of c.args.instruction.now) c.requires.stands
+halt-requires-clause-few g c = made_few (world_of g.T.Tree.nodes c.args.world.now) c.args.event.process (instruction_of c.args.instruction.now) c.requires.stands
 
 pub call-requires-clause-may : goal.call-requires-clause-may
-call-requires-clause-may g c = may_be_called _ c.args.event.process c.args.event.input c.args.process (instruction_of c.args.instruction.now) c.requires.stands (c.in-Calls.ensures ∙ ap (λ n. action c.args.process n (instruction_of c.args.instruction.now)) c.requires.byte)
+call-requires-clause-may g c =
+    subst (λ (ps : List ProcessState). MayCall (world_with (g.T.Tree.nodes c.args.world.now.tree) (open_files c.args.world.now.files) ps) c.args.event.process)
+    (sym (calls_unchanged (world_of g.T.Tree.nodes c.args.world.now) c.args.event.process c.index_mut.result.now c.act.new.process c.args.input c.index_mut.ensures.value (instruction_of c.args.instruction.now) c.requires.stands c.in-Calls.ensures.action c.in-Calls.ensures.process))
+    (may_call (world_of g.T.Tree.nodes c.args.world.now) c.args.event.process (instruction_of c.args.instruction.now) c.requires.stands c.in-Calls.ensures.action)
 
 pub returns-in-Moves : goal.returns-in-Moves
 returns-in-Moves g c =
-    executes_moved (world_with (g.T.Tree.nodes c.args.world.now.tree) (open_files c.args.world.now.files) c.args.world.now.processes.items) (event_of c.args.event) c.args.process c.in-Moves.moved (instruction_of c.args.instruction.now)
-    (result_of c.without_effects.result.outcome) (effects_of c.without_effects.result.effects.items) c.requires.stands (c.in-Moves.ensures ∙ ap (λ n. action c.args.process n (instruction_of c.args.instruction.now)) c.requires.byte) c.without_effects.ensures.outcome c.without_effects.ensures.effects
+    executes_moved (world_of g.T.Tree.nodes c.args.world.now) (event_of c.args.event) c.index_mut.result.now c.act.new.process (instruction_of c.args.instruction.now)
+    (result_of c.without_effects.result.outcome) (effects_of c.without_effects.result.effects.items) c.requires.stands c.index_mut.ensures.value c.in-Moves.ensures.action
+    (c.in-Moves.ensures.process ∙ ap (λ n. acted_on c.index_mut.result.now n (instruction_of c.args.instruction.now)) c.requires.byte) c.without_effects.ensures.outcome c.without_effects.ensures.effects
 
 pub returns-in-Ends : goal.returns-in-Ends
 returns-in-Ends g c =
-    executes_ended (world_with (g.T.Tree.nodes c.args.world.now.tree) (open_files c.args.world.now.files) c.args.world.now.processes.items) (event_of c.args.event) c.args.process (instruction_of c.args.instruction.now)
-    (result_of c.halt.result.outcome) (effects_of c.halt.result.effects.items) _ c.requires.stands (c.in-Ends.ensures ∙ ap (λ n. action c.args.process n (instruction_of c.args.instruction.now)) c.requires.byte) c.halt.ensures.outcome c.halt.ensures.effects c.halt.ensures.world
+    executes_ended (world_of g.T.Tree.nodes c.args.world.now) (event_of c.args.event) (instruction_of c.args.instruction.now)
+    (result_of c.halt.result.outcome) (effects_of c.halt.result.effects.items) _ c.requires.stands c.in-Ends.ensures.action c.halt.ensures.outcome c.halt.ensures.effects
+    (subst (λ (ps : List ProcessState). (s : ProcessState) → slice_get ps c.args.event.process ≡ Some s → AlikeWorlds (halted (world_with (g.T.Tree.nodes c.args.world.now.tree) (open_files c.args.world.now.files) ps) c.args.event.process s) (world_of g.T.Tree.nodes c.halt.new.world))
+    (ends_unchanged (world_of g.T.Tree.nodes c.args.world.now) c.args.event.process c.index_mut.result.now c.act.new.process c.args.input c.index_mut.ensures.value (instruction_of c.args.instruction.now) c.requires.stands c.in-Ends.ensures.action c.in-Ends.ensures.process) c.halt.ensures.world)
 
 pub returns-in_ok-outcome-in-Calls : goal.returns-in_ok-outcome-in-Calls
 returns-in_ok-outcome-in-Calls g c =
-    executes_called (world_with (g.T.Tree.nodes c.args.world.now.tree) (open_files c.args.world.now.files) c.args.world.now.processes.items) (event_of c.args.event) c.args.process (instruction_of c.args.instruction.now)
-    (result_of c.result_of_call.result) (effects_of c.in_ok-outcome-in-Calls.effects.items) _
-    (subst (λ told. CallComes (world_with (g.T.Tree.nodes c.args.world.now.tree) (open_files c.args.world.now.files) c.args.world.now.processes.items) c.args.event.process c.args.process (event_of c.args.event) (instruction_of c.args.instruction.now) told (effects_of c.in_ok-outcome-in-Calls.effects.items) (world_with (g.T.Tree.nodes c.call.new.world.tree) (open_files c.call.new.world.files) c.call.new.world.processes.items))
-    (sym c.result_of_call.ensures) (c.in_ok-outcome-in-Calls.ensures c.args.process c.requires.stands.made))
+    let v = world_of g.T.Tree.nodes c.call.new.world in
+    let shows = effects_of c.in_ok-outcome-in-Calls.effects.items in
+    let unchanged = calls_unchanged (world_of g.T.Tree.nodes c.args.world.now) c.args.event.process c.index_mut.result.now c.act.new.process c.args.input c.index_mut.ensures.value (instruction_of c.args.instruction.now) c.requires.stands c.in-Calls.ensures.action c.in-Calls.ensures.process in
+    executes_called (world_of g.T.Tree.nodes c.args.world.now) (event_of c.args.event) (instruction_of c.args.instruction.now) (result_of c.result_of_call.result) shows v c.requires.stands
+    (subst (λ told. CallComes (world_of g.T.Tree.nodes c.args.world.now) c.args.event.process (event_of c.args.event) (instruction_of c.args.instruction.now) told shows v) (sym c.result_of_call.ensures)
+    (subst (λ (ps : List ProcessState). CallComes (world_with (g.T.Tree.nodes c.args.world.now.tree) (open_files c.args.world.now.files) ps) c.args.event.process (event_of c.args.event) (instruction_of c.args.instruction.now) (outcome_of c.in_ok-outcome-in-Calls.outcome) shows v) unchanged c.in_ok-outcome-in-Calls.ensures))

@@ -1,17 +1,17 @@
-use Rattle.std.proofs.Common.{sym, subst, refl, ap, []}
+use Rattle.std.proofs.Common.{◌∙◌, sym, subst, refl, ap, []}
 use Rattle.fd_table.specs.Kept.{open_files}
 use Rattle.kernel.specs.Calls.{answer}
 use Rattle.syscalls.specs.Views.{world_with, effects_of}
 use Rattle.syscalls.specs.Meets.{Meets}
 use Rattle.syscalls.proofs.Finding.{refused_alone}
-use Rattle.syscalls.proofs.Targets.{reaches_node, reaches_end}
-use Rattle.syscalls.proofs.Keeping.{same_succeeds, told_meets}
+use Rattle.syscalls.proofs.Targets.{at_node, at_end}
+use Rattle.syscalls.proofs.Keeping.{same_succeeds}
 use Rattle.syscalls.proofs.asks.stat_descriptor.Goals as goal
 
 pub returns-in-Err : goal.returns-in-Err
 unfolding answer
 returns-in-Err g c = λ processes e same.
-    refused_alone c.in-Err.refused (world_with (g.T.Tree.nodes c.args.tree.now) (open_files c.args.files.now) processes) _ _ _ (c.in-Err.ensures.passes _ _) (record { tree = refl; files = refl })
+    refused_alone c.in-Err.refused (world_with (g.T.Tree.nodes c.args.tree.now) (open_files c.args.files.now) processes) _ _ _ (c.in-Err.ensures.passes _) (record { tree = refl; files = refl })
 
 pub returns-in-Node : goal.returns-in-Node
 unfolding answer
@@ -20,10 +20,10 @@ returns-in-Node g c = λ processes e same.
     let f = open_files c.args.files.now in
     let p = c.args.caller.now.number in
     subst (Meets (world_with t f processes) p t f c.stat.result)
-    (sym (reaches_node _ _ c.in-Node.found c.in-Ok.ensures.passes c.in-Node.is _ _))
-    (told_meets (world_with t f processes) p c.stat.result _ c.requires.idle (c.stat.ensures f processes p c.args.caller.now.process e))
+    (sym (c.in-Ok.ensures.passes _ ∙ at_node _ _ c.in-Node.found c.in-Ok.ensures.target c.in-Node.is _ _))
+    (c.stat.ensures e.refuse f processes p c.args.caller.now.process.now e refl c.requires.idle)
 
 pub returns-in-End : goal.returns-in-End
 unfolding answer
 returns-in-End g c = λ processes e same.
-    same_succeeds (world_with (g.T.Tree.nodes c.args.tree.now) (open_files c.args.files.now) processes) _ _ _ _ [] c.requires.idle (reaches_end _ _ c.in-End.field-0 c.in-Ok.ensures.passes c.in-End.is _ _) (sym (ap effects_of c.new.ensures.items))
+    same_succeeds (world_with (g.T.Tree.nodes c.args.tree.now) (open_files c.args.files.now) processes) _ _ _ _ [] c.requires.idle (c.in-Ok.ensures.passes _ ∙ at_end _ _ c.in-End.field-0 c.in-Ok.ensures.target c.in-End.is _ _) (sym (ap effects_of c.new.ensures.items))

@@ -18,7 +18,7 @@ unfolding answer looks looks_twice
 returns-in-Err-directory_of g c = λ processes e same.
     let w = world_with (g.T.Tree.nodes c.args.tree.now) (open_files c.args.files.now) processes in
     let refused = c.in-Err-directory_of.refused in
-    refused_alone refused w _ _ _ (subst (Refuses refused) (sym (c.in-Ok.ensures.passes _)) (c.in-Err-directory_of.ensures.passes processes c.args.caller.now.number c.args.caller.now.process e _)) (record { tree = refl; files = refl })
+    refused_alone refused w _ _ _ (subst (Refuses refused) (sym (c.in-Ok.ensures.passes _)) (c.in-Err-directory_of.ensures.passes processes c.args.caller.now.number c.args.caller.now.process.now e _)) (record { tree = refl; files = refl })
 
 pub returns-in-Ok-directory_of : goal.returns-in-Ok-directory_of
 unfolding answer looks looks_twice
@@ -26,7 +26,7 @@ returns-in-Ok-directory_of g c = λ processes e same.
     let t = g.T.Tree.nodes c.args.tree.now in
     let w = world_with t (open_files c.args.files.now) processes in
     let p = c.args.caller.now.number in
-    let s = c.args.caller.now.process in
+    let s = c.args.caller.now.process.now in
     let path = c.args.path.now in
     let how = c.in-Ok.beneath.how in
     let after = Meets w p (g.T.Tree.nodes c.open_found.new.tree) (open_files c.open_found.new.files) c.open_found.result in

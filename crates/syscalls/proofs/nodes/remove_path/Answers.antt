@@ -22,6 +22,6 @@ returns-in-Ok g c = λ processes e same.
     let f = open_files c.args.files.now in
     let w = world_with t f processes in
     let p = c.args.caller.now.number in
-    let s = c.args.caller.now.process in
+    let s = c.args.caller.now.process.now in
     subst (Meets w p (g.T.Tree.nodes c.remove.new.tree) f c.remove.result) (sym (passes _ _ _ _ (ap not c.in-Ok.ensures.ok)))
     (subst (λ n. Meets w p (g.T.Tree.nodes c.remove.new.tree) f c.remove.result (unlinked w p s e c.args.directory (find_of t n c.args.path.now Global Keep))) c.root-root.ensures.first (c.remove.ensures c.args.caller.now.refuse f processes p s e same c.requires.idle))

@@ -43,7 +43,7 @@ returns-in-Err-directory_of g c = λ processes e same.
     (subst (Refuses refused) (sym (c.in-Ok.ensures.passes _ ∙ c.in-Ok-held.ensures.passes _
     ∙ passes _ _ _ _ (ap (λ n. is_within n c.in-Ok.held.rights.0) (sym c.need_of.ensures) ∙ sym c.contains.ensures.computes ∙ c.if-not-contains.false)
     ∙ passes _ _ _ _ (ap (λ n. is_within n c.in-Ok-held.held.rights.0) (sym c.second_need.ensures) ∙ sym c.contains-2.ensures.computes ∙ c.if-not-contains-2.false)))
-    (c.in-Err-directory_of.ensures.passes processes c.args.caller.now.number c.args.caller.now.process e _)) (record { tree = refl; files = refl })
+    (c.in-Err-directory_of.ensures.passes processes c.args.caller.now.number c.args.caller.now.process.now e _)) (record { tree = refl; files = refl })
 
 pub returns-in-Err-directory_of-2 : goal.returns-in-Err-directory_of-2
 unfolding answer looks looks_twice
@@ -53,8 +53,8 @@ returns-in-Err-directory_of-2 g c = λ processes e same.
     (subst (Refuses refused) (sym (c.in-Ok.ensures.passes _ ∙ c.in-Ok-held.ensures.passes _
     ∙ passes _ _ _ _ (ap (λ n. is_within n c.in-Ok.held.rights.0) (sym c.need_of.ensures) ∙ sym c.contains.ensures.computes ∙ c.if-not-contains.false)
     ∙ passes _ _ _ _ (ap (λ n. is_within n c.in-Ok-held.held.rights.0) (sym c.second_need.ensures) ∙ sym c.contains-2.ensures.computes ∙ c.if-not-contains-2.false)
-    ∙ c.in-Ok-directory_of.ensures.passes processes c.args.caller.now.number c.args.caller.now.process e _))
-    (c.in-Err-directory_of-2.ensures.passes processes c.args.caller.now.number c.args.caller.now.process e _)) (record { tree = refl; files = refl })
+    ∙ c.in-Ok-directory_of.ensures.passes processes c.args.caller.now.number c.args.caller.now.process.now e _))
+    (c.in-Err-directory_of-2.ensures.passes processes c.args.caller.now.number c.args.caller.now.process.now e _)) (record { tree = refl; files = refl })
 
 pub returns : goal.returns
 unfolding answer looks looks_twice
@@ -62,7 +62,7 @@ returns g c = λ processes e same.
     let t = g.T.Tree.nodes c.args.tree.now in
     let f = open_files c.args.files.now in
     let p = c.args.caller.now.number in
-    let s = c.args.caller.now.process in
+    let s = c.args.caller.now.process.now in
     let call = Renameat (operand_of c.args.operand) c.args.path.now (operand_of c.args.target) c.args.new_path.now in
     subst (Meets (world_with t f processes) p (g.T.Tree.nodes c.rename.new.tree) f c.rename.result)
     (sym (c.in-Ok.ensures.passes _ ∙ c.in-Ok-held.ensures.passes _

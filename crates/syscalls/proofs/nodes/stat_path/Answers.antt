@@ -8,7 +8,6 @@ use Rattle.syscalls.specs.Meets.{Meets}
 use Rattle.syscalls.specs.Views.{world_with}
 use Rattle.syscalls.proofs.Finding.{refused_alone}
 use Rattle.syscalls.proofs.Tests.{passes}
-use Rattle.syscalls.proofs.Keeping.{told_meets}
 use Rattle.syscalls.proofs.nodes.stat_path.Goals as goal
 
 pub returns-in-Err : goal.returns-in-Err
@@ -23,6 +22,6 @@ returns-in-Ok g c = λ processes e same.
     let f = open_files c.args.files.now in
     let w = world_with t f processes in
     let p = c.args.caller.now.number in
-    let s = c.args.caller.now.process in
+    let s = c.args.caller.now.process.now in
     subst (Meets w p t f c.stat_at.result) (sym (passes _ _ _ _ (ap not c.in-Ok.ensures.ok)))
-    (subst (λ n. Meets w p t f c.stat_at.result (looked_at w p s e (find_of t n c.args.path.now Global Follow))) c.root.ensures.first (told_meets w p c.stat_at.result _ c.requires.idle (c.stat_at.ensures f processes p s e)))
+    (subst (λ n. Meets w p t f c.stat_at.result (looked_at w p s e (find_of t n c.args.path.now Global Follow))) c.root.ensures.first (c.stat_at.ensures e.refuse f processes p s e refl c.requires.idle))

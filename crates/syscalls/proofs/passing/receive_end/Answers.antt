@@ -1,5 +1,5 @@
 use Rattle.std.proofs.Common.{sym, subst, refl, ap, ◌∙◌}
-use Rattle.fd_table.specs.Descriptions.{descriptor_of, other_side}
+use Rattle.fd_table.specs.Descriptions.{other_side}
 use Rattle.fd_table.specs.OpenFiles.{Alike, is_open}
 use Rattle.fd_table.specs.Filled.{with_entry, taken}
 use Rattle.fd_table.specs.Kept.{open_files}
@@ -20,7 +20,7 @@ returns-then-not-is_open c = λ t processes e same.
     let f = open_files c.args.files.now in
     let w = world_with t f processes in
     let side = side_seen c.args.side in (
-      receives_none w c.args.caller.now.number c.args.caller.now.process e (descriptor_of c.args.description 0 0) c.args.pair side c.args.number (f.queue c.args.pair (other_side side)) c.in-None.ensures
+      receives_none w c.args.caller.now.number c.args.caller.now.process.now e c.args.description c.args.pair side c.args.number (f.queue c.args.pair (other_side side)) c.in-None.ensures
           ∙ fails _ _ _ _ (ap (is_open f c.args.pair) (sym c.other.ensures) ∙ sym c.is_open.ensures ∙ c.if-not-is_open.true),
       record { tree = refl; files = refl },
     )
@@ -30,10 +30,10 @@ returns-in-None c = λ t processes e same.
     let f = open_files c.args.files.now in
     let w = world_with t f processes in
     let p = c.args.caller.now.number in
-    let s = c.args.caller.now.process in
+    let s = c.args.caller.now.process.now in
     let side = side_seen c.args.side in
     refused_alone c.blocked.result w t f _
-    (subst (Refuses c.blocked.result) (sym (receives_none w p s e (descriptor_of c.args.description 0 0) c.args.pair side c.args.number (f.queue c.args.pair (other_side side)) c.in-None.ensures
+    (subst (Refuses c.blocked.result) (sym (receives_none w p s e c.args.description c.args.pair side c.args.number (f.queue c.args.pair (other_side side)) c.in-None.ensures
     ∙ passes _ _ _ _ (ap (is_open f c.args.pair) (sym c.other.ensures) ∙ sym c.is_open.ensures ∙ c.if-not-is_open.false)
     ∙ ap (blocked w p s e) (sym c.is_nonblocking.ensures))) c.blocked.ensures)
     (record { tree = refl; files = refl })
@@ -45,6 +45,6 @@ returns c = λ t processes e same.
     let w = world_with t f processes in
     let p = c.args.caller.now.number in
     let side = side_seen c.args.side in
-    let arrives = receives w p c.args.caller.now.process e (descriptor_of c.args.description 0 0) c.args.pair side c.args.number (f.queue c.args.pair (other_side side)) (front_seen c.in-Some.front) c.in-Some.ensures (kept _ c.if-not-front.false) in
+    let arrives = receives w p c.args.caller.now.process.now e c.args.description c.args.pair side c.args.number (f.queue c.args.pair (other_side side)) (front_seen c.in-Some.front) c.in-Some.ensures (kept _ c.if-not-front.false) in
     take_succeeds w p _ _ _ _ (Pop c.args.pair (other_side side)) c.args.number arrives.passed arrives.is (sym (ap effects_of c.new.ensures.items))
     (subst (λ o. Alike (with_entry (taken f c.args.pair side) p c.args.number o) (open_files c.receive_to.new.self)) arrives.front c.receive_to.ensures)

@@ -11,12 +11,13 @@ use Rattle.syscalls.specs.Views.{world_with, effect_of}
 use Rattle.syscalls.proofs.Tests.{passes, fails}
 use Rattle.syscalls.proofs.Renaming.{told_into, into_itself, other_place, free_place, renamed_place}
 use Rattle.syscalls.proofs.Keeping.{tree_succeeds}
+use Rattle.syscalls.proofs.Growth.{but_into, into_free}
 use Rattle.syscalls.proofs.renames.rename_free.Goals as goal
 
-pub returns-in-Err-IntoItself : goal.returns-in-Err-IntoItself
-returns-in-Err-IntoItself g c = λ refuse f processes p s e same idle.
+pub returns-in-IntoItself : goal.returns-in-IntoItself
+returns-in-IntoItself g c = λ refuse f processes p s e same idle.
     let t = g.T.Tree.nodes c.args.tree.now in
-    (fails _ _ _ _ (ap not (into_itself t c.args.n c.args.dir c.args.name.now (told_into _ _ c.in-Err-IntoItself.ensures.refused c.in-Err-IntoItself.field-0-is))), record { tree = c.in-Err-IntoItself.ensures.err; files = refl })
+    (fails _ _ _ _ (ap not (into_itself t c.args.n c.args.dir c.args.name.now (told_into _ _ c.in-Err.ensures.refused c.in-IntoItself.is))), record { tree = c.in-Err.ensures.err; files = refl })
 
 pub effect_at-requires-in-Ok : goal.effect_at-requires-in-Ok
 effect_at-requires-in-Ok g c = rw c.in-Ok.ensures.ok (rw (renamed_length (g.T.Tree.nodes c.args.tree.now) c.args.n c.args.dir c.args.name.now) c.requires.there)
@@ -38,3 +39,8 @@ returns g c = λ refuse f processes p s e same idle.
     ∙ ap (λ after. shown_at operations.Create (node after n).place) c.in-Ok.ensures.ok
     ∙ ap (shown_at operations.Create) (renamed_place t n d name c.requires.linked other))))
     c.in-Ok.ensures.ok
+
+pub unreachable-requires : goal.unreachable-requires
+unreachable-requires g c =
+    let other = but_into c.in-Err.fault c.in-Exists.is in
+    other.1 (into_free (g.T.Tree.nodes c.args.tree.now) c.args.n c.args.dir c.args.name.now c.in-Err.fault c.requires.tree c.requires.linked c.requires.dir_linked c.requires.free other.0 c.in-Err.ensures.refused)

@@ -2,7 +2,7 @@ use Rattle.std.proofs.Common.{◌≡◌, false, sym, refl, ap, ◌∙◌, [], �
 use Rattle.std.specs.Prelude.{not}
 use Rattle.rights.specs.Operations as operations
 use Rattle.file_tree.specs.Nodes.{node, has_below}
-use Rattle.file_tree.specs.Places.{at_name, same_place}
+use Rattle.file_tree.specs.Places.{at_name, begins, same_place}
 use Rattle.file_tree.proofs.TreeLaws.{renamed_length, parent_is, parent_is_directory}
 use Rattle.file_tree.proofs.NodeLaws.{linked_there}
 use Rattle.file_tree.proofs.KeptByRename.{may_rename}
@@ -13,6 +13,7 @@ use Rattle.syscalls.specs.Views.{world_with, effect_of}
 use Rattle.syscalls.proofs.Tests.{passes, fails, same_from}
 use Rattle.syscalls.proofs.Renaming.{told_full, is_full, over_rest, apart_places, named_place, renamed_place}
 use Rattle.syscalls.proofs.Keeping.{tree_succeeds}
+use Rattle.syscalls.proofs.Growth.{but_full, over_node}
 use Rattle.syscalls.proofs.renames.rename_over.Goals as goal
 
 pub rename-requires-clause-dir_there : goal.rename-requires-clause-dir_there
@@ -26,8 +27,8 @@ rename-requires-clause-directory g c = parent_is_directory (g.T.Tree.nodes c.arg
 pub effect_at-requires-in-Ok : goal.effect_at-requires-in-Ok
 effect_at-requires-in-Ok g c = rw c.in-Ok.ensures.ok (rw (renamed_length (g.T.Tree.nodes c.args.tree.now) c.args.n c.in-Some.dir c.args.name.now) c.requires.there)
 
-pub returns-in-Err-NotEmpty : goal.returns-in-Err-NotEmpty
-returns-in-Err-NotEmpty g c = λ refuse f processes p s e same idle.
+pub returns-in-NotEmpty : goal.returns-in-NotEmpty
+returns-in-NotEmpty g c = λ refuse f processes p s e same idle.
     let t = g.T.Tree.nodes c.args.tree.now in
     let n = c.args.n in
     let m = c.args.over in
@@ -36,8 +37,8 @@ returns-in-Err-NotEmpty g c = λ refuse f processes p s e same idle.
     let place : (node t m).place ≡ at_name (node t d).place name = named_place t m d name c.requires.named c.in-Some.ensures in
     let full : has_below t (node t m).place ≡ has_below t (at_name (node t d).place name) = ap (has_below t) place in (
       over_rest (world_with t f processes) p s e n m (sym c.in_ok-is_within.ensures.within ∙ c.if-branch.false) (sym c.is_directory-moves_directory.ensures ∙ sym (same_from _ _ c.if-moves_directory-is_directory.false) ∙ c.is_directory.ensures)
-          ∙ fails _ _ _ _ (ap not (full ∙ is_full t n d name (told_full _ _ c.in-Err-NotEmpty.ensures.refused c.in-Err-NotEmpty.field-0-is))),
-      record { tree = c.in-Err-NotEmpty.ensures.err; files = refl },
+          ∙ fails _ _ _ _ (ap not (full ∙ is_full t n d name (told_full _ _ c.in-Err.ensures.refused c.in-NotEmpty.is))),
+      record { tree = c.in-Err.ensures.err; files = refl },
     )
 
 pub returns : goal.returns
@@ -61,3 +62,11 @@ returns g c = λ refuse f processes p s e same idle.
     ∙ ap (λ after. shown_at operations.Create (node after n).place) c.in-Ok.ensures.ok
     ∙ ap (shown_at operations.Create) (renamed_place t n d name c.requires.linked other ∙ sym place))))
     (c.in-Ok.ensures.ok ∙ ap (λ p. tree_after t (Move n p)) (sym place))
+
+pub unreachable-requires-in-Exists : goal.unreachable-requires-in-Exists
+unreachable-requires-in-Exists g c =
+    let t = g.T.Tree.nodes c.args.tree.now in
+    let place : (node t c.args.over).place ≡ at_name (node t c.in-Some.dir).place c.args.name.now = named_place t c.args.over c.in-Some.dir c.args.name.now c.requires.named c.in-Some.ensures in
+    let other = but_full c.in-Err.fault c.in-Exists.is in
+    other.1 (over_node t c.args.n c.in-Some.dir c.args.name.now c.in-Err.fault c.requires.linked (parent_is t c.args.over c.in-Some.dir (sym c.in-Some.ensures)).holder.linked
+    (ap (begins (node t c.args.n).place) (sym place) ∙ sym c.in_ok-is_within.ensures.within ∙ c.if-branch.false) other.0 c.in-Err.ensures.refused)

@@ -1,6 +1,6 @@
 use Rattle.std.proofs.Common.{sym, subst, refl, ap, ◌∙◌, []}
 use Rattle.std.specs.Prelude.{if◌then◌else◌}
-use Rattle.fd_table.specs.Descriptions.{descriptor_of, other_side}
+use Rattle.fd_table.specs.Descriptions.{other_side}
 use Rattle.fd_table.specs.Kept.{open_files}
 use Rattle.fd_table.specs.Views.{side_seen, front_seen}
 use Rattle.kernel.specs.Answers.{gives, Pop}
@@ -19,8 +19,8 @@ returns-then-is_open c = λ t processes e same.
     let f = open_files c.args.files.now in
     let w = world_with t f processes in
     let p = c.args.caller.now.number in
-    let s = c.args.caller.now.process in
-    let d = descriptor_of c.args.description 0 0 in
+    let s = c.args.caller.now.process.now in
+    let d = c.args.description in
     let side = side_seen c.args.side in
     refused_alone c.blocked.result w t f _
     (subst (Refuses c.blocked.result) (sym (read_none w p s e d c.args.pair side (f.queue c.args.pair (other_side side)) c.in-None.ensures ∙ ap (λ b. if b then blocked w p s e (f.states c.args.description).nonblock else gives 256) (ap (is_open f c.args.pair) (sym c.other.ensures) ∙ sym c.if-is_open.ensures) ∙ ap (blocked w p s e) (sym c.is_nonblocking.ensures))) c.blocked.ensures)
@@ -31,8 +31,8 @@ returns-else-is_open c = λ t processes e same.
     let f = open_files c.args.files.now in
     let w = world_with t f processes in
     let p = c.args.caller.now.number in
-    let s = c.args.caller.now.process in
-    let d = descriptor_of c.args.description 0 0 in
+    let s = c.args.caller.now.process.now in
+    let d = c.args.description in
     let side = side_seen c.args.side in
     same_succeeds w p _ _ _ [] c.requires.idle
     (read_none w p s e d c.args.pair side (f.queue c.args.pair (other_side side)) c.in-None.ensures ∙ ap (λ b. if b then blocked w p s e (f.states c.args.description).nonblock else gives 256) (ap (is_open f c.args.pair) (sym c.other.ensures) ∙ sym c.if-is_open.ensures))
@@ -44,8 +44,8 @@ returns-in-Some c = λ t processes e same.
     let f = open_files c.args.files.now in
     let w = world_with t f processes in
     let p = c.args.caller.now.number in
-    let s = c.args.caller.now.process in
-    let d = descriptor_of c.args.description 0 0 in
+    let s = c.args.caller.now.process.now in
+    let d = c.args.description in
     let side = side_seen c.args.side in
     queue_succeeds w p _ _ _ _ (Pop c.args.pair (other_side side)) []
     (read_some w p s e d c.args.pair side (f.queue c.args.pair (other_side side)) (front_seen c.in-Some.front) c.in-Some.ensures)

@@ -1,6 +1,6 @@
 use Rattle.std.proofs.Common.{sym, subst, refl, ap, ◌∙◌, []}
 use Rattle.std.specs.Prelude.{option_map}
-use Rattle.fd_table.specs.Descriptions.{descriptor_of, message_of}
+use Rattle.fd_table.specs.Descriptions.{message_of}
 use Rattle.fd_table.specs.Kept.{open_files}
 use Rattle.fd_table.specs.Views.{descriptor_seen, side_seen}
 use Rattle.kernel.specs.Answers.{Push}
@@ -19,17 +19,17 @@ unfolding files_after
 returns-in-Ok c = λ t processes e same.
     let f = open_files c.args.files.now in
     let w = world_with t f processes in
-    let d = descriptor_of c.args.description 0 0 in
+    let d = c.args.description in
     let message = message_of c.args.byte (option_map descriptor_seen c.args.passed) in
     queue_succeeds w c.args.caller.now.number _ _ _ _ (Push c.args.pair (side_seen c.args.side) message) []
-    (sends w c.args.caller.now.number c.args.caller.now.process e d c.args.pair (side_seen c.args.side) message c.in-Ok.ensures.allowed)
+    (sends w c.args.caller.now.number c.args.caller.now.process.now e d c.args.pair (side_seen c.args.side) message c.in-Ok.ensures.allowed)
     (sym (ap effects_of c.new.ensures.items)) (alike_bound _ _ _ c.in-Ok.ensures.ok)
 
 pub returns-in-Err-Closed : goal.returns-in-Err-Closed
 returns-in-Err-Closed c = λ t processes e same.
     let f = open_files c.args.files.now in
     let w = world_with t f processes in (
-      sends_closed w c.args.caller.now.number c.args.caller.now.process e (descriptor_of c.args.description 0 0) c.args.pair (side_seen c.args.side) _ (told_closed _ _ c.in-Err-Closed.ensures.refused c.in-Err-Closed.field-0-is),
+      sends_closed w c.args.caller.now.number c.args.caller.now.process.now e c.args.description c.args.pair (side_seen c.args.side) _ (told_closed _ _ c.in-Err-Closed.ensures.refused c.in-Err-Closed.field-0-is),
       record { tree = refl; files = c.in-Err-Closed.ensures.err },
     )
 
@@ -38,9 +38,9 @@ returns-in-Err-Full c = λ t processes e same.
     let f = open_files c.args.files.now in
     let w = world_with t f processes in
     let p = c.args.caller.now.number in
-    let s = c.args.caller.now.process in
+    let s = c.args.caller.now.process.now in
     refused_alone c.blocked.result w t (open_files c.send.new.self) _
     (subst (Refuses c.blocked.result)
-    (sym (sends_full w p s e (descriptor_of c.args.description 0 0) c.args.pair (side_seen c.args.side) _ (told_full _ _ c.in-Err-Full.ensures.refused c.in-Err-Full.field-0-is)
+    (sym (sends_full w p s e c.args.description c.args.pair (side_seen c.args.side) _ (told_full _ _ c.in-Err-Full.ensures.refused c.in-Err-Full.field-0-is)
     ∙ ap (blocked w p s e) (sym c.is_nonblocking-nonblock.ensures))) c.blocked.ensures)
     (record { tree = refl; files = c.in-Err-Full.ensures.err })

@@ -1,6 +1,6 @@
 use Rattle.std.proofs.Common.{sym, subst, ap, ◌∙◌}
 use Rattle.std.specs.Prelude.{None, not}
-use Rattle.fd_table.specs.Descriptions.{descriptor_of, message_of}
+use Rattle.fd_table.specs.Descriptions.{message_of}
 use Rattle.fd_table.specs.Kept.{open_files}
 use Rattle.fd_table.specs.Views.{side_seen}
 use Rattle.kernel.specs.Calls.{sent_end}
@@ -13,7 +13,7 @@ pub returns : goal.returns
 returns c = λ t processes e same.
     let w = world_with t (open_files c.args.files.now) processes in
     let p = c.args.caller.now.number in
-    let s = c.args.caller.now.process in
+    let s = c.args.caller.now.process.now in
     let after = Meets w p t (open_files c.write_end.new.files) c.write_end.result in
     subst after (sym (passes _ _ _ _ (ap not (same ∙ c.if-caller.false))))
-    (subst (λ b. after (sent_end w p s e (descriptor_of c.args.description 0 0) c.args.pair (side_seen c.args.side) (message_of b None))) c.byte_of-byte.ensures (c.write_end.ensures t processes e same))
+    (subst (λ b. after (sent_end w p s e c.args.description c.args.pair (side_seen c.args.side) (message_of b None))) c.byte_of-byte.ensures (c.write_end.ensures t processes e same))

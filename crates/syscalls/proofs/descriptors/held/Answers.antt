@@ -1,0 +1,6 @@
+use Rattle.std.proofs.Common.{sym}
+use Rattle.syscalls.specs.Meets.{held_seen}
+use Rattle.syscalls.proofs.descriptors.held.Goals as goal
+
+pub returns-in-Some-clause-ready : goal.returns-in-Some-clause-ready
+returns-in-Some-clause-ready c = λ t ready. ready.entries _ (held_seen c.in-Some.held) (sym c.in-Some.ensures.entry)
