@@ -1,15 +1,17 @@
 -- Messages are sent and received: what is kept, and what the maps are.
-use Rattle.std.proofs.Common.{◌≡◌, ℕ, ◌<◌, ◌≤◌, ◌++◌, Bool, true, false, List, [], ◌∷◌, length, drop, refl, ap, ◌∙◌, sym, subst, Result, Ok, Err}
+use Rattle.std.proofs.Common.{◌≡◌, ℕ, zero, suc, arith, ◌<◌, ◌≤◌, ◌++◌, Bool, true, false, List, [], ◌∷◌, length, drop, refl, ap, ◌∙◌, sym, subst, Result, Ok, Err}
 use Rattle.std.specs.Prelude.{Option, Some, None, cond, nat_lt, OnOk, OnErr}
+use Rattle.std.specs.List.{slice_get}
 use Rattle.std.specs.Option.{IsSome, option_map}
 use Rattle.std.proofs.lemmas.Bool.{lt-ltb, le-ltb}
 use Rattle.rights.specs.Maps.{put2}
 use Rattle.rights.proofs.Changes.{put2-cases}
 use Rattle.fd_table.specs.Descriptions.{Descriptor, Message, other_side}
 use Rattle.fd_table.specs.OpenFiles.{OpenFiles, Alike, is_open}
-use Rattle.fd_table.specs.Filled.{with_queue, IsEndThere, IsNamed, MayPass, Closed, Full, send_refusal, sent, front_byte, front_passed, taken, taken_to}
+use Rattle.fd_table.specs.Filled.{with_queue, IsEndThere, IsNamed, by_entry, by_message, MayPass, Closed, Full, send_refusal, sent, front_byte, front_passed, taken, taken_to}
 use Rattle.fd_table.specs.Kept.{Description, Queues, Kept, entry, slot, queue, object_in, open_files, IsThere, AreThere, IsEnd, IsKept}
-use Rattle.fd_table.specs.Stored.{front_message}
+use Rattle.fd_table.specs.declared.descriptors.Description.{Description as DescriptionCode}
+use Rattle.fd_table.specs.Stored.{front_message, slots_kept}
 use Rattle.fd_table.proofs.Kept.{alike_same, kept_entry}
 
 -- one queue is changed
@@ -52,11 +54,31 @@ pub end_within : (k : Kept) (pair side : ℕ) → IsKept k → IsEndThere (open_
 unfolding open_files
 end_within k pair side kept there = (subst (IsEnd (length k.queues)) there.is (kept.ends there.description)).0
 
-there_named : (k : Kept) (n : ℕ) → IsKept k → IsNamed (open_files k) n → IsSome (slot k.slots n)
+-- what is named is in use
+there_at : (f : ℕ → Option Description) (ms : List Message) (at : ℕ) (m : Message) → AreThere f ms → slice_get ms at ≡ Some m → IsThere f m.passed
+there_at f [] at m there is = absurd cc
+there_at f (x ∷ ms) zero m there is = subst (λ (y : Message). IsThere f y.passed) (same is) there.0
+  where
+    same : {x y : Message} → Some x ≡ Some y → x ≡ y
+    same is = cc
+there_at f (x ∷ ms) (suc at) m there is = there_at f ms at m there.1 is
+
+pub there_named : (k : Kept) (n : ℕ) → IsKept k → IsNamed (open_files k) n → IsSome (slot k.slots n)
 unfolding open_files
-there_named k n kept named =
-    subst (λ (m : ℕ). IsSome (slot k.slots m)) named.names
-    (subst (IsThere (slot k.slots)) named.entry (kept.named named.process named.number))
+there_named k n kept (by_entry p m d is names) =
+    subst (λ (i : ℕ). IsSome (slot k.slots i)) names (subst (IsThere (slot k.slots)) is (kept.named p m))
+there_named k n kept (by_message pair side at m d is passed names) =
+    subst (λ (i : ℕ). IsSome (slot k.slots i)) names
+    (subst (IsThere (slot k.slots)) passed (there_at (slot k.slots) (queue k.queues pair side) at m (kept.queued pair side) is))
+
+pub slot_within : (slots : List (Option DescriptionCode)) (n : ℕ) → IsSome (slot (slots_kept slots) n) → n < length slots
+slot_within [] n some =
+    let no : false ≡ true = some in
+    absurd cc
+slot_within (x ∷ slots) zero some = omega arith
+slot_within (x ∷ slots) (suc n) some =
+    let low : n < length slots = slot_within slots n some in
+    omega arith
 
 pub there_passed : (k : Kept) (o : Option Descriptor) → IsKept k → MayPass (open_files k) o → IsThere (slot k.slots) o
 there_passed k None kept may = tt

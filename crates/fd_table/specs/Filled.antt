@@ -1,6 +1,7 @@
 -- What becomes of what is open, call by call. (dup(2), fork(2), close(2), open(2), socketpair(2), sendmsg(2), recvmsg(2),
 -- cap_rights_limit(2))
 use Rattle.std.specs.Prelude.{◌≡◌, ◌≢◌, ◌++◌, ◌<◌, ℕ, Bool, true, false, nat_lt, List, [], ◌∷◌, length, drop, Option, Some, None, is_some, if◌then◌else◌}
+use Rattle.std.specs.List.{slice_get}
 use Rattle.std.specs.Option.{option_map}
 use Rattle.rights.specs.Sets.{all_rights, all_commands, is_within}
 use Rattle.rights.specs.Maps.{put, put2}
@@ -102,19 +103,16 @@ AreApart None (Some b) = Unit {0}
 AreApart (Some a) None = Unit {0}
 AreApart (Some a) (Some b) = a ≢ b
 
--- some entry names the description
-pub record IsNamed (f : OpenFiles) (description : ℕ) : Type 0 where
-  pub process : ℕ
-  pub number : ℕ
-  pub descriptor : Descriptor
-  pub entry : f.table process number ≡ Some descriptor
-  pub names : descriptor.description ≡ description
+-- some entry names the description, or some message on its way
+pub data IsNamed (f : OpenFiles) (description : ℕ) : Type 0 where
+  by_entry : (process number : ℕ) (d : Descriptor) → f.table process number ≡ Some d → d.description ≡ description → IsNamed f description
+  by_message : (pair side at : ℕ) (m : Message) (d : Descriptor) → slice_get (f.queue pair side) at ≡ Some m → m.passed ≡ Some d → d.description ≡ description → IsNamed f description
 
 abbrev pub MayPass : OpenFiles → Option Descriptor → Type 0
 MayPass f None = Unit {0}
 MayPass f (Some d) = IsNamed f d.description
 
--- some entry names an end of that pair and side
+-- some description that is named is of an end of that pair and side
 pub record IsEndThere (f : OpenFiles) (pair side : ℕ) : Type 0 where
   pub description : ℕ
   pub class : Class

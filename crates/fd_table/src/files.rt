@@ -84,7 +84,7 @@ impl Files {
         lowest_in(self.entries.as_slice(), p, n + 1)
     }
 
-    /// What the description of an entry is of, and its state.
+    /// What a description is of, and its state.
     #[tactic(auto, unfolding(crate::specs::Kept::open_files))]
     pub fn what(&self, d: DescriptionId) -> Description
         requires { IsNamed (open_files self.now) d }
@@ -172,7 +172,7 @@ impl Files {
         }
     }
 
-    /// Sets the offset of an entry's description. (lseek(2))
+    /// Sets the offset of a description. (lseek(2))
     #[tactic(auto, unfolding(crate::specs::Kept::open_files))]
     pub fn set_offset(&mut self, d: DescriptionId, offset: u16)
         requires { IsNamed (open_files self.old) d }
@@ -188,7 +188,7 @@ impl Files {
         set_slot(&mut self.slots, at, moved);
     }
 
-    /// Sets the status flags of an entry's description. (fcntl(2), F_SETFL)
+    /// Sets the status flags of a description. (fcntl(2), F_SETFL)
     #[tactic(auto, unfolding(crate::specs::Kept::open_files))]
     pub fn set_status(&mut self, d: DescriptionId, status: Status)
         requires { IsNamed (open_files self.old) d }
@@ -237,7 +237,7 @@ impl Files {
         Ok(())
     }
 
-    /// Sends a byte, with or without a descriptor that an entry has, to the other end of a pair. (sendmsg(2))
+    /// Sends a byte, with or without a descriptor of a description that is there, to the other end of a pair. (sendmsg(2))
     #[tactic(auto, unfolding(crate::specs::Kept::open_files))]
     pub fn send(&mut self, end: End, byte: u8, passed: Option<Descriptor>) -> Result<(), SendFault>
         requires there { IsEndThere (open_files self.old) end.pair (side_seen end.side) }

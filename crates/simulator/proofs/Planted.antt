@@ -1,7 +1,7 @@
 -- Trees that are made node by node.
 use Rattle.std.proofs.Common.{◌≡◌, ℕ, zero, suc, ◌<◌, ◌≤◌, ◌+◌, ◌-◌, true, List, [], ◌∷◌, ◌++◌, length, take, drop, map, refl, ap, sym, subst, ◌∙◌, arith, append_assoc, length-append}
-use Rattle.std.specs.Prelude.{◌&&◌, Bool, nat_lt, replicate, slice_set, slice_index_or, Some}
-use Rattle.std.specs.List.{list_all}
+use Rattle.std.specs.Prelude.{◌&&◌, ◌||◌, Bool, false, nat_lt, replicate, slice_set, slice_index_or, Some}
+use Rattle.std.specs.List.{list_all, list_any}
 use Rattle.std.proofs.Math.ListN.{drop_of_length-le, length-map}
 use Rattle.std.proofs.Math.Seq.{set-append_seam, get_or-append_seam, take-length, take-suc}
 use Rattle.std.proofs.lemmas.Bool.{ltb-true}
@@ -115,6 +115,22 @@ few_nodes (root ∷ nodes) test =
 pub first_is_root : (nodes : List Node) → is_tree nodes ≡ true → new_tree ≡ take 1 nodes
 first_is_root [] test = absurd cc
 first_is_root (root ∷ nodes) test = sym (root_is_new root (both_left _ (nat_lt (length nodes) most_nodes) (both_left _ (are_made (root ∷ []) nodes) test)))
+
+-- the root alone has no name
+pub has_name : (nodes : List Node) (k : ℕ) → is_tree nodes ≡ true → 1 ≤ k → k < length nodes → (node nodes k).place ≡ [] → ⊥
+has_name [] k test some low empty = absurd (omega arith)
+has_name (root ∷ nodes) zero test some low empty = absurd (omega arith)
+has_name (root ∷ nodes) (suc j) test some low empty =
+    let facts = can (root ∷ take j nodes) (node nodes j) (can_at (root ∷ nodes) (suc j) test some low) in
+    let first = both_left (is_root_node root) _ (both_left _ (are_made (root ∷ []) nodes) test) in
+    let stands : stands_at [] root ≡ true = both_left _ (is_dir root.kind) (both_left _ _ first) in
+    let free = subst (λ p. list_any (stands_at p) (root ∷ take j nodes) ≡ false) empty facts.free in
+    let clash : true ≡ false = subst (λ b. (b || list_any (stands_at []) (take j nodes)) ≡ false) stands free in
+    absurd cc
+
+pub no_names : {A : Type 0} (f : A → List ℕ) (names : List A) → length names < 1 → map f names ≡ []
+no_names f [] few = refl
+no_names f (x ∷ names) few = absurd (omega arith)
 
 -- where a node goes, and what it is called there
 pub has_holder : (made : List Node) (m : Node) → can_follow made m ≡ true → has_directory made (above m.place) ≡ true

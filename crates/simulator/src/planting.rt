@@ -12,7 +12,7 @@ ghost use Rattle.task.specs.Limits.{is_tree};
 ghost use Rattle.task.specs.Views.{node_of, nodes_of};
 ghost use Rattle.simulator.specs.Starts.{AreNumbers, IsMadeIn};
 
-use file_tree::{Kind, New, NodeId, Tree, is_same_place};
+use file_tree::{Kind, New, NodeId, Tree, TreeFault, is_same_place};
 use rights::Memory;
 use std::alloc::Global;
 use task::TaskNode;
@@ -48,6 +48,16 @@ fn directory_at(nodes: &[TaskNode], place: &[Vec<u8>]) -> usize
     }
 }
 
+/// What a change that the tree allows is refused for: want of memory alone.
+fn want_of_memory(fault: TreeFault) -> Memory
+    requires { fault ≡ TreeFault.Memory }
+{
+    match fault {
+        TreeFault::Memory => Memory,
+        _ => unreachable!(),
+    }
+}
+
 /// Makes a node where nothing but want of memory keeps it from being made.
 fn create_in<T: Tree>(
     tree: &mut T,
@@ -59,12 +69,13 @@ fn create_in<T: Tree>(
     requires directory { (node (T.nodes tree.old) directory).kind ≡ Dir }
     requires name { is_name name.now ≡ true }
     requires target { is_new what ≡ true }
+    requires allowed { create_fault (T.nodes tree.old) directory name.now ≡ None }
     ensures number { IfOk result (λ n. n ≡ length (T.nodes tree.old)) }
     ensures nodes { OnOk result (T.nodes tree.new ≡ created (T.nodes tree.old) directory name.now (new_kind what.entry) (new_content what.entry)) }
 {
     match tree.create(directory, name, what) {
         Ok(number) => Ok(number),
-        Err(_) => Err(Memory),
+        Err(fault) => Err(want_of_memory(fault)),
     }
 }
 
@@ -73,12 +84,13 @@ fn write_content<T: Tree>(tree: &mut T, file: NodeId, content: &[u8]) -> Result<
     requires there { file < length (T.nodes tree.old) }
     requires file { (node (T.nodes tree.old) file).kind ≡ File }
     requires empty { (node (T.nodes tree.old) file).content ≡ [] }
+    requires small { length content.now ≤ 4096 }
     ensures { OnOk result (T.nodes tree.new ≡ filled (T.nodes tree.old) file content.now) }
 {
     for (at, byte) in content.iter().enumerate() {
         match tree.put_byte(file, at, *byte) {
             Ok(()) => (),
-            Err(_) => return Err(Memory),
+            Err(fault) => return Err(want_of_memory(fault)),
         }
     }
     Ok(())
@@ -125,8 +137,8 @@ fn plant_next<T: Tree>(
 {
     let node = &nodes[made];
     let [above @ .., name] = node.place.as_slice() else {
-        // Only the root has no name.
-        return Err(Memory);
+        // The root alone has no name, and it is made first.
+        unreachable!()
     };
     let directory = numbers[directory_at(&nodes[..made], above)];
     plant(tree, directory, name, node)
@@ -141,7 +153,7 @@ pub(crate) fn plant_all<T: Tree>(alloc: Global, nodes: &[TaskNode]) -> Result<Pl
 {
     let mut tree: T = match T::new(alloc) {
         Ok(tree) => tree,
-        Err(_) => return Err(Memory),
+        Err(fault) => return Err(want_of_memory(fault)),
     };
     let mut numbers = Vec::new(alloc);
     numbers.push(tree.root())?;

@@ -48,7 +48,7 @@ fn open_first(
             first.fcntls,
         ),
         // No first descriptor is for neither.
-        None => Err(Memory),
+        None => unreachable!(),
     }
 }
 

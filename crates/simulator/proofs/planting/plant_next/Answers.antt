@@ -10,7 +10,7 @@ use Rattle.fd_table.proofs.QueueLaws.{on_ok_so}
 use Rattle.task.specs.Limits.{can_follow}
 use Rattle.task.specs.Views.{node_of, nodes_of}
 use Rattle.simulator.specs.Starts.{IsMadeIn}
-use Rattle.simulator.proofs.Planted.{Parts, any_default, can_at, few_nodes, has_holder, made_in, nodes_more, parts, take_more}
+use Rattle.simulator.proofs.Planted.{Parts, any_default, can_at, few_nodes, has_holder, has_name, made_in, no_names, nodes_more, parts, take_more}
 use Rattle.simulator.proofs.planting.plant_next.Goals as goal
 
 pub directory_at-requires : goal.directory_at-requires
@@ -54,3 +54,26 @@ returns-clause-nodes g c =
     let same : node nodes c.args.made ≡ node_of c.index-nodes-made.result = nodes_more node_of c.args.nodes.now c.args.made c.index-nodes-made.result c.requires.within c.index-nodes-made.is in
     on_ok_so c.plant.result c.plant.ensures.nodes
     (λ is. is ∙ ap (λ t. t ++ node_of c.index-nodes-made.result ∷ []) c.requires.made ∙ take_more nodes c.args.made (node_of c.index-nodes-made.result) low same)
+
+pub unreachable-requires : goal.unreachable-requires
+unreachable-requires g c =
+    let nodes : List Node = nodes_of c.args.nodes.now in
+    let low : c.args.made < length nodes = subst (λ n. c.args.made < n) (sym (length-map c.args.nodes.now node_of)) c.requires.within in
+    let same : node nodes c.args.made ≡ node_of c.index-nodes-made.result = nodes_more node_of c.args.nodes.now c.args.made c.index-nodes-made.result c.requires.within c.index-nodes-made.is in
+    has_name nodes c.args.made c.requires.valid c.requires.some low
+    (ap (λ (m : Node). m.place) same ∙ ap names_of (sym c.as_slice.ensures.value) ∙ no_names (λ name. name.items) c.as_slice.result.now c.in_default.len_below)
+
+pub plant-requires-clause-there : goal.plant-requires-clause-there
+plant-requires-clause-there g c =
+    let nodes : List Node = nodes_of c.args.nodes.now in
+    let within : c.args.made < length c.args.nodes.now = c.requires.within in
+    let low : c.args.made < length nodes = subst (λ n. c.args.made < n) (sym (length-map c.args.nodes.now node_of)) within in
+    let below : c.directory_at.result < length (take c.args.made c.args.nodes.now) = c.directory_at.ensures.below in
+    let slice : length (take c.args.made c.args.nodes.now) ≡ c.args.made = length-take-le c.args.made c.args.nodes.now (omega arith) in
+    let made : length (take c.args.made nodes) ≡ c.args.made = length-take-le c.args.made nodes (omega arith) in
+    let number : c.directory_at.result < length c.args.numbers.now = omega (arith, c.requires.count) in
+    let directory : c.index-numbers-directory_at.result ≡ c.directory_at.result =
+    c.index-numbers-directory_at.is ∙ any_default c.args.numbers.now c.directory_at.result c.index-numbers-directory_at.result 0 number ∙ c.requires.numbers c.directory_at.result number
+    in
+    subst (λ t. c.index-numbers-directory_at.result < length t) (sym c.requires.made)
+    (subst (λ d. d < length (take c.args.made nodes)) (sym directory) (omega arith))

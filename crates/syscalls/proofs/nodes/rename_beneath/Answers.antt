@@ -73,3 +73,9 @@ returns g c = λ processes e same.
     (c.rename.ensures c.args.caller.now.refuse call (held_seen c.in-Ok-held.held)
     (ap (λ n. is_within n c.in-Ok-held.held.rights.0) (sym c.second_need-2.ensures) ∙ sym c.contains-may_replace.ensures.computes)
     f processes p s e same c.requires.ready.idle)
+
+pub directory_of-requires-clause-named : goal.directory_of-requires-clause-named
+directory_of-requires-clause-named g c = c.in-Ok.ensures.named
+
+pub directory_of-requires-2-clause-named : goal.directory_of-requires-2-clause-named
+directory_of-requires-2-clause-named g c = c.in-Ok-held.ensures.named

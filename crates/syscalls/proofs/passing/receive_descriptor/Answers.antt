@@ -4,7 +4,7 @@ use Rattle.kernel.specs.Calls.{answer}
 use Rattle.syscalls.specs.Meets.{Meets, Refuses}
 use Rattle.syscalls.specs.Views.{world_with}
 use Rattle.syscalls.proofs.Finding.{refused_alone}
-use Rattle.syscalls.proofs.Targets.{at_node, at_end}
+use Rattle.syscalls.proofs.Targets.{at_node, at_end, end_named}
 use Rattle.syscalls.proofs.passing.receive_descriptor.Goals as goal
 
 pub returns-in-Err-free_number : goal.returns-in-Err-free_number
@@ -28,3 +28,6 @@ returns-in-Ok-free_number c = λ t processes e same.
     subst (Meets w p t (open_files c.receive_end.new.files) c.receive_end.result)
     (sym (c.in-Ok.ensures.passes _ ∙ at_end _ _ c.in-End.end c.target_of.ensures c.in-End.is _ _ ∙ c.in-Ok-free_number.ensures.passes _))
     (c.receive_end.ensures t processes e same)
+
+pub receive_end-requires-clause-there : goal.receive_end-requires-clause-there
+receive_end-requires-clause-there c = end_named (open_files c.args.files.now) c.in-Ok.held.description c.target_of.result c.in-End.end c.target_of.ensures c.in-End.is c.in-Ok.ensures.named

@@ -8,7 +8,7 @@ use Rattle.kernel.specs.Calls.{answer, sent_end}
 use Rattle.syscalls.specs.Meets.{Meets, held_seen}
 use Rattle.syscalls.specs.Views.{world_with}
 use Rattle.syscalls.proofs.Tests.{passes}
-use Rattle.syscalls.proofs.Targets.{at_node, at_end}
+use Rattle.syscalls.proofs.Targets.{at_node, at_end, end_named}
 use Rattle.syscalls.proofs.passing.send_descriptor.Goals as goal
 
 pub returns-in-Node : goal.returns-in-Node
@@ -31,3 +31,9 @@ returns-in-End c = λ t processes e same.
     ∙ passes _ _ _ _ (ap (λ n. is_within n c.in-Ok.held.rights.0) (sym c.need_of.ensures) ∙ sym c.contains.ensures.computes ∙ c.if-not-contains.false)
     ∙ at_end _ _ c.in-End.end c.target_of.ensures c.in-End.is _ _))
     (subst (λ b. after (sent_end w p s e c.in-Ok.held.description c.in-End.end.pair (side_seen c.in-End.end.side) (message_of b (Some (held_seen c.in-Ok-held.held))))) c.byte_of-byte.ensures (c.write_end.ensures t processes e same))
+
+pub write_end-requires-clause-named : goal.write_end-requires-clause-named
+write_end-requires-clause-named c = c.in-Ok.ensures.named
+
+pub write_end-requires-clause-there : goal.write_end-requires-clause-there
+write_end-requires-clause-there c = end_named (open_files c.args.files.now) c.in-Ok.held.description c.target_of.result c.in-End.end c.target_of.ensures c.in-End.is c.in-Ok.ensures.named

@@ -29,3 +29,9 @@ returns-in-End g c = λ processes e same.
     subst (Meets (world_with t (open_files c.args.files.now) processes) p t (open_files c.read_end.new.files) c.read_end.result)
     (sym (c.in-Ok.ensures.passes _ ∙ at_end _ _ c.in-End.end c.in-Ok.ensures.target c.in-End.is _ _))
     (c.read_end.ensures t processes e same)
+
+pub read_node-requires-clause-named : goal.read_node-requires-clause-named
+read_node-requires-clause-named g c = (c.in-Ok.ensures.ready (g.T.Tree.nodes c.args.tree.now) c.requires).named
+
+pub read_end-requires-clause-named : goal.read_end-requires-clause-named
+read_end-requires-clause-named g c = (c.in-Ok.ensures.ready (g.T.Tree.nodes c.args.tree.now) c.requires).named

@@ -29,3 +29,9 @@ returns-in-End g c = λ processes e same.
     subst (Meets (world_with t (open_files c.args.files.now) processes) p t (open_files c.write_socket.new.files) c.write_socket.result)
     (sym (c.in-Ok.ensures.passes _ ∙ at_end _ _ c.in-End.end c.in-Ok.ensures.target c.in-End.is _ _))
     (c.write_socket.ensures t processes e same)
+
+pub write_node-requires-clause-named : goal.write_node-requires-clause-named
+write_node-requires-clause-named g c = (c.in-Ok.ensures.ready (g.T.Tree.nodes c.args.tree.now) c.requires).named
+
+pub write_socket-requires-clause-named : goal.write_socket-requires-clause-named
+write_socket-requires-clause-named g c = (c.in-Ok.ensures.ready (g.T.Tree.nodes c.args.tree.now) c.requires).named

@@ -1,7 +1,14 @@
 use Rattle.std.proofs.Common.{ap}
 use Rattle.fd_table.specs.Descriptions.{State}
 use Rattle.fd_table.proofs.Alike.{alike_offset, kept_state}
+use Rattle.fd_table.proofs.Sending.{slot_within, there_named}
 use Rattle.fd_table.proofs.files.Files.set_offset.Goals as goal
+
+pub description_at-description-requires : goal.description_at-description-requires
+description_at-description-requires c = rw (c.as_slice.ensures.value, c.number-at.ensures) (there_named _ _ c.self.invariant (rw (← c.self.view_is) at c.requires))
+
+pub set_slot-requires : goal.set_slot-requires
+set_slot-requires c = rw c.number-at.ensures (slot_within c.self.inside.slots.items c.args.d (there_named _ _ c.self.invariant (rw (← c.self.view_is) at c.requires)))
 
 pub invariant_of-self : goal.invariant_of-self
 invariant_of-self c = kept_state _ _ _ _ c.self.invariant c.set_slot.ensures.slots (rw c.as_slice.ensures.value at c.description_at-description.ensures.object)
