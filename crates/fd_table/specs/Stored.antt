@@ -7,8 +7,8 @@ use Rattle.fd_table.specs.declared.queues.Message.{Message as MessageCode}
 use Rattle.fd_table.specs.declared.queues.Queues.{Queues as QueuesCode}
 use Rattle.fd_table.specs.Descriptions.{Object, Descriptor, Message, new_state}
 use Rattle.fd_table.specs.Views.{descriptor_seen, object_seen, side_seen, state_seen}
-use Rattle.fd_table.specs.declared.search.Sought.{Sought}
-use Rattle.fd_table.specs.declared.search.Sought.TheVariants as sought
+use Rattle.fd_table.specs.declared.search.SearchKey.{SearchKey}
+use Rattle.fd_table.specs.declared.search.SearchKey.TheVariants as key
 use Rattle.fd_table.specs.OpenFiles.{OpenFiles, IsUnnamed, names, names_end}
 use Rattle.fd_table.specs.Filled.{Entry}
 use Rattle.fd_table.specs.Kept.{Description, Queues, Kept}
@@ -45,9 +45,9 @@ abbrev pub kept : List (Option DescriptorCode) → List (Option DescriptionCode)
 kept entries slots queues = record { entries = entries_kept entries; slots = slots_kept slots; queues = queues_kept queues }
 
 -- whether a descriptor is one that is looked for: of a description, or of an end
-abbrev pub seeks : (ℕ → Object) → Sought → Option Descriptor → Bool
-seeks objects (sought.Description n) o = names n o
-seeks objects (sought.End end) o = names_end objects end.pair (side_seen end.side) o
+abbrev pub matches_key : (ℕ → Object) → SearchKey → Option Descriptor → Bool
+matches_key objects (key.Description n) o = names n o
+matches_key objects (key.End end) o = names_end objects end.pair (side_seen end.side) o
 
 -- the message in front
 abbrev pub front_message : List Message → Option Message

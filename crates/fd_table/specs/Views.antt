@@ -61,8 +61,8 @@ refusal_seen fault.Full = Some Full
 refusal_seen fault.Memory = None
 
 -- The error tells what is refused; want of memory may come in place of any other answer.
-abbrev pub Tells : Option SendRefusal → SendFault → Type 0
-Tells refusal error = error ≢ fault.Memory → refusal ≡ refusal_seen error
+abbrev pub TellsSendFault : Option SendRefusal → SendFault → Type 0
+TellsSendFault refusal error = error ≢ fault.Memory → refusal ≡ refusal_seen error
 
 -- the numbers of the faults
 abbrev pub send_fault_number : SendFault → ℕ

@@ -7,14 +7,14 @@ ghost use Rattle.fd_table.specs.Descriptions.{message_of, other_side};
 ghost use Rattle.fd_table.specs.OpenFiles.{Alike, is_open as is_end_open, lowest_free as lowest_number, lowest_from};
 ghost use Rattle.fd_table.specs.Filled.{AreApart, IsEmpty, IsEndThere, IsFree, IsFreeAt, IsNamed, MayLimit, MayPass, Opens, Pairs, front_byte, front_of, front_passed, limited, send_refusal, sent, taken, taken_to, with_entry, with_flags, with_offset, with_row};
 ghost use Rattle.fd_table.specs.Counts.{Counts};
-ghost use Rattle.fd_table.specs.Views.{Tells, access_asked, class_seen, descriptor_seen, entry_seen, front_seen, object_seen, side_seen, state_seen};
+ghost use Rattle.fd_table.specs.Views.{TellsSendFault, access_asked, class_seen, descriptor_seen, entry_seen, front_seen, object_seen, side_seen, state_seen};
 
 use crate::descriptors::{Class, Description, DescriptionId, Descriptor, Entry};
 use crate::ends::{End, Front, PairId, Side};
 use crate::entries::{clear_row, copy_row, entry_at, lowest_in, no_entries, set_end, set_entry};
 use crate::faults::SendFault;
 use crate::queues::{MOST_MESSAGES, Queues, front_in, make_queues, messages_in, send_in, take_in};
-use crate::search::{Sought, count_named, first_unnamed, first_unused, is_named, two_unnamed};
+use crate::search::{SearchKey, count_named, first_unnamed, first_unused, is_named, two_unnamed};
 use crate::slots::{description_at, make_room, opened_end, opened_node, set_slot};
 use crate::status::Status;
 use file_tree::NodeId;
@@ -111,7 +111,7 @@ impl Files {
             self.entries.as_slice(),
             self.slots.as_slice(),
             self.queues.as_slice(),
-            &Sought::End(End { pair, side }),
+            &SearchKey::End(End { pair, side }),
         )
     }
 
@@ -244,10 +244,10 @@ impl Files {
         requires named { MayPass (open_files self.old) (option_map descriptor_seen passed) }
         ensures ok { OnOk result (Alike (sent (open_files self.old) end.pair (side_seen end.side) (message_of byte (option_map descriptor_seen passed))) (open_files self.new)) }
         ensures allowed { OnOk result (send_refusal (open_files self.old) end.pair (side_seen end.side) ≡ None) }
-        ensures refused { IfErr result (Tells (send_refusal (open_files self.old) end.pair (side_seen end.side))) }
+        ensures refused { IfErr result (TellsSendFault (send_refusal (open_files self.old) end.pair (side_seen end.side))) }
         ensures err { OnErr result (open_files self.new ≡ open_files self.old) }
     {
-        let other = Sought::End(End {
+        let other = SearchKey::End(End {
             pair: end.pair,
             side: end.side.other(),
         });

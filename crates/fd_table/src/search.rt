@@ -7,7 +7,7 @@ ghost use Rattle.fd_table.specs.Descriptions.{Message as SentMessage};
 ghost use Rattle.fd_table.specs.Kept.{IsKept, entry, object_in, open_files, queue, queue_in, slot};
 ghost use Rattle.fd_table.specs.Counts.{Counts};
 ghost use Rattle.fd_table.specs.Views.{side_seen};
-ghost use Rattle.fd_table.specs.Stored.{AreNew, entries_kept, entry_kept, kept, message_kept, queues_kept, queues_of, seeks, slots_kept};
+ghost use Rattle.fd_table.specs.Stored.{AreNew, entries_kept, entry_kept, kept, message_kept, queues_kept, queues_of, matches_key, slots_kept};
 
 use crate::descriptors::{Description, Descriptor};
 use crate::ends::{End, PairId, Side};
@@ -21,7 +21,7 @@ const PROCESSES: u8 = 16;
 
 /// What is looked for: the descriptors that name a description, or an end.
 #[derive(Clone, Copy)]
-pub(crate) enum Sought {
+pub(crate) enum SearchKey {
     Description(usize),
     End(End),
 }
@@ -40,14 +40,14 @@ fn is_end_at(slots: &[Option<Description>], n: usize, end: End) -> bool
 }
 
 /// Whether there is a descriptor that is looked for.
-fn is_sought(slots: &[Option<Description>], sought: &Sought, descriptor: Option<Descriptor>) -> bool
-    ensures { result ≡ seeks (λ n. object_in (slot (slots_kept slots.now) n)) sought.now (entry_kept descriptor) }
+fn holds_key(slots: &[Option<Description>], key: &SearchKey, descriptor: Option<Descriptor>) -> bool
+    ensures { result ≡ matches_key (λ n. object_in (slot (slots_kept slots.now) n)) key.now (entry_kept descriptor) }
 {
     match descriptor {
         None => false,
-        Some(d) => match sought {
-            Sought::Description(n) => d.description.number() == *n,
-            Sought::End(end) => is_end_at(slots, d.description.number(), *end),
+        Some(d) => match key {
+            SearchKey::Description(n) => d.description.number() == *n,
+            SearchKey::End(end) => is_end_at(slots, d.description.number(), *end),
         },
     }
 }
@@ -56,14 +56,14 @@ fn is_sought(slots: &[Option<Description>], sought: &Sought, descriptor: Option<
 fn is_in_row(
     entries: &[Option<Descriptor>],
     slots: &[Option<Description>],
-    sought: &Sought,
+    key: &SearchKey,
     p: u8,
 ) -> bool
     requires { length entries.now ≡ 256 }
-    ensures { result ≡ any_below 16 (λ n. seeks (λ n. object_in (slot (slots_kept slots.now) n)) sought.now (entry (entries_kept entries.now) p n)) }
+    ensures { result ≡ any_below 16 (λ n. matches_key (λ n. object_in (slot (slots_kept slots.now) n)) key.now (entry (entries_kept entries.now) p n)) }
 {
     for n in 0..NUMBERS {
-        if is_sought(slots, sought, entry_at(entries, p, n)) {
+        if holds_key(slots, key, entry_at(entries, p, n)) {
             return true;
         }
     }
@@ -74,13 +74,13 @@ fn is_in_row(
 fn is_in_tables(
     entries: &[Option<Descriptor>],
     slots: &[Option<Description>],
-    sought: &Sought,
+    key: &SearchKey,
 ) -> bool
     requires { length entries.now ≡ 256 }
-    ensures { result ≡ any_below 16 (λ p. any_below 16 (λ n. seeks (λ n. object_in (slot (slots_kept slots.now) n)) sought.now (entry (entries_kept entries.now) p n))) }
+    ensures { result ≡ any_below 16 (λ p. any_below 16 (λ n. matches_key (λ n. object_in (slot (slots_kept slots.now) n)) key.now (entry (entries_kept entries.now) p n))) }
 {
     for p in 0..PROCESSES {
-        if is_in_row(entries, slots, sought, p) {
+        if is_in_row(entries, slots, key, p) {
             return true;
         }
     }
@@ -88,11 +88,11 @@ fn is_in_tables(
 }
 
 /// Whether a message carries a descriptor that is looked for.
-fn is_in_queue(messages: &[Message], slots: &[Option<Description>], sought: &Sought) -> bool
-    ensures { result ≡ list_any (λ (m : SentMessage). seeks (λ n. object_in (slot (slots_kept slots.now) n)) sought.now m.passed) (map message_kept messages.now) }
+fn is_in_queue(messages: &[Message], slots: &[Option<Description>], key: &SearchKey) -> bool
+    ensures { result ≡ list_any (λ (m : SentMessage). matches_key (λ n. object_in (slot (slots_kept slots.now) n)) key.now m.passed) (map message_kept messages.now) }
 {
     for message in messages {
-        if is_sought(slots, sought, message.passed) {
+        if holds_key(slots, key, message.passed) {
             return true;
         }
     }
@@ -100,19 +100,19 @@ fn is_in_queue(messages: &[Message], slots: &[Option<Description>], sought: &Sou
 }
 
 /// Whether a message of a pair carries a descriptor that is looked for.
-fn is_in_pair(queues: &Queues, slots: &[Option<Description>], sought: &Sought) -> bool
-    ensures { result ≡ any_below 2 (λ s. list_any (λ (m : SentMessage). seeks (λ n. object_in (slot (slots_kept slots.now) n)) sought.now m.passed) (queue_in (queues_of queues.now) s)) }
+fn is_in_pair(queues: &Queues, slots: &[Option<Description>], key: &SearchKey) -> bool
+    ensures { result ≡ any_below 2 (λ s. list_any (λ (m : SentMessage). matches_key (λ n. object_in (slot (slots_kept slots.now) n)) key.now m.passed) (queue_in (queues_of queues.now) s)) }
 {
-    is_in_queue(queues.b.as_slice(), slots, sought)
-        || is_in_queue(queues.a.as_slice(), slots, sought)
+    is_in_queue(queues.b.as_slice(), slots, key)
+        || is_in_queue(queues.a.as_slice(), slots, key)
 }
 
 /// Whether a message carries a descriptor that is looked for.
-fn is_in_queues(queues: &[Queues], slots: &[Option<Description>], sought: &Sought) -> bool
-    ensures { result ≡ any_below (length queues.now) (λ q. any_below 2 (λ s. list_any (λ (m : SentMessage). seeks (λ n. object_in (slot (slots_kept slots.now) n)) sought.now m.passed) (queue (queues_kept queues.now) q s))) }
+fn is_in_queues(queues: &[Queues], slots: &[Option<Description>], key: &SearchKey) -> bool
+    ensures { result ≡ any_below (length queues.now) (λ q. any_below 2 (λ s. list_any (λ (m : SentMessage). matches_key (λ n. object_in (slot (slots_kept slots.now) n)) key.now m.passed) (queue (queues_kept queues.now) q s))) }
 {
     for pair in queues {
-        if is_in_pair(pair, slots, sought) {
+        if is_in_pair(pair, slots, key) {
             return true;
         }
     }
@@ -125,12 +125,12 @@ pub(crate) fn is_named(
     entries: &[Option<Descriptor>],
     slots: &[Option<Description>],
     queues: &[Queues],
-    sought: &Sought,
+    key: &SearchKey,
 ) -> bool
     requires { length entries.now ≡ 256 }
-    ensures { result ≡ any_named (open_files (kept entries.now slots.now queues.now)) (seeks (open_files (kept entries.now slots.now queues.now)).objects sought.now) }
+    ensures { result ≡ any_named (open_files (kept entries.now slots.now queues.now)) (matches_key (open_files (kept entries.now slots.now queues.now)).objects key.now) }
 {
-    is_in_tables(entries, slots, sought) || is_in_queues(queues, slots, sought)
+    is_in_tables(entries, slots, key) || is_in_queues(queues, slots, key)
 }
 
 /// The lowest number, from one on, that no descriptor names, or else the next new one.
@@ -147,7 +147,7 @@ pub(crate) fn first_unnamed(
     ensures within { result ≤ length slots.now }
 {
     for n in start..slots.len() {
-        if !is_named(entries, slots, queues, &Sought::Description(n)) {
+        if !is_named(entries, slots, queues, &SearchKey::Description(n)) {
             return n;
         }
     }
@@ -168,14 +168,14 @@ fn is_unused(
     if messages_in(queues, pair, Side::A) > 0 || messages_in(queues, pair, Side::B) > 0 {
         return false;
     }
-    let a = Sought::End(End {
+    let a = SearchKey::End(End {
         pair: PairId::at(pair),
         side: Side::A,
     });
     if is_named(entries, slots, queues, &a) {
         return false;
     }
-    let b = Sought::End(End {
+    let b = SearchKey::End(End {
         pair: PairId::at(pair),
         side: Side::B,
     });
@@ -229,7 +229,7 @@ pub(crate) fn count_named(
 {
     let mut count: usize = 0;
     for n in 0..slots.len() {
-        if is_named(entries, slots, queues, &Sought::Description(n)) {
+        if is_named(entries, slots, queues, &SearchKey::Description(n)) {
             count += 1;
         }
     }

@@ -43,8 +43,8 @@ fault_of fault.Gone = Some Gone
 fault_of fault.Memory = None
 
 -- The error tells what is refused; want of memory may come in place of any other answer.
-abbrev pub Tells : Option Fault → TreeFault → Type 0
-Tells refusal error = error ≢ fault.Memory → refusal ≡ fault_of error
+abbrev pub TellsTreeFault : Option Fault → TreeFault → Type 0
+TellsTreeFault refusal error = error ≢ fault.Memory → refusal ≡ fault_of error
 
 -- the numbers of the refusals
 abbrev pub tree_fault_number : TreeFault → ℕ

@@ -7,7 +7,7 @@ ghost use Rattle.file_tree.specs.Nodes.{node};
 ghost use Rattle.file_tree.specs.Changes.{filled, moved, removed, renamed, replaced_at, resized, written};
 ghost use Rattle.file_tree.specs.Refusals.{create_fault, created, put_byte_fault, remove_fault, rename_fault, truncate_fault};
 ghost use Rattle.file_tree.specs.WellFormed.{is_byte};
-ghost use Rattle.file_tree.specs.Views.{Tells, kind_of, names_of, new_content, new_kind, node_of, nodes_of};
+ghost use Rattle.file_tree.specs.Views.{TellsTreeFault, kind_of, names_of, new_content, new_kind, node_of, nodes_of};
 
 use crate::entries::{Entry, child_in, holds_below};
 use crate::faults::TreeFault;
@@ -64,7 +64,7 @@ pub(crate) fn create_in(
     ensures ok { IfOk result (λ n. (n ≡ length (nodes_of entries.old.items))
         × (nodes_of entries.new.items ≡ created (nodes_of entries.old.items) dir name.now (new_kind what.entry) (new_content what.entry))) }
     ensures allowed { OnOk result (create_fault (nodes_of entries.old.items) dir name.now ≡ None) }
-    ensures refused { IfErr result (Tells (create_fault (nodes_of entries.old.items) dir name.now)) }
+    ensures refused { IfErr result (TellsTreeFault (create_fault (nodes_of entries.old.items) dir name.now)) }
     ensures bytes { OnOk result (list_all is_byte (new_content what.entry) ≡ true) }
     ensures err { OnErr result (nodes_of entries.new.items ≡ nodes_of entries.old.items) }
 {
@@ -96,7 +96,7 @@ pub(crate) fn remove_in(entries: &mut Vec<Entry>, n: usize) -> Result<(), TreeFa
     requires { n < vec_len entries.old }
     ensures ok { OnOk result (nodes_of entries.new.items ≡ removed (nodes_of entries.old.items) n) }
     ensures allowed { OnOk result (remove_fault (nodes_of entries.old.items) n ≡ None) }
-    ensures refused { IfErr result (Tells (remove_fault (nodes_of entries.old.items) n)) }
+    ensures refused { IfErr result (TellsTreeFault (remove_fault (nodes_of entries.old.items) n)) }
     ensures err { OnErr result (nodes_of entries.new.items ≡ nodes_of entries.old.items) }
 {
     let entry = &entries[n];
@@ -194,7 +194,7 @@ pub(crate) fn rename_in(
     requires dir_there { dir < vec_len entries.old }
     ensures ok { OnOk result (nodes_of entries.new.items ≡ renamed (nodes_of entries.old.items) n (at_name (node (nodes_of entries.old.items) dir).place name.now)) }
     ensures allowed { OnOk result (rename_fault (nodes_of entries.old.items) n dir name.now ≡ None) }
-    ensures refused { IfErr result (Tells (rename_fault (nodes_of entries.old.items) n dir name.now)) }
+    ensures refused { IfErr result (TellsTreeFault (rename_fault (nodes_of entries.old.items) n dir name.now)) }
     ensures err { OnErr result (nodes_of entries.new.items ≡ nodes_of entries.old.items) }
 {
     let entry = &entries[n];
@@ -241,7 +241,7 @@ pub(crate) fn put_in(entries: &mut Vec<Entry>, n: usize, at: usize, b: u8) -> Re
     ensures ok { OnOk result (nodes_of entries.new.items ≡
         filled (nodes_of entries.old.items) n (written (node (nodes_of entries.old.items) n).content at b)) }
     ensures allowed { OnOk result (put_byte_fault at ≡ None) }
-    ensures refused { IfErr result (Tells (put_byte_fault at)) }
+    ensures refused { IfErr result (TellsTreeFault (put_byte_fault at)) }
     ensures err { OnErr result (nodes_of entries.new.items ≡ nodes_of entries.old.items) }
 {
     if at >= MAX_BYTES {
@@ -258,7 +258,7 @@ pub(crate) fn truncate_in(entries: &mut Vec<Entry>, n: usize, len: usize) -> Res
     ensures ok { OnOk result (nodes_of entries.new.items ≡
         filled (nodes_of entries.old.items) n (resized (node (nodes_of entries.old.items) n).content len)) }
     ensures allowed { OnOk result (truncate_fault len ≡ None) }
-    ensures refused { IfErr result (Tells (truncate_fault len)) }
+    ensures refused { IfErr result (TellsTreeFault (truncate_fault len)) }
     ensures err { OnErr result (nodes_of entries.new.items ≡ nodes_of entries.old.items) }
 {
     if len > MAX_BYTES {

@@ -7,7 +7,7 @@ ghost use Rattle.file_tree.specs.Nodes.{Dir, File, Node, byte_of, child_of, node
 ghost use Rattle.file_tree.specs.Changes.{filled, removed, renamed, resized, written};
 ghost use Rattle.file_tree.specs.Refusals.{create_fault, created, new_tree, put_byte_fault, remove_fault, rename_fault, truncate_fault};
 ghost use Rattle.file_tree.specs.WellFormed.{IsTree};
-ghost use Rattle.file_tree.specs.Views.{Tells, is_new, kind_of, new_content, new_kind};
+ghost use Rattle.file_tree.specs.Views.{TellsTreeFault, is_new, kind_of, new_content, new_kind};
 
 use crate::faults::TreeFault;
 use crate::nodes::{Kind, New, NodeId};
@@ -85,7 +85,7 @@ pub trait Tree: Sized + Drop {
         ensures ok { IfOk result (λ n. (n ≡ length (nodes self.old))
             × (nodes self.new ≡ created (nodes self.old) dir name.now (new_kind what.entry) (new_content what.entry))) }
         ensures allowed { OnOk result (create_fault (nodes self.old) dir name.now ≡ None) }
-        ensures refused { IfErr result (Tells (create_fault (nodes self.old) dir name.now)) }
+        ensures refused { IfErr result (TellsTreeFault (create_fault (nodes self.old) dir name.now)) }
         ensures err { OnErr result (nodes self.new ≡ nodes self.old) };
 
     /// Removes a node. Refused of a removed one (`Gone`), and of the root and a directory that holds
@@ -94,7 +94,7 @@ pub trait Tree: Sized + Drop {
         requires { n < length (nodes self.old) }
         ensures ok { OnOk result (nodes self.new ≡ removed (nodes self.old) n) }
         ensures allowed { OnOk result (remove_fault (nodes self.old) n ≡ None) }
-        ensures refused { IfErr result (Tells (remove_fault (nodes self.old) n)) }
+        ensures refused { IfErr result (TellsTreeFault (remove_fault (nodes self.old) n)) }
         ensures err { OnErr result (nodes self.new ≡ nodes self.old) };
 
     /// Gives a node that name in a directory. What is linked below it moves along, and nothing else; a
@@ -109,7 +109,7 @@ pub trait Tree: Sized + Drop {
         requires name { IsTrue (is_name name.now) }
         ensures ok { OnOk result (nodes self.new ≡ renamed (nodes self.old) n (at_name (node (nodes self.old) dir).place name.now)) }
         ensures allowed { OnOk result (rename_fault (nodes self.old) n dir name.now ≡ None) }
-        ensures refused { IfErr result (Tells (rename_fault (nodes self.old) n dir name.now)) }
+        ensures refused { IfErr result (TellsTreeFault (rename_fault (nodes self.old) n dir name.now)) }
         ensures err { OnErr result (nodes self.new ≡ nodes self.old) };
 
     /// How many bytes a file has, or a link's target; a directory has none.
@@ -130,7 +130,7 @@ pub trait Tree: Sized + Drop {
         ensures ok { OnOk result (nodes self.new ≡
             filled (nodes self.old) n (written (node (nodes self.old) n).content at b)) }
         ensures allowed { OnOk result (put_byte_fault at ≡ None) }
-        ensures refused { IfErr result (Tells (put_byte_fault at)) }
+        ensures refused { IfErr result (TellsTreeFault (put_byte_fault at)) }
         ensures err { OnErr result (nodes self.new ≡ nodes self.old) };
 
     /// Cuts a file to that many bytes, or fills it up with zeros. Refused past 4096 bytes (`Full`).
@@ -141,6 +141,6 @@ pub trait Tree: Sized + Drop {
         ensures ok { OnOk result (nodes self.new ≡
             filled (nodes self.old) n (resized (node (nodes self.old) n).content len)) }
         ensures allowed { OnOk result (truncate_fault len ≡ None) }
-        ensures refused { IfErr result (Tells (truncate_fault len)) }
+        ensures refused { IfErr result (TellsTreeFault (truncate_fault len)) }
         ensures err { OnErr result (nodes self.new ≡ nodes self.old) };
 }

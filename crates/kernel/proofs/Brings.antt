@@ -11,7 +11,7 @@ use Rattle.lookup.specs.Answers.{Fault, Escape, No_entry, Not_dir, Loop, Too_lon
 use Rattle.fd_table.specs.Descriptions.{Access, Object, At_node, At_end, Descriptor, Message, IfHeld}
 use Rattle.fd_table.specs.OpenFiles.{lowest_from, lowest_free}
 use Rattle.kernel.specs.World.{World}
-use Rattle.kernel.specs.Answers.{TableChange, Same_table, Set_entry, Clear_entry, New_file, New_pair, New_process, QueueChange, Same_queue, Push, Pop, StateChange, Same_state, Set_state, Change, Answer, Fails, Waits, Gives, unless, held, at_object, at_number, lost}
+use Rattle.kernel.specs.Answers.{TableChange, Same_table, Set_entry, Clear_entry, New_file, New_pair, New_process, QueueChange, Same_queue, Push, Pop, StateChange, Same_state, Set_state, Change, Answer, Fails, Waits, Gives, unless, held, at_object, at_number, lookup_fails}
 use Rattle.kernel.specs.Changes.{tree_after}
 use Rattle.kernel.specs.WellFormed.{Numbering, IsObject, IsDescriptor}
 
@@ -130,10 +130,10 @@ module _ (g : Ground) where
   sound-number None rest sound = sound-fails _ _
   sound-number (Some n) rest sound = sound n refl
 
-  pub sound-lost : (fault : Fault) → Sound g (lost fault)
-  sound-lost Escape = sound-fails _ _
-  sound-lost No_entry = sound-fails _ _
-  sound-lost Not_dir = sound-fails _ _
-  sound-lost Loop = sound-fails _ _
-  sound-lost Too_long = sound-fails _ _
-  sound-lost Bad_last = sound-fails _ _
+  pub sound-lookup_fails : (fault : Fault) → Sound g (lookup_fails fault)
+  sound-lookup_fails Escape = sound-fails _ _
+  sound-lookup_fails No_entry = sound-fails _ _
+  sound-lookup_fails Not_dir = sound-fails _ _
+  sound-lookup_fails Loop = sound-fails _ _
+  sound-lookup_fails Too_long = sound-fails _ _
+  sound-lookup_fails Bad_last = sound-fails _ _

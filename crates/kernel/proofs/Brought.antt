@@ -16,7 +16,7 @@ use Rattle.file_tree.specs.Refusals.{put_byte_fault, truncate_fault}
 use Rattle.file_tree.specs.WellFormed.{IsTree, is_byte}
 use Rattle.file_tree.proofs.KeptByCreate.{limits_of}
 use Rattle.file_tree.proofs.KeptByFill.{filled_is_tree, written_is_tree, resized_is_tree}
-use Rattle.lookup.specs.Answers.{Way, Last, Beneath, Global, Follow, Keep, Found_node, Found_free, Lost}
+use Rattle.lookup.specs.Answers.{Way, Last, Beneath, Global, Follow, Keep, Found_node, Found_free, Not_found}
 use Rattle.lookup.specs.Answers as lookups
 use Rattle.lookup.specs.Paths.{last_component}
 use Rattle.lookup.specs.Promises.{IsLinked, IsThere, HasName, IsUnderName}
@@ -32,7 +32,7 @@ use Rattle.kernel.specs.Steps.{Programs}
 use Rattle.kernel.specs.WellFormed.{EachMessage, IsWorld}
 use Rattle.kernel.proofs.Trees.{made_is_tree, emptied_is_tree, unlinked_is_tree, moved_to_free, there_if_opened, opened_kept}
 use Rattle.kernel.proofs.Lookups.{MayMake, Sure, find_sure, moved_over}
-use Rattle.kernel.proofs.Brings.{Ground, Known, Brings, Sound, free_low, second_low, file_kind, no_directory, sound-fails, sound-waits, sound-gives, sound-unless, sound-if, sound-held, sound-object, sound-number, sound-lost}
+use Rattle.kernel.proofs.Brings.{Ground, Known, Brings, Sound, free_low, second_low, file_kind, no_directory, sound-fails, sound-waits, sound-gives, sound-unless, sound-if, sound-held, sound-object, sound-number, sound-lookup_fails}
 
 dir_opened : (kind : Kind) → is_dir kind ≡ true → is_link kind ≡ false
 dir_opened File is = refl
@@ -237,7 +237,7 @@ module _ (programs : Programs) (g : Ground) (standing : Standing programs g) (p 
       })))
 
   sound-opened : (f : OpenRequest) (rights fcntls : ℕ) (path : List ℕ) (found : lookups.Answer) → is_within rights all_rights ≡ true → is_within fcntls all_commands ≡ true → MayMake w.tree path found → Sound g (opened w p s e f rights fcntls path found)
-  sound-opened f rights fcntls path (Lost fault) all also may = sound-lost g fault
+  sound-opened f rights fcntls path (Not_found fault) all also may = sound-lookup_fails g fault
   sound-opened f rights fcntls path (Found_free d) all also may =
       sound-number g (lowest_free (w.files.table p)) _ (λ number free.
       sound-unless g _ _ _ _ (λ room. sound-unless g _ _ _ _ (λ allowed.
@@ -255,12 +255,12 @@ module _ (programs : Programs) (g : Ground) (standing : Standing programs g) (p 
   sound-looked n = sound-gives g _ _ _ (nothing (kind_number (node w.tree n).kind) (small_kind (node w.tree n).kind))
 
   sound-looked_at : (found : lookups.Answer) → Sound g (looked_at w p s e found)
-  sound-looked_at (Lost fault) = sound-lost g fault
+  sound-looked_at (Not_found fault) = sound-lookup_fails g fault
   sound-looked_at (Found_free d) = sound-fails g _ _
   sound-looked_at (Found_node n) = sound-looked n
 
   sound-made_directory : (path : List ℕ) (found : lookups.Answer) → MayMake w.tree path found → Sound g (made_directory w p s e path found)
-  sound-made_directory path (Lost fault) may = sound-lost g fault
+  sound-made_directory path (Not_found fault) may = sound-lookup_fails g fault
   sound-made_directory path (Found_node n) may = sound-fails g _ _
   sound-made_directory path (Found_free d) may =
       sound-unless g _ _ _ _ (λ room. sound-unless g _ _ _ _ (λ allowed.
@@ -271,7 +271,7 @@ module _ (programs : Programs) (g : Ground) (standing : Standing programs g) (p 
   under_name n name named = subst (λ place. 0 < length place) (sym named.place) (longer (node w.tree named.parent).place name)
 
   sound-unlinked : (directory : Bool) (path : List ℕ) (found : lookups.Answer) → IsThere w.tree found → IsUnderName w.tree path found → Sound g (unlinked w p s e directory found)
-  sound-unlinked directory path (Lost fault) there named = sound-lost g fault
+  sound-unlinked directory path (Not_found fault) there named = sound-lookup_fails g fault
   sound-unlinked directory path (Found_free d) there named = sound-fails g _ _
   sound-unlinked true path (Found_node n) there named =
       let some : 0 < length (node w.tree n).place = under_name n (last_component path) named in
@@ -283,7 +283,7 @@ module _ (programs : Programs) (g : Ground) (standing : Standing programs g) (p 
       sound-gives g _ _ _ (alters 0 _ zero_small (unlinked_is_tree w.tree n standing.good.tree there.linked some (not_true _ leaf))))
 
   sound-renamed_to : (call : Syscall) (target : Descriptor) (n : ℕ) (path : List ℕ) (found : lookups.Answer) → IsLinked w.tree n → IsThere w.tree found → MayMake w.tree path found → IsUnderName w.tree path found → Sound g (renamed_to w p s e call target n path found)
-  sound-renamed_to call target n path (Lost fault) linked there may named = sound-lost g fault
+  sound-renamed_to call target n path (Not_found fault) linked there may named = sound-lookup_fails g fault
   sound-renamed_to call target n path (Found_free d) linked there may named =
       sound-unless g _ _ _ _ (λ outside.
       sound-gives g _ _ _ (alters 0 _ zero_small
@@ -296,7 +296,7 @@ module _ (programs : Programs) (g : Ground) (standing : Standing programs g) (p 
       (moved_over w.tree n m (last_component path) standing.good.tree linked.linked there.linked named (not_true _ outside) (not_true _ empty)))))))))
 
   sound-renamed_from : (found : lookups.Answer) (rest : ℕ → Answer) → IsThere w.tree found → ((n : ℕ) → IsLinked w.tree n → Sound g (rest n)) → Sound g (renamed_from w p s e found rest)
-  sound-renamed_from (Lost fault) rest there sound = sound-lost g fault
+  sound-renamed_from (Not_found fault) rest there sound = sound-lookup_fails g fault
   sound-renamed_from (Found_free d) rest there sound = sound-fails g _ _
   sound-renamed_from (Found_node n) rest there sound = sound n there
 

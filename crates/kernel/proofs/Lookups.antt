@@ -10,7 +10,7 @@ use Rattle.file_tree.specs.Nodes.{Dir, Node, node, child_of, is_link, has_below}
 use Rattle.file_tree.specs.WellFormed.{IsTree}
 use Rattle.file_tree.proofs.TreeLaws.{Parent, parent_is, parent_is_directory}
 use Rattle.file_tree.proofs.KeptByCreate.{names_kept}
-use Rattle.lookup.specs.Answers.{Way, Last, Follow, Keep, Answer, Found_node, Found_free, Lost}
+use Rattle.lookup.specs.Answers.{Way, Last, Follow, Keep, Answer, Found_node, Found_free, Not_found}
 use Rattle.lookup.specs.Paths.{last_component, has_path_bytes}
 use Rattle.lookup.specs.Paths as paths
 use Rattle.lookup.specs.Looks.{find_of}
@@ -50,7 +50,7 @@ pub record Vacant (t : List Node) (d : ℕ) (name : List ℕ) : Type 0 where
 abbrev pub MayMake : List Node → List ℕ → Answer → Type 0
 MayMake t path (Found_node n) = Unit {0}
 MayMake t path (Found_free d) = Vacant t d (last_component path)
-MayMake t path (Lost fault) = Unit {0}
+MayMake t path (Not_found fault) = Unit {0}
 
 module _ (t : List Node) (start : ℕ) (path : List ℕ) (way : Way) (tree : IsTree t) where
   find_there : (last : Last) → IsThere t (find_of t start path way last)
@@ -59,7 +59,7 @@ module _ (t : List Node) (start : ℕ) (path : List ℕ) (way : Way) (tree : IsT
   may_make : (a : Answer) → IsThere t a → IsFreeName t path a → MayBeMade path a → has_path_bytes path ≡ true → MayMake t path a
   may_make (Found_node n) there free name bytes = tt
   may_make (Found_free d) there free name bytes = record { linked = there.linked; directory = free.directory; absent = free.absent; named = name bytes }
-  may_make (Lost fault) there free name bytes = tt
+  may_make (Not_found fault) there free name bytes = tt
 
   vacant : has_path_bytes path ≡ true → MayMake t path (find_of t start path way Keep)
   vacant bytes =
@@ -70,7 +70,7 @@ module _ (t : List Node) (start : ℕ) (path : List ℕ) (way : Way) (tree : IsT
   never_free : (a : Answer) → IsFollowed t a → MayMake t path a
   never_free (Found_node n) followed = tt
   never_free (Found_free d) followed = absurd followed
-  never_free (Lost fault) followed = tt
+  never_free (Not_found fault) followed = tt
 
   find_vacant : is_link (node t start).kind ≡ false → has_path_bytes path ≡ true → (last : Last) → MayMake t path (find_of t start path way last)
   find_vacant opened bytes Keep = vacant bytes

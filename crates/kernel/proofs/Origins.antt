@@ -7,14 +7,14 @@ use Rattle.rights.specs.Sets.{all_rights, all_commands}
 use Rattle.rights.proofs.Subsets.{is_within-refl}
 use Rattle.rights.specs.Opens.{OpenRequest}
 use Rattle.file_tree.specs.Nodes.{Kind, File, Dir, Link, node}
-use Rattle.lookup.specs.Answers.{Way, Last, Fault, Escape, No_entry, Not_dir, Loop, Too_long, Bad_last, Beneath, Keep, Found_node, Found_free, Lost}
+use Rattle.lookup.specs.Answers.{Way, Last, Fault, Escape, No_entry, Not_dir, Loop, Too_long, Bad_last, Beneath, Keep, Found_node, Found_free, Not_found}
 use Rattle.lookup.specs.Answers as lookups
 use Rattle.process.specs.State.{ProcessState}
 use Rattle.prog_asm.specs.Programs.{Syscall, Open, Openat, Read, Write, Sendfd, Recvfd, Lseek, Ftruncate, Fsync, Fstat, Fcntl_getfl, Fcntl_setfl, Fstatat, Stat, Mkdirat, Mkdir, Unlinkat, Unlink, Renameat, Dup, Close, Cap_rights_limit, Cap_fcntls_limit, Cap_enter, Cap_getmode, Socketpair, Fork}
 use Rattle.fd_table.specs.Descriptions.{Access, Class, Object, At_node, At_end, Descriptor, Message, other_side, descriptor_of, IfHeld}
 use Rattle.fd_table.specs.OpenFiles.{lowest_from, lowest_free}
 use Rattle.kernel.specs.World.{World}
-use Rattle.kernel.specs.Answers.{Event, Effect, TableChange, Same_table, Set_entry, Clear_entry, New_file, New_pair, New_process, QueueChange, Same_queue, Push, Pop, Change, Answer, Fails, Waits, Gives, unless, held, at_object, at_number, lost}
+use Rattle.kernel.specs.Answers.{Event, Effect, TableChange, Same_table, Set_entry, Clear_entry, New_file, New_pair, New_process, QueueChange, Same_queue, Push, Pop, Change, Answer, Fails, Waits, Gives, unless, held, at_object, at_number, lookup_fails}
 use Rattle.kernel.specs.Calls.{looks, looks_twice, answer, opened, opened_as, read_byte, read_end, write_node, sent_end, received, receive_end, looked_at, made_directory, unlinked_as, unlinked, renamed_over, renamed_to, renamed_from, pair_at, blocked, in_directory, at_file}
 use Rattle.kernel.specs.Origins.{Caller, front_of, arriving_at, arriving, IsWithin, IsOwn, IsMade, IsEndOf, IsEnd, IsSent}
 
@@ -97,13 +97,13 @@ module _ (w : World) (p : ℕ) (s : ProcessState) where
   fair-number call None rest fair = fails call _ _
   fair-number call (Some n) rest fair = fair n refl
 
-  fair-lost : (call : Syscall) (fault : Fault) → Fair call (lost fault)
-  fair-lost call Escape = fails call _ _
-  fair-lost call No_entry = fails call _ _
-  fair-lost call Not_dir = fails call _ _
-  fair-lost call Loop = fails call _ _
-  fair-lost call Too_long = fails call _ _
-  fair-lost call Bad_last = fails call _ _
+  fair-lookup_fails : (call : Syscall) (fault : Fault) → Fair call (lookup_fails fault)
+  fair-lookup_fails call Escape = fails call _ _
+  fair-lookup_fails call No_entry = fails call _ _
+  fair-lookup_fails call Not_dir = fails call _ _
+  fair-lookup_fails call Loop = fails call _ _
+  fair-lookup_fails call Too_long = fails call _ _
+  fair-lookup_fails call Bad_last = fails call _ _
 
   -- a number that is free is
   free : (number : ℕ) → lowest_free (w.files.table p) ≡ Some number → w.files.table p number ≡ None
@@ -123,7 +123,7 @@ module _ (w : World) (p : ℕ) (s : ProcessState) where
           fair-number call _ _ (λ number is. fair-unless call _ _ _ _ (λ _. gives call _ _ _ (λ k. may number k (free number is)) tt))
 
       fair-opened : (f : OpenRequest) (path : List ℕ) (found : lookups.Answer) → Fair call (opened w p s e f rights fcntls path found)
-      fair-opened f path (Lost fault) = fair-lost call fault
+      fair-opened f path (Not_found fault) = fair-lookup_fails call fault
       fair-opened f path (Found_free k) =
           fair-number call _ _ (λ number is. fair-unless call _ _ _ _ (λ _. fair-unless call _ _ _ _ (λ _. gives call _ _ _ (λ k. may number k (free number is)) tt)))
       fair-opened f path (Found_node n) = fair-opened_as f n (node w.tree n).kind
@@ -162,12 +162,12 @@ module _ (w : World) (p : ℕ) (s : ProcessState) where
     fair-looks_twice call n from m to rest fair = fair _ _
 
     fair-looked_at : (call : Syscall) (found : lookups.Answer) → Fair call (looked_at w p s e found)
-    fair-looked_at call (Lost fault) = fair-lost call fault
+    fair-looked_at call (Not_found fault) = fair-lookup_fails call fault
     fair-looked_at call (Found_free d) = fails call _ _
     fair-looked_at call (Found_node n) = gives call _ _ _ tt tt
 
     fair-made_directory : (call : Syscall) (path : List ℕ) (found : lookups.Answer) → Fair call (made_directory w p s e path found)
-    fair-made_directory call path (Lost fault) = fair-lost call fault
+    fair-made_directory call path (Not_found fault) = fair-lookup_fails call fault
     fair-made_directory call path (Found_node n) = fails call _ _
     fair-made_directory call path (Found_free d) = fair-unless call _ _ _ _ (λ _. fair-unless call _ _ _ _ (λ _. gives call _ _ _ tt tt))
 
@@ -176,7 +176,7 @@ module _ (w : World) (p : ℕ) (s : ProcessState) where
     fair-unlinked_as call false n rest fair = fair-unless call _ _ _ _ (λ _. fair)
 
     fair-unlinked : (call : Syscall) (directory : Bool) (found : lookups.Answer) → Fair call (unlinked w p s e directory found)
-    fair-unlinked call directory (Lost fault) = fair-lost call fault
+    fair-unlinked call directory (Not_found fault) = fair-lookup_fails call fault
     fair-unlinked call directory (Found_free d) = fails call _ _
     fair-unlinked call directory (Found_node n) = fair-unlinked_as call directory n _ (gives call _ _ _ tt tt)
 
@@ -185,13 +185,13 @@ module _ (w : World) (p : ℕ) (s : ProcessState) where
         fair-unless call _ _ _ _ (λ _. fair-unless call _ _ _ _ (λ _. fair-unless call _ _ _ _ (λ _. fair-unless call _ _ _ _ (λ _. gives call _ _ _ tt tt))))
 
     fair-renamed_to : (call : Syscall) (target : Descriptor) (n : ℕ) (path : List ℕ) (found : lookups.Answer) → Fair call (renamed_to w p s e call target n path found)
-    fair-renamed_to call target n path (Lost fault) = fair-lost call fault
+    fair-renamed_to call target n path (Not_found fault) = fair-lookup_fails call fault
     fair-renamed_to call target n path (Found_free d) = fair-unless call _ _ _ _ (λ _. gives call _ _ _ tt tt)
     fair-renamed_to call target n path (Found_node m) =
         fair-if call _ _ _ (gives call _ _ _ tt tt) (fair-unless call _ _ _ _ (λ _. fair-renamed_over call n m))
 
     fair-renamed_from : (call : Syscall) (found : lookups.Answer) (rest : ℕ → Answer) → ((n : ℕ) → Fair call (rest n)) → Fair call (renamed_from w p s e found rest)
-    fair-renamed_from call (Lost fault) rest fair = fair-lost call fault
+    fair-renamed_from call (Not_found fault) rest fair = fair-lookup_fails call fault
     fair-renamed_from call (Found_free d) rest fair = fails call _ _
     fair-renamed_from call (Found_node n) rest fair = fair n
 

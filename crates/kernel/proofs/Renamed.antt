@@ -7,14 +7,14 @@ use Rattle.rights.specs.Operations.{Read as Reads, Write as Writes}
 use Rattle.rights.specs.Opens.{OpenRequest}
 use Rattle.file_tree.specs.Nodes.{Kind, File, Dir, Link, node}
 use Rattle.file_tree.specs.Changes.{written}
-use Rattle.lookup.specs.Answers.{Way, Last, Fault, Escape, No_entry, Not_dir, Loop, Too_long, Bad_last, Beneath, Global, Follow, Keep, Found_node, Found_free, Lost}
+use Rattle.lookup.specs.Answers.{Way, Last, Fault, Escape, No_entry, Not_dir, Loop, Too_long, Bad_last, Beneath, Global, Follow, Keep, Found_node, Found_free, Not_found}
 use Rattle.lookup.specs.Answers as lookups
 use Rattle.process.specs.State.{ProcessState}
 use Rattle.prog_asm.specs.Programs.{Syscall, Open, Openat, Read, Write, Sendfd, Recvfd, Lseek, Ftruncate, Fsync, Fstat, Fcntl_getfl, Fcntl_setfl, Fstatat, Stat, Mkdirat, Mkdir, Unlinkat, Unlink, Renameat, Dup, Close, Cap_rights_limit, Cap_fcntls_limit, Cap_enter, Cap_getmode, Socketpair, Fork}
 use Rattle.fd_table.specs.Descriptions.{Access, Made_at, Object, At_node, At_end, State, Descriptor, Message, other_side, status_number, with_status, IfHeld}
 use Rattle.fd_table.specs.OpenFiles.{OpenFiles, is_open, lowest_from, lowest_free}
 use Rattle.kernel.specs.World.{World}
-use Rattle.kernel.specs.Answers.{Event, Effect, TableChange, Same_table, Set_entry, Clear_entry, New_file, New_pair, New_process, QueueChange, Same_queue, Push, Pop, StateChange, Same_state, Set_state, Fill, Change, Answer, Fails, Waits, Gives, same, gives, does, unless, held, at_object, at_number, lost, value_of}
+use Rattle.kernel.specs.Answers.{Event, Effect, TableChange, Same_table, Set_entry, Clear_entry, New_file, New_pair, New_process, QueueChange, Same_queue, Push, Pop, StateChange, Same_state, Set_state, Fill, Change, Answer, Fails, Waits, Gives, same, gives, does, unless, held, at_object, at_number, lookup_fails, value_of}
 use Rattle.rights.specs.Limits.{most_messages}
 use Rattle.kernel.specs.Calls.{looks, looks_twice, answer, opened, opened_as, read_byte, read_node, read_end, write_node, write_at, write_offset, sent_end, received, receive_end, looked_at, made_directory, unlinked, renamed_to, renamed_from, pair_at, blocked, in_directory, at_file, at_socket}
 use Rattle.kernel.specs.Renamings.{Renaming, SameDescription, SameFiles, renamed_object, renamed_descriptor, renamed_entry, renamed_message, renamed_messages}
@@ -83,13 +83,13 @@ module _ (r : Renaming) where
   both-if true a b c d first second = first
   both-if false a b c d first second = second
 
-  both-lost : (fault : Fault) → Matches r (lost fault) (lost fault)
-  both-lost Escape = fails _ _
-  both-lost No_entry = fails _ _
-  both-lost Not_dir = fails _ _
-  both-lost Loop = fails _ _
-  both-lost Too_long = fails _ _
-  both-lost Bad_last = fails _ _
+  both-lookup_fails : (fault : Fault) → Matches r (lookup_fails fault) (lookup_fails fault)
+  both-lookup_fails Escape = fails _ _
+  both-lookup_fails No_entry = fails _ _
+  both-lookup_fails Not_dir = fails _ _
+  both-lookup_fails Loop = fails _ _
+  both-lookup_fails Too_long = fails _ _
+  both-lookup_fails Bad_last = fails _ _
 
   both-number : (o : Option ℕ) (rest other : ℕ → Answer) → ((n : ℕ) → o ≡ Some n → Matches r (rest n) (other n)) → Matches r (at_number o rest) (at_number o other)
   unfolding at_number
@@ -223,7 +223,7 @@ module _ (r : Renaming) (w : World) (g : OpenFiles) (alike : SameFiles r w.files
   both-opened_as f rights fcntls n File = both-free _ _ (λ number. both-unless r _ _ _ _ _ (given r _ _ _))
 
   both-opened : (f : OpenRequest) (rights fcntls : ℕ) (path : List ℕ) (found : lookups.Answer) → Matches r (opened w p s e f rights fcntls path found) (opened other p s e f rights fcntls path found)
-  both-opened f rights fcntls path (Lost fault) = both-lost r fault
+  both-opened f rights fcntls path (Not_found fault) = both-lookup_fails r fault
   both-opened f rights fcntls path (Found_free d) = both-free _ _ (λ number. both-unless r _ _ _ _ _ (both-unless r _ _ _ _ _ (given r _ _ _)))
   both-opened f rights fcntls path (Found_node n) = both-opened_as f rights fcntls n (node w.tree n).kind
 
@@ -236,30 +236,30 @@ module _ (r : Renaming) (w : World) (g : OpenFiles) (alike : SameFiles r w.files
   both-looks_twice n from m to rest more is = is _ _
 
   both-looked_at : (found : lookups.Answer) → Matches r (looked_at w p s e found) (looked_at other p s e found)
-  both-looked_at (Lost fault) = both-lost r fault
+  both-looked_at (Not_found fault) = both-lookup_fails r fault
   both-looked_at (Found_free d) = fails r _ _
   both-looked_at (Found_node n) = given r _ _ _
 
   both-made_directory : (path : List ℕ) (found : lookups.Answer) → Matches r (made_directory w p s e path found) (made_directory other p s e path found)
-  both-made_directory path (Lost fault) = both-lost r fault
+  both-made_directory path (Not_found fault) = both-lookup_fails r fault
   both-made_directory path (Found_node n) = fails r _ _
   both-made_directory path (Found_free d) = both-unless r _ _ _ _ _ (both-unless r _ _ _ _ _ (given r _ _ _))
 
   both-unlinked : (directory : Bool) (found : lookups.Answer) → Matches r (unlinked w p s e directory found) (unlinked other p s e directory found)
-  both-unlinked directory (Lost fault) = both-lost r fault
+  both-unlinked directory (Not_found fault) = both-lookup_fails r fault
   both-unlinked directory (Found_free d) = fails r _ _
   both-unlinked true (Found_node n) = both-unless r _ _ _ _ _ (both-unless r _ _ _ _ _ (given r _ _ _))
   both-unlinked false (Found_node n) = both-unless r _ _ _ _ _ (given r _ _ _)
 
   both-renamed_to : (call : Syscall) (target : Descriptor) (n : ℕ) (path : List ℕ) (found : lookups.Answer) → Matches r (renamed_to w p s e call target n path found) (renamed_to other p s e call (renamed_descriptor r target) n path found)
-  both-renamed_to call target n path (Lost fault) = both-lost r fault
+  both-renamed_to call target n path (Not_found fault) = both-lookup_fails r fault
   both-renamed_to call target n path (Found_free d) = both-unless r _ _ _ _ _ (given r _ _ _)
   both-renamed_to call target n path (Found_node m) =
       both-if r (n == m) _ _ _ _ (given r 0 _ [])
       (both-unless r _ _ _ _ _ (both-unless r _ _ _ _ _ (both-unless r _ _ _ _ _ (both-unless r _ _ _ _ _ (both-unless r _ _ _ _ _ (given r _ _ _))))))
 
   both-renamed_from : (found : lookups.Answer) (rest more : ℕ → Answer) → ((n : ℕ) → Matches r (rest n) (more n)) → Matches r (renamed_from w p s e found rest) (renamed_from other p s e found more)
-  both-renamed_from (Lost fault) rest more is = both-lost r fault
+  both-renamed_from (Not_found fault) rest more is = both-lookup_fails r fault
   both-renamed_from (Found_free d) rest more is = fails r _ _
   both-renamed_from (Found_node n) rest more is = is n
 

@@ -111,13 +111,13 @@ at_number (Some n) rest = rest n
 
 -- What a fault of a lookup answers. An escape is not a missing right, though its error is the same.
 -- (open(2), capsicum(4); EINVAL is own)
-abbrev pub lost : Fault → Answer
-lost Escape = Fails ENOTCAPABLE errors.Escape
-lost No_entry = Fails ENOENT errors.Path
-lost Not_dir = Fails ENOTDIR errors.Path
-lost Loop = Fails ELOOP errors.Path
-lost Too_long = Fails ENAMETOOLONG errors.Path
-lost Bad_last = Fails EINVAL errors.Path
+abbrev pub lookup_fails : Fault → Answer
+lookup_fails Escape = Fails ENOTCAPABLE errors.Escape
+lookup_fails No_entry = Fails ENOENT errors.Path
+lookup_fails Not_dir = Fails ENOTDIR errors.Path
+lookup_fails Loop = Fails ELOOP errors.Path
+lookup_fails Too_long = Fails ENAMETOOLONG errors.Path
+lookup_fails Bad_last = Fails EINVAL errors.Path
 
 -- the value of an operand
 abbrev pub value_of : ProcessState → Operand → ℕ

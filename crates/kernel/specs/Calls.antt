@@ -12,7 +12,7 @@ use Rattle.file_tree.specs.Places.{begins, at_name}
 use Rattle.file_tree.specs.Nodes.{Kind, File, Dir, Link, Node, node, is_dir, is_file, has_below}
 use Rattle.rights.specs.Limits.{most_nodes, most_bytes, most_messages, most_processes}
 use Rattle.file_tree.specs.Changes.{resized, written}
-use Rattle.lookup.specs.Answers.{Way, Beneath, Global, Last, Follow, Keep, Found_node, Found_free, Lost}
+use Rattle.lookup.specs.Answers.{Way, Beneath, Global, Last, Follow, Keep, Found_node, Found_free, Not_found}
 use Rattle.lookup.specs.Answers as lookups
 use Rattle.lookup.specs.Paths.{last_component}
 use Rattle.lookup.specs.Looks.{find_of}
@@ -21,7 +21,7 @@ use Rattle.prog_asm.specs.Programs.{Operand, Syscall, Open, Openat, Read, Write,
 use Rattle.fd_table.specs.Descriptions.{Access, Made_at, State, Descriptor, Message, other_side, bit_of, status_number, with_status}
 use Rattle.fd_table.specs.OpenFiles.{is_open, lowest_from, lowest_free}
 use Rattle.kernel.specs.World.{World}
-use Rattle.kernel.specs.Answers.{Event, Effect, Make, Remove, Move, Fill, TreeChange, Same_tree, Set_entry, Clear_entry, New_file, New_pair, New_process, Push, Pop, Set_state, Change, Answer, Fails, Waits, Gives, same, gives, does, unless, held, granted, commanded, through, at_object, at_number, lost, value_of}
+use Rattle.kernel.specs.Answers.{Event, Effect, Make, Remove, Move, Fill, TreeChange, Same_tree, Set_entry, Clear_entry, New_file, New_pair, New_process, Push, Pop, Set_state, Change, Answer, Fails, Waits, Gives, same, gives, does, unless, held, granted, commanded, through, at_object, at_number, lookup_fails, value_of}
 
 -- the flags of a call that opens nothing
 abbrev pub no_request : OpenRequest
@@ -135,7 +135,7 @@ module _ (w : World) (p : ℕ) (s : ProcessState) (e : Event) where
       (Gives number (new_file f rights fcntls number (length w.tree) (Make place File)) (does Creates place))))
 
   abbrev pub opened : OpenRequest → ℕ → ℕ → List ℕ → lookups.Answer → Answer
-  opened f rights fcntls path (Lost fault) = lost fault
+  opened f rights fcntls path (Not_found fault) = lookup_fails fault
   opened f rights fcntls path (Found_free d) = opened_new f rights fcntls (at_name (at d).place (last_component path))
   opened f rights fcntls path (Found_node n) = opened_as f rights fcntls n (at n).kind
 
@@ -220,13 +220,13 @@ module _ (w : World) (p : ℕ) (s : ProcessState) (e : Event) where
   looked n = Gives (kind_number (at n).kind) same (does Look (at n).place)
 
   abbrev pub looked_at : lookups.Answer → Answer
-  looked_at (Lost fault) = lost fault
+  looked_at (Not_found fault) = lookup_fails fault
   looked_at (Found_free d) = Fails ENOENT Path
   looked_at (Found_node n) = looked n
 
   -- ## mkdirat and mkdir (mkdir(2))
   abbrev pub made_directory : List ℕ → lookups.Answer → Answer
-  made_directory path (Lost fault) = lost fault
+  made_directory path (Not_found fault) = lookup_fails fault
   made_directory path (Found_node n) = Fails EEXIST Path
   made_directory path (Found_free d) =
       unless (nat_lt (length w.tree) most_nodes) ENOSPC Full
@@ -241,7 +241,7 @@ module _ (w : World) (p : ℕ) (s : ProcessState) (e : Event) where
   unlinked_as false n rest = unless (not (is_dir (at n).kind)) EPERM Path rest
 
   abbrev pub unlinked : Bool → lookups.Answer → Answer
-  unlinked directory (Lost fault) = lost fault
+  unlinked directory (Not_found fault) = lookup_fails fault
   unlinked directory (Found_free d) = Fails ENOENT Path
   unlinked directory (Found_node n) =
       unlinked_as directory n (Gives 0 (record same { tree = Remove n }) (does Removes (at n).place))
@@ -269,14 +269,14 @@ module _ (w : World) (p : ℕ) (s : ProcessState) (e : Event) where
       ∷ record { operation = Creates; place = (at m).place } ∷ [])))))
 
   abbrev pub renamed_to : Syscall → Descriptor → ℕ → List ℕ → lookups.Answer → Answer
-  renamed_to call target n path (Lost fault) = lost fault
+  renamed_to call target n path (Not_found fault) = lookup_fails fault
   renamed_to call target n path (Found_free d) = renamed_free n (at_name (at d).place (last_component path))
   renamed_to call target n path (Found_node m) =
       if n == m then gives 0
       else granted (needs_of (called call) no_request Second true) target (renamed_over n m)
 
   abbrev pub renamed_from : lookups.Answer → (ℕ → Answer) → Answer
-  renamed_from (Lost fault) rest = lost fault
+  renamed_from (Not_found fault) rest = lookup_fails fault
   renamed_from (Found_free d) rest = Fails ENOENT Path
   renamed_from (Found_node n) rest = rest n
 

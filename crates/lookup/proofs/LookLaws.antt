@@ -3,7 +3,7 @@ use Rattle.std.proofs.Common.{◌≡◌, ℕ, List, [], Option, Some, None, refl
 use Rattle.std.specs.Prelude.{MatchOption}
 use Rattle.file_tree.specs.Places.{path_components}
 use Rattle.file_tree.specs.Nodes.{Node}
-use Rattle.lookup.specs.Answers.{Way, Last, Fault, Answer, Lost}
+use Rattle.lookup.specs.Answers.{Way, Last, Fault, Answer, Not_found}
 use Rattle.rights.specs.Limits.{most_links}
 use Rattle.lookup.specs.Leads.{Leads}
 use Rattle.lookup.specs.Steps.{looked}
@@ -13,7 +13,7 @@ use Rattle.lookup.proofs.StepLaws.{leads_rest, leads_only}
 
 module _ (t : List Node) (start : ℕ) (path : List ℕ) (way : Way) (last : Last) where
   abbrev Led : Option Fault → Answer → Type 0
-  Led o answer = MatchOption o (Leads (by_places t way last (start_place t start way)) (first_stand [] path) answer) (λ fault. answer ≡ Lost fault)
+  Led o answer = MatchOption o (Leads (by_places t way last (start_place t start way)) (first_stand [] path) answer) (λ fault. answer ≡ Not_found fault)
 
   -- the path leads to what the function gives
   pub find_looks : Looks t start path way last (find_of t start path way last)

@@ -8,7 +8,7 @@ use Rattle.lookup.specs.Leads.{Stand, Next}
 use Rattle.lookup.specs.Steps.{Move, Moves, Meets, Stops}
 use Rattle.lookup.specs.ByPlaces.{absent}
 use Rattle.lookup.specs.ByNodes.{Walked, in_node, into}
-use Rattle.lookup.specs.Views.{Steps}
+use Rattle.lookup.specs.Views.{StepsAlong}
 use Rattle.lookup.specs.declared.faults.PathFault.{PathFault}
 use Rattle.lookup.specs.declared.walk.Progress.{Progress}
 
@@ -38,5 +38,5 @@ pub enters_absent : (t : List Node) (way : Way) (last : Last) (d : ℕ) (before 
 enters_absent t way last d before name left dir dot dots none = rw (dir, dot, dots, none) refl
 
 -- what a walk did was next, if that is the same
-pub steps_same : (r : Result Progress PathFault) (one other : Next Walked) (stand : Stand Walked) → one ≡ other → Steps r other stand → Steps r one stand
+pub steps_same : (r : Result Progress PathFault) (one other : Next Walked) (stand : Stand Walked) → one ≡ other → StepsAlong r other stand → StepsAlong r one stand
 steps_same r one other stand same steps = rw same steps

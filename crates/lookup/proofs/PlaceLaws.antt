@@ -7,7 +7,7 @@ use Rattle.file_tree.specs.WellFormed.{IsTree}
 use Rattle.file_tree.proofs.PlaceLaws.{begins_refl, begins_trans, begins_append, begins_length, at_name_length, above_at_name}
 use Rattle.file_tree.proofs.NodeLaws.{Directory, held_above, linked_there}
 use Rattle.file_tree.proofs.TreeLaws.{Found, at_place, child_by_place, parent_above}
-use Rattle.lookup.specs.Answers.{Way, Beneath, Global, Last, Follow, Keep, is_kept, Fault, Answer, Found_node, Found_free, Lost}
+use Rattle.lookup.specs.Answers.{Way, Beneath, Global, Last, Follow, Keep, is_kept, Fault, Answer, Found_node, Found_free, Not_found}
 use Rattle.lookup.specs.Paths.{is_dot, is_dot_dot, last_or, last_component, is_bad_last}
 use Rattle.lookup.specs.Leads.{Leads}
 use Rattle.lookup.specs.ByPlaces.{place_below, by_places}
@@ -31,13 +31,13 @@ directory_kind Dir h = refl
 directory_kind Link h = cc
 
 -- What holds of whatever a lookup leads to, where nothing is wrong, holds of what the path leads to.
-pub looks_good : (t : List Node) (start : ℕ) (path : List ℕ) (way : Way) (last : Last) (Good : Answer → Type 0) → ((fault : Fault) → Good (Lost fault)) → (lookup_fault t start path way last ≡ None → (a : Answer) → Leads (by_places t way last (start_place t start way)) (first_stand [] path) a → Good a) → (a : Answer) → Looks t start path way last a → Good a
+pub looks_good : (t : List Node) (start : ℕ) (path : List ℕ) (way : Way) (last : Last) (Good : Answer → Type 0) → ((fault : Fault) → Good (Not_found fault)) → (lookup_fault t start path way last ≡ None → (a : Answer) → Leads (by_places t way last (start_place t start way)) (first_stand [] path) a → Good a) → (a : Answer) → Looks t start path way last a → Good a
 unfolding Looks
-looks_good t start path way last Good lost law a led = by_fault (lookup_fault t start path way last) refl led
+looks_good t start path way last Good not_found law a led = by_fault (lookup_fault t start path way last) refl led
   where
-    by_fault : (o : Option Fault) → lookup_fault t start path way last ≡ o → MatchOption o (Leads (by_places t way last (start_place t start way)) (first_stand [] path) a) (λ fault. a ≡ Lost fault) → Good a
+    by_fault : (o : Option Fault) → lookup_fault t start path way last ≡ o → MatchOption o (Leads (by_places t way last (start_place t start way)) (first_stand [] path) a) (λ fault. a ≡ Not_found fault) → Good a
     by_fault None none led = law none a led
-    by_fault (Some fault) is led = rw led (lost fault)
+    by_fault (Some fault) is led = rw led (not_found fault)
 
 -- What is found is linked, and its place begins with that of the start.
 abbrev IsFoundBelow : List Node → List (List ℕ) → Answer → Type 0
@@ -58,7 +58,7 @@ keeps_below t way last start = record {
   link = λ below name left target fact kept. tt;
   link_root = λ below name left target fact kept global. tt;
   free = λ below name left d fact at dir none kept. found_below t start below d at;
-  lost = λ fault. (tt, tt);
+  not_found = λ fault. (tt, tt);
 }
 
 module _ (t : List Node) (start : ℕ) (path : List ℕ) (way : Way) (last : Last) where
@@ -111,7 +111,7 @@ aims_free final name (next ∷ left) h kept = cc
 abbrev IsFoundUnder : List Node → List (List ℕ) → List ℕ → Answer → Type 0
 IsFoundUnder t start final (Found_node n) = HasName t n final × (length start < length (node t n).place)
 IsFoundUnder t start final (Found_free d) = Lacks t d final × (length start < length (at_name (node t d).place final))
-IsFoundUnder t start final (Lost fault) = Unit {0}
+IsFoundUnder t start final (Not_found fault) = Unit {0}
 
 found_under : (t : List Node) (start : List (List ℕ)) (final : List ℕ) (below : List (List ℕ)) (n : ℕ) → IsTree t → node_at t (at_name (place_below start below) final) ≡ Some n → HasName t n final × (length start < length (node t n).place)
 found_under t start final below n tree at =
@@ -171,7 +171,7 @@ keeps_under t way start final tree good = record {
   free = λ below name left d aims at dir none kept.
       let same = aims_free final name left (aims_name below name left aims) kept in
       free_under t start final below d at (directory_kind (node t d).kind dir) (ap (λ (x : List ℕ). node_at t (at_name (place_below start below) x)) (sym same) ∙ none);
-  lost = λ fault. tt;
+  not_found = λ fault. tt;
 }
   where
     aims_name : (below : List (List ℕ)) (name : List ℕ) (left : List (List ℕ)) → Aims final below (name ∷ left) → last_or name left ≡ final
@@ -196,17 +196,17 @@ module _ (t : List Node) (start : ℕ) (path : List ℕ) (way : Way) (tree : IsT
   pub kept_below : (a : Answer) → Looks t start path way Keep a → IsBelow t (start_place t start way) path a
   kept_below (Found_node n) led = (under_good (Found_node n) led).1
   kept_below (Found_free d) led = (under_good (Found_free d) led).1
-  kept_below (Lost fault) led = tt
+  kept_below (Not_found fault) led = tt
 
   pub kept_named : (a : Answer) → Looks t start path way Keep a → IsUnderName t path a
   kept_named (Found_node n) led = (under_good (Found_node n) led).0
   kept_named (Found_free d) led = tt
-  kept_named (Lost fault) led = tt
+  kept_named (Not_found fault) led = tt
 
   pub kept_free : (a : Answer) → Looks t start path way Keep a → IsFreeName t path a
   kept_free (Found_node n) led = tt
   kept_free (Found_free d) led = (under_good (Found_free d) led).0
-  kept_free (Lost fault) led = tt
+  kept_free (Not_found fault) led = tt
 
 -- With the last name followed: where a lookup stands, no link stands.
 abbrev NoLink : List Node → List (List ℕ) → List (List ℕ) → List (List ℕ) → Type 0
@@ -240,7 +240,7 @@ keeps_followed t way start tree first = record {
   link = λ below name left target fact kept. fact;
   link_root = λ below name left target fact kept global. first;
   free = λ below name left d fact at dir none kept. absurd (never kept);
-  lost = λ fault. tt;
+  not_found = λ fault. tt;
 }
   where
     never : false ≡ true → ⊥
@@ -271,4 +271,4 @@ kept_may_be_made t start path way = looks_good t start path way Keep (MayBeMade 
     by_answer : (a : Answer) → IsGoodText path way Keep → MayBeMade path a
     by_answer (Found_node n) good = tt
     by_answer (Found_free d) good = last_is_name path good.short good.kept
-    by_answer (Lost fault) good = tt
+    by_answer (Not_found fault) good = tt

@@ -4,7 +4,7 @@ use Rattle.file_tree.specs.Places.{path_components}
 use Rattle.file_tree.specs.Nodes.{File, Dir, Link, Node, node_at, child_of}
 use Rattle.file_tree.specs.Changes.{removed}
 use Rattle.file_tree.specs.Refusals.{new_tree, created}
-use Rattle.lookup.specs.Answers.{Way, Beneath, Global, Last, Follow, Keep, Escape, No_entry, Not_dir, Loop, Too_long, Bad_last, Answer, Found_node, Found_free, Lost}
+use Rattle.lookup.specs.Answers.{Way, Beneath, Global, Last, Follow, Keep, Escape, No_entry, Not_dir, Loop, Too_long, Bad_last, Answer, Found_node, Found_free, Not_found}
 use Rattle.lookup.specs.Paths.{last_component, path_fault}
 use Rattle.lookup.specs.Steps.{looked}
 use Rattle.lookup.specs.ByPlaces.{by_places}
@@ -45,51 +45,51 @@ unfolding base created find_of walk_of lookup_fault path_fault path_components l
 dot_alone = (refl, refl)
 
 -- absolute, and without a name that can be kept
-slash_kept : Leads_to base (codes "/") Beneath Keep (Lost Escape)
+slash_kept : Leads_to base (codes "/") Beneath Keep (Not_found Escape)
 unfolding base created find_of walk_of lookup_fault path_fault path_components last_component looked by_places by_nodes node_at child_of
 slash_kept = (refl, refl)
 
-dots_above : Leads_to base (codes "..") Beneath Follow (Lost Escape)
+dots_above : Leads_to base (codes "..") Beneath Follow (Not_found Escape)
 unfolding base created find_of walk_of lookup_fault path_fault path_components last_component looked by_places by_nodes node_at child_of
 dots_above = (refl, refl)
 
-dots_after_out : Leads_to base (codes "out/../..") Beneath Follow (Lost Escape)
+dots_after_out : Leads_to base (codes "out/../..") Beneath Follow (Not_found Escape)
 unfolding base created find_of walk_of lookup_fault path_fault path_components last_component looked by_places by_nodes node_at child_of
 dots_after_out = (refl, refl)
 
-dots_in_target : Leads_to base (codes "up") Beneath Follow (Lost Escape)
+dots_in_target : Leads_to base (codes "up") Beneath Follow (Not_found Escape)
 unfolding base created find_of walk_of lookup_fault path_fault path_components last_component looked by_places by_nodes node_at child_of
 dots_in_target = (refl, refl)
 
-absolute_target : Leads_to base (codes "abs") Beneath Follow (Lost Escape)
+absolute_target : Leads_to base (codes "abs") Beneath Follow (Not_found Escape)
 unfolding base created find_of walk_of lookup_fault path_fault path_components last_component looked by_places by_nodes node_at child_of
 absolute_target = (refl, refl)
 
-absolute_path : Leads_to base (codes "/work/in") Beneath Follow (Lost Escape)
+absolute_path : Leads_to base (codes "/work/in") Beneath Follow (Not_found Escape)
 unfolding base created find_of walk_of lookup_fault path_fault path_components last_component looked by_places by_nodes node_at child_of
 absolute_path = (refl, refl)
 
-name_in_file : Leads_to base (codes "in/x") Beneath Follow (Lost Not_dir)
+name_in_file : Leads_to base (codes "in/x") Beneath Follow (Not_found Not_dir)
 unfolding base created find_of walk_of lookup_fault path_fault path_components last_component looked by_places by_nodes node_at child_of
 name_in_file = (refl, refl)
 
-dots_in_file : Leads_to base (codes "in/..") Beneath Follow (Lost Not_dir)
+dots_in_file : Leads_to base (codes "in/..") Beneath Follow (Not_found Not_dir)
 unfolding base created find_of walk_of lookup_fault path_fault path_components last_component looked by_places by_nodes node_at child_of
 dots_in_file = (refl, refl)
 
-name_behind_link : Leads_to base (codes "same/x") Beneath Follow (Lost Not_dir)
+name_behind_link : Leads_to base (codes "same/x") Beneath Follow (Not_found Not_dir)
 unfolding base created find_of walk_of lookup_fault path_fault path_components last_component looked by_places by_nodes node_at child_of
 name_behind_link = (refl, refl)
 
-absent_name : Leads_to base (codes "nope") Beneath Follow (Lost No_entry)
+absent_name : Leads_to base (codes "nope") Beneath Follow (Not_found No_entry)
 unfolding base created find_of walk_of lookup_fault path_fault path_components last_component looked by_places by_nodes node_at child_of
 absent_name = (refl, refl)
 
-absent_directory : Leads_to base (codes "nope/x") Beneath Follow (Lost No_entry)
+absent_directory : Leads_to base (codes "nope/x") Beneath Follow (Not_found No_entry)
 unfolding base created find_of walk_of lookup_fault path_fault path_components last_component looked by_places by_nodes node_at child_of
 absent_directory = (refl, refl)
 
-empty_path : Leads_to base [] Beneath Follow (Lost No_entry)
+empty_path : Leads_to base [] Beneath Follow (Not_found No_entry)
 unfolding base created find_of walk_of lookup_fault path_fault path_components last_component looked by_places by_nodes node_at child_of
 empty_path = (refl, refl)
 
@@ -114,23 +114,23 @@ free_in_out : Leads_to base (codes "out/new") Beneath Keep (Found_free 3)
 unfolding base created find_of walk_of lookup_fault path_fault path_components last_component looked by_places by_nodes node_at child_of
 free_in_out = (refl, refl)
 
-absent_directory_kept : Leads_to base (codes "nope/x") Beneath Keep (Lost No_entry)
+absent_directory_kept : Leads_to base (codes "nope/x") Beneath Keep (Not_found No_entry)
 unfolding base created find_of walk_of lookup_fault path_fault path_components last_component looked by_places by_nodes node_at child_of
 absent_directory_kept = (refl, refl)
 
-dot_kept : Leads_to base (codes ".") Beneath Keep (Lost Bad_last)
+dot_kept : Leads_to base (codes ".") Beneath Keep (Not_found Bad_last)
 unfolding base created find_of walk_of lookup_fault path_fault path_components last_component looked by_places by_nodes node_at child_of
 dot_kept = (refl, refl)
 
-dots_kept : Leads_to base (codes "out/..") Beneath Keep (Lost Bad_last)
+dots_kept : Leads_to base (codes "out/..") Beneath Keep (Not_found Bad_last)
 unfolding base created find_of walk_of lookup_fault path_fault path_components last_component looked by_places by_nodes node_at child_of
 dots_kept = (refl, refl)
 
-empty_kept : Leads_to base [] Beneath Keep (Lost No_entry)
+empty_kept : Leads_to base [] Beneath Keep (Not_found No_entry)
 unfolding base created find_of walk_of lookup_fault path_fault path_components last_component looked by_places by_nodes node_at child_of
 empty_kept = (refl, refl)
 
-up_then_kept : Leads_to base (codes "up/x") Beneath Keep (Lost Escape)
+up_then_kept : Leads_to base (codes "up/x") Beneath Keep (Not_found Escape)
 unfolding base created find_of walk_of lookup_fault path_fault path_components last_component looked by_places by_nodes node_at child_of
 up_then_kept = (refl, refl)
 
@@ -147,7 +147,7 @@ root_path : Leads_to base (codes "/") Global Follow (Found_node 0)
 unfolding base created find_of walk_of lookup_fault path_fault path_components last_component looked by_places by_nodes node_at child_of
 root_path = (refl, refl)
 
-root_kept : Leads_to base (codes "/") Global Keep (Lost Bad_last)
+root_kept : Leads_to base (codes "/") Global Keep (Not_found Bad_last)
 unfolding base created find_of walk_of lookup_fault path_fault path_components last_component looked by_places by_nodes node_at child_of
 root_kept = (refl, refl)
 
@@ -159,15 +159,15 @@ free_globally = (refl, refl)
 gone : List Node
 gone = removed base 1
 
-removed_start : Leads_to gone (codes "in") Beneath Follow (Lost No_entry)
+removed_start : Leads_to gone (codes "in") Beneath Follow (Not_found No_entry)
 unfolding base created find_of walk_of lookup_fault path_fault path_components last_component looked by_places by_nodes node_at child_of gone removed
 removed_start = (refl, refl)
 
-removed_start_absolute : Leads_to gone (codes "/x") Beneath Follow (Lost Escape)
+removed_start_absolute : Leads_to gone (codes "/x") Beneath Follow (Not_found Escape)
 unfolding base created find_of walk_of lookup_fault path_fault path_components last_component looked by_places by_nodes node_at child_of gone removed
 removed_start_absolute = (refl, refl)
 
-removed_start_kept : Leads_to gone (codes ".") Beneath Keep (Lost Bad_last)
+removed_start_kept : Leads_to gone (codes ".") Beneath Keep (Not_found Bad_last)
 unfolding base created find_of walk_of lookup_fault path_fault path_components last_component looked by_places by_nodes node_at child_of gone removed
 removed_start_kept = (refl, refl)
 
@@ -179,7 +179,7 @@ removed_start_global = (refl, refl)
 again : List Node
 again = created (created (removed base 3) 1 (codes "out") Dir []) 12 (codes "f") File []
 
-removed_directory : find_of again 3 (codes "f") Beneath Follow ≡ Lost No_entry
+removed_directory : find_of again 3 (codes "f") Beneath Follow ≡ Not_found No_entry
 unfolding base created find_of walk_of lookup_fault path_fault path_components last_component looked by_places by_nodes node_at child_of again removed
 removed_directory = refl
 
@@ -200,7 +200,7 @@ links_32 : Leads_to (chained 33) (link_name 32) Beneath Follow (Found_node 2)
 unfolding base created find_of walk_of lookup_fault path_fault path_components last_component looked by_places by_nodes node_at child_of chained link_name
 links_32 = (refl, refl)
 
-links_33 : Leads_to (chained 33) (link_name 33) Beneath Follow (Lost Loop)
+links_33 : Leads_to (chained 33) (link_name 33) Beneath Follow (Not_found Loop)
 unfolding base created find_of walk_of lookup_fault path_fault path_components last_component looked by_places by_nodes node_at child_of chained link_name
 links_33 = (refl, refl)
 
@@ -209,11 +209,11 @@ absolute_chain : ℕ → List Node
 absolute_chain zero = created (created new_tree 0 (codes "work") Dir []) 1 (codes "end") Link (codes "/work")
 absolute_chain (suc k) = created (absolute_chain k) 1 (link_name (suc k)) Link (link_name k)
 
-absolute_33rd_link : Leads_to (absolute_chain 32) (link_name 32) Beneath Follow (Lost Loop)
+absolute_33rd_link : Leads_to (absolute_chain 32) (link_name 32) Beneath Follow (Not_found Loop)
 unfolding base created find_of walk_of lookup_fault path_fault path_components last_component looked by_places by_nodes node_at child_of absolute_chain link_name
 absolute_33rd_link = (refl, refl)
 
-absolute_32nd_link : Leads_to (absolute_chain 32) (link_name 31) Beneath Follow (Lost Escape)
+absolute_32nd_link : Leads_to (absolute_chain 32) (link_name 31) Beneath Follow (Not_found Escape)
 unfolding base created find_of walk_of lookup_fault path_fault path_components last_component looked by_places by_nodes node_at child_of absolute_chain link_name
 absolute_32nd_link = (refl, refl)
 
@@ -221,20 +221,20 @@ links_33_kept : Leads_to (chained 33) (link_name 33) Beneath Keep (Found_node 35
 unfolding base created find_of walk_of lookup_fault path_fault path_components last_component looked by_places by_nodes node_at child_of chained link_name
 links_33_kept = (refl, refl)
 
-links_33_behind : Leads_to (chained 33) (link_name 33 ++ codes "/x") Beneath Keep (Lost Loop)
+links_33_behind : Leads_to (chained 33) (link_name 33 ++ codes "/x") Beneath Keep (Not_found Loop)
 unfolding base created find_of walk_of lookup_fault path_fault path_components last_component looked by_places by_nodes node_at child_of chained link_name
 links_33_behind = (refl, refl)
 
 -- lengths of names and paths
-long_path : Leads_to base (replicate 1024 97) Beneath Follow (Lost Too_long)
+long_path : Leads_to base (replicate 1024 97) Beneath Follow (Not_found Too_long)
 unfolding base created find_of walk_of lookup_fault path_fault path_components last_component looked by_places by_nodes node_at child_of
 long_path = (refl, refl)
 
-long_name : Leads_to base (replicate 256 97) Beneath Follow (Lost Too_long)
+long_name : Leads_to base (replicate 256 97) Beneath Follow (Not_found Too_long)
 unfolding base created find_of walk_of lookup_fault path_fault path_components last_component looked by_places by_nodes node_at child_of
 long_name = (refl, refl)
 
-greatest_name : Leads_to base (replicate 255 97) Beneath Follow (Lost No_entry)
+greatest_name : Leads_to base (replicate 255 97) Beneath Follow (Not_found No_entry)
 unfolding base created find_of walk_of lookup_fault path_fault path_components last_component looked by_places by_nodes node_at child_of
 greatest_name = (refl, refl)
 
@@ -242,6 +242,6 @@ greatest_path : Leads_to base (codes "in" ++ replicate 1021 47) Beneath Follow (
 unfolding base created find_of walk_of lookup_fault path_fault path_components last_component looked by_places by_nodes node_at child_of
 greatest_path = (refl, refl)
 
-long_absolute : Leads_to base (replicate 1024 47) Beneath Keep (Lost Too_long)
+long_absolute : Leads_to base (replicate 1024 47) Beneath Keep (Not_found Too_long)
 unfolding base created find_of walk_of lookup_fault path_fault path_components last_component looked by_places by_nodes node_at child_of
 long_absolute = (refl, refl)

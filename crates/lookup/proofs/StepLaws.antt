@@ -4,7 +4,7 @@ use Rattle.std.specs.Prelude.{nat_le}
 use Rattle.std.proofs.lemmas.Bool.Decides.{nat_tests}
 use Rattle.file_tree.specs.Places.{path_components}
 use Rattle.lookup.specs.Paths.{is_absolute}
-use Rattle.lookup.specs.Answers.{Loop, Answer, Lost}
+use Rattle.lookup.specs.Answers.{Loop, Answer, Not_found}
 use Rattle.rights.specs.Limits.{most_links}
 use Rattle.lookup.specs.Leads.{Stand, Next, Goes, Ends, followed_from, onward, next_from, next, Leads, here, there}
 use Rattle.lookup.specs.Steps.{Move, Moves, Meets, Stops, Rules, target_spot, taken, along, resumed, looked}
@@ -19,7 +19,7 @@ one_answer rules s a b (there {after = p} g gs) (there {after = q} h hs) =
 
 -- what a link that is met leads to
 pub met : {Spot : Type 0} → Rules Spot → ℕ → Spot → List (List ℕ) → List ℕ → Answer
-met rules zero = λ spot left target. Lost Loop
+met rules zero = λ spot left target. Not_found Loop
 met rules (suc links) = λ spot left target. resumed (looked rules links) (path_components target ++ left) (target_spot rules spot target)
 
 pub looked_is : {Spot : Type 0} (rules : Rules Spot) (links : ℕ) → looked rules links ≡ along rules (met rules links)
@@ -93,7 +93,7 @@ module _ {Spot : Type 0} (rules : Rules Spot) where
   pub looked_led : (links followed : ℕ) → followed + links ≡ most_links → (left : List (List ℕ)) (spot : Spot) → IsLed left spot followed (looked rules links left spot)
   unfolding looked
   looked_led zero followed sum left spot =
-      names_led followed (λ spot left target. Lost Loop)
+      names_led followed (λ spot left target. Not_found Loop)
       (λ spot name left target e. here (ap (onward rules spot left followed) e ∙ rw (too_many 0 followed sum refl) refl)) left spot
   looked_led (suc links) followed sum left spot =
       names_led followed (λ spot left target. resumed (looked rules links) (path_components target ++ left) (target_spot rules spot target))
@@ -161,7 +161,7 @@ module _ {P Q : Type 0} (ps : Rules P) (qs : Rules Q) (R : P → Q → Type 0) (
 
   pub looked_alike : (links : ℕ) (left : List (List ℕ)) (p : P) (q : Q) → R p q → looked ps links left p ≡ looked qs links left q
   unfolding looked
-  looked_alike zero left p q h = along_alike (λ p left target. Lost Loop) (λ q left target. Lost Loop) (λ p q left target h. refl) left p q h
+  looked_alike zero left p q h = along_alike (λ p left target. Not_found Loop) (λ q left target. Not_found Loop) (λ p q left target h. refl) left p q h
   looked_alike (suc links) left p q h =
       along_alike
       (λ p left target. resumed (looked ps links) (path_components target ++ left) (target_spot ps p target))

@@ -3,13 +3,13 @@ use Rattle.std.proofs.Common.{◌≡◌, ℕ, List, Option, Some, None, ap, sym,
 use Rattle.std.specs.Prelude.{IfSome}
 use Rattle.file_tree.specs.Places.{path_components}
 use Rattle.file_tree.specs.Nodes.{Node}
-use Rattle.lookup.specs.Answers.{Way, Last, Fault, Answer, Lost}
+use Rattle.lookup.specs.Answers.{Way, Last, Fault, Answer, Not_found}
 use Rattle.rights.specs.Limits.{most_links}
 use Rattle.lookup.specs.Leads.{Stand, Goes, Ends, next}
 use Rattle.lookup.specs.Steps.{Rules, looked}
 use Rattle.lookup.specs.ByNodes.{Walked, from_node, by_nodes}
 use Rattle.lookup.specs.Looks.{first_stand, start_node, lookup_fault, unless_lost, walk_of}
-use Rattle.lookup.specs.Views.{SameRules, found_of, fault_of, last_of, lost, rules_of, stand_of, way_of}
+use Rattle.lookup.specs.Views.{SameRules, found_of, fault_of, last_of, not_found, rules_of, stand_of, way_of}
 use Rattle.lookup.specs.declared.ways.Way.{Way as WayCode}
 use Rattle.lookup.specs.declared.ways.Last.{Last as LastCode}
 use Rattle.lookup.specs.declared.faults.PathFault.{PathFault}
@@ -32,11 +32,11 @@ begun_rest t start path way last walk none begun same =
     walking_rules t walk way last same = rw (same.0, same.1) refl
 
 -- where something is wrong, that is the answer
-pub fault_is_walk : (t : List Node) (start : ℕ) (path : List ℕ) (way : Way) (last : Last) (error : PathFault) → lookup_fault t start path way last ≡ fault_of error → IfSome (lost (fault_of error)) (λ answer. answer ≡ walk_of t start path way last)
+pub fault_is_walk : (t : List Node) (start : ℕ) (path : List ℕ) (way : Way) (last : Last) (error : PathFault) → lookup_fault t start path way last ≡ fault_of error → IfSome (not_found (fault_of error)) (λ answer. answer ≡ walk_of t start path way last)
 unfolding walk_of
 fault_is_walk t start path way last error same = by_fault (fault_of error) same
   where
-    by_fault : (o : Option Fault) → lookup_fault t start path way last ≡ o → IfSome (lost o) (λ answer. answer ≡ unless_lost (lookup_fault t start path way last) (looked (by_nodes t way last) most_links (path_components path) (from_node (start_node start way))))
+    by_fault : (o : Option Fault) → lookup_fault t start path way last ≡ o → IfSome (not_found o) (λ answer. answer ≡ unless_lost (lookup_fault t start path way last) (looked (by_nodes t way last) most_links (path_components path) (from_node (start_node start way))))
     by_fault None e = tt
     by_fault (Some fault) e = rw e refl
 
@@ -52,6 +52,6 @@ goes_on t old new answer same steps rest =
 pub ends_with : (t : List Node) (walk : Walk) (found : Found) (answer : Answer) → next (rules_of t walk) (stand_of walk) ≡ Ends (found_of found) → rest_of (rules_of t walk) (stand_of walk) ≡ answer → found_of found ≡ answer
 ends_with t walk found answer steps rest = sym (rest_ends (rules_of t walk) (stand_of walk) (found_of found) steps) ∙ rest
 
-pub ends_lost : (t : List Node) (walk : Walk) (o : Option Fault) (answer : Answer) → IfSome o (λ fault. next (rules_of t walk) (stand_of walk) ≡ Ends (Lost fault)) → rest_of (rules_of t walk) (stand_of walk) ≡ answer → IfSome (lost o) (λ a. a ≡ answer)
+pub ends_lost : (t : List Node) (walk : Walk) (o : Option Fault) (answer : Answer) → IfSome o (λ fault. next (rules_of t walk) (stand_of walk) ≡ Ends (Not_found fault)) → rest_of (rules_of t walk) (stand_of walk) ≡ answer → IfSome (not_found o) (λ a. a ≡ answer)
 ends_lost t walk None answer steps rest = tt
-ends_lost t walk (Some fault) answer steps rest = sym (rest_ends (rules_of t walk) (stand_of walk) (Lost fault) steps) ∙ rest
+ends_lost t walk (Some fault) answer steps rest = sym (rest_ends (rules_of t walk) (stand_of walk) (Not_found fault) steps) ∙ rest

@@ -32,4 +32,4 @@ pub data Fault : Type 0 where
 pub data Answer : Type 0 where
   Found_node : ℕ → Answer
   Found_free : ℕ → Answer
-  Lost : Fault → Answer
+  Not_found : Fault → Answer

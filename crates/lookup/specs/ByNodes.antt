@@ -2,7 +2,7 @@
 -- in it: so it may go on in a tree that has changed. On one tree it is the lookup by places. (own)
 use Rattle.std.specs.Prelude.{ℕ, ◌&&◌, not, List, [], ◌∷◌, Option, Some, None, if◌then◌else◌}
 use Rattle.file_tree.specs.Nodes.{Node, node, child_of, is_dir, is_link}
-use Rattle.lookup.specs.Answers.{Way, Beneath, Global, Last, is_kept, Escape, Not_dir, Found_node, Lost}
+use Rattle.lookup.specs.Answers.{Way, Beneath, Global, Last, is_kept, Escape, Not_dir, Found_node, Not_found}
 use Rattle.lookup.specs.Paths.{is_dot, is_dot_dot}
 use Rattle.lookup.specs.Steps.{Move, Moves, Meets, Stops, Rules}
 use Rattle.lookup.specs.ByPlaces.{absent}
@@ -17,7 +17,7 @@ from_node n = record { current = n; before = [] }
 
 -- `..` goes back to the directory that was walked before
 abbrev pub back_at_start : Way → ℕ → Move Walked
-back_at_start Beneath n = Stops (Lost Escape)
+back_at_start Beneath n = Stops (Not_found Escape)
 back_at_start Global n = Moves (from_node n)
 
 abbrev pub back : Way → ℕ → List ℕ → Move Walked
@@ -34,7 +34,7 @@ into t last d before left (Some n) =
 -- A name in the node where the lookup stands, which has to be a directory.
 abbrev pub in_node : List Node → Way → Last → ℕ → List ℕ → List ℕ → List (List ℕ) → Move Walked
 in_node t way last d before name left =
-    if not (is_dir (node t d).kind) then Stops (Lost Not_dir)
+    if not (is_dir (node t d).kind) then Stops (Not_found Not_dir)
     else (if is_dot name then Moves (record { current = d; before = before })
     else (if is_dot_dot name then back way d before
     else into t last d before left (child_of t d name)))

@@ -3,7 +3,7 @@
 use Rattle.std.specs.Prelude.{ℕ, ◌&&◌, not, List, [], ◌∷◌, Option, Some, None, if◌then◌else◌}
 use Rattle.file_tree.specs.Places.{at_name}
 use Rattle.file_tree.specs.Nodes.{Node, node, node_at, is_dir, is_link}
-use Rattle.lookup.specs.Answers.{Way, Beneath, Global, Last, is_kept, Escape, No_entry, Not_dir, Answer, Found_node, Found_free, Lost}
+use Rattle.lookup.specs.Answers.{Way, Beneath, Global, Last, is_kept, Escape, No_entry, Not_dir, Answer, Found_node, Found_free, Not_found}
 use Rattle.lookup.specs.Paths.{is_dot, is_dot_dot}
 use Rattle.lookup.specs.Steps.{Move, Moves, Meets, Stops, Rules}
 
@@ -15,7 +15,7 @@ place_below start (name ∷ below) = at_name (place_below start below) name
 -- `..` goes back to the directory above. At its start a lookup would leave what lies beneath, which is an
 -- escape (open(2), ENOTCAPABLE); the root is above itself.
 abbrev pub at_start : Way → Move (List (List ℕ))
-at_start Beneath = Stops (Lost Escape)
+at_start Beneath = Stops (Not_found Escape)
 at_start Global = Moves []
 
 abbrev pub upwards : Way → List (List ℕ) → Move (List (List ℕ))
@@ -24,7 +24,7 @@ upwards way (name ∷ below) = Moves below
 
 -- an absent name is free if it is kept, and else there is no such entry
 abbrev pub absent : Last → List (List ℕ) → ℕ → Answer
-absent last left d = if is_kept last left then Found_free d else Lost No_entry
+absent last left d = if is_kept last left then Found_free d else Not_found No_entry
 
 -- a node stands there, or none: a link is met unless it is kept, and all else is gone to
 abbrev pub downwards : List Node → Last → List (List ℕ) → List ℕ → List (List ℕ) → ℕ → Option ℕ → Move (List (List ℕ))
@@ -35,16 +35,16 @@ downwards t last below name left d (Some n) =
 -- A name in what stands where the lookup stands, which has to be a directory; where nothing stands, there is
 -- no entry.
 abbrev pub in_place : List Node → Way → Last → List (List ℕ) → List (List ℕ) → List ℕ → List (List ℕ) → Option ℕ → Move (List (List ℕ))
-in_place t way last start below name left None = Stops (Lost No_entry)
+in_place t way last start below name left None = Stops (Not_found No_entry)
 in_place t way last start below name left (Some d) =
-    if not (is_dir (node t d).kind) then Stops (Lost Not_dir)
+    if not (is_dir (node t d).kind) then Stops (Not_found Not_dir)
     else (if is_dot name then Moves below
     else (if is_dot_dot name then upwards way below
     else downwards t last below name left d (node_at t (at_name (place_below start below) name))))
 
 -- where no name is left, what stands there is the answer
 abbrev pub standing : Option ℕ → Answer
-standing None = Lost No_entry
+standing None = Not_found No_entry
 standing (Some n) = Found_node n
 
 -- Beneath a start no absolute target is looked up; else it is, from the root.

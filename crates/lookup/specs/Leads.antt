@@ -2,7 +2,7 @@
 use Rattle.std.specs.Prelude.{◌≡◌, ℕ, ◌+◌, nat_le, List, [], ◌∷◌, ◌++◌, Option, Some, None, if◌then◌else◌}
 use Rattle.rights.specs.Limits.{most_links}
 use Rattle.file_tree.specs.Places.{path_components}
-use Rattle.lookup.specs.Answers.{Escape, Loop, Answer, Lost}
+use Rattle.lookup.specs.Answers.{Escape, Loop, Answer, Not_found}
 use Rattle.lookup.specs.Steps.{Move, Moves, Meets, Stops, Rules, target_spot}
 
 -- A lookup under way: where it stands, the names left, and how many links it followed.
@@ -17,14 +17,14 @@ pub data Next (Spot : Type 0) : Type 0 where
 
 -- the names of a link's target come before the rest; where its spot is none, it escapes
 abbrev pub followed_from : {Spot : Type 0} → List (List ℕ) → ℕ → Option Spot → Next Spot
-followed_from left followed None = Ends (Lost Escape)
+followed_from left followed None = Ends (Not_found Escape)
 followed_from left followed (Some spot) = Goes (record { spot = spot; left = left; followed = followed })
 
 -- what is next after a name, by where it leads; a 33rd link is not followed, whatever its target is
 abbrev pub onward : {Spot : Type 0} → Rules Spot → Spot → List (List ℕ) → ℕ → Move Spot → Next Spot
 onward rules spot left followed (Moves to) = Goes (record { spot = to; left = left; followed = followed })
 onward rules spot left followed (Meets target) =
-    if nat_le most_links followed then Ends (Lost Loop)
+    if nat_le most_links followed then Ends (Not_found Loop)
     else followed_from (path_components target ++ left) (followed + 1) (target_spot rules spot target)
 onward rules spot left followed (Stops answer) = Ends answer
 

@@ -2,7 +2,7 @@
 use Rattle.std.specs.Prelude.{◌≡◌, ℕ, Bool, false, not, List, [], Option, Some, None, MatchOption, if◌then◌else◌}
 use Rattle.file_tree.specs.Places.{path_components}
 use Rattle.file_tree.specs.Nodes.{Node, node}
-use Rattle.lookup.specs.Answers.{Way, Beneath, Global, Last, Fault, No_entry, Answer, Lost}
+use Rattle.lookup.specs.Answers.{Way, Beneath, Global, Last, Fault, No_entry, Answer, Not_found}
 use Rattle.lookup.specs.Paths.{path_fault}
 use Rattle.rights.specs.Limits.{most_links}
 use Rattle.lookup.specs.Leads.{Stand, Leads}
@@ -45,12 +45,12 @@ unfoldable pub Looks : List Node → ℕ → List ℕ → Way → Last → Answe
 Looks t start path way last answer =
     MatchOption (lookup_fault t start path way last)
     (Leads (by_places t way last (start_place t start way)) (first_stand [] path) answer)
-    (λ fault. answer ≡ Lost fault)
+    (λ fault. answer ≡ Not_found fault)
 
 -- The same as a function.
 abbrev pub unless_lost : Option Fault → Answer → Answer
 unless_lost None answer = answer
-unless_lost (Some fault) answer = Lost fault
+unless_lost (Some fault) answer = Not_found fault
 
 unfoldable pub find_of : List Node → ℕ → List ℕ → Way → Last → Answer
 find_of t start path way last =

@@ -2,7 +2,7 @@
 -- nodes that it walked (`ByNodes`); here is what is the same for both. (open(2); the bound on links is own)
 use Rattle.std.specs.Prelude.{◌≡◌, ℕ, zero, suc, ◌+◌, nat_le, List, [], ◌∷◌, ◌++◌, Option, Some, None, if◌then◌else◌}
 use Rattle.file_tree.specs.Places.{path_components}
-use Rattle.lookup.specs.Answers.{Escape, Loop, Answer, Lost}
+use Rattle.lookup.specs.Answers.{Escape, Loop, Answer, Not_found}
 use Rattle.lookup.specs.Paths.{is_absolute}
 
 -- Where one name leads: on to a spot, to a link, whose target is to be looked up first, or to an answer.
@@ -35,9 +35,9 @@ along rules follow [] spot = rules.arrived spot
 along rules follow (name ∷ left) spot = taken (along rules follow left) (follow spot left) (rules.component spot name left)
 
 abbrev pub resumed : {Spot : Type 0} → (List (List ℕ) → Spot → Answer) → List (List ℕ) → Option Spot → Answer
-resumed go left None = Lost Escape
+resumed go left None = Not_found Escape
 resumed go left (Some spot) = go left spot
 
 unfoldable pub looked : {Spot : Type 0} → Rules Spot → ℕ → List (List ℕ) → Spot → Answer
-looked rules zero = along rules (λ spot left target. Lost Loop)
+looked rules zero = along rules (λ spot left target. Not_found Loop)
 looked rules (suc links) = along rules (λ spot left target. resumed (looked rules links) (path_components target ++ left) (target_spot rules spot target))

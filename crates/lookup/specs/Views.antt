@@ -17,7 +17,7 @@ use Rattle.file_tree.specs.Nodes.{Node}
 use Rattle.lookup.specs.Leads.{Stand, Next, Goes, Ends, onward}
 use Rattle.lookup.specs.Steps.{Move, Rules}
 use Rattle.lookup.specs.ByNodes.{Walked, by_nodes, in_node, into}
-use Rattle.lookup.specs.Answers.{Way, Beneath, Global, Last, Follow, Keep, Fault, Escape, No_entry, Not_dir, Loop, Too_long, Bad_last, Answer, Found_node, Found_free, Lost}
+use Rattle.lookup.specs.Answers.{Way, Beneath, Global, Last, Follow, Keep, Fault, Escape, No_entry, Not_dir, Loop, Too_long, Bad_last, Answer, Found_node, Found_free, Not_found}
 
 abbrev pub way_of : WayCode → Way
 way_of way.Beneath = Beneath
@@ -42,13 +42,13 @@ fault_of fault.BadLast = Some Bad_last
 fault_of fault.Memory = None
 
 -- what a call of `find` answers; want of memory is no answer, and may come in place of any
-abbrev pub lost : Option Fault → Option Answer
-lost None = None
-lost (Some fault) = Some (Lost fault)
+abbrev pub not_found : Option Fault → Option Answer
+not_found None = None
+not_found (Some fault) = Some (Not_found fault)
 
 abbrev pub answer_of : Result Found PathFault → Option Answer
 answer_of (Ok found) = Some (found_of found)
-answer_of (Err error) = lost (fault_of error)
+answer_of (Err error) = not_found (fault_of error)
 
 -- the numbers of the faults
 abbrev pub path_fault_number : PathFault → ℕ
@@ -96,10 +96,10 @@ abbrev pub SameRules : Walk → Walk → Type 0
 SameRules old new = (new.way ≡ old.way) × (new.last ≡ old.last)
 
 -- The walk did what was next, unless it met want of memory.
-abbrev pub Steps : Result Progress PathFault → Next Walked → Stand Walked → Type 0
-Steps (Ok progress.More) next stand = next ≡ Goes stand
-Steps (Ok (progress.Done found)) next stand = next ≡ Ends (found_of found)
-Steps (Err error) next stand = IfSome (fault_of error) (λ fault. next ≡ Ends (Lost fault))
+abbrev pub StepsAlong : Result Progress PathFault → Next Walked → Stand Walked → Type 0
+StepsAlong (Ok progress.More) next stand = next ≡ Goes stand
+StepsAlong (Ok (progress.Done found)) next stand = next ≡ Ends (found_of found)
+StepsAlong (Err error) next stand = IfSome (fault_of error) (λ fault. next ≡ Ends (Not_found fault))
 
 -- whether the nodes of a walk are of the tree
 abbrev pub IsInTree : List Node → Walk → Type 0

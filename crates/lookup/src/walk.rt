@@ -9,7 +9,7 @@ ghost use Rattle.lookup.specs.Steps.{Rules, Moves, Meets, Stops};
 ghost use Rattle.lookup.specs.ByPlaces.{absent};
 ghost use Rattle.lookup.specs.ByNodes.{Walked, back, from_node};
 ghost use Rattle.lookup.specs.Looks.{first_stand, lookup_fault, start_node};
-ghost use Rattle.lookup.specs.Views.{Steps, after_move, after_name, after_node, IsInTree, SameRules, Told, last_of, names_left, rules_of, stand_of, way_of, work};
+ghost use Rattle.lookup.specs.Views.{StepsAlong, after_move, after_name, after_node, IsInTree, SameRules, Told, last_of, names_left, rules_of, stand_of, way_of, work};
 
 use crate::faults::PathFault;
 use crate::paths::{check_text, is_absolute, is_dot, is_dot_dot, put_before};
@@ -83,7 +83,7 @@ impl Walk {
 
     /// Goes back to the directory that was walked before.
     fn go_back(&mut self) -> Result<Progress, PathFault>
-        ensures steps { (rules : Rules Walked) → Steps result (after_move rules self.old (back (way_of self.old.way) self.old.current (stand_of self.old).spot.before)) (stand_of self.new) }
+        ensures steps { (rules : Rules Walked) → StepsAlong result (after_move rules self.old (back (way_of self.old.way) self.old.current (stand_of self.old).spot.before)) (stand_of self.new) }
         ensures rules { SameRules self.old self.new }
         ensures in_tree { (t : List Node) → IsInTree t self.old → IsInTree t self.new }
         ensures work { work self.new ≤ work self.old }
@@ -102,7 +102,7 @@ impl Walk {
 
     /// Goes on to a node in the directory where the walk stands.
     fn go_down(&mut self, next: NodeId) -> Result<Progress, PathFault>
-        ensures steps { (rules : Rules Walked) → Steps result (after_move rules self.old (Moves (record { current = next; before = self.old.current ∷ (stand_of self.old).spot.before }))) (stand_of self.new) }
+        ensures steps { (rules : Rules Walked) → StepsAlong result (after_move rules self.old (Moves (record { current = next; before = self.old.current ∷ (stand_of self.old).spot.before }))) (stand_of self.new) }
         ensures rules { SameRules self.old self.new }
         ensures in_tree { (t : List Node) → next < length t → IsInTree t self.old → OnOk result (IsInTree t self.new) }
         ensures work { work self.new ≤ work self.old }
@@ -124,7 +124,7 @@ impl Walk {
 
     /// Ends where a name is absent.
     fn end_at_absent(&self) -> Result<Progress, PathFault>
-        ensures { (rules : Rules Walked) → Steps result (after_move rules self.now (Stops (absent (last_of self.now.last) (names_left self.now.left.items) self.now.current))) (stand_of self.now) }
+        ensures { (rules : Rules Walked) → StepsAlong result (after_move rules self.now (Stops (absent (last_of self.now.last) (names_left self.now.left.items) self.now.current))) (stand_of self.now) }
     {
         if self.keeps() {
             return Ok(Progress::Done(Found::Free(self.current)));
@@ -136,7 +136,7 @@ impl Walk {
     #[tactic(auto, unfolding(crate::specs::ByNodes::by_nodes))]
     fn follow(&mut self, root: NodeId, target: &[u8]) -> Result<Progress, PathFault>
         requires { root ≡ 0 }
-        ensures steps { (t : List Node) → Steps result (after_move (rules_of t self.old) self.old (Meets target.now)) (stand_of self.new) }
+        ensures steps { (t : List Node) → StepsAlong result (after_move (rules_of t self.old) self.old (Meets target.now)) (stand_of self.new) }
         ensures rules { SameRules self.old self.new }
         ensures in_tree { (t : List Node) → IsInTree t self.old → OnOk result (IsInTree t self.new) }
         ensures work { OnOk result (work self.new ≤ work self.old) }
@@ -163,7 +163,7 @@ impl Walk {
     fn go_to<T: Tree>(&mut self, tree: &T, next: NodeId) -> Result<Progress, PathFault>
         requires there { next < length (T.nodes tree.now) }
         requires in_tree { IsInTree (T.nodes tree.now) self.old }
-        ensures steps { Steps result (after_node (T.nodes tree.now) self.old next) (stand_of self.new) }
+        ensures steps { StepsAlong result (after_node (T.nodes tree.now) self.old next) (stand_of self.new) }
         ensures rules { SameRules self.old self.new }
         ensures in_tree { OnOk result (IsInTree (T.nodes tree.now) self.new) }
         ensures work { OnOk result (work self.new ≤ work self.old) }
@@ -183,7 +183,7 @@ impl Walk {
     #[tactic(auto, using(file_tree::proofs::TreeLaws::child_there))]
     fn enter<T: Tree>(&mut self, tree: &T, name: &[u8]) -> Result<Progress, PathFault>
         requires { IsInTree (T.nodes tree.now) self.old }
-        ensures steps { Steps result (after_name (T.nodes tree.now) self.old name.now) (stand_of self.new) }
+        ensures steps { StepsAlong result (after_name (T.nodes tree.now) self.old name.now) (stand_of self.new) }
         ensures rules { SameRules self.old self.new }
         ensures in_tree { OnOk result (IsInTree (T.nodes tree.now) self.new) }
         ensures work { OnOk result (work self.new ≤ work self.old) }
@@ -207,7 +207,7 @@ impl Walk {
     #[tactic(auto, unfolding(crate::specs::ByNodes::by_nodes))]
     pub(crate) fn step<T: Tree>(&mut self, tree: &T) -> Result<Progress, PathFault>
         requires { IsInTree (T.nodes tree.now) self.old }
-        ensures steps { Steps result (next (rules_of (T.nodes tree.now) self.old) (stand_of self.old)) (stand_of self.new) }
+        ensures steps { StepsAlong result (next (rules_of (T.nodes tree.now) self.old) (stand_of self.old)) (stand_of self.new) }
         ensures rules { SameRules self.old self.new }
         ensures in_tree { OnOk result (IsInTree (T.nodes tree.now) self.new) }
         ensures work { result ≡ Ok Progress.More → work self.new < work self.old }

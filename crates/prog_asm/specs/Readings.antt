@@ -25,6 +25,6 @@ Fails code.TwiceLabel read = read ≡ Err assembly.TwiceLabel
 Fails code.TooMany read = read ≡ Err assembly.TooMany
 Fails code.Memory read = Unit {0}
 
-abbrev pub Reads : {X Y : Type 0} → (X → Y) → Result X MistakeCode → Result Y Mistake → Type 0
-Reads view (Ok x) read = read ≡ Ok (view x)
-Reads view (Err mistake) read = Fails mistake read
+abbrev pub ReadsAssembly : {X Y : Type 0} → (X → Y) → Result X MistakeCode → Result Y Mistake → Type 0
+ReadsAssembly view (Ok x) read = read ≡ Ok (view x)
+ReadsAssembly view (Err mistake) read = Fails mistake read

@@ -4,7 +4,7 @@ ghost use Rattle.std.specs.Prelude.{◌≡◌, map, option_map};
 ghost use Rattle.prog_asm.specs.Assembly.{instruction_in, line_of, line_of_words};
 ghost use Rattle.prog_asm.specs.FormViews.{written_from};
 ghost use Rattle.prog_asm.specs.LineViews.{line_from};
-ghost use Rattle.prog_asm.specs.Readings.{Reads};
+ghost use Rattle.prog_asm.specs.Readings.{ReadsAssembly};
 
 use crate::fields::before_last;
 use crate::forms::{Written, read_written};
@@ -23,7 +23,7 @@ pub(crate) struct Line<'t> {
 
 /// The instruction that words stand for, if there are any.
 fn instruction_in<'t>(alloc: Global, words: &[&'t [u8]]) -> Result<Option<Written<'t>>, Mistake>
-    ensures { Reads (λ instruction. option_map written_from instruction) result
+    ensures { ReadsAssembly (λ instruction. option_map written_from instruction) result
         (instruction_in (map (λ word. word.now) words.now)) }
 {
     match words {
@@ -37,7 +37,7 @@ fn instruction_in<'t>(alloc: Global, words: &[&'t [u8]]) -> Result<Option<Writte
 
 /// The line that words stand for. A first word that ends with a colon is a label.
 fn line_of_words<'t>(alloc: Global, words: &[&'t [u8]]) -> Result<Line<'t>, Mistake>
-    ensures { Reads line_from result (line_of_words (map (λ word. word.now) words.now)) }
+    ensures { ReadsAssembly line_from result (line_of_words (map (λ word. word.now) words.now)) }
 {
     match words {
         [] => Ok(Line {
@@ -65,7 +65,7 @@ fn line_of_words<'t>(alloc: Global, words: &[&'t [u8]]) -> Result<Line<'t>, Mist
 /// The line that a text stands for.
 #[tactic(auto, unfolding(crate::specs::Assembly::line_of))]
 pub(crate) fn read_line<'t>(alloc: Global, text: &'t [u8]) -> Result<Line<'t>, Mistake>
-    ensures { Reads line_from result (line_of text.now) }
+    ensures { ReadsAssembly line_from result (line_of text.now) }
 {
     let code = before_comment(text);
     if has_stray(code) {

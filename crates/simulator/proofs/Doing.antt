@@ -21,7 +21,7 @@ use Rattle.syscalls.specs.MayCall.{CallComes, IsCall, MayCall}
 use Rattle.syscalls.specs.Shows.{Shown, shown}
 use Rattle.syscalls.proofs.Keeping.{alike_refl}
 use Rattle.simulator.specs.Lines.{line_at, shown_step}
-use Rattle.simulator.specs.Steps.{Calls, DoesAs, Ends, Executes, Moves, NeedsNext, StandsAt, Steps, acted_on, action}
+use Rattle.simulator.specs.Steps.{Calls, DoesAs, Ends, Executes, Moves, NeedsNext, StandsAt, StepsMachine, acted_on, action}
 
 -- what holds of a value holds of it further
 pub if_ok_so : {A E : Type 0} (r : Result A E) (P Q : A → Type 0) → ((x : A) → P x → Q x) → IfOk r P → IfOk r Q
@@ -245,7 +245,7 @@ does_executed programs w e s i outcome effects next made lives here x =
       world_is = subst (λ (y : Stepped). AlikeWorlds y.world next) (sym (is x.choice)) x.world_is;
     }
 
-pub steps_unmade : (programs : Programs) (w : World) (e : Event) → IsWellFormed programs w → slice_get w.processes e.process ≡ None → Steps programs w e (record { process = e.process; acted = None }) w
+pub steps_unmade : (programs : Programs) (w : World) (e : Event) → IsWellFormed programs w → slice_get w.processes e.process ≡ None → StepsMachine programs w e (record { process = e.process; acted = None }) w
 unfolding step stepped
 steps_unmade programs w e good none =
     let some = fresh_some programs good.numbering w good.world in
@@ -257,7 +257,7 @@ steps_unmade programs w e good none =
       world_is = subst (λ (x : Stepped). AlikeWorlds x.world w) (sym is) (record { tree = refl; processes = refl; files = alike_refl w.files good.world.idle });
     }
 
-pub steps_done : (programs : Programs) (w : World) (e : Event) (program point : ℕ) (outcome : LineResult) (effects : List Shown) (next : World) → ((s : ProcessState) → slice_get w.processes e.process ≡ Some s → (program ≡ s.program) × (point ≡ s.point)) → DoesAs programs w e outcome effects next → Steps programs w e (record { process = e.process; acted = Some (record { program = program; point = point; outcome = outcome; effects = effects }) }) next
+pub steps_done : (programs : Programs) (w : World) (e : Event) (program point : ℕ) (outcome : LineResult) (effects : List Shown) (next : World) → ((s : ProcessState) → slice_get w.processes e.process ≡ Some s → (program ≡ s.program) × (point ≡ s.point)) → DoesAs programs w e outcome effects next → StepsMachine programs w e (record { process = e.process; acted = Some (record { program = program; point = point; outcome = outcome; effects = effects }) }) next
 unfolding step
 steps_done programs w e program point outcome effects next here x =
     let is : step programs w e x.choice ≡ stepped programs w e x.choice (Some x.process) = ap (stepped programs w e x.choice) x.made in

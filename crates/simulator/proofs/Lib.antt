@@ -1,5 +1,5 @@
 pub mod Doing
-pub mod Planted
+pub mod Built
 pub mod Begun
 pub mod Started
 pub mod Tracing

@@ -19,12 +19,12 @@ use Rattle.task.specs.Begins.{first_world}
 use Rattle.task.specs.Limits.{is_plan}
 use Rattle.task.proofs.FirstWorlds.{first_well_formed}
 use Rattle.simulator.specs.Lines.{Line, line_at}
-use Rattle.simulator.specs.Steps.{Steps}
+use Rattle.simulator.specs.Steps.{StepsMachine}
 use Rattle.simulator.specs.Simulations.{IsRun, WritesFront, WritesTrace}
 use Rattle.simulator.specs.Traces.{line_text, trace_text}
 
 -- a step leads to a well-formed world
-pub steps_good : (programs : Programs) (w next : World) (e : Event) (line : Line) → ArePrograms programs → IsWellFormed programs w → IsEvent e → Steps programs w e line next → IsWellFormed programs next
+pub steps_good : (programs : Programs) (w next : World) (e : Event) (line : Line) → ArePrograms programs → IsWellFormed programs w → IsEvent e → StepsMachine programs w e line next → IsWellFormed programs next
 steps_good programs w next e line valid good byte s =
     (act_alike programs (step programs w e s.choice).world next valid ((next_world programs w e valid good byte).each s.choice s.fresh) s.world_is).well_formed
 
@@ -59,7 +59,7 @@ traced-start plan events before w test differs = record {
 trace_more : (plan : Plan) (e : Event) (left : List Event) (acted : Option Acted) (rest : List (Option Acted)) → line_text plan (line_at e acted) ++ trace_text plan left rest ≡ trace_text plan (e ∷ left) (acted ∷ rest)
 trace_more plan e left acted rest = refl
 
-ahead-step : (plan : Plan) (events : List Event) (lines : List (Option Acted)) (begun : List ℕ) (w next : World) (e : Event) (left : List Event) (line : Line) → is_plan plan ≡ true → IsWellFormed (programs_of_plan plan) w → IsEvent e → Steps (programs_of_plan plan) w e line next → IsAhead plan events lines begun w (e ∷ left) → IsAhead plan events lines (begun ++ line_text plan line) next left
+ahead-step : (plan : Plan) (events : List Event) (lines : List (Option Acted)) (begun : List ℕ) (w next : World) (e : Event) (left : List Event) (line : Line) → is_plan plan ≡ true → IsWellFormed (programs_of_plan plan) w → IsEvent e → StepsMachine (programs_of_plan plan) w e line next → IsAhead plan events lines begun w (e ∷ left) → IsAhead plan events lines (begun ++ line_text plan line) next left
 ahead-step plan events lines begun w next e left line test good byte s at = go at.rest at.run at.text
   where
     programs : Programs
@@ -84,7 +84,7 @@ ahead-step plan events lines begun w next e left line test good byte s at = go a
               ∙ text;
         }
 
-pub traced-step : (plan : Plan) (events : List Event) (before mid after : Option (List ℕ)) (w next : World) (e : Event) (left : List Event) (line : Line) → is_plan plan ≡ true → IsWellFormed (programs_of_plan plan) w → IsEvent e → IsTraced plan events before mid w (e ∷ left) → Steps (programs_of_plan plan) w e line next → Took mid after (line_text plan line) → IsTraced plan events before after next left
+pub traced-step : (plan : Plan) (events : List Event) (before mid after : Option (List ℕ)) (w next : World) (e : Event) (left : List Event) (line : Line) → is_plan plan ≡ true → IsWellFormed (programs_of_plan plan) w → IsEvent e → IsTraced plan events before mid w (e ∷ left) → StepsMachine (programs_of_plan plan) w e line next → Took mid after (line_text plan line) → IsTraced plan events before after next left
 traced-step plan events before mid after w next e left line test good byte so_far s took = record {
   begun = so_far.begun ++ line_text plan line;
   took = took_more before mid after _ _ so_far.took took;
@@ -110,7 +110,7 @@ traced-front plan events before after w left so_far lines run =
     record { front = so_far.begun; rest = trace_text plan left at.rest; whole = at.text; took = so_far.took }
 
 -- so is what was taken, with a beginning of the next line
-pub traced-line : (plan : Plan) (events : List Event) (before mid after : Option (List ℕ)) (w next : World) (e : Event) (left : List Event) (line : Line) → is_plan plan ≡ true → IsWellFormed (programs_of_plan plan) w → IsEvent e → IsTraced plan events before mid w (e ∷ left) → Steps (programs_of_plan plan) w e line next → TookFront mid after (line_text plan line) → WritesFront plan events before after
+pub traced-line : (plan : Plan) (events : List Event) (before mid after : Option (List ℕ)) (w next : World) (e : Event) (left : List Event) (line : Line) → is_plan plan ≡ true → IsWellFormed (programs_of_plan plan) w → IsEvent e → IsTraced plan events before mid w (e ∷ left) → StepsMachine (programs_of_plan plan) w e line next → TookFront mid after (line_text plan line) → WritesFront plan events before after
 traced-line plan events before mid after w next e left line test good byte so_far s front lines run =
     let at = ahead-step plan events lines so_far.begun w next e left line test good byte s (so_far.each lines run) in
     let whole : so_far.begun ++ (line_text plan line ++ trace_text plan left at.rest) ≡ trace_text plan events lines =

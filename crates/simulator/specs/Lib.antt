@@ -3,7 +3,7 @@ pub mod Steps
 pub mod Views
 pub mod Traces
 pub mod Simulations
-pub mod Kept
+pub mod Machines
 pub mod Starts
 pub mod Schedules
 pub mod ScheduleViews

@@ -15,8 +15,8 @@ fault_number Limit = 2
 fault_number Memory = 3
 
 -- What is read is what the text stands for, or its fault, want of memory aside.
-abbrev pub Reads : Result (Vec EventCode Global) ScheduleFault → Result (List Event) Fault → Type 0
-Reads (Ok events) schedule = schedule ≡ Ok (map event_of events.items)
-Reads (Err (Line n)) schedule = schedule ≡ Err (Faulty n)
-Reads (Err Limit) schedule = schedule ≡ Err Too_many
-Reads (Err Memory) schedule = Unit {0}
+abbrev pub ReadsSchedule : Result (Vec EventCode Global) ScheduleFault → Result (List Event) Fault → Type 0
+ReadsSchedule (Ok events) schedule = schedule ≡ Ok (map event_of events.items)
+ReadsSchedule (Err (Line n)) schedule = schedule ≡ Err (Faulty n)
+ReadsSchedule (Err Limit) schedule = schedule ≡ Err Too_many
+ReadsSchedule (Err Memory) schedule = Unit {0}

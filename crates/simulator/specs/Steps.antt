@@ -13,7 +13,7 @@ use Rattle.syscalls.specs.Shows.{Shown, shown}
 use Rattle.simulator.specs.Lines.{Line, line_at, shown_step}
 
 -- Some choice of numbers that nobody names leads to this line, and to a world that is alike.
-pub record Steps (programs : Programs) (w : World) (e : Event) (line : Line) (next : World) : Type 0 where
+pub record StepsMachine (programs : Programs) (w : World) (e : Event) (line : Line) (next : World) : Type 0 where
   pub choice : Choice
   pub fresh : IsFresh w.files choice
   pub line_is : line ≡ line_at e (step programs w e choice).acted

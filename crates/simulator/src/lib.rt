@@ -6,7 +6,7 @@
 mod actions;
 pub mod lines;
 pub mod machine;
-mod planting;
+mod building;
 pub mod schedule;
 pub mod simulation;
 mod starting;

@@ -7,8 +7,8 @@ ghost use Rattle.syscalls.specs.Views.{event_of};
 ghost use Rattle.task.specs.Begins.{first_world};
 ghost use Rattle.task.specs.Limits.{is_plan};
 ghost use Rattle.task.specs.Plans.{programs_of_plan};
-ghost use Rattle.simulator.specs.Kept.{world_of};
-ghost use Rattle.simulator.specs.Steps.{Steps};
+ghost use Rattle.simulator.specs.Machines.{world_of};
+ghost use Rattle.simulator.specs.Steps.{StepsMachine};
 ghost use Rattle.simulator.specs.Views.{line_of};
 
 use crate::lines::Line;
@@ -32,9 +32,9 @@ pub struct Machine<'a, T: Tree> {
 
 impl<'a, T: Tree> Model for Machine<'a, T> {
     ghost use Rattle.fd_table.specs.Kept.{open_files};
-    ghost use Rattle.simulator.specs.Kept.{Device, IsRunning};
+    ghost use Rattle.simulator.specs.Machines.{MachineState, IsRunning};
 
-    ghost Value = { Device };
+    ghost Value = { MachineState };
 
     ghost view = { λ m. record { plan = m.task.now; tree = T.nodes m.world.tree; files = m.world.files; processes = m.world.processes.items; spent = m.spent } };
 
@@ -65,7 +65,7 @@ impl<'a, T: Tree> Machine<'a, T> {
     /// One step, and its line. A refused growth is `Memory`, and from then on each step is `Spent`.
     pub fn step(&mut self, event: Event) -> Result<Line, Stop>
         ensures step { IfOk result (λ line.
-            Steps (programs_of_plan self.old.plan) (world_of self.old) (event_of event) (line_of line) (world_of self.new)) }
+            StepsMachine (programs_of_plan self.old.plan) (world_of self.old) (event_of event) (line_of line) (world_of self.new)) }
         ensures well_formed { OnOk result (IsWellFormed (programs_of_plan self.new.plan) (world_of self.new)) }
         ensures plan { self.new.plan ≡ self.old.plan }
         ensures spent { IsErrOf result Stop.Spent ↔ (self.old.spent ≡ true) }

@@ -2,7 +2,7 @@
 
 ghost use Rattle.std.specs.Prelude.{◌≡◌, option_map};
 ghost use Rattle.simulator.specs.Schedules.{event_of_line, schedule_of};
-ghost use Rattle.simulator.specs.ScheduleViews.{Reads, fault_number};
+ghost use Rattle.simulator.specs.ScheduleViews.{ReadsSchedule, fault_number};
 ghost use Rattle.syscalls.specs.Views.{event_of};
 ghost use Rattle.simulator.specs.declared.schedule.ScheduleFault.TheVariants as fault;
 
@@ -77,10 +77,10 @@ fn read_event(line: &[u8]) -> Option<Event>
     })
 }
 
-/// Reads a schedule: the events that the text stands for, or its first faulty line, or, where no line
+/// ReadsSchedule a schedule: the events that the text stands for, or its first faulty line, or, where no line
 /// is faulty, that there are too many.
 pub fn read_schedule(alloc: Global, bytes: &[u8]) -> Result<Vec<Event>, ScheduleFault>
-    ensures { Reads result (schedule_of bytes.now) }
+    ensures { ReadsSchedule result (schedule_of bytes.now) }
 {
     let mut events = Vec::new(alloc);
     let mut count: usize = 0;

@@ -12,7 +12,7 @@ ghost use Rattle.task.specs.Plans.{programs_of_plan};
 ghost use Rattle.task.specs.Views.{first_descriptor_of, starts_of};
 ghost use Rattle.simulator.specs.Starts.{AreFree, AreNumbers, AreStarts, Begins, is_usable};
 
-use crate::planting::plant_all;
+use crate::building::build_tree;
 use fd_table::Files;
 use file_tree::{NodeId, Tree};
 use process::Process;
@@ -119,12 +119,12 @@ pub(crate) fn first_world<T: Tree>(alloc: Global, task: &Task) -> Result<World<T
         (world_of T.nodes w)) }
     ensures valid { OnOk result (is_plan task.now ≡ true) }
 {
-    let planted = plant_all(alloc, task.nodes())?;
+    let built = build_tree(alloc, task.nodes())?;
     let mut files = Files::new(alloc)?;
-    open_starts(&mut files, &planted.numbers, 0, task.starts())?;
+    open_starts(&mut files, &built.numbers, 0, task.starts())?;
     let processes = first_processes(alloc, task.starts())?;
     Ok(World {
-        tree: planted.tree,
+        tree: built.tree,
         files,
         processes,
     })

@@ -9,7 +9,7 @@ ghost use Rattle.prog_asm.specs.Views.{instruction_of};
 ghost use Rattle.syscalls.specs.Views.{effects_of, event_of, world_of};
 ghost use Rattle.task.specs.Plans.{code_in, programs_of_plan};
 ghost use Rattle.task.specs.Views.{programs_of};
-ghost use Rattle.simulator.specs.Steps.{DoesAs, Executes, StandsAt, Steps};
+ghost use Rattle.simulator.specs.Steps.{DoesAs, Executes, StandsAt, StepsMachine};
 ghost use Rattle.simulator.specs.Views.{line_of, result_of};
 
 use crate::actions::{Action, act};
@@ -131,7 +131,7 @@ pub(crate) fn step_world<T: Tree>(
     event: Event,
 ) -> Result<Line, Memory>
     requires { IsWellFormed (programs_of_plan task.now) (world_of T.nodes world.old) }
-    ensures step { IfOk result (λ line. Steps (programs_of_plan task.now)
+    ensures step { IfOk result (λ line. StepsMachine (programs_of_plan task.now)
         (world_of T.nodes world.old) (event_of event) (line_of line)
         (world_of T.nodes world.new)) }
     ensures byte { event.input < 256 }

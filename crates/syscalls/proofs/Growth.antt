@@ -7,12 +7,12 @@ use Rattle.file_tree.specs.Refusals.{Fault, Exists, NotEmpty, Full, IntoItself, 
 use Rattle.file_tree.specs.WellFormed.{IsTree}
 use Rattle.file_tree.specs.declared.faults.TreeFault.{TreeFault}
 use Rattle.file_tree.specs.declared.faults.TreeFault.TheVariants as fault
-use Rattle.file_tree.specs.Views.{Tells}
+use Rattle.file_tree.specs.Views.{TellsTreeFault}
 use Rattle.file_tree.proofs.BelowLaws.{free_empty}
 use Rattle.syscalls.proofs.Renaming.{free_place}
 
 -- nothing is refused
-pub untold : (o : Option Fault) (e : TreeFault) → o ≡ None → Tells o e → e ≡ fault.Memory
+pub untold : (o : Option Fault) (e : TreeFault) → o ≡ None → TellsTreeFault o e → e ≡ fault.Memory
 untold o fault.Exists none tells =
     let no : None ≡ Some Exists = sym none ∙ tells (λ same. absurd cc) in
     absurd cc
@@ -31,7 +31,7 @@ untold o fault.Gone none tells =
 untold o fault.Memory none tells = refl
 
 -- a removal is refused of a directory that holds something, or else for want of memory
-only_full : (b : Bool) (e : TreeFault) → e ≢ fault.NotEmpty → Tells (cond b (Some NotEmpty) None) e → e ≡ fault.Memory
+only_full : (b : Bool) (e : TreeFault) → e ≢ fault.NotEmpty → TellsTreeFault (cond b (Some NotEmpty) None) e → e ≡ fault.Memory
 only_full false e other tells = untold None e refl tells
 only_full true fault.Exists other tells =
     let no : Some NotEmpty ≡ Some Exists = tells (λ same. absurd cc) in
@@ -48,14 +48,14 @@ only_full true fault.Gone other tells =
     absurd cc
 only_full true fault.Memory other tells = refl
 
-pub removal : (t : List Node) (n : ℕ) (e : TreeFault) → (node t n).linked ≡ true → e ≢ fault.NotEmpty → Tells (remove_fault t n) e → e ≡ fault.Memory
+pub removal : (t : List Node) (n : ℕ) (e : TreeFault) → (node t n).linked ≡ true → e ≢ fault.NotEmpty → TellsTreeFault (remove_fault t n) e → e ≡ fault.Memory
 unfolding remove_fault
 removal t n e linked other tells =
     let full = is_root (node t n).place || has_below t (node t n).place in
-    only_full full e other (subst (λ o. Tells o e) (ap (λ b. cond (not b) (Some Gone) (cond full (Some NotEmpty) None)) linked) tells)
+    only_full full e other (subst (λ o. TellsTreeFault o e) (ap (λ b. cond (not b) (Some Gone) (cond full (Some NotEmpty) None)) linked) tells)
 
 -- a renaming to a place that isn't below the node, the same over an empty place
-only_into : (b : Bool) (e : TreeFault) → e ≢ fault.IntoItself → Tells (cond b (Some IntoItself) None) e → e ≡ fault.Memory
+only_into : (b : Bool) (e : TreeFault) → e ≢ fault.IntoItself → TellsTreeFault (cond b (Some IntoItself) None) e → e ≡ fault.Memory
 only_into false e other tells = untold None e refl tells
 only_into true fault.Exists other tells =
     let no : Some IntoItself ≡ Some Exists = tells (λ same. absurd cc) in
@@ -81,31 +81,31 @@ both true true one two = refl
 both true false one two = absurd cc
 both false b one two = absurd cc
 
-to_empty : (own into full : Bool) (e : TreeFault) → full ≡ false → e ≢ fault.IntoItself → Tells (renames false own into full) e → e ≡ fault.Memory
+to_empty : (own into full : Bool) (e : TreeFault) → full ≡ false → e ≢ fault.IntoItself → TellsTreeFault (renames false own into full) e → e ≡ fault.Memory
 to_empty true into full e empty other tells = untold None e refl tells
 to_empty false true false e empty other tells = only_into true e other tells
 to_empty false false false e empty other tells = untold None e refl tells
 to_empty false into true e empty other tells = absurd cc
 
-to_other : (own into full : Bool) (e : TreeFault) → into ≡ false → e ≢ fault.NotEmpty → Tells (renames false own into full) e → e ≡ fault.Memory
+to_other : (own into full : Bool) (e : TreeFault) → into ≡ false → e ≢ fault.NotEmpty → TellsTreeFault (renames false own into full) e → e ≡ fault.Memory
 to_other true into full e apart other tells = untold None e refl tells
 to_other false false full e apart other tells = only_full full e other tells
 to_other false true full e apart other tells = absurd cc
 
 -- into a free name, and over another node
-pub into_free : (t : List Node) (n d : ℕ) (name : List ℕ) (e : TreeFault) → IsTree t → (node t n).linked ≡ true → (node t d).linked ≡ true → child_of t d name ≡ None → e ≢ fault.IntoItself → Tells (rename_fault t n d name) e → e ≡ fault.Memory
+pub into_free : (t : List Node) (n d : ℕ) (name : List ℕ) (e : TreeFault) → IsTree t → (node t n).linked ≡ true → (node t d).linked ≡ true → child_of t d name ≡ None → e ≢ fault.IntoItself → TellsTreeFault (rename_fault t n d name) e → e ≡ fault.Memory
 unfolding rename_fault
 into_free t n d name e tree linked held free other tells =
     let to = at_name (node t d).place name in
     to_empty (same_place to (node t n).place) (begins (node t n).place to) (has_below t to) e (free_empty t tree to (free_place t d name held free)) other
-    (subst (λ b. Tells (renames b (same_place to (node t n).place) (begins (node t n).place to) (has_below t to)) e) (both (node t n).linked (node t d).linked linked held) tells)
+    (subst (λ b. TellsTreeFault (renames b (same_place to (node t n).place) (begins (node t n).place to) (has_below t to)) e) (both (node t n).linked (node t d).linked linked held) tells)
 
-pub over_node : (t : List Node) (n d : ℕ) (name : List ℕ) (e : TreeFault) → (node t n).linked ≡ true → (node t d).linked ≡ true → begins (node t n).place (at_name (node t d).place name) ≡ false → e ≢ fault.NotEmpty → Tells (rename_fault t n d name) e → e ≡ fault.Memory
+pub over_node : (t : List Node) (n d : ℕ) (name : List ℕ) (e : TreeFault) → (node t n).linked ≡ true → (node t d).linked ≡ true → begins (node t n).place (at_name (node t d).place name) ≡ false → e ≢ fault.NotEmpty → TellsTreeFault (rename_fault t n d name) e → e ≡ fault.Memory
 unfolding rename_fault
 over_node t n d name e linked held apart other tells =
     let to = at_name (node t d).place name in
     to_other (same_place to (node t n).place) (begins (node t n).place to) (has_below t to) e apart other
-    (subst (λ b. Tells (renames b (same_place to (node t n).place) (begins (node t n).place to) (has_below t to)) e) (both (node t n).linked (node t d).linked linked held) tells)
+    (subst (λ b. TellsTreeFault (renames b (same_place to (node t n).place) (begins (node t n).place to) (has_below t to)) e) (both (node t n).linked (node t d).linked linked held) tells)
 
 -- what is left of the faults beside one of these and want of memory
 pub but_full : (e : TreeFault) → (e ≡ fault.Exists) ⊎ ((e ≡ fault.Full) ⊎ ((e ≡ fault.IntoItself) ⊎ (e ≡ fault.Gone))) → (e ≢ fault.NotEmpty) × (e ≢ fault.Memory)

@@ -11,7 +11,7 @@ use Rattle.kernel.specs.Calls.{read_end, sent_end, receive_end, received, blocke
 use Rattle.rights.specs.Errors.{EINVAL, EPIPE, Refused}
 use Rattle.fd_table.specs.declared.faults.SendFault.{SendFault}
 use Rattle.fd_table.specs.declared.faults.SendFault.TheVariants as fault
-use Rattle.fd_table.specs.Views.{Tells}
+use Rattle.fd_table.specs.Views.{TellsSendFault}
 use Rattle.syscalls.proofs.Tests.{passes, fails}
 
 pub read_none : (w : World) (p : ℕ) (s : ProcessState) (e : Event) (d : ℕ) (pair side : ℕ) (messages : List Message) → None ≡ front_of messages → read_end w p s e d pair side messages ≡ (if is_open w.files pair (other_side side) then blocked w p s e (w.files.states d).nonblock else gives 256)
@@ -57,11 +57,11 @@ module _ (w : World) (p : ℕ) (s : ProcessState) (e : Event) (d : ℕ) (pair si
       let (other, room) = refusal_full (is_open w.files pair (other_side side)) (nat_lt (length (w.files.queue pair side)) 16) is in
       passes _ _ _ _ other ∙ ap (λ b. if b then Gives 1 (record same { queue = Push pair side message }) [] else blocked w p s e (w.files.states d).nonblock) room
 
-pub told_closed : (o : Option SendRefusal) (e : SendFault) → Tells o e → e ≡ fault.Closed → o ≡ Some Closed
-told_closed o e tells is = subst (Tells o) is tells (λ same. absurd cc)
+pub told_closed : (o : Option SendRefusal) (e : SendFault) → TellsSendFault o e → e ≡ fault.Closed → o ≡ Some Closed
+told_closed o e tells is = subst (TellsSendFault o) is tells (λ same. absurd cc)
 
-pub told_full : (o : Option SendRefusal) (e : SendFault) → Tells o e → e ≡ fault.Full → o ≡ Some Full
-told_full o e tells is = subst (Tells o) is tells (λ same. absurd cc)
+pub told_full : (o : Option SendRefusal) (e : SendFault) → TellsSendFault o e → e ≡ fault.Full → o ≡ Some Full
+told_full o e tells is = subst (TellsSendFault o) is tells (λ same. absurd cc)
 
 -- ## Receiving a descriptor
 module _ (w : World) (p : ℕ) (s : ProcessState) (e : Event) (d : ℕ) (pair side number : ℕ) where

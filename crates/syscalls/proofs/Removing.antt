@@ -9,7 +9,7 @@ use Rattle.file_tree.specs.Refusals.{Fault, NotEmpty, Gone, remove_fault, is_roo
 use Rattle.file_tree.specs.WellFormed.{IsTree}
 use Rattle.file_tree.specs.declared.faults.TreeFault.{TreeFault}
 use Rattle.file_tree.specs.declared.faults.TreeFault.TheVariants as fault
-use Rattle.file_tree.specs.Views.{Tells}
+use Rattle.file_tree.specs.Views.{TellsTreeFault}
 use Rattle.file_tree.proofs.KeptByRemove.{may_remove}
 use Rattle.file_tree.proofs.BelowLaws.{file_empty}
 use Rattle.file_tree.proofs.PlaceLaws.{at_name_length, longer_place}
@@ -74,5 +74,5 @@ refuses_full w p s e directory n name rest tree linked named is refused =
         let no : false ≡ true = sym (file_empty w.tree tree n linked is) ∙ below in
         absurd cc
 
-pub told_full : (o : Option Fault) (e : TreeFault) → Tells o e → e ≡ fault.NotEmpty → o ≡ Some NotEmpty
-told_full o e tells is = subst (Tells o) is tells (λ same. absurd cc)
+pub told_full : (o : Option Fault) (e : TreeFault) → TellsTreeFault o e → e ≡ fault.NotEmpty → o ≡ Some NotEmpty
+told_full o e tells is = subst (TellsTreeFault o) is tells (λ same. absurd cc)

@@ -12,7 +12,7 @@ use Rattle.file_tree.specs.Refusals.{Fault, Gone, IntoItself, NotEmpty, rename_f
 use Rattle.file_tree.specs.WellFormed.{IsTree}
 use Rattle.file_tree.specs.declared.faults.TreeFault.{TreeFault}
 use Rattle.file_tree.specs.declared.faults.TreeFault.TheVariants as fault
-use Rattle.file_tree.specs.Views.{Tells}
+use Rattle.file_tree.specs.Views.{TellsTreeFault}
 use Rattle.file_tree.proofs.PlaceLaws.{same_place_is, begins_refl}
 use Rattle.file_tree.proofs.NodeLaws.{node_at_none, stands_from}
 use Rattle.file_tree.proofs.TreeLaws.{renamed_node, child_by_place}
@@ -75,11 +75,11 @@ pub renamed_place : (t : List Node) (n d : ℕ) (name : List ℕ) → (node t n)
 renamed_place t n d name linked other =
     ap (λ (m : Node). m.place) (renamed_node t n d name n other) ∙ moved_place (at_name (node t d).place name) (node t n) linked other
 
-pub told_into : (o : Option Fault) (e : TreeFault) → Tells o e → e ≡ fault.IntoItself → o ≡ Some IntoItself
-told_into o e tells is = subst (Tells o) is tells (λ same. absurd cc)
+pub told_into : (o : Option Fault) (e : TreeFault) → TellsTreeFault o e → e ≡ fault.IntoItself → o ≡ Some IntoItself
+told_into o e tells is = subst (TellsTreeFault o) is tells (λ same. absurd cc)
 
-pub told_full : (o : Option Fault) (e : TreeFault) → Tells o e → e ≡ fault.NotEmpty → o ≡ Some NotEmpty
-told_full o e tells is = subst (Tells o) is tells (λ same. absurd cc)
+pub told_full : (o : Option Fault) (e : TreeFault) → TellsTreeFault o e → e ≡ fault.NotEmpty → o ≡ Some NotEmpty
+told_full o e tells is = subst (TellsTreeFault o) is tells (λ same. absurd cc)
 
 -- ## Over another node
 -- the kinds fit where both are directories or neither is

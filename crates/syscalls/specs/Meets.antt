@@ -15,7 +15,7 @@ use Rattle.lookup.specs.declared.ways.Found.{Found}
 use Rattle.lookup.specs.Views.{found_of}
 use Rattle.lookup.specs.Answers as lookups
 use Rattle.kernel.specs.World.{World, Choice}
-use Rattle.kernel.specs.Answers.{Event, Effect, TableChange, New_file, New_pair, Change, Answer, Fails, Waits, Gives, lost, New_process}
+use Rattle.kernel.specs.Answers.{Event, Effect, TableChange, New_file, New_pair, Change, Answer, Fails, Waits, Gives, lookup_fails, New_process}
 use Rattle.kernel.specs.Changes.{tree_after, files_after}
 use Rattle.syscalls.specs.declared.outcomes.Success.{Success}
 use Rattle.syscalls.specs.declared.outcomes.Refusal.{Refusal}
@@ -89,14 +89,14 @@ Passes {B = B} view test (Ok found) = (rest : B → Answer) → test rest ≡ re
 Passes {B = B} view test (Err refused) = (rest : B → Answer) → Refuses refused (test rest)
 
 -- What a lookup found, or the fault that it is refused for.
-pub record IsLost (refused : Refusal) (sought : lookups.Answer) : Type 0 where
+pub record IsNotFound (refused : Refusal) (found : lookups.Answer) : Type 0 where
   pub fault : lookups.Fault
-  pub is : sought ≡ lookups.Lost fault
-  pub refuses : Refuses refused (lost fault)
+  pub is : found ≡ lookups.Not_found fault
+  pub refuses : Refuses refused (lookup_fails fault)
 
 abbrev pub Finds : lookups.Answer → Result Found Refusal → Type 0
-Finds sought (Ok found) = found_of found ≡ sought
-Finds sought (Err refused) = refused ≢ refusal.Memory → IsLost refused sought
+Finds answer (Ok found) = found_of found ≡ answer
+Finds answer (Err refused) = refused ≢ refusal.Memory → IsNotFound refused answer
 
 -- queues are only where pairs are
 abbrev pub IsIdle : OpenFiles → Type 0

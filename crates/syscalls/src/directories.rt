@@ -13,7 +13,7 @@ ghost use Rattle.syscalls.specs.Meets.{OnTree};
 
 use crate::changes::create_node;
 use crate::outcomes::{Refusal, Success, effects_at};
-use crate::paths::sought;
+use crate::paths::look_up;
 use file_tree::{Kind, New, NodeId, Tree, TreeFault};
 use lookup::{Found, Last, Way, last_name};
 use rights::{Cause, Errno, Op};
@@ -54,7 +54,7 @@ pub(crate) fn stat_at<T: Tree>(
     ensures { (refuse : Bool) → OnTree (T.nodes tree.now) (T.nodes tree.now) refuse result (λ w p s e.
         looked_at w p s e (find_of (T.nodes tree.now) start path.now (way_of way) lookups.Follow)) }
 {
-    match sought(alloc, tree, start, path, way, Last::Follow)? {
+    match look_up(alloc, tree, start, path, way, Last::Follow)? {
         Found::Free(_) => Err(Refusal::Fails(Errno::ENOENT, Cause::Path)),
         Found::Node(n) => stat(alloc, tree, n),
     }
@@ -76,7 +76,7 @@ pub(crate) fn make_directory<T: Tree>(
     ensures { OnTree (T.nodes tree.old) (T.nodes tree.new) refuse result (λ w p s e.
         made_directory w p s e path.now (find_of (T.nodes tree.old) start path.now (way_of way) lookups.Keep)) }
 {
-    let dir = match sought(alloc, tree, start, path, way, Last::Keep)? {
+    let dir = match look_up(alloc, tree, start, path, way, Last::Keep)? {
         Found::Node(_) => return Err(Refusal::Fails(Errno::EEXIST, Cause::Path)),
         Found::Free(dir) => dir,
     };
@@ -118,7 +118,7 @@ pub(crate) fn remove<T: Tree>(
     ensures { (refuse : Bool) → OnTree (T.nodes tree.old) (T.nodes tree.new) refuse result (λ w p s e.
         unlinked w p s e directory (find_of (T.nodes tree.old) start path.now (way_of way) lookups.Keep)) }
 {
-    let n = match sought(alloc, tree, start, path, way, Last::Keep)? {
+    let n = match look_up(alloc, tree, start, path, way, Last::Keep)? {
         Found::Free(_) => return Err(Refusal::Fails(Errno::ENOENT, Cause::Path)),
         Found::Node(n) => n,
     };

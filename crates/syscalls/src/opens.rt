@@ -21,7 +21,7 @@ ghost use Rattle.syscalls.specs.Views.{effects_of};
 use crate::changes::create_node;
 use crate::descriptors::Caller;
 use crate::outcomes::{Effect, Refusal, Success, effects_at, want_of_memory};
-use crate::paths::sought;
+use crate::paths::look_up;
 use crate::tables::free_number;
 use fd_table::Files;
 use file_tree::{Kind, New, NodeId, Tree};
@@ -212,7 +212,7 @@ pub(crate) fn open_found<T: Tree>(
     } else {
         Last::Follow
     };
-    let n = match sought(alloc, tree, start, path, way, last)? {
+    let n = match look_up(alloc, tree, start, path, way, last)? {
         Found::Free(dir) => {
             return open_new(alloc, tree, files, caller, dir, last_name(path), how);
         }

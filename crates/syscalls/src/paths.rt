@@ -17,8 +17,8 @@ use std::alloc::Global;
 
 /// What a fault of a lookup is refused as. An escape is no missing right, though its error is the same. (open(2),
 /// capsicum(4))
-fn lost(fault: PathFault) -> Refusal
-    ensures { (sought : lookups.Answer) → IfSome (views.lost (fault_of fault)) (λ answer. answer ≡ sought) → Finds sought (Err result) }
+fn refusal_of(fault: PathFault) -> Refusal
+    ensures { (found : lookups.Answer) → IfSome (views.not_found (fault_of fault)) (λ answer. answer ≡ found) → Finds found (Err result) }
 {
     match fault {
         PathFault::Escape => Refusal::Fails(Errno::ENOTCAPABLE, Cause::Escape),
@@ -32,7 +32,7 @@ fn lost(fault: PathFault) -> Refusal
 }
 
 /// What a path leads to, from a start that is a file or directory of the tree.
-pub(crate) fn sought<T: Tree>(
+pub(crate) fn look_up<T: Tree>(
     alloc: Global,
     tree: &T,
     start: NodeId,
@@ -52,6 +52,6 @@ pub(crate) fn sought<T: Tree>(
 {
     match find(alloc, tree, start, path, way, last) {
         Ok(found) => Ok(found),
-        Err(fault) => Err(lost(fault)),
+        Err(fault) => Err(refusal_of(fault)),
     }
 }

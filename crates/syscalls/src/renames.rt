@@ -16,7 +16,7 @@ ghost use Rattle.syscalls.specs.Views.{effect_of, effects_of};
 
 use crate::directories::is_directory;
 use crate::outcomes::{Effect, Refusal, Success, effect_at, place_of};
-use crate::paths::sought;
+use crate::paths::look_up;
 use file_tree::{NodeId, Tree, TreeFault};
 use lookup::{Found, Last, Way, last_name};
 use rights::{Cause, Errno, Op};
@@ -169,7 +169,7 @@ pub(crate) fn rename_to<T: Tree>(
         → OnTree (T.nodes tree.old) (T.nodes tree.new) refuse result (λ w p s e.
         model.renamed_to w p s e call target n path.now (find_of (T.nodes tree.old) start path.now lookups.Beneath lookups.Keep)) }
 {
-    let over = match sought(alloc, tree, start, path, Way::Beneath, Last::Keep)? {
+    let over = match look_up(alloc, tree, start, path, Way::Beneath, Last::Keep)? {
         Found::Free(dir) => return rename_free(alloc, tree, n, dir, last_name(path)),
         Found::Node(over) => over,
     };
@@ -206,7 +206,7 @@ pub(crate) fn rename<T: Tree>(
         model.renamed_from w p s e (find_of (T.nodes tree.old) start path.now lookups.Beneath lookups.Keep) (λ n.
         model.renamed_to w p s e call holder n new_path.now (find_of (T.nodes tree.old) target new_path.now lookups.Beneath lookups.Keep))) }
 {
-    let n = match sought(alloc, tree, start, path, Way::Beneath, Last::Keep)? {
+    let n = match look_up(alloc, tree, start, path, Way::Beneath, Last::Keep)? {
         Found::Free(_) => return Err(Refusal::Fails(Errno::ENOENT, Cause::Path)),
         Found::Node(n) => n,
     };

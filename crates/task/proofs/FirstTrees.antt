@@ -12,7 +12,7 @@ use Rattle.file_tree.specs.WellFormed.{IsTree, has_directory, is_within_limits}
 use Rattle.file_tree.proofs.NodeLaws.{Directory, none_at, node_at_found, directory, stands_is, stands_from}
 use Rattle.file_tree.proofs.NewTree.{new_is_tree}
 use Rattle.file_tree.proofs.KeptByCreate.{limits_of, all_after, created_is_tree}
-use Rattle.task.specs.Kept.{IsMadeAfter}
+use Rattle.task.specs.KeptLimits.{IsMadeAfter}
 use Rattle.task.specs.Limits.{is_root_node, can_follow, are_made, is_tree}
 
 directory_kind : (k : Kind) → is_dir k ≡ true → k ≡ Dir

@@ -18,7 +18,7 @@ use Rattle.task.specs.Plans.{Grant, NamedProgram, FirstDescriptor, Start, Plan, 
 use Rattle.rights.specs.Limits.{most_grants, most_programs}
 use Rattle.task.specs.Limits.{can_follow, are_made, is_tree, is_grant, are_apart, are_grants, is_named, are_named_apart, are_programs, all_apart, is_descriptor, are_numbered_apart, are_descriptors, is_start, is_plan}
 use Rattle.task.specs.Policies.{grant_named}
-use Rattle.task.specs.Kept.{IsLetter, IsNameByte, IsShortName, IsUsable, KeepsGrants, KeepsPrograms, KeepsStarts, PlansKeepLimits, TreesAreMadeInOrder}
+use Rattle.task.specs.KeptLimits.{IsLetter, IsNameByte, IsShortName, IsUsable, KeepsGrants, KeepsPrograms, KeepsStarts, PlansKeepLimits, TreesAreMadeInOrder}
 use Rattle.task.proofs.FirstTrees.{tested_tree, made_in_order}
 use Rattle.task.proofs.Openings.{tested}
 use Rattle.task.proofs.FirstWorlds.{checked}

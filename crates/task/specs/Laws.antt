@@ -51,7 +51,7 @@ IsFirstEntry f (Some given) (Some d) = IsGiven f given d
 
 -- A world is a task's first one: it has the task's tree and processes, an entry for each first descriptor and no other,
 -- no description is shared, and nothing is queued.
-pub record IsFirst (plan : Plan) (w : World) : Type 0 where
+pub record IsFirstWorld (plan : Plan) (w : World) : Type 0 where
   pub tree : w.tree ≡ plan.nodes
   pub processes : (p : ℕ) → IsFirstProcess (slice_get plan.starts p) (slice_get w.processes p)
   pub entries : (p n : ℕ) → IsFirstEntry w.files (given_to (slice_get plan.starts p) n) (w.files.table p n)
@@ -61,7 +61,7 @@ pub record IsFirst (plan : Plan) (w : World) : Type 0 where
   pub queues : (pair side : ℕ) → w.files.queue pair side ≡ []
 
 abbrev pub FirstWorldsAreFirst : Type 0
-FirstWorldsAreFirst = (plan : Plan) → is_plan plan ≡ true → IsFirst plan (first_world plan)
+FirstWorldsAreFirst = (plan : Plan) → is_plan plan ≡ true → IsFirstWorld plan (first_world plan)
 
 abbrev pub AllowedIsTested : Type 0
 AllowedIsTested =

@@ -1,7 +1,7 @@
 //! Laws of tasks. Each is the contract of a function that does nothing.
 
 ghost use Rattle.task.specs.Breaches.{SomeAreNotSandboxed};
-ghost use Rattle.task.specs.Kept.{PlansKeepLimits, TreesAreMadeInOrder};
+ghost use Rattle.task.specs.KeptLimits.{PlansKeepLimits, TreesAreMadeInOrder};
 ghost use Rattle.task.specs.Laws.{AllowedIsTested, FirstWorldsAreFirst, FirstWorldsAreWellFormed, PlanExists};
 
 /// What is tested of a plan, fact by fact: its tree is one, with no removed node; names are words that are given once; no

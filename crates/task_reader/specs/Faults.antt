@@ -54,6 +54,6 @@ FaultIs code.Limit read = read ≡ Err Past_limit
 FaultIs code.Memory read = Unit {0}
 
 -- What is read is what the definition gives, or its mistake.
-abbrev pub Reads : {X Y : Type 0} → (X → Y) → Result X TaskFault → Result Y Mistake → Type 0
-Reads view (Ok x) read = read ≡ Ok (view x)
-Reads view (Err error) read = FaultIs error read
+abbrev pub ReadsTask : {X Y : Type 0} → (X → Y) → Result X TaskFault → Result Y Mistake → Type 0
+ReadsTask view (Ok x) read = read ≡ Ok (view x)
+ReadsTask view (Err error) read = FaultIs error read

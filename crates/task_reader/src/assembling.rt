@@ -1,7 +1,7 @@
 //! The programs of a task, assembled.
 
 ghost use Rattle.std.specs.Prelude.{◌≡◌};
-ghost use Rattle.task_reader.specs.Faults.{Reads};
+ghost use Rattle.task_reader.specs.Faults.{ReadsTask};
 ghost use Rattle.task_reader.specs.Reading.{all_assembled, assembled};
 ghost use Rattle.task.specs.Views.{program_of, programs_of};
 ghost use Rattle.task_reader.specs.WrittenViews.{program_seen, programs_seen};
@@ -14,7 +14,7 @@ use task::NamedProgram;
 
 /// The program that a text stands for.
 fn assemble_one(alloc: Global, written: &WrittenProgram<'_>) -> Result<NamedProgram, TaskFault>
-    ensures { Reads program_of result (assembled (program_seen written.now)) }
+    ensures { ReadsTask program_of result (assembled (program_seen written.now)) }
 {
     let name = String::from_str(alloc, written.name)?;
     match assemble(alloc, written.text) {
@@ -32,7 +32,7 @@ pub(crate) fn assemble_all(
     alloc: Global,
     written: &[WrittenProgram<'_>],
 ) -> Result<Vec<NamedProgram>, TaskFault>
-    ensures { Reads (λ programs. programs_of programs.items) result (all_assembled (programs_seen written.now)) }
+    ensures { ReadsTask (λ programs. programs_of programs.items) result (all_assembled (programs_seen written.now)) }
 {
     let mut programs = Vec::new(alloc);
     for program in written {

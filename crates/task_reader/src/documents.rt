@@ -4,7 +4,7 @@ ghost use Rattle.std.specs.Prelude.{◌≡◌, map, option_map};
 ghost use Rattle.toml.specs.Data.{as_str, get_member};
 ghost use Rattle.toml.specs.View.{array_view, items_view, table_view, view};
 ghost use Rattle.task_reader.specs.Documents.{are_once, document_of, each_item, integer_at, is_among, items_at, only_keys, text_at, words_in};
-ghost use Rattle.task_reader.specs.Faults.{Reads};
+ghost use Rattle.task_reader.specs.Faults.{ReadsTask};
 ghost use Rattle.task_reader.specs.Reading.{Not_toml, Wrong_field, or_mistake};
 
 use crate::faults::TaskFault;
@@ -14,7 +14,7 @@ use toml::{Table, Value};
 
 /// The document that some bytes are.
 pub(crate) fn read_document(alloc: Global, bytes: &[u8]) -> Result<Table, TaskFault>
-    ensures { Reads table_view result (or_mistake Not_toml (document_of bytes.now)) }
+    ensures { ReadsTask table_view result (or_mistake Not_toml (document_of bytes.now)) }
 {
     match toml::table_from_slice(alloc, bytes) {
         Ok(table) => Ok(table),
@@ -100,7 +100,7 @@ pub(crate) fn items_at<'a>(table: &'a Table, key: &str) -> Option<&'a Array>
 
 /// The texts of a list.
 fn read_texts<'a>(alloc: Global, values: &'a [Value]) -> Result<Vec<&'a str>, TaskFault>
-    ensures { Reads (λ words. map (λ w. w.now) words.items) result (or_mistake Wrong_field (each_item as_str (items_view values.now))) }
+    ensures { ReadsTask (λ words. map (λ w. w.now) words.items) result (or_mistake Wrong_field (each_item as_str (items_view values.now))) }
 {
     let mut texts = Vec::new(alloc);
     for value in values {
@@ -114,7 +114,7 @@ fn read_texts<'a>(alloc: Global, values: &'a [Value]) -> Result<Vec<&'a str>, Ta
 
 /// The words of a list in which none is twice.
 pub(crate) fn read_words<'a>(alloc: Global, value: &'a Value) -> Result<Vec<&'a str>, TaskFault>
-    ensures { Reads (λ words. map (λ w. w.now) words.items) result (or_mistake Wrong_field (words_in (view value.now))) }
+    ensures { ReadsTask (λ words. map (λ w. w.now) words.items) result (or_mistake Wrong_field (words_in (view value.now))) }
 {
     let values = match value.as_array() {
         Some(values) => values,

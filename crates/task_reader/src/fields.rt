@@ -7,7 +7,7 @@ ghost use Rattle.fd_table.specs.Views.{access_seen};
 ghost use Rattle.toml.specs.Data.{as_table};
 ghost use Rattle.toml.specs.View.{table_view, view};
 ghost use Rattle.task_reader.specs.Documents.{each_item, items_at, read_or};
-ghost use Rattle.task_reader.specs.Faults.{Reads};
+ghost use Rattle.task_reader.specs.Faults.{ReadsTask};
 ghost use Rattle.task_reader.specs.Reading.{Wrong_field, or_mistake};
 ghost use Rattle.task_reader.specs.Written.{access_in, descriptor_in, directory_in, file_in, grant_in, link_in, mode_in, name_at, node_in, operations_in, program_in, reading, set_in, start_in, written_descriptor, written_grant, written_node, written_program, written_start};
 ghost use Rattle.task_reader.specs.WrittenViews.{descriptor_seen, grant_seen, node_seen, program_seen, start_seen};
@@ -135,7 +135,7 @@ pub(crate) fn written_program(value: &Value) -> Option<WrittenProgram<'_>>
 
 /// A list of operations.
 fn operations(alloc: Global, value: Option<&Value>) -> Result<Vec<Op>, TaskFault>
-    ensures { Reads (λ operations. map operation_of operations.items) result
+    ensures { ReadsTask (λ operations. map operation_of operations.items) result
         (or_mistake Wrong_field (option_and_then operations_in (option_map (λ v. view v.now) value.entry))) }
 {
     match value {
@@ -149,7 +149,7 @@ fn operations(alloc: Global, value: Option<&Value>) -> Result<Vec<Op>, TaskFault
 
 /// A grant, with its operations.
 fn grant<'a>(alloc: Global, table: &'a Table) -> Result<WrittenGrant<'a>, TaskFault>
-    ensures { Reads grant_seen result (or_mistake Wrong_field (grant_in (table_view table.now))) }
+    ensures { ReadsTask grant_seen result (or_mistake Wrong_field (grant_in (table_view table.now))) }
 {
     if !has_only(table, &["name", "path", "ops"]) {
         return Err(TaskFault::Field);
@@ -172,7 +172,7 @@ pub(crate) fn written_grant<'a>(
     alloc: Global,
     value: &'a Value,
 ) -> Result<WrittenGrant<'a>, TaskFault>
-    ensures { Reads grant_seen result (or_mistake Wrong_field (written_grant (view value.now))) }
+    ensures { ReadsTask grant_seen result (or_mistake Wrong_field (written_grant (view value.now))) }
 {
     match value.as_table() {
         Some(table) => grant(alloc, table),
@@ -182,7 +182,7 @@ pub(crate) fn written_grant<'a>(
 
 /// What a descriptor's node is opened for: reading, where no list of flags says it. (open(2))
 fn read_access(alloc: Global, value: Option<&Value>) -> Result<Access, TaskFault>
-    ensures { Reads access_seen result
+    ensures { ReadsTask access_seen result
         (or_mistake Wrong_field (read_or reading access_in (option_map (λ v. view v.now) value.entry))) }
 {
     let value = match value {
@@ -203,7 +203,7 @@ fn read_access(alloc: Global, value: Option<&Value>) -> Result<Access, TaskFault
 
 /// A descriptor's rights: all, where no list says which. (rights(4))
 fn read_rights(alloc: Global, value: Option<&Value>) -> Result<Rights, TaskFault>
-    ensures { Reads (λ rights. rights.0) result
+    ensures { ReadsTask (λ rights. rights.0) result
         (or_mistake Wrong_field (read_or all_rights (set_in right_names) (option_map (λ v. view v.now) value.entry))) }
 {
     let value = match value {
@@ -219,7 +219,7 @@ fn read_rights(alloc: Global, value: Option<&Value>) -> Result<Rights, TaskFault
 
 /// A descriptor's fcntl commands: all, where no list says which. (cap_fcntls_limit(2))
 fn read_fcntls(alloc: Global, value: Option<&Value>) -> Result<Fcntls, TaskFault>
-    ensures { Reads (λ fcntls. fcntls.0) result
+    ensures { ReadsTask (λ fcntls. fcntls.0) result
         (or_mistake Wrong_field (read_or all_commands (set_in command_names) (option_map (λ v. view v.now) value.entry))) }
 {
     let value = match value {
@@ -235,7 +235,7 @@ fn read_fcntls(alloc: Global, value: Option<&Value>) -> Result<Fcntls, TaskFault
 
 /// A first descriptor, with its access, rights and commands.
 fn descriptor<'a>(alloc: Global, table: &'a Table) -> Result<WrittenDescriptor<'a>, TaskFault>
-    ensures { Reads descriptor_seen result (or_mistake Wrong_field (descriptor_in (table_view table.now))) }
+    ensures { ReadsTask descriptor_seen result (or_mistake Wrong_field (descriptor_in (table_view table.now))) }
 {
     if !has_only(table, &["number", "path", "flags", "rights", "fcntls"]) {
         return Err(TaskFault::Field);
@@ -257,7 +257,7 @@ pub(crate) fn written_descriptor<'a>(
     alloc: Global,
     value: &'a Value,
 ) -> Result<WrittenDescriptor<'a>, TaskFault>
-    ensures { Reads descriptor_seen result (or_mistake Wrong_field (written_descriptor (view value.now))) }
+    ensures { ReadsTask descriptor_seen result (or_mistake Wrong_field (written_descriptor (view value.now))) }
 {
     match value.as_table() {
         Some(table) => descriptor(alloc, table),

@@ -3,7 +3,7 @@
 ghost use Rattle.std.specs.Prelude.{◌≡◌, IfOk, option_map};
 ghost use Rattle.std.specs.List.{list_all};
 ghost use Rattle.file_tree.specs.Views.{names_of};
-ghost use Rattle.task_reader.specs.Faults.{Reads};
+ghost use Rattle.task_reader.specs.Faults.{ReadsTask};
 ghost use Rattle.task.specs.Limits.{all_apart};
 ghost use Rattle.task_reader.specs.Reading.{Wrong_grant, are_disjoint, can_grant, grant_placed, grants_placed, or_mistake, policy_of};
 ghost use Rattle.task.specs.Views.{grant_of, grants_of, nodes_of};
@@ -98,7 +98,7 @@ pub(crate) fn make_policy(
     nodes: &[TaskNode],
     written: &[WrittenGrant<'_>],
 ) -> Result<Vec<Grant>, TaskFault>
-    ensures { Reads (λ grants. grants_of grants.items) result
+    ensures { ReadsTask (λ grants. grants_of grants.items) result
         (or_mistake Wrong_grant (policy_of (nodes_of nodes.now) (grants_seen written.now))) }
 {
     let Some(grants) = place_grants(alloc, nodes, written)? else {

@@ -5,7 +5,7 @@ ghost use Rattle.std.specs.List.{list_all};
 ghost use Rattle.fd_table.specs.Views.{access_seen};
 ghost use Rattle.file_tree.specs.Nodes.{node, node_at};
 ghost use Rattle.file_tree.specs.Views.{names_of};
-ghost use Rattle.task_reader.specs.Faults.{Reads};
+ghost use Rattle.task_reader.specs.Faults.{ReadsTask};
 ghost use Rattle.task.specs.Limits.{all_apart, are_numbered_apart};
 ghost use Rattle.task_reader.specs.Placed.{placed_descriptor, placed_start, placed_starts};
 ghost use Rattle.task_reader.specs.Reading.{Wrong_descriptor, can_access, can_open, descriptor_number, descriptor_placed, descriptors_placed, number_of_path, or_mistake, start_placed, starts_placed, table_of};
@@ -206,7 +206,7 @@ pub(crate) fn place_starts(
     nodes: &[TaskNode],
     written: &[WrittenStart<'_>],
 ) -> Result<Vec<PlacedStart>, TaskFault>
-    ensures { Reads (λ starts. placed_starts starts.items) result
+    ensures { ReadsTask (λ starts. placed_starts starts.items) result
         (or_mistake Wrong_descriptor (starts_placed (nodes_of nodes.now) (starts_seen written.now))) }
 {
     let mut starts = Vec::new(alloc);

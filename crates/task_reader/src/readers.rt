@@ -4,7 +4,7 @@ ghost use Rattle.std.specs.Prelude.{◌≡◌, false, IfOk, map, option_and_then
 ghost use Rattle.toml.specs.Data.{get_member};
 ghost use Rattle.toml.specs.View.{items_view, table_view, view};
 ghost use Rattle.task_reader.specs.Documents.{each_item, read_or};
-ghost use Rattle.task_reader.specs.Faults.{Reads};
+ghost use Rattle.task_reader.specs.Faults.{ReadsTask};
 ghost use Rattle.task_reader.specs.Reading.{Wrong_field, or_mistake};
 ghost use Rattle.task_reader.specs.Written.{descriptors_in, listed_starts, mode_in, names_of_grants, names_of_programs, program_place, start_in, written_descriptor, written_grant, written_grants, written_node, written_nodes, written_program, written_programs, written_start, written_starts, written_task};
 ghost use Rattle.task_reader.specs.WrittenViews.{descriptor_seen, grant_seen, grants_seen, node_seen, nodes_seen, program_seen, programs_seen, start_seen, starts_seen, task_seen};
@@ -21,7 +21,7 @@ use toml::{Table, Value};
 
 /// The nodes of a list.
 fn node_list<'a>(alloc: Global, values: &'a [Value]) -> Result<Vec<WrittenNode<'a>>, TaskFault>
-    ensures { Reads (λ nodes. nodes_seen nodes.items) result
+    ensures { ReadsTask (λ nodes. nodes_seen nodes.items) result
         (or_mistake Wrong_field (each_item written_node (items_view values.now))) }
 {
     let mut nodes = Vec::new(alloc);
@@ -36,7 +36,7 @@ fn node_list<'a>(alloc: Global, values: &'a [Value]) -> Result<Vec<WrittenNode<'
 
 /// A document's nodes.
 fn read_nodes<'a>(alloc: Global, table: &'a Table) -> Result<Vec<WrittenNode<'a>>, TaskFault>
-    ensures { Reads (λ nodes. nodes_seen nodes.items) result
+    ensures { ReadsTask (λ nodes. nodes_seen nodes.items) result
         (or_mistake Wrong_field (written_nodes (table_view table.now))) }
 {
     match items_at(table, "node") {
@@ -47,7 +47,7 @@ fn read_nodes<'a>(alloc: Global, table: &'a Table) -> Result<Vec<WrittenNode<'a>
 
 /// The grants of a list.
 fn grant_list<'a>(alloc: Global, values: &'a [Value]) -> Result<Vec<WrittenGrant<'a>>, TaskFault>
-    ensures { Reads (λ grants. grants_seen grants.items) result
+    ensures { ReadsTask (λ grants. grants_seen grants.items) result
         (or_mistake Wrong_field (each_item written_grant (items_view values.now))) }
 {
     let mut grants = Vec::new(alloc);
@@ -73,7 +73,7 @@ fn grant_names<'a>(
 
 /// A document's grants: each name is given once.
 fn read_grants<'a>(alloc: Global, table: &'a Table) -> Result<Vec<WrittenGrant<'a>>, TaskFault>
-    ensures { Reads (λ grants. grants_seen grants.items) result
+    ensures { ReadsTask (λ grants. grants_seen grants.items) result
         (or_mistake Wrong_field (written_grants (table_view table.now))) }
 {
     let values = match items_at(table, "grant") {
@@ -93,7 +93,7 @@ fn program_list<'a>(
     alloc: Global,
     values: &'a [Value],
 ) -> Result<Vec<WrittenProgram<'a>>, TaskFault>
-    ensures { Reads (λ programs. programs_seen programs.items) result
+    ensures { ReadsTask (λ programs. programs_seen programs.items) result
         (or_mistake Wrong_field (each_item written_program (items_view values.now))) }
 {
     let mut programs = Vec::new(alloc);
@@ -122,7 +122,7 @@ fn program_names<'a>(
 
 /// A document's programs: each name is given once.
 fn read_programs<'a>(alloc: Global, table: &'a Table) -> Result<Vec<WrittenProgram<'a>>, TaskFault>
-    ensures { Reads (λ programs. programs_seen programs.items) result
+    ensures { ReadsTask (λ programs. programs_seen programs.items) result
         (or_mistake Wrong_field (written_programs (table_view table.now))) }
 {
     let values = match items_at(table, "program") {
@@ -165,7 +165,7 @@ fn descriptor_list<'a>(
     alloc: Global,
     values: &'a [Value],
 ) -> Result<Vec<WrittenDescriptor<'a>>, TaskFault>
-    ensures { Reads (λ descriptors. map descriptor_seen descriptors.items) result
+    ensures { ReadsTask (λ descriptors. map descriptor_seen descriptors.items) result
         (or_mistake Wrong_field (each_item written_descriptor (items_view values.now))) }
 {
     let mut descriptors = Vec::new(alloc);
@@ -180,7 +180,7 @@ fn read_descriptors<'a>(
     alloc: Global,
     table: &'a Table,
 ) -> Result<Vec<WrittenDescriptor<'a>>, TaskFault>
-    ensures { Reads (λ descriptors. map descriptor_seen descriptors.items) result
+    ensures { ReadsTask (λ descriptors. map descriptor_seen descriptors.items) result
         (or_mistake Wrong_field (descriptors_in (table_view table.now))) }
 {
     match items_at(table, "fd") {
@@ -191,7 +191,7 @@ fn read_descriptors<'a>(
 
 /// A first process of one of these programs.
 fn start<'a>(alloc: Global, names: &[&str], table: &'a Table) -> Result<WrittenStart<'a>, TaskFault>
-    ensures { Reads start_seen result
+    ensures { ReadsTask start_seen result
         (or_mistake Wrong_field (start_in (map (λ n. n.now) names.now) (table_view table.now))) }
 {
     if !has_only(table, &["program", "mode", "fd"]) {
@@ -216,7 +216,7 @@ fn written_start<'a>(
     names: &[&str],
     value: &'a Value,
 ) -> Result<WrittenStart<'a>, TaskFault>
-    ensures { Reads start_seen result
+    ensures { ReadsTask start_seen result
         (or_mistake Wrong_field (written_start (map (λ n. n.now) names.now) (view value.now))) }
 {
     match value.as_table() {
@@ -231,7 +231,7 @@ fn start_list<'a>(
     names: &[&str],
     values: &'a [Value],
 ) -> Result<Vec<WrittenStart<'a>>, TaskFault>
-    ensures { Reads (λ starts. starts_seen starts.items) result
+    ensures { ReadsTask (λ starts. starts_seen starts.items) result
         (or_mistake Wrong_field (each_item (written_start (map (λ n. n.now) names.now)) (items_view values.now))) }
 {
     let mut starts = Vec::new(alloc);
@@ -247,7 +247,7 @@ fn listed_starts<'a>(
     names: &[&str],
     table: &'a Table,
 ) -> Result<Vec<WrittenStart<'a>>, TaskFault>
-    ensures { Reads (λ starts. starts_seen starts.items) result
+    ensures { ReadsTask (λ starts. starts_seen starts.items) result
         (or_mistake Wrong_field (listed_starts (map (λ n. n.now) names.now) (table_view table.now))) }
 {
     match items_at(table, "process") {
@@ -262,7 +262,7 @@ fn read_starts<'a>(
     table: &'a Table,
     programs: &[WrittenProgram<'_>],
 ) -> Result<Vec<WrittenStart<'a>>, TaskFault>
-    ensures { Reads (λ starts. starts_seen starts.items) result
+    ensures { ReadsTask (λ starts. starts_seen starts.items) result
         (or_mistake Wrong_field (written_starts (table_view table.now) (programs_seen programs.now))) }
 {
     let names = program_names(alloc, programs)?;
@@ -276,7 +276,7 @@ fn read_starts<'a>(
 /// The task that a document writes.
 #[tactic(auto, unfolding(crate::specs::Written::written_task))]
 pub(crate) fn read_written(alloc: Global, table: &Table) -> Result<WrittenTask<'_>, TaskFault>
-    ensures { Reads task_seen result (or_mistake Wrong_field (written_task (table_view table.now))) }
+    ensures { ReadsTask task_seen result (or_mistake Wrong_field (written_task (table_view table.now))) }
 {
     if !has_only(table, &["node", "grant", "program", "process"]) {
         return Err(TaskFault::Field);

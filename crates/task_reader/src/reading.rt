@@ -3,7 +3,7 @@
 ghost use Rattle.std.specs.Prelude.{◌≡◌, ◌^◌, ◌<◌, true, IfOk, map};
 ghost use Rattle.std.specs.List.{list_all};
 ghost use Rattle.toml.specs.Data.{Members};
-ghost use Rattle.task_reader.specs.Faults.{Reads};
+ghost use Rattle.task_reader.specs.Faults.{ReadsTask};
 ghost use Rattle.task_reader.specs.Placed.{is_near, is_small, placed_descriptor, placed_start, placed_starts};
 ghost use Rattle.task_reader.specs.Reading.{plan_of, task_of};
 ghost use Rattle.task.specs.Views.{first_descriptor_of, start_of, starts_of};
@@ -70,7 +70,7 @@ fn kept_starts(alloc: Global, placed: &[PlacedStart]) -> Result<Vec<Start>, Allo
 /// The task that is written in a document.
 fn make_task(alloc: Global, written: &WrittenTask<'_>) -> Result<Task, TaskFault>
     requires { (document : Members) × (written_task document ≡ Some (task_seen written.now)) }
-    ensures { Reads (λ task. task) result (plan_of (task_seen written.now)) }
+    ensures { ReadsTask (λ task. task) result (plan_of (task_seen written.now)) }
 {
     let nodes = make_tree(alloc, &written.nodes)?;
     let grants = make_policy(alloc, &nodes, &written.grants)?;
@@ -103,7 +103,7 @@ fn make_task(alloc: Global, written: &WrittenTask<'_>) -> Result<Task, TaskFault
 /// bytes or has a name of more than 255, a file of more than 4096, and more than 1024 nodes, the root counted, 8 grants, 8
 /// programs, and, until programs can make more, one process. `Memory`, want of memory, may come in place of any answer.
 pub fn read_task(alloc: Global, bytes: &[u8]) -> Result<Task, TaskFault>
-    ensures { Reads (λ task. task) result (task_of bytes.now) }
+    ensures { ReadsTask (λ task. task) result (task_of bytes.now) }
 {
     let document = read_document(alloc, bytes)?;
     let written = read_written(alloc, &document)?;

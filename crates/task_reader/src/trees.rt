@@ -6,7 +6,7 @@ ghost use Rattle.file_tree.specs.Nodes.{stands_at};
 ghost use Rattle.file_tree.specs.Places.{above};
 ghost use Rattle.file_tree.specs.Views.{names_of};
 ghost use Rattle.file_tree.specs.WellFormed.{has_directory};
-ghost use Rattle.task_reader.specs.Faults.{Reads};
+ghost use Rattle.task_reader.specs.Faults.{ReadsTask};
 ghost use Rattle.task_reader.specs.Reading.{Wrong_node, can_stand, node_made, or_mistake, tree_of};
 ghost use Rattle.task.specs.Views.{node_of, nodes_of};
 ghost use Rattle.task_reader.specs.WrittenViews.{node_seen, nodes_seen};
@@ -93,7 +93,7 @@ pub(crate) fn make_tree(
     alloc: Global,
     written: &[WrittenNode<'_>],
 ) -> Result<Vec<TaskNode>, TaskFault>
-    ensures { Reads (λ nodes. nodes_of nodes.items) result (or_mistake Wrong_node (tree_of (nodes_seen written.now))) }
+    ensures { ReadsTask (λ nodes. nodes_of nodes.items) result (or_mistake Wrong_node (tree_of (nodes_seen written.now))) }
 {
     let mut nodes = Vec::new(alloc);
     nodes.push(TaskNode {

@@ -6,7 +6,7 @@ ghost use Rattle.rights.specs.Sets.{command_names, right_names};
 ghost use Rattle.rights.specs.Views.{operation_of};
 ghost use Rattle.fd_table.specs.Views.{access_seen};
 ghost use Rattle.prog_asm.specs.Fields.{named};
-ghost use Rattle.task_reader.specs.Faults.{Reads};
+ghost use Rattle.task_reader.specs.Faults.{ReadsTask};
 ghost use Rattle.task_reader.specs.Reading.{Wrong_field, or_mistake};
 ghost use Rattle.task_reader.specs.Written.{access_named, is_flag, mode_named, operation_named, operations_named, place_among, set_named};
 
@@ -45,7 +45,7 @@ fn operation(word: &str) -> Option<Op>
 
 /// The operations of these names.
 pub(crate) fn read_operations(alloc: Global, words: &[&str]) -> Result<Vec<Op>, TaskFault>
-    ensures { Reads (λ operations. map operation_of operations.items) result
+    ensures { ReadsTask (λ operations. map operation_of operations.items) result
         (or_mistake Wrong_field (operations_named (map (λ w. w.now) words.now))) }
 {
     let mut operations = Vec::new(alloc);

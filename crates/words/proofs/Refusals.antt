@@ -7,7 +7,7 @@ use Rattle.words.specs.declared.faults.WordsFault.{WordsFault}
 use Rattle.words.specs.declared.faults.WordsFault.TheVariants.{Words, Memory}
 use Rattle.words.specs.Commands.{program, parsed_order}
 use Rattle.words.specs.Orders.{Order, AsksFor, line_of, is_dashed}
-use Rattle.words.specs.OrderViews.{Reads}
+use Rattle.words.specs.OrderViews.{ReadsWords}
 use Rattle.words.proofs.Lines.{program_is_simple, takes_line, gives_line}
 
 undashed : (words : List (List ℕ)) (order : Order) → AsksFor words order → list_any is_dashed (line_of order) ≡ false
@@ -22,7 +22,7 @@ given words order asked =
     ∙ gives_line order (undashed words order asked)
 
 -- `clap` fails on a line that it takes for want of memory alone.
-pub failed : (fault : WordsFault) (words : List (List ℕ)) → (takes program words ≡ true → fault ≡ Memory) → Reads (Err fault) words
+pub failed : (fault : WordsFault) (words : List (List ℕ)) → (takes program words ≡ true → fault ≡ Memory) → ReadsWords (Err fault) words
 failed Memory words when = tt
 failed Words words when = λ order asked. let e : Words ≡ Memory = when (taken words order asked) in absurd (cc)
 

@@ -13,7 +13,7 @@ order_of (code.Check task cert) = Check task.now cert.now
 
 -- The words ask for the order that is read, and for none where the fault is theirs. Want of memory may come in place of
 -- any answer.
-abbrev pub Reads : Result OrderCode WordsFault → List (List ℕ) → Type 0
-Reads (Ok order) words = AsksFor words (order_of order)
-Reads (Err Words) words = (order : Order) → AsksFor words order → ⊥
-Reads (Err Memory) words = Unit {0}
+abbrev pub ReadsWords : Result OrderCode WordsFault → List (List ℕ) → Type 0
+ReadsWords (Ok order) words = AsksFor words (order_of order)
+ReadsWords (Err Words) words = (order : Order) → AsksFor words order → ⊥
+ReadsWords (Err Memory) words = Unit {0}

@@ -5,7 +5,7 @@ ghost use Rattle.std.specs.List.{list_any};
 ghost use Rattle.clap.specs.Words.{first_of, found_of, rows_of, subcommand_rows_of};
 ghost use Rattle.words.specs.Commands.{named_order, parsed_order};
 ghost use Rattle.words.specs.Orders.{is_dashed};
-ghost use Rattle.words.specs.OrderViews.{Reads, order_of};
+ghost use Rattle.words.specs.OrderViews.{ReadsWords, order_of};
 
 use crate::commands::program;
 use crate::faults::WordsFault;
@@ -71,7 +71,7 @@ fn parsed_order<'a>(matches: &ArgMatches<'a>) -> Option<Order<'a>>
 /// `Words`, where the words are none of these lines, or one of them begins with `-`, and nowhere else; `Memory`,
 /// where a growth was refused, may come in place of any answer.
 pub fn read_order<'a>(alloc: Global, words: &'a [String]) -> Result<Order<'a>, WordsFault>
-    ensures { Reads result (map string_bytes words.now) }
+    ensures { ReadsWords result (map string_bytes words.now) }
 {
     if has_dashed(words) {
         return Err(WordsFault::Words);

@@ -1,7 +1,7 @@
 use Rattle.std.proofs.Common.{refl, subst, map, Err, Global}
 use Rattle.std.specs.Prelude.{string_bytes}
 use Rattle.std.proofs.lemmas.Result.{IfErr-weaker}
-use Rattle.words.specs.OrderViews.{Reads}
+use Rattle.words.specs.OrderViews.{ReadsWords}
 use Rattle.service.specs.Fails.{asked_for, not_asked, unread}
 use Rattle.service.proofs.serving.serve_words.Goals as goal
 
@@ -11,7 +11,7 @@ returns-in-Ok-clause-fails g c = IfErr-weaker c.perform.result _ _ (λ fault fai
 pub returns-in-Err-Words-clause-fails : goal.returns-in-Err-Words-clause-fails
 returns-in-Err-Words-clause-fails g c =
     let words = map (string_bytes {Z = Global}) c.args.words.now in
-    not_asked (subst (λ e. Reads (Err e) words) c.in-Err-Words.field-0-is c.in-Err-Words.ensures) refl
+    not_asked (subst (λ e. ReadsWords (Err e) words) c.in-Err-Words.field-0-is c.in-Err-Words.ensures) refl
 
 pub returns-in-Err-Memory-clause-fails : goal.returns-in-Err-Memory-clause-fails
 returns-in-Err-Memory-clause-fails g c = unread

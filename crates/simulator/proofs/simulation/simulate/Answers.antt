@@ -11,9 +11,9 @@ use Rattle.kernel.proofs.Gains.{never_gains}
 use Rattle.task.specs.Begins.{first_world}
 use Rattle.task.specs.Limits.{is_plan}
 use Rattle.task.specs.Plans.{Plan, programs_of_plan}
-use Rattle.simulator.specs.Kept.{world_of}
+use Rattle.simulator.specs.Machines.{world_of}
 use Rattle.simulator.specs.Lines.{Line}
-use Rattle.simulator.specs.Steps.{Steps}
+use Rattle.simulator.specs.Steps.{StepsMachine}
 use Rattle.simulator.specs.Views.{line_of}
 use Rattle.simulator.proofs.Splitting.{map-drop, drop-end}
 use Rattle.simulator.proofs.Tracing.{IsTraced, bytes_more, traced-start, traced-step, traced-end, traced-front, traced-line}
@@ -63,7 +63,7 @@ returns-in_err-write_line-clause-err g c =
     (map-drop event_of c.args.events.now c.loop-event.event-index none c.loop-event-test.true) inv.traced
     in
     let byte : IsEvent e = c.in_ok-line.ensures.byte in
-    let s = subst (λ (p : Plan). Steps (programs_of_plan p) w e line next) inv.plan c.in_ok-line.ensures.step in
+    let s = subst (λ (p : Plan). StepsMachine (programs_of_plan p) w e line next) inv.plan c.in_ok-line.ensures.step in
     on_err _ (traced-line plan (map event_of c.args.events.now) _ _ _ w next e left line inv.valid inv.well_formed byte so_far s c.in_err-write_line.ensures.err)
 
 pub loop-event-preserved : goal.loop-event-preserved
@@ -80,7 +80,7 @@ loop-event-preserved g c =
     (map-drop event_of c.args.events.now c.loop-event.event-index none c.loop-event-test.true) inv.traced
     in
     let byte : IsEvent e = c.in_ok-line.ensures.byte in
-    let s = subst (λ (p : Plan). Steps (programs_of_plan p) w e line next) inv.plan c.in_ok-line.ensures.step in
+    let s = subst (λ (p : Plan). StepsMachine (programs_of_plan p) w e line next) inv.plan c.in_ok-line.ensures.step in
     let same : c.step.new.self.plan ≡ plan = c.in_ok-line.ensures.plan ∙ inv.plan in
     record {
       runs_on = c.in_ok-line.ensures.runs_on;

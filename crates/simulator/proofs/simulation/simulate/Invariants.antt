@@ -4,7 +4,7 @@ use Rattle.kernel.specs.WellFormed.{IsWellFormed}
 use Rattle.syscalls.specs.Views.{event_of}
 use Rattle.task.specs.Limits.{is_plan}
 use Rattle.task.specs.Plans.{programs_of_plan}
-use Rattle.simulator.specs.Kept.{world_of}
+use Rattle.simulator.specs.Machines.{world_of}
 use Rattle.simulator.proofs.Tracing.{IsTraced}
 use Rattle.simulator.proofs.simulation.simulate.Given as goal
 

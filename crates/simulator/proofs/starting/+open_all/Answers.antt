@@ -1,7 +1,7 @@
 use Rattle.std.proofs.Common.{◌≡◌, subst, length, map, true, false, rules}
 use Rattle.std.specs.List.{slice_index_or}
 use Rattle.task.specs.declared.starts.FirstDescriptor.{FirstDescriptor as FirstCode}
-use Rattle.simulator.proofs.Planted.{any_default}
+use Rattle.simulator.proofs.Built.{any_default}
 use Rattle.std.specs.List.{list_all}
 use Rattle.rights.proofs.Tests.{both_left, both_right}
 use Rattle.task.specs.Limits.{all_apart, are_numbered_apart}

@@ -6,7 +6,7 @@ use Rattle.fd_table.specs.Views.{access_asked}
 use Rattle.fd_table.proofs.QueueLaws.{on_ok_so}
 use Rattle.rights.specs.Opens.{OpenRequest}
 use Rattle.simulator.proofs.Begun.{node_there, opens_begun}
-use Rattle.simulator.proofs.Planted.{any_default}
+use Rattle.simulator.proofs.Built.{any_default}
 use Rattle.simulator.proofs.starting.open_first.Goals as goal
 
 pub returns-clause-begun : goal.returns-clause-begun

@@ -2,7 +2,7 @@ use Rattle.std.proofs.Common.{◌≡◌, ap, sym, subst, ◌∙◌}
 use Rattle.std.proofs.lemmas.Result.{err_from_is_err_and}
 use Rattle.toml.specs.View.{table_view}
 use Rattle.task_reader.specs.Documents.{document_of}
-use Rattle.task_reader.specs.Faults.{FaultIs, Reads}
+use Rattle.task_reader.specs.Faults.{FaultIs, ReadsTask}
 use Rattle.task_reader.specs.Reading.{Not_toml, Wrong_field, ◌>>=◌, or_mistake, plan_in, plan_of, task_of}
 use Rattle.task_reader.specs.Written.{written_task}
 use Rattle.task_reader.specs.WrittenViews.{task_seen}
@@ -35,4 +35,4 @@ returns c =
     let ms = table_view c.in_ok-document.document in
     let task = task_seen c.in_ok-written.written in
     let read : task_of c.args.bytes.now ≡ plan_of task = ap (λ r. r >>= plan_in) c.in_ok-document.ensures ∙ ap (λ r. r >>= plan_of) c.in_ok-written.ensures in
-    subst (Reads (λ task. task) c.make_task.result) (sym read) c.make_task.ensures
+    subst (ReadsTask (λ task. task) c.make_task.result) (sym read) c.make_task.ensures

@@ -1,6 +1,6 @@
 use Rattle.std.proofs.Common.{◌≡◌, take}
 use Rattle.file_tree.specs.Changes.{filled}
-use Rattle.simulator.proofs.planting.write_content.Given as goal
+use Rattle.simulator.proofs.building.write_content.Given as goal
 
 -- so much of the content is written
 abbrev pub invariant-loop-at : goal.invariant-loop-at

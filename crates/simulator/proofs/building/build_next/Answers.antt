@@ -10,8 +10,8 @@ use Rattle.fd_table.proofs.QueueLaws.{on_ok_so}
 use Rattle.task.specs.Limits.{can_follow}
 use Rattle.task.specs.Views.{node_of, nodes_of}
 use Rattle.simulator.specs.Starts.{IsMadeIn}
-use Rattle.simulator.proofs.Planted.{Parts, any_default, can_at, few_nodes, has_holder, has_name, made_in, no_names, nodes_more, parts, take_more}
-use Rattle.simulator.proofs.planting.plant_next.Goals as goal
+use Rattle.simulator.proofs.Built.{Parts, any_default, can_at, few_nodes, has_holder, has_name, made_in, no_names, nodes_more, parts, take_more}
+use Rattle.simulator.proofs.building.build_next.Goals as goal
 
 pub directory_at-requires : goal.directory_at-requires
 directory_at-requires g c =
@@ -22,8 +22,8 @@ directory_at-requires g c =
     (λ i. has_directory (sym (take-map node_of c.args.made c.args.nodes.now) i) ((facts.front ∙ place) i))
     ∙ has_holder (take c.args.made nodes) (node nodes c.args.made) (can_at nodes c.args.made c.requires.valid c.requires.some (subst (λ n. c.args.made < n) (sym (length-map c.args.nodes.now node_of)) c.requires.within))
 
-pub plant-requires-clause-made : goal.plant-requires-clause-made
-plant-requires-clause-made g c =
+pub build_node-requires-clause-made : goal.build_node-requires-clause-made
+build_node-requires-clause-made g c =
     let nodes : List Node = nodes_of c.args.nodes.now in
     let m : Node = node_of c.index-nodes-made.result in
     let low : c.args.made < length nodes = subst (λ n. c.args.made < n) (sym (length-map c.args.nodes.now node_of)) c.requires.within in
@@ -52,7 +52,7 @@ returns-clause-nodes g c =
     let nodes : List Node = nodes_of c.args.nodes.now in
     let low : c.args.made < length nodes = subst (λ n. c.args.made < n) (sym (length-map c.args.nodes.now node_of)) c.requires.within in
     let same : node nodes c.args.made ≡ node_of c.index-nodes-made.result = nodes_more node_of c.args.nodes.now c.args.made c.index-nodes-made.result c.requires.within c.index-nodes-made.is in
-    on_ok_so c.plant.result c.plant.ensures.nodes
+    on_ok_so c.build_node.result c.build_node.ensures.nodes
     (λ is. is ∙ ap (λ t. t ++ node_of c.index-nodes-made.result ∷ []) c.requires.made ∙ take_more nodes c.args.made (node_of c.index-nodes-made.result) low same)
 
 pub unreachable-requires : goal.unreachable-requires
@@ -63,8 +63,8 @@ unreachable-requires g c =
     has_name nodes c.args.made c.requires.valid c.requires.some low
     (ap (λ (m : Node). m.place) same ∙ ap names_of (sym c.as_slice.ensures.value) ∙ no_names (λ name. name.items) c.as_slice.result.now c.in_default.len_below)
 
-pub plant-requires-clause-there : goal.plant-requires-clause-there
-plant-requires-clause-there g c =
+pub build_node-requires-clause-there : goal.build_node-requires-clause-there
+build_node-requires-clause-there g c =
     let nodes : List Node = nodes_of c.args.nodes.now in
     let within : c.args.made < length c.args.nodes.now = c.requires.within in
     let low : c.args.made < length nodes = subst (λ n. c.args.made < n) (sym (length-map c.args.nodes.now node_of)) within in

@@ -19,7 +19,7 @@ use task::TaskNode;
 
 /// A tree, and the numbers of its nodes in the order of the task.
 #[derive(Drop)]
-pub(crate) struct Planted<T: Tree> {
+pub(crate) struct Built<T: Tree> {
     pub tree: T,
     pub numbers: Vec<NodeId>,
 }
@@ -97,7 +97,7 @@ fn write_content<T: Tree>(tree: &mut T, file: NodeId, content: &[u8]) -> Result<
 }
 
 /// Makes a node of the task in its directory, with its content.
-fn plant<T: Tree>(
+fn build_node<T: Tree>(
     tree: &mut T,
     directory: NodeId,
     name: &[u8],
@@ -120,7 +120,7 @@ fn plant<T: Tree>(
 }
 
 /// Makes the node of this number, where all before it are made.
-fn plant_next<T: Tree>(
+fn build_next<T: Tree>(
     tree: &mut T,
     numbers: &[NodeId],
     nodes: &[TaskNode],
@@ -141,15 +141,15 @@ fn plant_next<T: Tree>(
         unreachable!()
     };
     let directory = numbers[directory_at(&nodes[..made], above)];
-    plant(tree, directory, name, node)
+    build_node(tree, directory, name, node)
 }
 
 /// The tree that a task starts with: its nodes are made one after another, each in its directory.
-pub(crate) fn plant_all<T: Tree>(alloc: Global, nodes: &[TaskNode]) -> Result<Planted<T>, Memory>
+pub(crate) fn build_tree<T: Tree>(alloc: Global, nodes: &[TaskNode]) -> Result<Built<T>, Memory>
     requires { is_tree (nodes_of nodes.now) ≡ true }
-    ensures nodes { IfOk result (λ planted. T.nodes planted.tree ≡ nodes_of nodes.now) }
-    ensures count { IfOk result (λ planted. length planted.numbers.items ≡ length nodes.now) }
-    ensures numbers { IfOk result (λ planted. AreNumbers planted.numbers.items) }
+    ensures nodes { IfOk result (λ built. T.nodes built.tree ≡ nodes_of nodes.now) }
+    ensures count { IfOk result (λ built. length built.numbers.items ≡ length nodes.now) }
+    ensures numbers { IfOk result (λ built. AreNumbers built.numbers.items) }
 {
     let mut tree: T = match T::new(alloc) {
         Ok(tree) => tree,
@@ -158,8 +158,8 @@ pub(crate) fn plant_all<T: Tree>(alloc: Global, nodes: &[TaskNode]) -> Result<Pl
     let mut numbers = Vec::new(alloc);
     numbers.push(tree.root())?;
     for made in 1..nodes.len() {
-        let number = plant_next(&mut tree, &numbers, nodes, made)?;
+        let number = build_next(&mut tree, &numbers, nodes, made)?;
         numbers.push(number)?;
     }
-    Ok(Planted { tree, numbers })
+    Ok(Built { tree, numbers })
 }

@@ -10,17 +10,17 @@ use Rattle.task.specs.Plans.{Plan, programs_of_plan}
 use Rattle.task.specs.Limits.{is_plan}
 
 -- its task, its world as it is kept, and whether it stopped for want of memory
-pub record Device : Type 0 where
+pub record MachineState : Type 0 where
   pub plan : Plan
   pub tree : List Node
   pub files : Kept
   pub processes : List ProcessState
   pub spent : Bool
 
-abbrev pub world_of : Device → World
+abbrev pub world_of : MachineState → World
 world_of d = world_with d.tree (open_files d.files) d.processes
 
 -- The task is valid, and the world is well formed until the machine stops.
-pub record IsRunning (d : Device) : Type 0 where
+pub record IsRunning (d : MachineState) : Type 0 where
   pub valid : is_plan d.plan ≡ true
   pub good : d.spent ≡ false → IsWellFormed (programs_of_plan d.plan) (world_of d)

@@ -3,8 +3,8 @@ use Rattle.file_tree.specs.Nodes.{File}
 use Rattle.file_tree.specs.Changes.{filled}
 use Rattle.file_tree.specs.Refusals.{created}
 use Rattle.file_tree.specs.Views.{kind_of}
-use Rattle.simulator.proofs.Planted.{IsLast, created_last, filled_last}
-use Rattle.simulator.proofs.planting.plant.Goals as goal
+use Rattle.simulator.proofs.Built.{IsLast, created_last, filled_last}
+use Rattle.simulator.proofs.building.build_node.Goals as goal
 
 -- the new file is the last node
 last : (g : _) (c : goal.After-deref-in-File g) → IsLast (g.T.Tree.nodes c.create_in-in-File.new.tree) c.in_ok-number-in-File.number

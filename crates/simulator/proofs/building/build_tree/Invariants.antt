@@ -1,7 +1,7 @@
 use Rattle.std.proofs.Common.{◌≡◌, ◌≤◌, length, take}
 use Rattle.task.specs.Views.{nodes_of}
 use Rattle.simulator.specs.Starts.{AreNumbers}
-use Rattle.simulator.proofs.planting.plant_all.Given as goal
+use Rattle.simulator.proofs.building.build_tree.Given as goal
 
 -- so many nodes are made
 abbrev pub invariant-loop-made : goal.invariant-loop-made

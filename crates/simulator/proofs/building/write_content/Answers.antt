@@ -3,8 +3,8 @@ use Rattle.std.specs.List.{slice_index_or}
 use Rattle.file_tree.specs.Nodes.{Node, node}
 use Rattle.file_tree.specs.Changes.{filled, written}
 use Rattle.file_tree.proofs.TreeLaws.{filled_length, filled_same}
-use Rattle.simulator.proofs.Planted.{byte_more, filled_own}
-use Rattle.simulator.proofs.planting.write_content.Goals as goal
+use Rattle.simulator.proofs.Built.{byte_more, filled_own}
+use Rattle.simulator.proofs.building.write_content.Goals as goal
 
 pub loop-at-init : goal.loop-at-init
 loop-at-init g c = filled_own (g.T.Tree.nodes c.args.tree.now) c.args.file _ c.requires.empty
