@@ -1,5 +1,6 @@
 -- The processes that a bound describes. (own)
 use Rattle.std.specs.Prelude.{◌+◌, ◌==◌, ◌&&◌, ℕ, Bool, true, false, not, nat_le, List, [], ◌∷◌, Option, Some, None}
+use Rattle.rights.specs.Limits.{most_descriptors}
 use Rattle.rights.specs.Sets.{is_within}
 use Rattle.rights.specs.Classes.{Class}
 use Rattle.certificate.specs.Bounds.{ModeBound, Off, On, Either, Interval, Target, In_grant, Any_node, Socket, Unknown, Held, Slot, Closed, Open, Maybe, Bound}
@@ -60,7 +61,7 @@ registers_describe (i ∷ intervals) (v ∷ values) = interval_describes i v && 
 
 -- the slots from this number on, up to sixteen, and a table
 abbrev pub slots_describe : Holds → ℕ → List Slot → (ℕ → Option Seen) → Bool
-slots_describe holds n [] table = n == 16
+slots_describe holds n [] table = n == most_descriptors
 slots_describe holds n (s ∷ slots) table = slot_describes holds s (table n) && slots_describe holds (n + 1) slots table
 
 -- The bound describes a process with this mode, these registers, and this table.

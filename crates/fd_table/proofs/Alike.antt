@@ -6,7 +6,8 @@ use Rattle.rights.specs.Maps.{put, put2}
 use Rattle.rights.proofs.Changes.{put-cases, put-same}
 use Rattle.fd_table.specs.Descriptions.{Access, At_node, State, Descriptor, descriptor_of}
 use Rattle.fd_table.specs.OpenFiles.{Alike, IsUnnamed}
-use Rattle.fd_table.specs.Filled.{with_entry, with_row, with_offset, with_flags, with_state, limited, opened, Opens}
+use Rattle.fd_table.specs.Openings.{with_entry, opened}
+use Rattle.fd_table.specs.Filled.{with_row, with_offset, with_flags, with_state, limited, Opens}
 use Rattle.fd_table.specs.Kept.{Description, Kept, entry, slot, queue, object_in, state_in, open_files, IsThere, AreThere, IsEnd, IsKept}
 use Rattle.fd_table.specs.Stored.{new_description}
 use Rattle.fd_table.proofs.Kept.{alike_same, alike_table, kept_entry, kept_slot, put_map}

@@ -8,7 +8,7 @@ use Rattle.rights.proofs.Changes.{put-cases, put2-cases}
 use Rattle.std.proofs.Math.Decide.{ℕ_discrete}
 use Rattle.fd_table.specs.Descriptions.{Descriptor, Message}
 use Rattle.fd_table.specs.OpenFiles.{OpenFiles, Alike, SameDescription, SameDescriptions}
-use Rattle.fd_table.specs.Filled.{with_table}
+use Rattle.fd_table.specs.Openings.{with_table}
 use Rattle.fd_table.specs.Kept.{Description, Queues, Kept, entry, slot, object_in, state_in, queue_in, no_queues, queue, open_files, IsThere, AreThere, IsEnd, IsKept}
 
 pub nothing_in : (side : ℕ) → queue_in no_queues side ≡ []

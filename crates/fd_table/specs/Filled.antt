@@ -3,25 +3,16 @@
 use Rattle.std.specs.Prelude.{◌≡◌, ◌≢◌, ◌++◌, ◌<◌, ℕ, Bool, true, false, nat_lt, List, [], ◌∷◌, length, drop, Option, Some, None, is_some, if◌then◌else◌}
 use Rattle.std.specs.List.{slice_get}
 use Rattle.std.specs.Option.{option_map}
+use Rattle.rights.specs.Limits.{most_messages, most_processes, most_descriptors}
 use Rattle.rights.specs.Sets.{all_rights, all_commands, is_within}
 use Rattle.rights.specs.Maps.{put, put2}
 use Rattle.fd_table.specs.Descriptions.{Access, Class, Object, At_node, At_end, State, Descriptor, Message, other_side, new_state, descriptor_of}
+use Rattle.fd_table.specs.Openings.{with_table, with_entry, described, opened}
 use Rattle.fd_table.specs.OpenFiles.{OpenFiles, IsUnnamed, IsUnused, Alike, is_open}
-
--- how many messages a queue holds (own)
-abbrev pub most_messages : ℕ
-most_messages = 16
 
 -- nothing is open and nothing queued
 abbrev pub IsEmpty : OpenFiles → Type 0
 IsEmpty f = ((p n : ℕ) → f.table p n ≡ None) × ((pair side : ℕ) → f.queue pair side ≡ [])
-
-abbrev pub with_table : OpenFiles → (ℕ → ℕ → Option Descriptor) → OpenFiles
-with_table f table = record f { table = table }
-
--- the entry of process p at n
-abbrev pub with_entry : OpenFiles → ℕ → ℕ → Option Descriptor → OpenFiles
-with_entry f p n entry = with_table f (put2 f.table p n entry)
 
 -- all entries of process p
 abbrev pub with_row : OpenFiles → ℕ → (ℕ → Option Descriptor) → OpenFiles
@@ -47,15 +38,6 @@ limited f p n rights fcntls = with_entry f p n (option_map (λ (d : Descriptor).
 abbrev pub MayLimit : Option Descriptor → ℕ → ℕ → Type 0
 MayLimit None rights fcntls = ⊥
 MayLimit (Some d) rights fcntls = (is_within rights d.rights ≡ true) × (is_within fcntls d.fcntls ≡ true)
-
--- a description at a number, at its beginning
-abbrev pub described : OpenFiles → ℕ → Object → Bool → OpenFiles
-described f n object append = record f { objects = put f.objects n object; states = put f.states n (new_state append) }
-
--- A file or directory is opened under a number that nobody names.
-abbrev pub opened : OpenFiles → ℕ → ℕ → ℕ → ℕ → Access → Bool → ℕ → ℕ → OpenFiles
-opened f description p n node access append rights fcntls =
-    with_entry (described f description (At_node node access) append) p n (Some (descriptor_of description rights fcntls))
 
 pub record Opens (f g : OpenFiles) (p n node : ℕ) (access : Access) (append : Bool) (rights fcntls : ℕ) : Type 0 where
   pub description : ℕ
@@ -91,7 +73,7 @@ pub record Pairs (f g : OpenFiles) (class : Class) (a b : Option Entry) : Type 0
 
 -- Which entries and descriptions are there.
 abbrev pub IsFreeAt : OpenFiles → ℕ → ℕ → Type 0
-IsFreeAt f p n = (p < 16) × (n < 16) × (f.table p n ≡ None)
+IsFreeAt f p n = (p < most_processes) × (n < most_descriptors) × (f.table p n ≡ None)
 
 abbrev pub IsFree : OpenFiles → Option Entry → Type 0
 IsFree f None = Unit {0}

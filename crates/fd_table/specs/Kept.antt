@@ -2,6 +2,7 @@
 use Rattle.std.specs.Prelude.{◌≡◌, ◌+◌, ◌*◌, ◌<◌, ℕ, zero, suc, nat_lt, length, List, [], ◌∷◌, Option, Some, None, if◌then◌else◌, false}
 use Rattle.std.specs.List.{slice_index_or}
 use Rattle.std.specs.Option.{IsSome}
+use Rattle.rights.specs.Limits.{most_descriptors}
 use Rattle.fd_table.specs.Descriptions.{Object, At_node, At_end, State, Descriptor, Message, new_state}
 use Rattle.fd_table.specs.OpenFiles.{OpenFiles}
 
@@ -21,7 +22,7 @@ pub record Kept : Type 0 where
   pub queues : List Queues
 
 abbrev pub entry : List (Option Descriptor) → ℕ → ℕ → Option Descriptor
-entry entries p n = if nat_lt n 16 then slice_index_or entries (p * 16 + n) None else None
+entry entries p n = if nat_lt n most_descriptors then slice_index_or entries (p * most_descriptors + n) None else None
 
 abbrev pub slot : List (Option Description) → ℕ → Option Description
 slot slots n = slice_index_or slots n None

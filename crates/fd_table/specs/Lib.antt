@@ -1,5 +1,6 @@
 pub mod Descriptions
 pub mod OpenFiles
+pub mod Openings
 pub mod Filled
 pub mod Views
 pub mod Kept

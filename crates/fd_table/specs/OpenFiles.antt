@@ -2,6 +2,7 @@
 -- socketpair(2) and Watson et al., USENIX Security 2010; the numbers and the profile are own)
 use Rattle.std.specs.Prelude.{◌≡◌, ◌≢◌, ◌≤◌, ◌==◌, ◌+◌, ℕ, zero, suc, Bool, false, ◌&&◌, ◌||◌, List, [], ◌∷◌, Option, Some, None, is_some, if◌then◌else◌}
 use Rattle.std.specs.List.{list_any}
+use Rattle.rights.specs.Limits.{most_processes, most_descriptors}
 use Rattle.fd_table.specs.Descriptions.{Object, At_node, At_end, State, Descriptor, Message}
 
 -- Maps are functions. What `objects` and `states` say at a number that no descriptor names means
@@ -36,7 +37,7 @@ any_below (suc n) test = test n || any_below n test
 -- some entry of a process below 16, or some message of a pair below `pairs`, passes the test
 abbrev pub any_named : OpenFiles → (Option Descriptor → Bool) → Bool
 any_named f test =
-    any_below 16 (λ p. any_below 16 (λ n. test (f.table p n)))
+    any_below most_processes (λ p. any_below most_descriptors (λ n. test (f.table p n)))
     || any_below f.pairs (λ q. any_below 2 (λ s. list_any (λ (m : Message). test m.passed) (f.queue q s)))
 
 abbrev pub is_open : OpenFiles → ℕ → ℕ → Bool
@@ -48,7 +49,7 @@ lowest_from zero n row = None
 lowest_from (suc count) n row = if is_some (row n) then lowest_from count (n + 1) row else Some n
 
 abbrev pub lowest_free : (ℕ → Option Descriptor) → Option ℕ
-lowest_free row = lowest_from 16 0 row
+lowest_free row = lowest_from most_descriptors 0 row
 
 -- nobody names the description
 abbrev pub IsOther : ℕ → Option Descriptor → Type 0

@@ -1,6 +1,7 @@
 -- What the lists of the code hold.
 use Rattle.std.specs.Prelude.{◌≢◌, [], ◌<◌, ◌∷◌, ℕ, Bool, List, map, Option, Some, None}
 use Rattle.std.specs.Option.{option_map}
+use Rattle.rights.specs.Limits.{most_processes, most_descriptors}
 use Rattle.fd_table.specs.declared.descriptors.Descriptor.{Descriptor as DescriptorCode}
 use Rattle.fd_table.specs.declared.descriptors.Description.{Description as DescriptionCode}
 use Rattle.fd_table.specs.declared.queues.Message.{Message as MessageCode}
@@ -57,7 +58,7 @@ front_message (m ∷ messages) = Some m
 -- the entry, if there is one, is of a table
 abbrev pub IsWithinTables : Option Entry → Type 0
 IsWithinTables None = Unit {0}
-IsWithinTables (Some e) = (e.process < 16) × (e.number < 16)
+IsWithinTables (Some e) = (e.process < most_processes) × (e.number < most_descriptors)
 
 -- two numbers that nobody names
 pub record AreNew (f : OpenFiles) (first second : ℕ) : Type 0 where

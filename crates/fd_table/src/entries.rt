@@ -9,24 +9,28 @@ ghost use Rattle.fd_table.specs.Views.{entry_seen};
 ghost use Rattle.fd_table.specs.Stored.{IsWithinTables, entries_kept, entry_kept};
 
 use crate::descriptors::{DescriptionId, Descriptor, Entry};
+use rights::limits::{MAX_DESCRIPTORS, MAX_PROCESSES};
 use rights::{Fcntls, Rights};
 use std::alloc::{AllocError, Global};
 
+/// How many processes there may be.
+pub(crate) const PROCESSES: u8 = MAX_PROCESSES as u8;
+
 /// How many descriptor numbers a process has.
-pub(crate) const NUMBERS: u8 = 16;
+pub(crate) const NUMBERS: u8 = MAX_DESCRIPTORS as u8;
 
 /// How many entries all tables have.
-const ENTRIES: usize = 256;
+const ENTRIES: usize = MAX_PROCESSES * MAX_DESCRIPTORS;
 
 /// The entry of a process at a number.
 pub(crate) fn entry_at(entries: &[Option<Descriptor>], p: u8, n: u8) -> Option<Descriptor>
     requires { length entries.now ≡ 256 }
     ensures { entry_kept result ≡ entry (entries_kept entries.now) p n }
 {
-    if p >= 16 || n >= NUMBERS {
+    if p >= PROCESSES || n >= NUMBERS {
         return None;
     }
-    entries[p as usize * 16 + n as usize]
+    entries[p as usize * MAX_DESCRIPTORS + n as usize]
 }
 
 /// The lowest number of a process, from this one on, that has no entry.
@@ -68,7 +72,7 @@ pub(crate) fn set_entry(
         ≡ put2 (entry (entries_kept entries.old.items)) p n (entry_kept descriptor) }
     ensures room { length entries.new.items ≡ 256 }
 {
-    entries[p as usize * 16 + n as usize] = descriptor;
+    entries[p as usize * MAX_DESCRIPTORS + n as usize] = descriptor;
 }
 
 /// Clears all entries of a process.

@@ -5,7 +5,8 @@ ghost use Rattle.std.specs.Prelude.{◌≡◌, ◌+◌, ◌-◌, ◌<◌, ℕ, N
 ghost use Rattle.std.specs.Option.{IsSome};
 ghost use Rattle.fd_table.specs.Descriptions.{message_of, other_side};
 ghost use Rattle.fd_table.specs.OpenFiles.{Alike, is_open as is_end_open, lowest_free as lowest_number, lowest_from};
-ghost use Rattle.fd_table.specs.Filled.{AreApart, IsEmpty, IsEndThere, IsFree, IsFreeAt, IsNamed, MayLimit, MayPass, Opens, Pairs, front_byte, front_of, front_passed, limited, send_refusal, sent, taken, taken_to, with_entry, with_flags, with_offset, with_row};
+ghost use Rattle.fd_table.specs.Openings.{with_entry};
+ghost use Rattle.fd_table.specs.Filled.{AreApart, IsEmpty, IsEndThere, IsFree, IsFreeAt, IsNamed, MayLimit, MayPass, Opens, Pairs, front_byte, front_of, front_passed, limited, send_refusal, sent, taken, taken_to, with_flags, with_offset, with_row};
 ghost use Rattle.fd_table.specs.Counts.{Counts};
 ghost use Rattle.fd_table.specs.Views.{TellsSendFault, access_asked, class_seen, descriptor_seen, entry_seen, front_seen, object_seen, side_seen, state_seen};
 
@@ -13,11 +14,12 @@ use crate::descriptors::{Class, Description, DescriptionId, Descriptor, Entry};
 use crate::ends::{End, Front, PairId, Side};
 use crate::entries::{clear_row, copy_row, entry_at, lowest_in, no_entries, set_end, set_entry};
 use crate::faults::SendFault;
-use crate::queues::{MOST_MESSAGES, Queues, front_in, make_queues, messages_in, send_in, take_in};
+use crate::queues::{Queues, front_in, make_queues, messages_in, send_in, take_in};
 use crate::search::{SearchKey, count_named, first_unnamed, first_unused, is_named, two_unnamed};
 use crate::slots::{description_at, make_room, opened_end, opened_node, set_slot};
 use crate::status::Status;
 use file_tree::NodeId;
+use rights::limits::MAX_MESSAGES;
 use rights::{Fcntls, Memory, OpenFlags, Rights};
 use std::alloc::Global;
 use std::marker::Model;
@@ -261,7 +263,7 @@ impl Files {
             return Err(SendFault::Closed);
         }
         let pair = end.pair.number();
-        if messages_in(self.queues.as_slice(), pair, end.side) >= MOST_MESSAGES {
+        if messages_in(self.queues.as_slice(), pair, end.side) >= MAX_MESSAGES {
             return Err(SendFault::Full);
         }
         send_in(&mut self.queues, pair, end.side, byte, passed)

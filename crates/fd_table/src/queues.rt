@@ -15,9 +15,6 @@ use crate::faults::SendFault;
 use rights::Memory;
 use std::alloc::Global;
 
-/// How many messages a queue holds. (own)
-pub(crate) const MOST_MESSAGES: usize = 16;
-
 /// A byte on its way, with or without a descriptor.
 #[derive(Clone, Copy)]
 pub(crate) struct Message {

@@ -11,13 +11,10 @@ ghost use Rattle.fd_table.specs.Stored.{AreNew, entries_kept, entry_kept, kept, 
 
 use crate::descriptors::{Description, Descriptor};
 use crate::ends::{End, PairId, Side};
-use crate::entries::{NUMBERS, entry_at};
+use crate::entries::{NUMBERS, PROCESSES, entry_at};
 use crate::queues::{Message, Queues, messages_in};
 use crate::slots::make_room;
 use rights::Memory;
-
-/// How many processes there may be.
-const PROCESSES: u8 = 16;
 
 /// What is looked for: the descriptors that name a description, or an end.
 #[derive(Clone, Copy)]

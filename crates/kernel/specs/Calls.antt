@@ -10,7 +10,7 @@ use Rattle.rights.specs.Errors as errors
 use Rattle.rights.specs.Operations.{Look, Read as Reads, Write as Writes, Create as Creates, Remove as Removes}
 use Rattle.file_tree.specs.Places.{begins, at_name}
 use Rattle.file_tree.specs.Nodes.{Kind, File, Dir, Link, Node, node, is_dir, is_file, has_below}
-use Rattle.rights.specs.Limits.{most_nodes, most_bytes, most_messages, most_processes}
+use Rattle.rights.specs.Limits.{most_nodes, most_bytes, most_messages, most_processes, most_descriptors}
 use Rattle.file_tree.specs.Changes.{resized, written}
 use Rattle.lookup.specs.Answers.{Way, Beneath, Global, Last, Follow, Keep, Found_node, Found_free, Not_found}
 use Rattle.lookup.specs.Answers as lookups
@@ -285,7 +285,7 @@ module _ (w : World) (p : ℕ) (s : ProcessState) (e : Event) where
   abbrev pub pair_at : Option ℕ → Answer
   pair_at None = Fails EMFILE Full
   pair_at (Some first) =
-      at_number (lowest_from (15 - first) (first + 1) (w.files.table p)) (λ second.
+      at_number (lowest_from (most_descriptors - 1 - first) (first + 1) (w.files.table p)) (λ second.
       unrefused ENFILE (Gives first (record same { table = New_pair first second (Made_at s.program s.point) }) []))
 
   -- ## The calls

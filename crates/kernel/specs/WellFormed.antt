@@ -3,7 +3,7 @@ use Rattle.std.specs.Prelude.{◌≡◌, ◌^◌, ◌<◌, ◌≤◌, ℕ, true,
 use Rattle.std.specs.List.{slice_get}
 use Rattle.rights.specs.Sets.{is_within, all_rights, all_commands}
 use Rattle.file_tree.specs.Nodes.{Node, node, is_link}
-use Rattle.rights.specs.Limits.{most_bytes, most_messages, most_processes}
+use Rattle.rights.specs.Limits.{most_bytes, most_messages, most_processes, most_descriptors}
 use Rattle.file_tree.specs.WellFormed.{IsTree}
 use Rattle.process.specs.State.{ProcessState}
 use Rattle.prog_asm.specs.Programs.{Instruction, is_program}
@@ -78,7 +78,7 @@ pub record IsWorld (programs : Programs) (numbering : Numbering) (w : World) : T
   pub few : length w.processes ≤ most_processes
   pub processes : (p : ℕ) → IsMade programs (slice_get w.processes p)
   pub entries : (p n : ℕ) → IfHeld (IsDescriptor w.tree numbering w.files.objects w.files.states) (w.files.table p n)
-  pub numbers : (p n : ℕ) → 16 ≤ n → w.files.table p n ≡ None
+  pub numbers : (p n : ℕ) → most_descriptors ≤ n → w.files.table p n ≡ None
   pub gone : (p : ℕ) → HasNone (slice_get w.processes p) (w.files.table p)
   pub messages : (pair side : ℕ) → EachMessage (IsDescriptor w.tree numbering w.files.objects w.files.states) (w.files.queue pair side)
   pub short : (pair side : ℕ) → length (w.files.queue pair side) ≤ most_messages

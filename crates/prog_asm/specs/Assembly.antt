@@ -1,6 +1,7 @@
 -- The program that a text stands for, or its fault. (own)
 use Rattle.std.specs.Prelude.{◌+◌, ℕ, Bool, true, false, nat_le, List, [], ◌∷◌, ◌++◌, length, Option, Some, None, option_map, Result, Ok, Err, if◌then◌else◌}
 use Rattle.std.specs.Str.{bytes_eq}
+use Rattle.rights.specs.Limits.{most_instructions}
 use Rattle.texts.specs.Names.{is_name}
 use Rattle.prog_asm.specs.Programs.{Instruction, ends_well}
 use Rattle.prog_asm.specs.Lines.{lines_of, uncommented, has_stray, words_of}
@@ -105,7 +106,7 @@ is_twice before (Some name) = has_label name before
 
 abbrev pub is_one_too_many : ℕ → Option Written → Bool
 is_one_too_many count None = false
-is_one_too_many count (Some written) = nat_le 256 count
+is_one_too_many count (Some written) = nat_le most_instructions count
 
 abbrev pub line_behind : List Line → Result Line Mistake → Result Line Mistake
 line_behind before (Err mistake) = Err mistake

@@ -1,6 +1,7 @@
 -- Programs: instructions by point, over eight registers of 32 bits. (own)
 use Rattle.std.specs.Prelude.{◌==◌, ◌^◌, ℕ, Bool, true, false, ◌&&◌, nat_le, nat_lt, List, [], ◌∷◌, length}
 use Rattle.std.specs.List.{list_all}
+use Rattle.rights.specs.Limits.{most_instructions}
 use Rattle.std.proofs.Math.Bool.{not}
 use Rattle.rights.specs.Opens.{OpenRequest, is_valid}
 use Rattle.rights.specs.Calls.{Call}
@@ -166,4 +167,4 @@ ends_well (i ∷ next ∷ code) = ends_well (next ∷ code)
 
 -- A program: at most 256 instructions, and each point that needs a next one has it.
 abbrev pub is_program : List Instruction → Bool
-is_program code = nat_le (length code) 256 && list_all (is_instruction (length code)) code && ends_well code
+is_program code = nat_le (length code) most_instructions && list_all (is_instruction (length code)) code && ends_well code

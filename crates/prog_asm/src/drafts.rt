@@ -15,12 +15,10 @@ use crate::labels::{add_label, point_of};
 use crate::mistakes::Mistake;
 use crate::statements::{Line, read_line};
 use indexmap::IndexMap;
+use rights::limits::MAX_INSTRUCTIONS;
 use std::alloc::Global;
 use std::collections::VecDeque;
 use texts::Lines;
-
-/// How many instructions a program has at most. (own)
-pub const MAX_INSTRUCTIONS: usize = 256;
 
 /// An instruction as it is written, with its line.
 #[derive(Drop)]

@@ -17,7 +17,6 @@ pub mod programs;
 mod statements;
 
 pub use assembler::assemble;
-pub use drafts::MAX_INSTRUCTIONS;
 pub use faults::AsmFault;
 pub use instructions::{Instruction, Syscall};
 pub use operands::{Operand, Path, Register, is_valid_path};

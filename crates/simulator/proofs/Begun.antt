@@ -9,7 +9,8 @@ use Rattle.rights.specs.Maps.{put}
 use Rattle.rights.proofs.Changes.{put-cases, put2-cases, put-both, put-same, put-other}
 use Rattle.rights.proofs.Tests.{both_left, both_right, not_true}
 use Rattle.fd_table.specs.Descriptions.{Access, At_node, At_end, Descriptor, Object, descriptor_of, new_state, IfHeld}
-use Rattle.fd_table.specs.Filled.{Opens, opened}
+use Rattle.fd_table.specs.Openings.{opened}
+use Rattle.fd_table.specs.Filled.{Opens}
 use Rattle.fd_table.specs.OpenFiles.{Alike, IsOther, IsUnnamed, OpenFiles}
 use Rattle.kernel.specs.Renamings.{EachNamed, Renaming, SameDescription, SameFiles, renamed_entry, renamed_messages, renamed_object}
 use Rattle.kernel.proofs.Aimed.{aim-kept, aimed, swap-left}

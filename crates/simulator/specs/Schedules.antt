@@ -1,7 +1,8 @@
 -- The text of a schedule: lines `PROCESS BYTE` or `PROCESS BYTE refuse`, in decimal without leading
 -- zeros, each ended by a line feed. (own)
-use Rattle.std.specs.Prelude.{◌+◌, ℕ, Bool, true, false, nat_le, List, [], ◌∷◌, codes, length, Option, Some, None, Result, Ok, Err, if◌then◌else◌}
+use Rattle.std.specs.Prelude.{◌-◌, ◌+◌, ℕ, Bool, true, false, nat_le, List, [], ◌∷◌, codes, length, Option, Some, None, Result, Ok, Err, if◌then◌else◌}
 use Rattle.std.specs.Str.{bytes_eq}
+use Rattle.rights.specs.Limits.{most_events, most_processes}
 use Rattle.texts.specs.Numbers.{at_most, number_of}
 use Rattle.texts.specs.Parts.{parts}
 use Rattle.kernel.specs.Answers.{Event}
@@ -18,7 +19,7 @@ event_with refuse (Some process) (Some input) = Some (record { process = process
 
 -- a process from 0 to 15, and a byte
 abbrev pub event_from : Bool → List ℕ → List ℕ → Option Event
-event_from refuse process input = event_with refuse (at_most 15 (number_of process)) (at_most 255 (number_of input))
+event_from refuse process input = event_with refuse (at_most (most_processes - 1) (number_of process)) (at_most 255 (number_of input))
 
 -- the event that a line stands for, by its words
 abbrev pub event_of_words : List (List ℕ) → Option Event
@@ -50,7 +51,7 @@ events_from n (line ∷ next ∷ lines) = with_event n (event_of_line line) (eve
 -- The first faulty line is told before the limit.
 abbrev pub limited : Result (List Event) ℕ → Result (List Event) Fault
 limited (Err line) = Err (Faulty line)
-limited (Ok events) = if nat_le (length events) 65536 then Ok events else Err Too_many
+limited (Ok events) = if nat_le (length events) most_events then Ok events else Err Too_many
 
 abbrev pub schedule_of : List ℕ → Result (List Event) Fault
 schedule_of text = limited (events_from 1 (parts 10 text))

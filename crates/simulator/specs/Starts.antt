@@ -1,6 +1,7 @@
 -- How a task's first world is made, node by node and descriptor by descriptor. (own)
 use Rattle.std.specs.Prelude.{◌≡◌, ◌<◌, ◌≤◌, ◌++◌, ◌||◌, ◌&&◌, ℕ, Bool, true, nat_lt, List, [], ◌∷◌, length, None}
 use Rattle.std.specs.List.{list_all, slice_index_or}
+use Rattle.rights.specs.Limits.{most_descriptors}
 use Rattle.file_tree.specs.Places.{is_name}
 use Rattle.file_tree.specs.Nodes.{Dir, Node, node}
 use Rattle.file_tree.specs.Refusals.{created, create_fault}
@@ -27,7 +28,7 @@ AreNumbers numbers = (k : ℕ) → k < length numbers → slice_index_or numbers
 
 -- A first descriptor is at a number of a table, of a node of so many, and for reading or writing.
 abbrev pub is_usable : ℕ → FirstDescriptor → Bool
-is_usable nodes d = nat_lt d.number 16 && nat_lt d.node nodes && (d.access.readable || d.access.writable)
+is_usable nodes d = nat_lt d.number most_descriptors && nat_lt d.node nodes && (d.access.readable || d.access.writable)
 
 -- no entry of the process has their numbers
 abbrev pub AreFree : OpenFiles → ℕ → List FirstDescriptor → Type 0

@@ -6,6 +6,7 @@ ghost use Rattle.simulator.specs.ScheduleViews.{ReadsSchedule, fault_number};
 ghost use Rattle.syscalls.specs.Views.{event_of};
 ghost use Rattle.simulator.specs.declared.schedule.ScheduleFault.TheVariants as fault;
 
+use rights::limits::{MAX_EVENTS, MAX_PROCESSES};
 use std::alloc::{AllocFailed, Global};
 use syscalls::Event;
 use texts::{Lines, first_part, number_up_to};
@@ -24,9 +25,6 @@ pub enum ScheduleFault {
     #[error("no memory")]
     Memory,
 }
-
-/// How many events a schedule has at most.
-const MOST: usize = 65_536;
 
 impl ScheduleFault {
     /// The fault's number.
@@ -68,7 +66,7 @@ fn read_event(line: &[u8]) -> Option<Event>
             true
         }
     };
-    let process = number_up_to(process, 15).ok()?;
+    let process = number_up_to(process, MAX_PROCESSES as u32 - 1).ok()?;
     let input = number_up_to(input, 255).ok()?;
     Some(Event {
         process: process as u8,
@@ -89,7 +87,7 @@ pub fn read_schedule(alloc: Global, bytes: &[u8]) -> Result<Vec<Event>, Schedule
             let Some(event) = read_event(line.text) else {
                 return Err(ScheduleFault::Line(count + 1));
             };
-            if count < MOST {
+            if count < MAX_EVENTS {
                 events.push(event)?;
             }
             count += 1;
@@ -97,7 +95,7 @@ pub fn read_schedule(alloc: Global, bytes: &[u8]) -> Result<Vec<Event>, Schedule
             return Err(ScheduleFault::Line(count + 1));
         }
     }
-    if count > MOST {
+    if count > MAX_EVENTS {
         return Err(ScheduleFault::Limit);
     }
     Ok(events)

@@ -1,5 +1,6 @@
 -- When what a call came to is what the model answers.
 use Rattle.std.specs.Prelude.{◌≡◌, ◌≤◌, ◌<◌, ◌≢◌, ℕ, Bool, true, false, List, [], length, map, Some, None, Result, Ok, Err}
+use Rattle.rights.specs.Limits.{most_descriptors, most_processes}
 use Rattle.rights.specs.declared.calls.Call.{Call}
 use Rattle.rights.specs.Needs.{First, Second, needs_of}
 use Rattle.rights.specs.Sets.{is_within}
@@ -112,7 +113,7 @@ OnTree t after refuse r answer =
 
 -- numbers from 16 on are no descriptor's
 abbrev pub HasNumbers : OpenFiles → ℕ → Type 0
-HasNumbers f p = (n : ℕ) → 16 ≤ n → f.table p n ≡ None
+HasNumbers f p = (n : ℕ) → most_descriptors ≤ n → f.table p n ≡ None
 
 abbrev pub held_seen : Numbered → Descriptor
 held_seen held = descriptor_of held.description held.rights.0 held.fcntls.0
@@ -128,7 +129,7 @@ IsReadyDescription t f n = IsReadyObject t (f.objects n) × ((f.states n).offset
 -- and of the world, when process p calls
 pub record IsReady (t : List Node) (f : OpenFiles) (p : ℕ) : Type 0 where
   pub tree : IsTree t
-  pub process : p < 16
+  pub process : p < most_processes
   pub numbers : HasNumbers f p
   pub entries : (n : ℕ) (d : Descriptor) → f.table p n ≡ Some d → IsReadyDescription t f d.description
   pub idle : IsIdle f

@@ -3,7 +3,7 @@ use Rattle.std.specs.Prelude.{◌+◌, ℕ, false, List, [], ◌∷◌, map, Non
 use Rattle.process.specs.State.{ProcessState, new_process}
 use Rattle.fd_table.specs.Descriptions.{At_node, new_state}
 use Rattle.fd_table.specs.OpenFiles.{OpenFiles}
-use Rattle.fd_table.specs.Filled.{opened}
+use Rattle.fd_table.specs.Openings.{opened}
 use Rattle.kernel.specs.World.{World}
 use Rattle.task.specs.Plans.{FirstDescriptor, Start, Plan}
 

@@ -2,7 +2,7 @@
 use Rattle.std.specs.Prelude.{◌≡◌, ◌≢◌, ◌⊎◌, ◌<◌, ◌≤◌, ℕ, true, false, List, [], ◌∷◌, ◌++◌, length, Some, None}
 use Rattle.std.specs.List.{slice_get}
 use Rattle.rights.specs.Sets.{is_within, all_rights, all_commands}
-use Rattle.rights.specs.Limits.{most_word}
+use Rattle.rights.specs.Limits.{most_word, most_descriptors, most_processes}
 use Rattle.file_tree.specs.Places.{begins, is_name}
 use Rattle.file_tree.specs.Nodes.{Dir, Link, Node, node}
 use Rattle.file_tree.specs.Refusals.{created, create_fault}
@@ -26,7 +26,7 @@ pub record IsShortName (name : List ℕ) : Type 0 where
   pub bytes : (k b : ℕ) → slice_get name k ≡ Some b → IsNameByte b
 
 pub record IsUsable (tree : List Node) (d : FirstDescriptor) : Type 0 where
-  pub number : d.number < 16
+  pub number : d.number < most_descriptors
   pub there : d.node < length tree
   pub no_link : (node tree d.node).kind ≢ Link
   pub used : (d.access.readable ≡ true) ⊎ (d.access.writable ≡ true)
@@ -57,7 +57,7 @@ pub record KeepsPrograms (plan : Plan) : Type 0 where
 
 pub record KeepsStarts (plan : Plan) : Type 0 where
   pub some : 1 ≤ length plan.starts
-  pub few : length plan.starts ≤ 16
+  pub few : length plan.starts ≤ most_processes
   pub program : (p : ℕ) (s : Start) → slice_get plan.starts p ≡ Some s → s.program < length plan.programs
   pub usable :
       (p i : ℕ) (s : Start) (d : FirstDescriptor) → slice_get plan.starts p ≡ Some s → slice_get s.descriptors i ≡ Some d

@@ -6,7 +6,7 @@ use Rattle.texts.specs.Names.{is_name}
 use Rattle.rights.specs.Sets.{is_within, all_rights, all_commands}
 use Rattle.file_tree.specs.Places.{begins, above}
 use Rattle.file_tree.specs.Nodes.{Node, node, is_dir, is_link, stands_at}
-use Rattle.rights.specs.Limits.{most_nodes, most_processes, most_programs, most_grants}
+use Rattle.rights.specs.Limits.{most_nodes, most_processes, most_programs, most_grants, most_descriptors}
 use Rattle.file_tree.specs.WellFormed.{has_directory, is_within_limits}
 use Rattle.prog_asm.specs.Programs.{is_program}
 use Rattle.task.specs.Plans.{Grant, NamedProgram, FirstDescriptor, Start, Plan}
@@ -59,7 +59,7 @@ is_accessed m d = not (is_link m.kind) && (d.access.readable || d.access.writabl
 
 abbrev pub is_descriptor : List Node → FirstDescriptor → Bool
 is_descriptor tree d =
-    nat_lt d.number 16 && is_accessed (node tree d.node) d && is_within d.rights all_rights && is_within d.fcntls all_commands
+    nat_lt d.number most_descriptors && is_accessed (node tree d.node) d && is_within d.rights all_rights && is_within d.fcntls all_commands
 
 -- each at a number of its own
 abbrev pub are_numbered_apart : FirstDescriptor → FirstDescriptor → Bool

@@ -3,9 +3,10 @@
 
 use bitflags::Flags;
 use prog_asm::{
-    AsmFault, Instruction, MAX_INSTRUCTIONS, Operand, Path, Register, Syscall, assemble,
+    AsmFault, Instruction, Operand, Path, Register, Syscall, assemble,
     is_valid_path,
 };
+use rights::limits::MAX_INSTRUCTIONS;
 use std::alloc::{AllocError, Global};
 use std::test::Fail;
 

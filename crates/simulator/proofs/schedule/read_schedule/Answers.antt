@@ -5,7 +5,7 @@ use Rattle.texts.specs.LineViews.{line_of}
 use Rattle.syscalls.specs.Views.{event_of}
 use Rattle.simulator.proofs.LinesRead.{ReadSoFar, read-kept, read-dropped, read-faulty, read-unended, read-last, read-too_many, read-ended}
 use Rattle.simulator.proofs.schedule.read_schedule.Goals as goal
-use Rattle.simulator.proofs.schedule.read_schedule.Goals.{then-count-lt-MOST+in_ok-push, else-count-lt-MOST}
+use Rattle.simulator.proofs.schedule.read_schedule.Goals.{then-count-lt-MAX_EVENTS+in_ok-push, else-count-lt-MAX_EVENTS}
 
 pub returns-in_default : goal.returns-in_default
 returns-in_default c =
@@ -29,19 +29,19 @@ loop-line-preserved-then-line c =
     in
     let long = ap length here in
     let within : count + 1 + length left < 2 ^ 64 = omega (arith, long, c.loop-line.invariant.within) in
-    elim c.if-count-lt-MOST.branch [
-      | then-count-lt-MOST+in_ok-push w ↦ record {
+    elim c.if-count-lt-MAX_EVENTS.branch [
+      | then-count-lt-MAX_EVENTS+in_ok-push w ↦ record {
         read =
-            read-kept all line left (map event_of old) count so_far (map event_of c.if-count-lt-MOST.events.items) (event_of event)
-            c.if-line.true (sym c.in-Some-read_event.ensures) w.if-count-lt-MOST.true
+            read-kept all line left (map event_of old) count so_far (map event_of c.if-count-lt-MAX_EVENTS.events.items) (event_of event)
+            c.if-line.true (sym c.in-Some-read_event.ensures) w.if-count-lt-MAX_EVENTS.true
             (ap (λ v. map event_of v.items) w.events-is ∙ ap (map event_of) w.in_ok-push.ensures.items ∙ map-append event_of old (event ∷ []));
         within = within;
       }
-      | else-count-lt-MOST w ↦ record {
+      | else-count-lt-MAX_EVENTS w ↦ record {
         read =
             subst (λ kept. ReadSoFar all left kept (count + 1)) (sym (ap (λ v. map event_of v.items) w.events-is))
             (read-dropped all line left (map event_of old) count so_far (event_of event)
-            c.if-line.true (sym c.in-Some-read_event.ensures) w.if-count-lt-MOST.false);
+            c.if-line.true (sym c.in-Some-read_event.ensures) w.if-count-lt-MAX_EVENTS.false);
         within = within;
       }
     ]
@@ -69,16 +69,16 @@ loop-line-preserved c =
       within = omega (arith, long, c.loop-line.invariant.within);
     }
 
-pub returns-then-count-gt-MOST : goal.returns-then-count-gt-MOST
-returns-then-count-gt-MOST c =
+pub returns-then-count-gt-MAX_EVENTS : goal.returns-then-count-gt-MAX_EVENTS
+returns-then-count-gt-MAX_EVENTS c =
     let kept = map event_of c.loop-line.events.items in
     read-too_many c.args.bytes.now kept c.loop-line.count
     (subst (λ lines. ReadSoFar c.args.bytes.now lines kept c.loop-line.count) c.in-None.ensures.steps.0 c.loop-line.invariant.read)
-    c.if-count-gt-MOST.true
+    c.if-count-gt-MAX_EVENTS.true
 
 pub returns : goal.returns
 returns c =
     let kept = map event_of c.loop-line.events.items in
     read-ended c.args.bytes.now kept c.loop-line.count
     (subst (λ lines. ReadSoFar c.args.bytes.now lines kept c.loop-line.count) c.in-None.ensures.steps.0 c.loop-line.invariant.read)
-    c.if-count-gt-MOST.false
+    c.if-count-gt-MAX_EVENTS.false

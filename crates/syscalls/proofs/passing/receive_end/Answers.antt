@@ -1,7 +1,8 @@
 use Rattle.std.proofs.Common.{sym, subst, refl, ap, ◌∙◌}
 use Rattle.fd_table.specs.Descriptions.{other_side}
 use Rattle.fd_table.specs.OpenFiles.{Alike, is_open}
-use Rattle.fd_table.specs.Filled.{with_entry, taken}
+use Rattle.fd_table.specs.Openings.{with_entry}
+use Rattle.fd_table.specs.Filled.{taken}
 use Rattle.fd_table.specs.Kept.{open_files}
 use Rattle.fd_table.specs.Views.{side_seen, front_seen}
 use Rattle.kernel.specs.Answers.{Pop}

@@ -1,7 +1,7 @@
 use Rattle.std.proofs.Common.{sym, refl, ap, subst, []}
 use Rattle.std.specs.Prelude.{None}
 use Rattle.fd_table.specs.OpenFiles.{Alike}
-use Rattle.fd_table.specs.Filled.{with_entry}
+use Rattle.fd_table.specs.Openings.{with_entry}
 use Rattle.fd_table.specs.Kept.{open_files}
 use Rattle.kernel.specs.Answers.{Clear_entry, value_of}
 use Rattle.kernel.specs.Calls.{answer}

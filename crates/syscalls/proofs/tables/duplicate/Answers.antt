@@ -1,6 +1,6 @@
 use Rattle.std.proofs.Common.{sym, refl, ap, subst, ◌∙◌, []}
 use Rattle.fd_table.specs.OpenFiles.{Alike}
-use Rattle.fd_table.specs.Filled.{with_entry}
+use Rattle.fd_table.specs.Openings.{with_entry}
 use Rattle.fd_table.specs.Kept.{open_files}
 use Rattle.kernel.specs.Answers.{Set_entry}
 use Rattle.kernel.specs.Calls.{answer}

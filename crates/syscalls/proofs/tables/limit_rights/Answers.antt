@@ -2,7 +2,7 @@ use Rattle.std.proofs.Common.{sym, refl, ap, subst, ◌∙◌, []}
 use Rattle.std.specs.Prelude.{Some, option_map}
 use Rattle.fd_table.specs.Descriptions.{Descriptor, descriptor_of}
 use Rattle.fd_table.specs.OpenFiles.{Alike}
-use Rattle.fd_table.specs.Filled.{with_entry}
+use Rattle.fd_table.specs.Openings.{with_entry}
 use Rattle.fd_table.specs.Kept.{open_files}
 use Rattle.kernel.specs.Answers.{Set_entry, value_of}
 use Rattle.kernel.specs.Calls.{answer}

@@ -11,8 +11,8 @@ returns-then-not-open-clause-refused c =
     let found = rw (c.as_slice.ensures.value, c.as_slice-2.ensures.value, c.as_slice-3.ensures.value, c.other.ensures, c.self.view_is) at c.is_named-open.ensures in
     λ _. closed_is (open_files c.args.self.now) c.args.end.pair (side_seen c.args.end.side) (sym found ∙ c.if-not-open.true)
 
-pub returns-then-messages_in-ge-MOST_MESSAGES-clause-refused : goal.returns-then-messages_in-ge-MOST_MESSAGES-clause-refused
-returns-then-messages_in-ge-MOST_MESSAGES-clause-refused c =
+pub returns-then-messages_in-ge-MAX_MESSAGES-clause-refused : goal.returns-then-messages_in-ge-MAX_MESSAGES-clause-refused
+returns-then-messages_in-ge-MAX_MESSAGES-clause-refused c =
     let found = rw (c.as_slice.ensures.value, c.as_slice-2.ensures.value, c.as_slice-3.ensures.value, c.other.ensures) at c.is_named-open.ensures in
     let many = rw (c.as_slice-4.ensures.value, c.number-pair.ensures) at c.messages_in.ensures in
     rw (← c.self.view_is) (λ _. full_is (kept c.self.inside.entries.items c.self.inside.slots.items c.self.inside.queues.items) c.args.end.pair (side_seen c.args.end.side) (sym found ∙ c.if-not-open.false) (omega (arith, many)))
