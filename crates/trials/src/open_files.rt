@@ -27,7 +27,8 @@ fn end(rt: &impl Abort, files: &Files, p: u8, n: u8) -> End
     ensures { IsEndThere (open_files files.now) result.pair (side_seen result.side) }
 {
     let descriptor = entry(rt, files, p, n);
-    match files.what(descriptor.description).object {
+    let object = files.what(descriptor.description).object;
+    match object {
         Object::End { end, .. } => end,
         Object::Node { .. } => panic!(rt; "a node"),
     }
