@@ -1,6 +1,6 @@
 -- When a run is sandboxed. (own, after capsicum(4), rights(4), cap_rights_limit(2) and
 -- cap_fcntls_limit(2))
-use Rattle.std.specs.Prelude.{◌≡◌, ◌++◌, ℕ, true, List, [], ◌∷◌, Option, Some, None}
+use Rattle.std.specs.Prelude.{◌≡◌, ◌++◌, ℕ, true, List, [], ◌∷◌, Option, Some, None, IfSome}
 use Rattle.std.specs.List.{slice_get, Contains}
 use Rattle.rights.specs.Errors.{Cause, CapMode, MissingRight}
 use Rattle.rights.specs.Operations.{Operation}
@@ -32,10 +32,6 @@ abbrev pub AreAllowed : List Grant → List Effect → Type 0
 AreAllowed grants [] = Unit {0}
 AreAllowed grants (f ∷ effects) = Allowed grants f.operation f.place × AreAllowed grants effects
 
-abbrev pub IsAllowedLine : List Grant → Option Acted → Type 0
-IsAllowedLine grants None = Unit {0}
-IsAllowedLine grants (Some a) = AreAllowed grants a.effects
-
 -- neither a missing right nor capability mode is the cause
 abbrev pub IsOtherCause : Cause → Type 0
 IsOtherCause CapMode = ⊥
@@ -46,16 +42,12 @@ abbrev pub IsUnrefused : LineResult → Type 0
 IsUnrefused (Failed errno cause) = IsOtherCause cause
 IsUnrefused _ = Unit {0}
 
-abbrev pub IsUnrefusedLine : Option Acted → Type 0
-IsUnrefusedLine None = Unit {0}
-IsUnrefusedLine (Some a) = IsUnrefused a.outcome
-
 -- One step is safe: what a process that was in capability mode before it does to the tree is allowed; no call is
 -- refused for a missing right or by capability mode; and no process leaves the mode, and no descriptor, in a table or on its
 -- way in a message, comes from nowhere or has more than what it comes from.
 pub record IsSafe (programs : Programs) (grants : List Grant) (w : World) (e : Event) (next : Stepped) : Type 0 where
-  pub allowed : IsInMode (slice_get w.processes e.process) → IsAllowedLine grants next.acted
-  pub unrefused : IsUnrefusedLine next.acted
+  pub allowed : IsInMode (slice_get w.processes e.process) → IfSome next.acted (λ (a : Acted). AreAllowed grants a.effects)
+  pub unrefused : IfSome next.acted (λ (a : Acted). IsUnrefused a.outcome)
   pub gains : GainsNothing w e.process (caller_of programs w e) next.world
 
 -- Each step of every run of these events from this world is safe, whatever fresh numbers are chosen.
