@@ -5,6 +5,7 @@ ghost use Rattle.certificate.specs.Bounds.{bound_at, bound_in, held_in, interval
 ghost use Rattle.certificate.specs.Views.{bound_of, certificate_of, held_of, interval_of, points_of, slot_of};
 
 use crate::names::Name;
+use rights::limits::{MAX_DESCRIPTORS, REGISTERS};
 use rights::{Fcntls, Rights};
 
 /// Whether a process is in capability mode.
@@ -71,8 +72,8 @@ pub enum Slot {
 #[derive(Clone, Copy)]
 pub struct Bound {
     pub mode: ModeBound,
-    pub registers: [Interval; 8],
-    pub slots: [Slot; 16],
+    pub registers: [Interval; REGISTERS],
+    pub slots: [Slot; MAX_DESCRIPTORS],
 }
 
 /// The bound of a point of the program of a name.

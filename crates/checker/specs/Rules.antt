@@ -2,6 +2,7 @@
 use Rattle.std.specs.Prelude.{◌==◌, ◌&&◌, ◌||◌, not, ℕ, Bool, true, false, List, [], ◌∷◌, replicate, Option, Some, None, if◌then◌else◌}
 use Rattle.std.specs.List.{list_all, list_any}
 use Rattle.std.specs.Option.{option_map}
+use Rattle.rights.specs.Limits.{register_count}
 use Rattle.rights.specs.Sets.{is_within, read_right}
 use Rattle.rights.specs.Operations.{Operation}
 use Rattle.rights.specs.Operations as operations
@@ -30,7 +31,7 @@ abbrev pub first_table : List Node → Start → ℕ → Option Seen
 first_table tree s n = option_map (first_seen tree) (with_number n s.descriptors)
 
 abbrev pub start_within : Plan → Bound → Start → Bool
-start_within plan b s = describes (grant_holds plan.grants) b s.mode (replicate 8 0) (first_table plan.nodes s)
+start_within plan b s = describes (grant_holds plan.grants) b s.mode (replicate register_count 0) (first_table plan.nodes s)
 
 -- some process starts this program
 abbrev pub starts_program : List Start → ℕ → Bool

@@ -3,7 +3,7 @@ use Rattle.std.specs.Prelude.{◌≡◌, ◌^◌, ◌<◌, ◌≤◌, ℕ, true,
 use Rattle.std.specs.List.{slice_get}
 use Rattle.rights.specs.Sets.{is_within, all_rights, all_commands}
 use Rattle.file_tree.specs.Nodes.{Node, node, is_link}
-use Rattle.rights.specs.Limits.{most_bytes, most_messages, most_processes, most_descriptors}
+use Rattle.rights.specs.Limits.{most_bytes, most_messages, most_processes, most_descriptors, register_count}
 use Rattle.file_tree.specs.WellFormed.{IsTree}
 use Rattle.process.specs.State.{ProcessState}
 use Rattle.prog_asm.specs.Programs.{Instruction, is_program}
@@ -58,7 +58,7 @@ FitsRegister (Some value) = value < 2 ^ 32
 -- A living process stands at an instruction of its program. It has eight registers of 32 bits.
 pub record IsProcess (programs : Programs) (s : ProcessState) : Type 0 where
   pub placed : s.alive ≡ true → IsPoint (slice_get (programs s.program) s.point)
-  pub eight : length s.registers ≡ 8
+  pub eight : length s.registers ≡ register_count
   pub small : (r : ℕ) → FitsRegister (slice_get s.registers r)
 
 abbrev pub IsMade : Programs → Option ProcessState → Type 0

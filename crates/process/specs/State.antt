@@ -1,5 +1,6 @@
 -- One process. (capsicum(4), cap_enter(2), fork(2); the registers are own)
 use Rattle.std.specs.Prelude.{ℕ, Bool, true, List, replicate, slice_set}
+use Rattle.rights.specs.Limits.{register_count}
 
 pub record ProcessState : Type 0 where
   pub program : ℕ  -- the program's place in the task
@@ -13,7 +14,7 @@ abbrev pub new_process : ℕ → Bool → ProcessState
 new_process program mode = record {
   program = program;
   point = 0;
-  registers = replicate 8 0;
+  registers = replicate register_count 0;
   mode = mode;
   alive = true;
 }

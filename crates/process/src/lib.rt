@@ -4,10 +4,8 @@
 ghost use Rattle.std.specs.Prelude.{◌≡◌, true};
 ghost use Rattle.process.specs.State.{forked, new_process};
 
+use rights::limits::REGISTERS;
 use std::marker::Model;
-
-/// How many registers a process has.
-pub const REGISTERS: usize = 8;
 
 /// A process. Its mode goes from off to on and never back. (cap_enter(2))
 #[derive(Clone, PartialEq, Eq, Drop)]

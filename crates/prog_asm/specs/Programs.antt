@@ -1,7 +1,7 @@
 -- Programs: instructions by point, over eight registers of 32 bits. (own)
 use Rattle.std.specs.Prelude.{◌==◌, ◌^◌, ℕ, Bool, true, false, ◌&&◌, nat_le, nat_lt, List, [], ◌∷◌, length}
 use Rattle.std.specs.List.{list_all}
-use Rattle.rights.specs.Limits.{most_instructions}
+use Rattle.rights.specs.Limits.{most_instructions, register_count}
 use Rattle.std.proofs.Math.Bool.{not}
 use Rattle.rights.specs.Opens.{OpenRequest, is_valid}
 use Rattle.rights.specs.Calls.{Call}
@@ -89,7 +89,7 @@ pub data Instruction : Type 0 where
   Invoke : (call : Syscall) (otherwise : ℕ) → Instruction  -- `otherwise` is where an error leads
 
 abbrev pub is_register : ℕ → Bool
-is_register register = nat_lt register 8
+is_register register = nat_lt register register_count
 
 -- what a register can hold
 abbrev pub is_value : ℕ → Bool

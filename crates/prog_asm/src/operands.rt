@@ -4,10 +4,8 @@ ghost use Rattle.std.specs.Prelude.{◌≡◌, ◌<◌, ◌↔◌, true, IsSome,
 ghost use Rattle.std.specs.List.{list_all};
 ghost use Rattle.prog_asm.specs.Programs.{is_path, is_path_byte};
 
+use rights::limits::REGISTERS;
 use std::marker::Model;
-
-/// How many registers a process has. (own)
-pub const REGISTERS: u8 = 8;
 
 /// A register, by its number from 0 to 7. (own)
 #[derive(Clone, Copy, PartialEq, Eq)]
@@ -31,7 +29,7 @@ impl Register {
         ensures there { IsSome result ↔ (number < 8) }
         ensures value { IfSome result (λ register. register ≡ number) }
     {
-        if number < REGISTERS {
+        if usize::from(number) < REGISTERS {
             Some(Register(number))
         } else {
             None

@@ -18,13 +18,18 @@ most_path = 1023
 abbrev pub most_links : ℕ
 most_links = 32
 
--- processes made in a run, those that have ended counted; descriptors of one process; messages of one queue
+-- processes made in a run, those that have ended counted; descriptors of one process
 abbrev pub most_processes : ℕ
 most_processes = 16
 
 abbrev pub most_descriptors : ℕ
 most_descriptors = 16
 
+-- registers of a process, always so many
+abbrev pub register_count : ℕ
+register_count = 8
+
+-- messages of one queue
 abbrev pub most_messages : ℕ
 most_messages = 16
 

@@ -21,6 +21,9 @@ pub const MAX_PROCESSES: usize = 16;
 /// Descriptors of one process.
 pub const MAX_DESCRIPTORS: usize = 16;
 
+/// Registers of a process: it has always so many.
+pub const REGISTERS: usize = 8;
+
 /// Messages of one queue.
 pub const MAX_MESSAGES: usize = 16;
 

@@ -2,6 +2,7 @@
 -- with the file as descriptor 2, open.
 use Rattle.std.specs.Prelude.{◌+◌, ℕ, List, [], ◌∷◌, codes, replicate, Option, Some, None, if◌then◌else◌}
 use Rattle.std.specs.Str.{bytes_eq}
+use Rattle.rights.specs.Limits.{register_count}
 use Rattle.rights.specs.Sets.{all_rights, all_commands, seek_right}
 use Rattle.certificate.specs.Bounds.{ModeBound, Off, On, Target, In_grant, Any_node, Held, Closed, Open, Bound, PointBound, Certificate, full_interval}
 
@@ -19,7 +20,7 @@ file_held target least = record {
 abbrev pub bound_with : ModeBound → Held → Bound
 bound_with mode held = record {
   mode = mode;
-  registers = replicate 8 full_interval;
+  registers = replicate register_count full_interval;
   slots = Closed ∷ Closed ∷ Open held ∷ replicate 13 Closed;
 }
 

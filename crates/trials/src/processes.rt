@@ -1,6 +1,7 @@
 //! One process.
 
-use process::{Process, REGISTERS};
+use process::Process;
+use rights::limits::REGISTERS;
 
 #[test]
 fn a_child_has_its_parents_mode(rt: HostRuntime) {
