@@ -1,6 +1,7 @@
 -- The program that a text stands for, or its fault. (own)
 use Rattle.std.specs.Prelude.{◌+◌, ℕ, Bool, true, false, nat_le, List, [], ◌∷◌, ◌++◌, length, Option, Some, None, option_map, Result, Ok, Err, if◌then◌else◌}
 use Rattle.std.specs.Str.{bytes_eq}
+use Rattle.texts.specs.Bytes.{colon}
 use Rattle.rights.specs.Limits.{most_instructions}
 use Rattle.texts.specs.Names.{is_name}
 use Rattle.prog_asm.specs.Programs.{Instruction, ends_well}
@@ -65,7 +66,7 @@ labelled (Some name) word words = if is_name name then with_label (Some name) (i
 
 abbrev pub line_of_words : List (List ℕ) → Result Line Mistake
 line_of_words [] = Ok (line_with None None)
-line_of_words (word ∷ words) = labelled (before_last 58 word) word words
+line_of_words (word ∷ words) = labelled (before_last colon word) word words
 
 abbrev pub line_of_code : List ℕ → Result Line Mistake
 line_of_code code = if has_stray code then Err Word else line_of_words (words_of code)

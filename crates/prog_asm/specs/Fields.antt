@@ -1,6 +1,7 @@
 -- What a word of a line can stand for. (own)
 use Rattle.std.specs.Prelude.{◌==◌, ◌-◌, ◌^◌, ℕ, Bool, false, ◌&&◌, ◌||◌, nat_le, nat_lt, List, [], ◌∷◌, codes, Option, Some, None, option_map, option_and_then, bit_or, if◌then◌else◌}
 use Rattle.std.specs.Str.{bytes_eq}
+use Rattle.texts.specs.Bytes.{quote, comma}
 use Rattle.rights.specs.Opens.{OpenRequest, is_valid, open_request}
 use Rattle.rights.specs.Sets.{is_within, right_names, command_names}
 use Rattle.texts.specs.Names.{is_name}
@@ -42,7 +43,7 @@ path_in (Some path) = if is_path path then Some path else None
 
 abbrev pub path_of : List ℕ → Option (List ℕ)
 path_of [] = None
-path_of (b ∷ word) = if b == 34 then path_in (before_last 34 word) else None
+path_of (b ∷ word) = if b == quote then path_in (before_last quote word) else None
 
 -- Lists are joined by commas, each word once, in any order. What a word stands for is a set, and the
 -- list stands for the union; `none` is the empty list.
@@ -61,7 +62,7 @@ union_from names set (word ∷ words) =
     else option_and_then (λ more. union_from names (bit_or set more) words) (named names word)
 
 abbrev pub set_of : List (List ℕ × ℕ) → List ℕ → Option ℕ
-set_of names word = if bytes_eq word (codes "none") then Some 0 else union_from names 0 (parts 44 word)
+set_of names word = if bytes_eq word (codes "none") then Some 0 else union_from names 0 (parts comma word)
 
 abbrev pub rights_of : List ℕ → Option ℕ
 rights_of word = set_of right_names word

@@ -3,6 +3,7 @@ use Rattle.std.specs.Prelude.{◌==◌, ◌^◌, ℕ, Bool, true, false, ◌&&�
 use Rattle.std.specs.List.{list_all}
 use Rattle.rights.specs.Limits.{most_instructions, register_count}
 use Rattle.std.proofs.Math.Bool.{not}
+use Rattle.texts.specs.Bytes.{quote, backslash}
 use Rattle.rights.specs.Opens.{OpenRequest, is_valid}
 use Rattle.rights.specs.Calls.{Call}
 use Rattle.rights.specs.Calls as calls
@@ -101,7 +102,7 @@ is_operand (Number number) = is_value number
 
 -- Paths are of bytes 33 to 126 without `"` and `\`. How long they may be is asked when they are walked. (own)
 abbrev pub is_path_byte : ℕ → Bool
-is_path_byte byte = nat_le 33 byte && nat_le byte 126 && not (byte == 34) && not (byte == 92)
+is_path_byte byte = nat_le 33 byte && nat_le byte 126 && not (byte == quote) && not (byte == backslash)
 
 abbrev pub is_path : List ℕ → Bool
 is_path path = list_all is_path_byte path

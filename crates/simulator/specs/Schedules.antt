@@ -2,6 +2,7 @@
 -- zeros, each ended by a line feed. (own)
 use Rattle.std.specs.Prelude.{◌-◌, ◌+◌, ℕ, Bool, true, false, nat_le, List, [], ◌∷◌, codes, length, Option, Some, None, Result, Ok, Err, if◌then◌else◌}
 use Rattle.std.specs.Str.{bytes_eq}
+use Rattle.texts.specs.Bytes.{space, line_feed}
 use Rattle.rights.specs.Limits.{most_events, most_processes}
 use Rattle.texts.specs.Numbers.{at_most, number_of}
 use Rattle.texts.specs.Parts.{parts}
@@ -30,7 +31,7 @@ event_of_words (process ∷ input ∷ word ∷ []) = if bytes_eq word (codes "re
 event_of_words (process ∷ input ∷ word ∷ more ∷ words) = None
 
 abbrev pub event_of_line : List ℕ → Option Event
-event_of_line line = event_of_words (parts 32 line)
+event_of_line line = event_of_words (parts space line)
 
 -- The events of the parts between line feeds, or the number of the first faulty one. The last part is
 -- what stands behind the last line feed: nothing.
@@ -54,4 +55,4 @@ limited (Err line) = Err (Faulty line)
 limited (Ok events) = if nat_le (length events) most_events then Ok events else Err Too_many
 
 abbrev pub schedule_of : List ℕ → Result (List Event) Fault
-schedule_of text = limited (events_from 1 (parts 10 text))
+schedule_of text = limited (events_from 1 (parts line_feed text))

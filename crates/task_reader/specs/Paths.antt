@@ -1,7 +1,7 @@
 -- The place that a task's path is. (own)
 use Rattle.std.specs.Prelude.{ℕ, ◌==◌, Bool, ◌&&◌, not, nat_eq, List, [], ◌∷◌, length, Option, Some, None, option_map, if◌then◌else◌}
 use Rattle.std.specs.List.{list_all}
-use Rattle.file_tree.specs.Places.{is_name_byte, is_dots}
+use Rattle.file_tree.specs.Places.{is_name_byte, is_dots, slash}
 use Rattle.texts.specs.Parts.{parts}
 
 -- A name of a path: a node's name of any length.
@@ -15,8 +15,8 @@ path_names (name ∷ names) = if is_path_name name then option_map (λ rest. nam
 -- A path is `/`, or each name after a `/`.
 abbrev pub names_behind : List ℕ → Option (List (List ℕ))
 names_behind [] = Some []
-names_behind (b ∷ text) = path_names (parts 47 (b ∷ text))
+names_behind (b ∷ text) = path_names (parts slash (b ∷ text))
 
 unfoldable pub place_of : List ℕ → Option (List (List ℕ))
 place_of [] = None
-place_of (b ∷ text) = if b == 47 then names_behind text else None
+place_of (b ∷ text) = if b == slash then names_behind text else None

@@ -1,5 +1,6 @@
 -- What the code's lines stand for.
 use Rattle.std.specs.Prelude.{ℕ, List, [], Option, Some, None}
+use Rattle.texts.specs.Bytes.{line_feed}
 use Rattle.texts.specs.declared.lines.Line.{Line as LineCode}
 use Rattle.texts.specs.Parts.{parts}
 use Rattle.texts.specs.Lines.{Line, lines_from}
@@ -10,4 +11,4 @@ line_of line = record { text = line.text.now; offset = line.offset; is_ended = l
 -- the lines of what is left of a text, which begins at this offset; none where the last one is read
 abbrev pub lines_left : ℕ → Option (List ℕ) → List Line
 lines_left offset None = []
-lines_left offset (Some rest) = lines_from offset (parts 10 rest)
+lines_left offset (Some rest) = lines_from offset (parts line_feed rest)

@@ -1,6 +1,7 @@
 -- The lines of a text: its parts between line feeds, each with the offset of its first byte. What stands behind the
 -- last line feed is a line too, often an empty one, and the only one that no line feed ends. (own)
 use Rattle.std.specs.Prelude.{◌+◌, ℕ, Bool, true, false, List, [], ◌∷◌, length}
+use Rattle.texts.specs.Bytes.{line_feed}
 use Rattle.texts.specs.Parts.{parts}
 
 pub record Line : Type 0 where
@@ -15,4 +16,4 @@ lines_from offset (line ∷ next ∷ texts) =
     (record { text = line; offset = offset; is_ended = true }) ∷ lines_from (offset + length line + 1) (next ∷ texts)
 
 abbrev pub lines_of : List ℕ → List Line
-lines_of text = lines_from 0 (parts 10 text)
+lines_of text = lines_from 0 (parts line_feed text)

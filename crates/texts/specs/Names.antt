@@ -2,10 +2,10 @@
 use Rattle.std.specs.Prelude.{◌==◌, ℕ, Bool, false, ◌&&◌, ◌||◌, nat_lt, List, [], ◌∷◌, length}
 use Rattle.std.specs.List.{list_all}
 use Rattle.rights.specs.Limits.{most_word}
-use Rattle.texts.specs.Bytes.{is_lower, is_digit}
+use Rattle.texts.specs.Bytes.{is_lower, is_digit, underscore}
 
 abbrev pub is_name_byte : ℕ → Bool
-is_name_byte byte = is_lower byte || is_digit byte || (byte == 95)
+is_name_byte byte = is_lower byte || is_digit byte || (byte == underscore)
 
 abbrev pub is_name : List ℕ → Bool
 is_name [] = false

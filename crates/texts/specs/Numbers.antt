@@ -3,13 +3,13 @@ use Rattle.std.specs.Prelude.{◌==◌, ◌+◌, ◌*◌, ◌-◌, ◌&&◌, ℕ
 use Rattle.std.specs.List.{list_all}
 use Rattle.std.specs.declared.cmp.Ordering.{Ordering}
 use Rattle.std.specs.Ordering.{nat_cmp}
-use Rattle.texts.specs.Bytes.{is_digit}
+use Rattle.texts.specs.Bytes.{is_digit, zero_digit}
 
 -- it isn't empty, and a zero is not followed by more
 abbrev pub begins_well : List ℕ → Bool
 begins_well [] = false
 begins_well (b ∷ []) = true
-begins_well (b ∷ c ∷ digits) = not (b == 48)
+begins_well (b ∷ c ∷ digits) = not (b == zero_digit)
 
 abbrev pub is_number : List ℕ → Bool
 is_number word = begins_well word && list_all is_digit word
@@ -17,7 +17,7 @@ is_number word = begins_well word && list_all is_digit word
 -- what the digits stand for, behind digits that stand for n
 abbrev pub value_from : ℕ → List ℕ → ℕ
 value_from n [] = n
-value_from n (b ∷ digits) = value_from (n * 10 + (b - 48)) digits
+value_from n (b ∷ digits) = value_from (n * 10 + (b - zero_digit)) digits
 
 abbrev pub number_of : List ℕ → Option ℕ
 number_of word = if is_number word then Some (value_from 0 word) else None

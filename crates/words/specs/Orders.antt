@@ -14,10 +14,13 @@ line_of Example = []
 line_of (Run task schedule) = codes "run" ∷ task ∷ schedule ∷ []
 line_of (Check task certificate) = codes "check" ∷ task ∷ certificate ∷ []
 
+abbrev pub hyphen : ℕ
+hyphen = 45
+
 -- the word begins with `-`
 abbrev pub is_dashed : List ℕ → Bool
 is_dashed [] = false
-is_dashed (b ∷ word) = b == 45
+is_dashed (b ∷ word) = b == hyphen
 
 -- The words ask for it, and none begins with `-`.
 pub record AsksFor (words : List (List ℕ)) (order : Order) : Type 0 where
