@@ -130,7 +130,7 @@ pub(crate) fn is_named(
     is_in_tables(entries, slots, key) || is_in_queues(queues, slots, key)
 }
 
-/// The lowest number, from one on, that no descriptor names, or else the next new one.
+/// A number from `start` on that no descriptor names; the next new one at most.
 pub(crate) fn first_unnamed(
     entries: &[Option<Descriptor>],
     slots: &[Option<Description>],
@@ -179,7 +179,7 @@ fn is_unused(
     !is_named(entries, slots, queues, &b)
 }
 
-/// The lowest number of a pair that is not in use, or else the next new one.
+/// A number of a pair that is not in use; the next new one at most.
 pub(crate) fn first_unused(
     entries: &[Option<Descriptor>],
     slots: &[Option<Description>],

@@ -106,15 +106,24 @@ over_full_directory : rename_fault base 9 0 (codes "work") ≡ Some NotEmpty
 unfolding base created rename_fault
 over_full_directory = refl
 
--- of two refusals at once the first is told: a directory that was removed before a name that is taken there, a name that is
--- taken before a full tree, a removed node before its own place, and into itself before what stands there
+-- of two refusals at once the first is told: a directory that was removed before a name that is taken there and before a full
+-- tree, a name that is taken before a full tree, a removed node before what stands below its place now and before its own
+-- place, and into itself before what stands there
 removed_before_taken : create_fault (created again 12 (codes "f") File []) 3 (codes "f") ≡ Some Gone
 unfolding again base created removed create_fault node_at
 removed_before_taken = refl
 
+removed_before_full : create_fault (again ++ replicate 1011 nowhere) 3 (codes "f") ≡ Some Gone
+unfolding again base created removed create_fault node_at
+removed_before_full = refl
+
 taken_before_full : create_fault (base ++ replicate 1012 nowhere) 1 (codes "in") ≡ Some Exists
 unfolding base created create_fault node_at
 taken_before_full = refl
+
+removed_before_what_is_below : remove_fault (created again 12 (codes "f") File []) 3 ≡ Some Gone
+unfolding again base created removed remove_fault
+removed_before_what_is_below = refl
 
 removed_before_own_place : rename_fault again 3 1 (codes "out") ≡ Some Gone
 unfolding again base created removed rename_fault

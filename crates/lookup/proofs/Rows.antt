@@ -77,6 +77,10 @@ dots_in_file : Leads_to base (codes "in/..") Beneath Follow (Not_found Not_dir)
 unfolding base created find_of walk_of lookup_fault path_fault path_components last_component looked by_places by_nodes node_at child_of
 dots_in_file = (refl, refl)
 
+dot_in_file : Leads_to base (codes "in/.") Beneath Follow (Not_found Not_dir)
+unfolding base created find_of walk_of lookup_fault path_fault path_components last_component looked by_places by_nodes node_at child_of
+dot_in_file = (refl, refl)
+
 name_behind_link : Leads_to base (codes "same/x") Beneath Follow (Not_found Not_dir)
 unfolding base created find_of walk_of lookup_fault path_fault path_components last_component looked by_places by_nodes node_at child_of
 name_behind_link = (refl, refl)

@@ -212,6 +212,10 @@ word_before_operand : assembly_of (codes "set r0 01 !") ≡ Err (fault Word 1)
 unfolding assembly_of line_of written_at syscall_at register_at number_at operand_at path_at flags_at rights_at commands_at label_at directory_at else_at
 word_before_operand = refl
 
+label_before_operand : assembly_of (codes "A: halt 1") ≡ Err (fault Word 1)
+unfolding assembly_of line_of written_at syscall_at register_at number_at operand_at path_at flags_at rights_at commands_at label_at directory_at else_at
+label_before_operand = refl
+
 operand_before_twice : assembly_of (codes "a: halt\na: halt 1") ≡ Err (fault Operand 2)
 unfolding assembly_of line_of written_at syscall_at register_at number_at operand_at path_at flags_at rights_at commands_at label_at directory_at else_at
 operand_before_twice = refl
@@ -219,6 +223,14 @@ operand_before_twice = refl
 first_line : assembly_of (codes "set r0 01\nfrob") ≡ Err (fault Operand 1)
 unfolding assembly_of line_of written_at syscall_at register_at number_at operand_at path_at flags_at rights_at commands_at label_at directory_at else_at
 first_line = refl
+
+lines_before_labels : assembly_of (codes "jmp z\nset r0 01\n") ≡ Err (fault Operand 2)
+unfolding assembly_of line_of written_at syscall_at register_at number_at operand_at path_at flags_at rights_at commands_at label_at directory_at else_at
+lines_before_labels = refl
+
+first_missing_label : assembly_of (codes "jmp y\njmp z\n") ≡ Err (fault NoLabel 1)
+unfolding assembly_of line_of written_at syscall_at register_at number_at operand_at path_at flags_at rights_at commands_at label_at directory_at else_at
+first_missing_label = refl
 
 falls_off_behind_lines : assembly_of (codes "halt\n\nset r0 1\n\n") ≡ Err (fault FallsOff 3)
 unfolding assembly_of line_of written_at syscall_at register_at number_at operand_at path_at flags_at rights_at commands_at label_at directory_at else_at
