@@ -100,8 +100,7 @@ fn is_in_queue(messages: &[Message], slots: &[Option<Description>], key: &Search
 fn is_in_pair(queues: &Queues, slots: &[Option<Description>], key: &SearchKey) -> bool
     ensures { result ≡ any_below 2 (λ s. list_any (λ (m : SentMessage). matches_key (λ n. object_in (slot (slots_kept slots.now) n)) key.now m.passed) (queue_in (queues_of queues.now) s)) }
 {
-    is_in_queue(queues.b.as_slice(), slots, key)
-        || is_in_queue(queues.a.as_slice(), slots, key)
+    is_in_queue(queues.b.as_slice(), slots, key) || is_in_queue(queues.a.as_slice(), slots, key)
 }
 
 /// Whether a message carries a descriptor that is looked for.

@@ -4,9 +4,9 @@
 #![tactic(auto)]
 
 mod actions;
+mod building;
 pub mod lines;
 pub mod machine;
-mod building;
 pub mod schedule;
 pub mod simulation;
 mod starting;

@@ -16,8 +16,8 @@ use crate::outcomes::{Refusal, Success, effects_at};
 use crate::paths::look_up;
 use file_tree::{Kind, New, NodeId, Tree, TreeFault};
 use lookup::{Found, Last, Way, last_name};
-use rights::{Cause, Errno, Op};
 use rights::limits::MAX_NODES;
+use rights::{Cause, Errno, Op};
 use std::alloc::Global;
 
 /// 1 for a file, 2 for a directory. (fstat(2))

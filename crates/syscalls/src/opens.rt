@@ -26,8 +26,8 @@ use crate::tables::free_number;
 use fd_table::Files;
 use file_tree::{Kind, New, NodeId, Tree};
 use lookup::{Found, Last, Way, last_name};
-use rights::{Cause, Errno, Fcntls, Op, OpenFlags, Rights};
 use rights::limits::MAX_NODES;
+use rights::{Cause, Errno, Fcntls, Op, OpenFlags, Rights};
 use std::alloc::Global;
 
 /// How a node is to be opened, and with what rights.

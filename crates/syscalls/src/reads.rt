@@ -25,8 +25,8 @@ use crate::sockets::read_end;
 use fd_table::{Access, DescriptionId, Files};
 use file_tree::{NodeId, Tree};
 use prog_asm::Operand;
-use rights::{Call, Cause, Errno, Op};
 use rights::limits::MAX_BYTES;
+use rights::{Call, Cause, Errno, Op};
 use std::alloc::Global;
 
 /// What `read` tells at the end of a file, in place of a byte. (own)

@@ -21,8 +21,8 @@ use crate::sockets::write_end;
 use fd_table::{Access, DescriptionId, Files, PairId, Side};
 use file_tree::{NodeId, Tree};
 use prog_asm::Operand;
-use rights::{Call, Cause, Errno, Op};
 use rights::limits::MAX_BYTES;
+use rights::{Call, Cause, Errno, Op};
 use std::alloc::Global;
 
 /// Where a write goes: to the end with append, else to the offset. (open(2), O_APPEND)

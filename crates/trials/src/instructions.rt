@@ -2,10 +2,7 @@
 //! assembled where memory is there.
 
 use bitflags::Flags;
-use prog_asm::{
-    AsmFault, Instruction, Operand, Path, Register, Syscall, assemble,
-    is_valid_path,
-};
+use prog_asm::{AsmFault, Instruction, Operand, Path, Register, Syscall, assemble, is_valid_path};
 use rights::limits::MAX_INSTRUCTIONS;
 use std::alloc::{AllocError, Global};
 use std::test::Fail;

@@ -3,8 +3,7 @@
 ghost use Rattle.std.specs.Prelude.{◌<◌, length};
 
 use file_tree::{
-    Kind, New, NodeId, PlaceTree, Tree, TreeFault, is_same_place, is_valid_name,
-    is_valid_target,
+    Kind, New, NodeId, PlaceTree, Tree, TreeFault, is_same_place, is_valid_name, is_valid_target,
 };
 use rights::limits::MAX_BYTES;
 use std::alloc::Global;
