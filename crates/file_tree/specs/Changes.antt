@@ -1,5 +1,5 @@
 -- What becomes of a tree. (own, after open(2), mkdir(2), unlink(2), rename(2), write(2) and ftruncate(2))
-use Rattle.std.specs.Prelude.{ℕ, ◌+◌, ◌-◌, false, ◌&&◌, List, [], ◌∷◌, ◌++◌, length, take, drop, map, replicate, slice_set, if◌then◌else◌}
+use Rattle.std.specs.Prelude.{ℕ, ◌+◌, ◌-◌, false, ◌&&◌, List, ◌∷◌, ◌++◌, length, take, drop, map, replicate, slice_set, if◌then◌else◌}
 use Rattle.file_tree.specs.Places.{same_place, begins}
 use Rattle.file_tree.specs.Nodes.{Node, node, stands_at}
 

@@ -6,7 +6,7 @@ use Rattle.rights.proofs.Tests.{not_true}
 use Rattle.file_tree.specs.Places.{is_name, same_place, begins, at_name, above}
 use Rattle.file_tree.specs.Nodes.{Kind, Dir, Node, node, is_dir, is_link, node_at, child_of, lies_below, has_below, stands_at}
 use Rattle.rights.specs.Limits.{most_nodes}
-use Rattle.file_tree.specs.Changes.{removed, renamed, moved, replaced_at, filled, unlinked}
+use Rattle.file_tree.specs.Changes.{removed, moved, replaced_at, filled, unlinked}
 use Rattle.file_tree.specs.Refusals.{Exists, NotEmpty, Full, IntoItself, Gone, created, create_fault, remove_fault, is_root, rename_fault}
 use Rattle.file_tree.specs.WellFormed.{IsTree, is_content}
 use Rattle.file_tree.proofs.PlaceLaws.{same_place_is, begins_above_other, begins_longer, above_length}

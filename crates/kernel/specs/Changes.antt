@@ -1,6 +1,6 @@
 -- The world after a change, under the numbers that are chosen for what it makes: one function for each
 -- part of the world.
-use Rattle.std.specs.Prelude.{ℕ, ◌+◌, true, false, ◌||◌, nat_lt, List, [], ◌∷◌, ◌++◌, drop, length, map, slice_set, Option, Some, None, if◌then◌else◌}
+use Rattle.std.specs.Prelude.{ℕ, ◌+◌, true, false, ◌||◌, nat_lt, List, [], ◌∷◌, ◌++◌, drop, length, slice_set, Option, Some, None, if◌then◌else◌}
 use Rattle.rights.specs.Sets.{all_rights, all_commands}
 use Rattle.rights.specs.Maps.{put, put2}
 use Rattle.file_tree.specs.Nodes.{Node}

@@ -1,6 +1,6 @@
 -- A lookup goes name by name. Where it stands is told by the names below its start (`ByPlaces`) or by the
 -- nodes that it walked (`ByNodes`); here is what is the same for both. (open(2); the bound on links is own)
-use Rattle.std.specs.Prelude.{◌≡◌, ℕ, zero, suc, ◌+◌, nat_le, List, [], ◌∷◌, ◌++◌, Option, Some, None, if◌then◌else◌}
+use Rattle.std.specs.Prelude.{ℕ, zero, suc, List, [], ◌∷◌, ◌++◌, Option, Some, None, if◌then◌else◌}
 use Rattle.file_tree.specs.Places.{path_components}
 use Rattle.lookup.specs.Answers.{Escape, Loop, Answer, Not_found}
 use Rattle.lookup.specs.Paths.{is_absolute}
