@@ -1,5 +1,5 @@
 -- Slots that are surely open, maybe open and closed: which is within which, and what each describes, by computation.
-use Rattle.std.proofs.Common.{◌≡◌, Bool, true, false, List, [], refl}
+use Rattle.std.proofs.Common.{◌≡◌, true, false, [], refl}
 use Rattle.std.specs.Prelude.{ℕ, Some, None}
 use Rattle.certificate.specs.Bounds.{Held, Any_node, Closed, Open, Maybe}
 use Rattle.certificate.specs.Describes.{Holds, Seen, Node_at, slot_describes}

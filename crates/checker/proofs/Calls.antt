@@ -8,7 +8,6 @@ use Rattle.std.specs.Cmp.Derive.{both_true}
 use Rattle.std.proofs.lemmas.Bool.{le-leb, ltb-true}
 use Rattle.rights.specs.Sets.{is_within, read_right}
 use Rattle.rights.specs.Operations.{Operation}
-use Rattle.rights.specs.OperationLists.{lists}
 use Rattle.rights.specs.Operations as operations
 use Rattle.rights.proofs.Lists.{list_all-slice_get}
 use Rattle.rights.proofs.Subsets.{is_within-trans}

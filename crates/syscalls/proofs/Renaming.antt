@@ -22,10 +22,9 @@ use Rattle.rights.specs.Operations.{Remove as Removes, Create as Creates}
 use Rattle.lookup.specs.Promises.{HasName}
 use Rattle.process.specs.State.{ProcessState}
 use Rattle.kernel.specs.World.{World}
-use Rattle.kernel.specs.Answers.{Move, Event, Gives, unless}
+use Rattle.kernel.specs.Answers.{Event, Gives, unless}
 use Rattle.kernel.specs.Calls.{renamed_over, moves}
 use Rattle.syscalls.proofs.Tests.{passes}
-use Rattle.kernel.specs.Changes.{tree_after}
 
 into : (a b c d : Bool) → cond a (Some Gone) (cond b None (cond c (Some IntoItself) (cond d (Some NotEmpty) None))) ≡ Some IntoItself → c ≡ true
 into true b c d is = absurd cc
