@@ -2,7 +2,7 @@
 use Rattle.std.proofs.Common.{◌≡◌, ℕ, zero, suc, List, [], ◌∷◌, ◌++◌, codes, refl}
 use Rattle.std.specs.Prelude.{true, false, Ok, Err}
 use Rattle.rights.specs.Opens.{OpenRequest, open_request}
-use Rattle.prog_asm.specs.Programs.{Mov, Add, In, Jmp, Jeq, Jlt, Halt, Invoke, Open, Openat, Read, Cap_enter, Stat, Unlinkat, Renameat, Close, Cap_rights_limit, Cap_fcntls_limit, Number, Register}
+use Rattle.prog_asm.specs.Programs.{Mov, Add, In, Jmp, Jeq, Jlt, Halt, Invoke, Open, Openat, Read, Cap_enter, Stat, Unlinkat, Renameat, Close, Cap_rights_limit, Cap_fcntls_limit, Sendfd, Recvfd, Socketpair, Fork, Number, Register}
 use Rattle.prog_asm.specs.Forms.{written_at, syscall_at, register_at, number_at, operand_at, path_at, flags_at, rights_at, commands_at, label_at, directory_at, else_at}
 use Rattle.prog_asm.specs.Assembly.{assembly_of, line_of, fault, Word, Operand, NoLabel, TwiceLabel, TooMany, FallsOff}
 
@@ -199,9 +199,62 @@ renamed : assembly_of (codes "renameat 0 \"in\" r1 \"out\" else e\ne: halt") ≡
 unfolding assembly_of line_of written_at syscall_at register_at number_at operand_at path_at flags_at rights_at commands_at label_at directory_at else_at
 renamed = refl
 
-no_fork_yet : assembly_of (codes "fork else e\ne: halt") ≡ Err (fault Word 1)
+-- processes and sockets
+forked : assembly_of (codes "fork else e\ne: halt") ≡ Ok (Invoke Fork 1 ∷ Halt ∷ [])
 unfolding assembly_of line_of written_at syscall_at register_at number_at operand_at path_at flags_at rights_at commands_at label_at directory_at else_at
-no_fork_yet = refl
+forked = refl
+
+paired : assembly_of (codes "socketpair else e\ne: halt") ≡ Ok (Invoke Socketpair 1 ∷ Halt ∷ [])
+unfolding assembly_of line_of written_at syscall_at register_at number_at operand_at path_at flags_at rights_at commands_at label_at directory_at else_at
+paired = refl
+
+sent : assembly_of (codes "sendfd 2 r1 4294967295 else e\ne: halt") ≡ Ok (Invoke (Sendfd (Number 2) (Register 1) (Number 4294967295)) 1 ∷ Halt ∷ [])
+unfolding assembly_of line_of written_at syscall_at register_at number_at operand_at path_at flags_at rights_at commands_at label_at directory_at else_at
+sent = refl
+
+received : assembly_of (codes "recvfd r3 else e\ne: halt") ≡ Ok (Invoke (Recvfd (Register 3)) 1 ∷ Halt ∷ [])
+unfolding assembly_of line_of written_at syscall_at register_at number_at operand_at path_at flags_at rights_at commands_at label_at directory_at else_at
+received = refl
+
+fork_without_else : assembly_of (codes "fork\nhalt") ≡ Err (fault Operand 1)
+unfolding assembly_of line_of written_at syscall_at register_at number_at operand_at path_at flags_at rights_at commands_at label_at directory_at else_at
+fork_without_else = refl
+
+fork_of_a_number : assembly_of (codes "fork 1 else e\ne: halt") ≡ Err (fault Operand 1)
+unfolding assembly_of line_of written_at syscall_at register_at number_at operand_at path_at flags_at rights_at commands_at label_at directory_at else_at
+fork_of_a_number = refl
+
+socketpair_in_a_number : assembly_of (codes "socketpair 2 else e\ne: halt") ≡ Err (fault Operand 1)
+unfolding assembly_of line_of written_at syscall_at register_at number_at operand_at path_at flags_at rights_at commands_at label_at directory_at else_at
+socketpair_in_a_number = refl
+
+sendfd_without_a_value : assembly_of (codes "sendfd 2 3 else e\ne: halt") ≡ Err (fault Operand 1)
+unfolding assembly_of line_of written_at syscall_at register_at number_at operand_at path_at flags_at rights_at commands_at label_at directory_at else_at
+sendfd_without_a_value = refl
+
+sendfd_of_two_values : assembly_of (codes "sendfd 2 3 0 0 else e\ne: halt") ≡ Err (fault Operand 1)
+unfolding assembly_of line_of written_at syscall_at register_at number_at operand_at path_at flags_at rights_at commands_at label_at directory_at else_at
+sendfd_of_two_values = refl
+
+sendfd_of_a_path : assembly_of (codes "sendfd 2 \"in\" 0 else e\ne: halt") ≡ Err (fault Operand 1)
+unfolding assembly_of line_of written_at syscall_at register_at number_at operand_at path_at flags_at rights_at commands_at label_at directory_at else_at
+sendfd_of_a_path = refl
+
+recvfd_without_a_socket : assembly_of (codes "recvfd else e\ne: halt") ≡ Err (fault Operand 1)
+unfolding assembly_of line_of written_at syscall_at register_at number_at operand_at path_at flags_at rights_at commands_at label_at directory_at else_at
+recvfd_without_a_socket = refl
+
+recvfd_to_a_number : assembly_of (codes "recvfd 2 3 else e\ne: halt") ≡ Err (fault Operand 1)
+unfolding assembly_of line_of written_at syscall_at register_at number_at operand_at path_at flags_at rights_at commands_at label_at directory_at else_at
+recvfd_to_a_number = refl
+
+label_missing_behind_fork : assembly_of (codes "fork else x\nhalt") ≡ Err (fault NoLabel 1)
+unfolding assembly_of line_of written_at syscall_at register_at number_at operand_at path_at flags_at rights_at commands_at label_at directory_at else_at
+label_missing_behind_fork = refl
+
+falls_off_behind_fork : assembly_of (codes "e: fork else e") ≡ Err (fault FallsOff 1)
+unfolding assembly_of line_of written_at syscall_at register_at number_at operand_at path_at flags_at rights_at commands_at label_at directory_at else_at
+falls_off_behind_fork = refl
 
 plain_instructions : assembly_of (codes "l: in r0\n\tmov r1 r0 ; twice\nadd r0 r1\njeq r0 4 l\njlt r1 0 l\njmp l") ≡ Ok (In 0 ∷ Mov 1 0 ∷ Add 0 1 ∷ Jeq 0 4 0 ∷ Jlt 1 0 0 ∷ Jmp 0 ∷ [])
 unfolding assembly_of line_of written_at syscall_at register_at number_at operand_at path_at flags_at rights_at commands_at label_at directory_at else_at

@@ -32,14 +32,15 @@ mnemonic_name Jlt = codes "jlt"
 mnemonic_name Halt = codes "halt"
 mnemonic_name (Make call) = call_name call
 
--- The instructions that are read. No program has `fork`, `socketpair`, `sendfd` and `recvfd` yet.
+-- the instructions that are read
 abbrev pub mnemonics : List Mnemonic
 mnemonics =
     Set ∷ Mov ∷ Add ∷ In ∷ Jmp ∷ Jeq ∷ Jlt ∷ Halt ∷ Make calls.Open ∷ Make calls.Openat ∷ Make calls.Read ∷ Make calls.Write
-    ∷ Make calls.Lseek ∷ Make calls.Ftruncate ∷ Make calls.Fsync ∷ Make calls.Fstat ∷ Make calls.Fcntl_getfl
-    ∷ Make calls.Fcntl_setfl ∷ Make calls.Fstatat ∷ Make calls.Stat ∷ Make calls.Mkdirat ∷ Make calls.Mkdir
-    ∷ Make calls.Unlinkat ∷ Make calls.Unlink ∷ Make calls.Renameat ∷ Make calls.Dup ∷ Make calls.Close
-    ∷ Make calls.Cap_rights_limit ∷ Make calls.Cap_fcntls_limit ∷ Make calls.Cap_enter ∷ Make calls.Cap_getmode ∷ []
+    ∷ Make calls.Sendfd ∷ Make calls.Recvfd ∷ Make calls.Lseek ∷ Make calls.Ftruncate ∷ Make calls.Fsync ∷ Make calls.Fstat
+    ∷ Make calls.Fcntl_getfl ∷ Make calls.Fcntl_setfl ∷ Make calls.Fstatat ∷ Make calls.Stat ∷ Make calls.Mkdirat
+    ∷ Make calls.Mkdir ∷ Make calls.Unlinkat ∷ Make calls.Unlink ∷ Make calls.Renameat ∷ Make calls.Dup ∷ Make calls.Close
+    ∷ Make calls.Cap_rights_limit ∷ Make calls.Cap_fcntls_limit ∷ Make calls.Cap_enter ∷ Make calls.Cap_getmode
+    ∷ Make calls.Socketpair ∷ Make calls.Fork ∷ []
 
 abbrev pub mnemonic_among : List Mnemonic → List ℕ → Option Mnemonic
 mnemonic_among [] word = None

@@ -21,8 +21,8 @@ pub(crate) enum Mnemonic {
     Make(Call),
 }
 
-/// The instructions that are read. No program has `fork`, `socketpair`, `sendfd` and `recvfd` yet.
-const MNEMONICS: [Mnemonic; 31] = [
+/// The instructions that are read.
+const MNEMONICS: [Mnemonic; 35] = [
     Mnemonic::Set,
     Mnemonic::Mov,
     Mnemonic::Add,
@@ -35,6 +35,8 @@ const MNEMONICS: [Mnemonic; 31] = [
     Mnemonic::Make(Call::Openat),
     Mnemonic::Make(Call::Read),
     Mnemonic::Make(Call::Write),
+    Mnemonic::Make(Call::Sendfd),
+    Mnemonic::Make(Call::Recvfd),
     Mnemonic::Make(Call::Lseek),
     Mnemonic::Make(Call::Ftruncate),
     Mnemonic::Make(Call::Fsync),
@@ -54,6 +56,8 @@ const MNEMONICS: [Mnemonic; 31] = [
     Mnemonic::Make(Call::CapFcntlsLimit),
     Mnemonic::Make(Call::CapEnter),
     Mnemonic::Make(Call::CapGetmode),
+    Mnemonic::Make(Call::Socketpair),
+    Mnemonic::Make(Call::Fork),
 ];
 
 impl Mnemonic {

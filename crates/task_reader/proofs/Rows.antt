@@ -8,7 +8,8 @@ use Rattle.file_tree.specs.Places.{is_name, is_target}
 use Rattle.file_tree.specs.Nodes.{node_at}
 use Rattle.file_tree.specs.Refusals.{created}
 use Rattle.file_tree.specs.WellFormed.{is_within_limits}
-use Rattle.prog_asm.specs.Programs.{Halt}
+use Rattle.prog_asm.specs.Programs.{Halt, Invoke, Fork, Number}
+use Rattle.prog_asm.specs.Programs as programs
 use Rattle.prog_asm.specs.Forms as forms
 use Rattle.prog_asm.specs.Assembly.{assembly_of, line_of, fault, Word, FallsOff}
 use Rattle.kernel.proofs.Samples.{base}
@@ -311,3 +312,34 @@ a_path_of_1023_bytes = refl
 a_path_of_1024_bytes : plan_in (alone (deep 255)) ≡ Err Past_limit
 unfolding base created can_stand can_grant can_open written_task plan_of plan_in place_of node_at is_within_limits is_name is_target assembly_of line_of forms.written_at
 a_path_of_1024_bytes = refl
+
+-- Two processes of two programs, the second in capability mode.
+abbrev child_process : Data
+child_process =
+    table (member (codes "fd") (array (list (on 3 (codes "/work/in") ∷ [])))
+    (member (codes "mode") (string (codes "cap")) (member (codes "program") (string (codes "child")) no_members)))
+
+abbrev two_plan : Plan
+two_plan =
+    plan_with base (work ∷ log ∷ [])
+    (record { name = codes "child"; code = Invoke (programs.Read (Number 3)) 1 ∷ Halt ∷ [] } ∷ record { name = codes "main"; code = Invoke Fork 1 ∷ Halt ∷ [] } ∷ [])
+    (record { program = 1; mode = false; descriptors = on_node 0 1 ∷ on_node 1 9 ∷ [] }
+    ∷ record { program = 0; mode = true; descriptors = on_node 3 2 ∷ [] } ∷ [])
+
+two_processes : plan_in (document base_nodes base_grants (base_process ∷ child_process ∷ []) (program (codes "child") (codes "read 3 else e\ne: halt") ∷ program (codes "main") (codes "fork else e\ne: halt") ∷ [])) ≡ Ok two_plan
+unfolding base created can_stand can_grant can_open written_task plan_of plan_in place_of node_at is_within_limits is_name is_target assembly_of line_of forms.written_at forms.syscall_at forms.operand_at forms.else_at forms.label_at
+two_processes = refl
+
+-- Each process has a table of its own: a number may stand in several.
+sixteen_processes : is_read (plan_in (with_processes (replicate 16 base_process))) ≡ true
+unfolding base created can_stand can_grant can_open written_task plan_of plan_in place_of node_at is_within_limits is_name is_target assembly_of line_of forms.written_at
+sixteen_processes = refl
+
+seventeen_processes : plan_in (with_processes (replicate 17 base_process)) ≡ Err Past_limit
+unfolding base created can_stand can_grant can_open written_task plan_of plan_in place_of node_at is_within_limits is_name is_target assembly_of line_of forms.written_at
+seventeen_processes = refl
+
+-- a wrong descriptor of the last process is told before the limit
+a_descriptor_before_seventeen_processes : plan_in (with_processes (replicate 16 base_process ++ process (on 16 (codes "/work") ∷ []) ∷ [])) ≡ Err Wrong_descriptor
+unfolding base created can_stand can_grant can_open written_task plan_of plan_in place_of node_at is_within_limits is_name is_target assembly_of line_of forms.written_at
+a_descriptor_before_seventeen_processes = refl

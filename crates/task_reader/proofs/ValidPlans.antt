@@ -5,7 +5,7 @@ use Rattle.std.specs.List.{list_all, list_any}
 use Rattle.std.specs.Str.{bytes_eq}
 use Rattle.std.specs.Cmp.Derive.{both_true}
 use Rattle.std.proofs.lemmas.List.{length-map}
-use Rattle.std.proofs.lemmas.Bool.{lt-ltb, leb-true, le-leb}
+use Rattle.std.proofs.lemmas.Bool.{lt-ltb, leb-true}
 use Rattle.rights.specs.Sets.{is_within, all_rights, all_commands}
 use Rattle.rights.proofs.Tests.{both_left, both_right}
 use Rattle.file_tree.specs.Places.{begins, above}
@@ -23,7 +23,7 @@ use Rattle.task.specs.Limits.{all_apart, can_follow, are_made, is_tree, is_grant
 use Rattle.task_reader.specs.Documents.{is_among, are_once}
 use Rattle.task_reader.specs.Paths.{place_of}
 use Rattle.task_reader.specs.Written.{WrittenNode, WrittenGrant, WrittenProgram, WrittenDescriptor, WrittenStart, WrittenTask, names_of_grants, names_of_programs, written_task}
-use Rattle.task_reader.specs.Reading.{Mistake, Wrong_field, Wrong_node, Wrong_grant, Wrong_descriptor, ◌>>=◌, or_mistake, can_stand, node_placed, node_behind, node_made, tree_from, tree_of, can_grant, grant_at, grant_placed, grants_placed, are_disjoint, disjoint, policy_of, descriptor_number, descriptor_on, can_open, number_of_path, descriptor_at, descriptor_placed, descriptors_placed, numbered_apart, table_of, start_from, start_placed, starts_placed, program_from, assembled, all_assembled, is_short, keeps_limits, plan_of, plan_in, most_starts}
+use Rattle.task_reader.specs.Reading.{Mistake, Wrong_field, Wrong_node, Wrong_grant, Wrong_descriptor, ◌>>=◌, or_mistake, can_stand, node_placed, node_behind, node_made, tree_from, tree_of, can_grant, grant_at, grant_placed, grants_placed, are_disjoint, disjoint, policy_of, descriptor_number, descriptor_on, can_open, number_of_path, descriptor_at, descriptor_placed, descriptors_placed, numbered_apart, table_of, start_from, start_placed, starts_placed, program_from, assembled, all_assembled, is_short, keeps_limits, plan_of, plan_in}
 use Rattle.task_reader.proofs.WrittenLaws.{some-equal, and_then-some, map-some, if-some, is_named_grant, is_named_program, is_bounded, is_given, IsWritten, task-written}
 
 ok-equal : {A : Type 0} (x y : A) → or_mistake Wrong_field (Some x) ≡ Ok y → x ≡ y
@@ -291,9 +291,6 @@ record Limited (task : WrittenTask) (tree : List Node) : Type 0 where
   programs : nat_le (length task.programs) most_programs ≡ true
   starts : nat_le (length task.starts) most_processes ≡ true
 
-few : (n : ℕ) → nat_le n most_starts ≡ true → nat_le n most_processes ≡ true
-few n low = le-leb n most_processes (omega (arith, leb-true n most_starts low))
-
 limited : (task : WrittenTask) (tree : List Node) → keeps_limits task tree ≡ true → Limited task tree
 limited task tree keeps =
     let a = list_all is_short task.nodes in
@@ -301,7 +298,7 @@ limited task tree keeps =
     let c = nat_le (length tree) most_nodes in
     let d = nat_le (length task.grants) most_grants in
     let e = nat_le (length task.programs) most_programs in
-    let f = nat_le (length task.starts) most_starts in
+    let f = nat_le (length task.starts) most_processes in
     let abcde = both_left (a && b && c && d && e) f keeps in
     let abcd = both_left (a && b && c && d) e abcde in
     let abc = both_left (a && b && c) d abcd in
@@ -311,7 +308,7 @@ limited task tree keeps =
       nodes = both_right (a && b) c abc;
       grants = both_right (a && b && c) d abcd;
       programs = both_right (a && b && c && d) e abcde;
-      starts = few (length task.starts) (both_right (a && b && c && d && e) f keeps);
+      starts = both_right (a && b && c && d && e) f keeps;
     }
 
 if-ok : {A : Type 0} (m : Mistake) (b : Bool) (x y : A) → cond b (Ok x) (Err m) ≡ Ok y → (b ≡ true) × (x ≡ y)

@@ -3,7 +3,7 @@ use Rattle.std.specs.Prelude.{ℕ, ℤ, pos, negsuc, Bool, true, ◌&&◌, ◌||
 use Rattle.std.specs.List.{list_all, list_any}
 use Rattle.file_tree.specs.Places.{begins, above}
 use Rattle.file_tree.specs.Nodes.{Node, node, node_at, is_dir, is_link, stands_at}
-use Rattle.rights.specs.Limits.{most_nodes, most_path, most_grants, most_programs}
+use Rattle.rights.specs.Limits.{most_nodes, most_path, most_processes, most_grants, most_programs}
 use Rattle.file_tree.specs.Refusals.{new_tree}
 use Rattle.file_tree.specs.WellFormed.{has_directory, is_within_limits}
 use Rattle.prog_asm.specs.Programs.{Instruction}
@@ -147,10 +147,6 @@ all_assembled (p ∷ programs) = do
 
 -- What is limited: the length of a node's path, of its names, and of what it holds; and how many nodes, grants, programs
 -- and processes there are.
--- A document lists one process, until programs can make more
-abbrev pub most_starts : ℕ
-most_starts = 1
-
 abbrev pub is_short : WrittenNode → Bool
 is_short n = nat_le (length n.path) most_path
 
@@ -158,7 +154,7 @@ abbrev pub keeps_limits : WrittenTask → List Node → Bool
 keeps_limits task tree =
     list_all is_short task.nodes && list_all is_within_limits tree && nat_le (length tree) most_nodes
     && nat_le (length task.grants) most_grants && nat_le (length task.programs) most_programs
-    && nat_le (length task.starts) most_starts
+    && nat_le (length task.starts) most_processes
 
 abbrev pub within_limits : WrittenTask → Plan → Result Plan Mistake
 within_limits task plan = if keeps_limits task plan.nodes then Ok plan else Err Past_limit

@@ -6,7 +6,7 @@ mod documents;
 pub mod faults;
 mod fields;
 pub mod laws;
-pub mod limits;
+mod limits;
 mod paths;
 mod placed_grants;
 mod placed_starts;
@@ -17,5 +17,4 @@ mod words;
 mod written;
 
 pub use faults::TaskFault;
-pub use limits::MAX_PROCESSES;
 pub use reading::read_task;

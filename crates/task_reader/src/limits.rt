@@ -11,11 +11,8 @@ ghost use Rattle.task_reader.specs.WrittenViews.{node_seen, nodes_seen, task_see
 
 use crate::written::{WrittenNode, WrittenTask};
 use file_tree::{Kind, is_valid_name, is_valid_target};
-use rights::limits::{MAX_BYTES, MAX_GRANTS, MAX_NODES, MAX_PATH, MAX_PROGRAMS};
+use rights::limits::{MAX_BYTES, MAX_GRANTS, MAX_NODES, MAX_PATH, MAX_PROCESSES, MAX_PROGRAMS};
 use task::TaskNode;
-
-/// How many first processes a task may have, until programs can make more. (own)
-pub const MAX_PROCESSES: usize = 1;
 
 /// Whether each name is one of a node's.
 fn are_names(place: &[Vec<u8>]) -> bool

@@ -101,7 +101,7 @@ fn make_task(alloc: Global, written: &WrittenTask<'_>) -> Result<Task, TaskFault
 /// a path where no file or directory is, and a directory that is to be written; `Asm`, for the first program whose text isn't
 /// one; `Limit`, for a path of more than 1023 bytes, a name of more than 255, a target that is empty or of more than 1023
 /// bytes or has a name of more than 255, a file of more than 4096, and more than 1024 nodes, the root counted, 8 grants, 8
-/// programs, and, until programs can make more, one process. `Memory`, want of memory, may come in place of any answer.
+/// programs, and 16 processes. `Memory`, want of memory, may come in place of any answer.
 pub fn read_task(alloc: Global, bytes: &[u8]) -> Result<Task, TaskFault>
     ensures { ReadsTask (λ task. task) result (task_of bytes.now) }
 {

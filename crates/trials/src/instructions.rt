@@ -20,10 +20,11 @@ fn tells_the_first_fault(rt: HostRuntime) {
         ("", 6, "FallsOff", 1),
         ("set r0 1", 6, "FallsOff", 1),
         ("jmp x", 3, "NoLabel", 1),
-        ("halt\nfork else e\ne: halt", 1, "Word", 2),
-        ("socketpair else e\ne: halt", 1, "Word", 1),
-        ("sendfd 0 1 2 else e\ne: halt", 1, "Word", 1),
-        ("recvfd 0 else e\ne: halt", 1, "Word", 1),
+        ("halt\nfork 1 else e\ne: halt", 2, "Operand", 2),
+        ("socketpair\nhalt", 2, "Operand", 1),
+        ("sendfd 0 1 else e\ne: halt", 2, "Operand", 1),
+        ("recvfd 0 1 else e\ne: halt", 2, "Operand", 1),
+        ("vfork else e\ne: halt", 1, "Word", 1),
     ] {
         match assemble(rt.alloc(), text) {
             Ok(_) => assert!(rt; false, "{text} is no program"),
@@ -136,6 +137,8 @@ const ALL: &str = "; one of each\n\
     openat r0 \"a;b\" create,write,trunc else last\n\
     read r0 else last\n\
     write 1 r2 else last\n\
+    sendfd 2 r0 65 else last\n\
+    recvfd r3 else last\n\
     lseek r0 0 else last\n\
     ftruncate r0 4096 else last\n\
     fsync 3 else last\n\
@@ -155,13 +158,15 @@ const ALL: &str = "; one of each\n\
     cap_fcntls_limit 0 GETFL else last\n\
     cap_enter else last\n\
     cap_getmode else last\n\
+    socketpair else last\n\
+    fork else last\n\
     last: halt";
 
 #[test]
 fn reads_each_instruction(rt: HostRuntime) -> Result<(), Fail> {
     let program = assemble(rt.alloc(), ALL)?;
     let code = program.code();
-    assert!(rt; code.len() == 31);
+    assert!(rt; code.len() == 35);
     for (point, instruction) in code.iter().enumerate() {
         match instruction {
             Instruction::Set { register, value } => {
@@ -187,11 +192,11 @@ fn reads_each_instruction(rt: HostRuntime) -> Result<(), Fail> {
                 value,
                 target,
             } => {
-                assert!(rt; (point, register.number(), *value, *target) == (6, 2, 3, 30));
+                assert!(rt; (point, register.number(), *value, *target) == (6, 2, 3, 34));
             }
-            Instruction::Halt => assert!(rt; point == 30),
+            Instruction::Halt => assert!(rt; point == 34),
             Instruction::Invoke { call, otherwise } => {
-                assert!(rt; *otherwise == 30);
+                assert!(rt; *otherwise == 34);
                 assert!(rt; CALLS.get(point).copied() == Some(call.call().name()));
             }
         }
@@ -200,7 +205,7 @@ fn reads_each_instruction(rt: HostRuntime) -> Result<(), Fail> {
 }
 
 /// The calls of `ALL` by point.
-const CALLS: [&str; 30] = [
+const CALLS: [&str; 34] = [
     "",
     "",
     "",
@@ -212,6 +217,8 @@ const CALLS: [&str; 30] = [
     "openat",
     "read",
     "write",
+    "sendfd",
+    "recvfd",
     "lseek",
     "ftruncate",
     "fsync",
@@ -231,6 +238,8 @@ const CALLS: [&str; 30] = [
     "cap_fcntls_limit",
     "cap_enter",
     "cap_getmode",
+    "socketpair",
+    "fork",
 ];
 
 #[test]
@@ -254,6 +263,16 @@ fn reads_operands(rt: HostRuntime) -> Result<(), Fail> {
                 Syscall::Write { descriptor, value } => {
                     assert!(rt; *descriptor == Operand::Number(1));
                     assert!(rt; Register::new(2).map(Operand::Register) == Some(*value));
+                    seen = seen.saturating_add(1);
+                }
+                Syscall::Sendfd {
+                    descriptor,
+                    sent,
+                    value,
+                } => {
+                    assert!(rt; *descriptor == Operand::Number(2));
+                    assert!(rt; Register::new(0).map(Operand::Register) == Some(*sent));
+                    assert!(rt; *value == Operand::Number(65));
                     seen = seen.saturating_add(1);
                 }
                 Syscall::Unlinkat { directory, .. } => {
@@ -283,7 +302,7 @@ fn reads_operands(rt: HostRuntime) -> Result<(), Fail> {
             }
         }
     }
-    assert!(rt; seen == 6);
+    assert!(rt; seen == 7);
     Ok(())
 }
 
@@ -329,7 +348,7 @@ fn takes_what_need_not_be_there(rt: HostRuntime) {
 #[test]
 fn a_refused_growth_is_memory(rt: HostRuntime) {
     match assemble(rt.alloc(), ALL) {
-        Ok(program) => assert!(rt; program.code().len() == 31),
+        Ok(program) => assert!(rt; program.code().len() == 35),
         Err(fault) => assert!(rt; fault == AsmFault::Memory),
     }
     match assemble(rt.alloc(), "a: halt\na: halt") {

@@ -5,8 +5,6 @@
 #[cfg(test)]
 mod base;
 #[cfg(test)]
-mod base_values;
-#[cfg(test)]
 mod bounds;
 #[cfg(test)]
 mod instructions;
@@ -32,8 +30,6 @@ mod serving;
 mod sets;
 #[cfg(test)]
 mod small;
-#[cfg(test)]
-mod sockets;
 #[cfg(test)]
 mod tables;
 #[cfg(test)]

@@ -39,6 +39,24 @@ const WORKSHOP: (&str, &str) = (
     "{number=1, path=\"/log\"}, {number=2, path=\"/workshop/x\"}",
 );
 
+/// `/work/in` as descriptor 2.
+const IN: (&str, &str) = (
+    "{number=1, path=\"/log\"}",
+    "{number=1, path=\"/log\"}, {number=2, path=\"/work/in\"}",
+);
+
+/// A second process, in the mode, of a second program that opens a file by name and then beneath `/work`.
+const CHILD: Changes<'_> = &[
+    (
+        "{number=1, path=\"/log\"}]}]",
+        "{number=1, path=\"/log\"}]},\n {program=\"child\", mode=\"cap\", fd=[{number=0, path=\"/work\"}]}]",
+    ),
+    (
+        "halt\n'''",
+        "halt\n'''\n[[program]]\nname = \"child\"\ncode = '''\nopen \"/etc/passwd\" read else a\na: openat 0 \"in\" read else e\ne: halt\n'''",
+    ),
+];
+
 /// A program that closes descriptor 2 where its input isn't 0.
 const CLOSES_ON_INPUT: (&str, &str) = (
     "halt",
@@ -94,7 +112,7 @@ fn calls_answer_in_the_mode(rt: HostRuntime) -> Result<(), Fail> {
 
 #[test]
 fn calls_answer_outside_the_mode(rt: HostRuntime) -> Result<(), Fail> {
-    let rows: [(Changes<'_>, &str); 4] = [
+    let rows: [(Changes<'_>, &str); 7] = [
         (
             &[(
                 "halt",
@@ -125,6 +143,27 @@ fn calls_answer_outside_the_mode(rt: HostRuntime) -> Result<(), Fail> {
                 ),
             ],
             "0 main:0 = 0 remove /work/out\n0 main:1 = 0 create /work/out\n0 main:2 ! ENOENT Path\n0 main:3 halt\n",
+        ),
+        (
+            &[(
+                "halt",
+                "socketpair else e\nwrite 2 7 else e\nrecvfd 3 else a\na: read 3 else e\nclose 2 else e\nread 3 else e\ne: halt",
+            )],
+            "0 main:0 = 2\n0 main:1 = 1\n0 main:2 ! EINVAL Refused\n0 main:3 = 7\n0 main:4 = 0\n0 main:5 = 256\n",
+        ),
+        (
+            &[(
+                "halt",
+                "socketpair else e\nsocketpair else e\nsendfd 4 2 0 else e\nclose 2 else e\nread 3 else e\ne: halt",
+            )],
+            "0 main:0 = 2\n0 main:1 = 4\n0 main:2 = 1\n0 main:3 = 0\n0 main:4 wait\n",
+        ),
+        (
+            &[(
+                "halt",
+                "socketpair else e\ncap_rights_limit 0 LOOKUP else e\nsendfd 2 0 0 else e\nrecvfd 3 else e\nfstat 4 else e\ne: halt",
+            )],
+            "0 main:0 = 2\n0 main:1 = 0\n0 main:2 = 1\n0 main:3 = 4\n0 main:4 ! ENOTCAPABLE MissingRight\n",
         ),
     ];
     for (changes, trace) in rows {
@@ -169,7 +208,7 @@ fn files_are_changed(rt: HostRuntime) -> Result<(), Fail> {
 
 #[test]
 fn events_name_processes_and_refusals(rt: HostRuntime) -> Result<(), Fail> {
-    let rows: [(Changes<'_>, &str, &str); 4] = [
+    let rows: [(Changes<'_>, &str, &str); 8] = [
         (
             &[(
                 "halt",
@@ -192,6 +231,32 @@ fn events_name_processes_and_refusals(rt: HostRuntime) -> Result<(), Fail> {
             &[],
             "5 0\n0 0\n0 0\n",
             "5 - none\n0 main:0 halt\n0 main:0 ended\n",
+        ),
+        (
+            &[IN, ("halt", "fork else e\nread 2 else e\ne: halt")],
+            "0 0\n1 0\n0 0\n",
+            "0 main:0 = 1\n1 main:1 = 65 read /work/in\n0 main:1 = 66 read /work/in\n",
+        ),
+        (
+            &[(
+                "halt",
+                "fork else e\njeq r0 0 c\njmp e\nc: cap_enter else e\ne: halt",
+            )],
+            "0 0\n0 0\n1 0\n1 0\n",
+            "0 main:0 = 1\n0 main:1 ok\n1 main:1 ok\n1 main:3 = 0\n",
+        ),
+        (
+            &[(
+                "halt",
+                "fork else e\njeq r0 0 c\ncap_getmode else e\njmp e\nc: cap_enter else e\ncap_getmode else e\ne: halt",
+            )],
+            "0 0\n1 0\n1 0\n1 0\n0 0\n0 0\n",
+            "0 main:0 = 1\n1 main:1 ok\n1 main:4 = 0\n1 main:5 = 1\n0 main:1 ok\n0 main:2 = 0\n",
+        ),
+        (
+            CHILD,
+            "1 0\n0 0\n5 0\n1 0\n0 0\n1 0\n1 0\n2 0\n",
+            "1 child:0 ! ECAPMODE CapMode\n0 main:0 halt\n5 - none\n1 child:1 = 1\n0 main:0 ended\n1 child:2 halt\n1 child:2 ended\n2 - none\n",
         ),
     ];
     for (changes, schedule, trace) in rows {
@@ -230,16 +295,48 @@ fn thirty_two_links_are_followed(rt: HostRuntime) -> Result<(), Fail> {
     Ok(())
 }
 
-#[test]
-fn sixteen_descriptors_are_all(rt: HostRuntime) -> Result<(), Fail> {
-    let mut trace = String::new(rt.alloc());
-    for number in 2..=15u32 {
-        let lines = format!(in rt.alloc(); "0 main:0 = {number}\n0 main:1 ok\n")?;
+/// The lines of a loop whose call gives each number from the first to 15.
+fn numbered(alloc: Global, first: u32) -> Result<String, AllocError> {
+    let mut trace = String::new(alloc);
+    for number in first..=15u32 {
+        let lines = format!(in alloc; "0 main:0 = {number}\n0 main:1 ok\n")?;
         trace.push_str(lines.as_str())?;
     }
-    trace.push_str("0 main:0 ! EMFILE Full\n0 main:2 halt\n")?;
-    let changes: Changes<'_> = &[("halt", "l: dup 0 else e\njmp l\ne: halt")];
-    assert!(rt; shows(rt.alloc(), changes, trace.as_str())?);
+    Ok(trace)
+}
+
+#[test]
+fn sixteen_are_all(rt: HostRuntime) -> Result<(), Fail> {
+    let alloc = rt.alloc();
+    let descriptors = numbered(alloc, 2)?;
+    let processes = numbered(alloc, 1)?;
+    let messages = times(alloc, "0 main:1 = 1\n0 main:2 ok\n", 16)?;
+    let rows = [
+        (
+            "l: dup 0 else e\njmp l\ne: halt",
+            format!(in alloc; "{descriptors}0 main:0 ! EMFILE Full\n0 main:2 halt\n")?,
+        ),
+        (
+            "l: fork else e\njmp l\ne: halt",
+            format!(in alloc; "{processes}0 main:0 ! EAGAIN Full\n0 main:2 halt\n")?,
+        ),
+        (
+            "socketpair else e\nl: write 2 7 else e\njmp l\ne: halt",
+            format!(in alloc; "0 main:0 = 2\n{messages}0 main:1 wait\n0 main:1 wait\n")?,
+        ),
+    ];
+    for (program, trace) in &rows {
+        let changes: Changes<'_> = &[("halt", *program)];
+        assert!(rt; shows(alloc, changes, trace.as_str())?, "{program}");
+    }
+    let others = times(alloc, ",\n {program=\"main\", fd=[]}", 15)?;
+    let listed = format!(in alloc; "{{number=1, path=\"/log\"}}]}}{others}]")?;
+    let changes = [
+        ("{number=1, path=\"/log\"}]}]", listed.as_str()),
+        ("halt", "fork else e\ne: halt"),
+    ];
+    let trace = "15 main:0 ! EAGAIN Full\n0 main:0 ! EAGAIN Full\n15 main:1 halt\n";
+    assert!(rt; shows_on(alloc, &changes, "15 0\n0 0\n15 0\n", trace)?);
     Ok(())
 }
 

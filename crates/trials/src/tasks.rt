@@ -129,7 +129,7 @@ fn later_faults_are_told(rt: HostRuntime) -> Result<(), Fail> {
         ("number=1", "number=-1", 5),
         ("number=1", "number=0", 5),
         ("\nhalt\n", "\nfrob\n", 6),
-        ("\"/log\"}]}]", "\"/log\"}]}, {program=\"main\", fd=[]}]", 7),
+        ("\"/log\"}]}]", "\"/log\"}]}, {program=\"main\", fd=[]}]", 0),
         ("target=\"out/../in\"", "target=\"\"", 7),
     ] {
         match changed(rt.alloc(), BASE, &[(old, new)])? {
@@ -145,10 +145,18 @@ fn later_faults_are_told(rt: HostRuntime) -> Result<(), Fail> {
     Ok(())
 }
 
-/// A long file is past a limit, and a directory that is written is told before it.
+/// A long file and a 17th process are past a limit, and a directory that is written is told before them.
 #[test]
-fn a_long_file_is_past_a_limit(rt: HostRuntime) -> Result<(), Fail> {
+fn what_is_too_much_is_past_a_limit(rt: HostRuntime) -> Result<(), Fail> {
     let alloc = rt.alloc();
+    for (count, number) in [(15, 0), (16, 7)] {
+        let others = times(alloc, ", {program=\"main\", fd=[]}", count)?;
+        let listed = format!(in alloc; "\"/log\"}}]}}{others}]")?;
+        match changed(alloc, BASE, &[("\"/log\"}]}]", listed.as_str())])? {
+            Some(text) => assert!(rt; number_of(read_task(alloc, text.as_bytes())) == number),
+            None => panic!(rt; "no process"),
+        }
+    }
     for (count, number) in [(4096, 0), (4097, 7)] {
         let content = times(alloc, "a", count)?;
         match changed(alloc, BASE, &[("AB", content.as_str())])? {

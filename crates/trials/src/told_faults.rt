@@ -151,6 +151,10 @@ fn long_files_and_programs_are_told(rt: HostRuntime) -> Result<(), Fail> {
             b"capcheck: task 5 Descriptor\n"
         )?
     );
+    let processes = times(alloc, " {program=\"main\", fd=[]},", 16)?;
+    let processes = format!(in alloc; "process = [{processes}")?;
+    let processes = ("process = [", processes.as_str());
+    assert!(rt; is_refused(alloc, &[processes], b"capcheck: task 7 Limit\n")?);
     let code = times(alloc, "halt\n", 257)?;
     let code = ("halt\n", code.as_str());
     assert!(rt; is_refused(alloc, &[code], b"capcheck: task 6 Asm main:257 5 TooMany\n")?);
