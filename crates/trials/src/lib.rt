@@ -9,6 +9,8 @@ mod base_values;
 #[cfg(test)]
 mod bounds;
 #[cfg(test)]
+mod consoles;
+#[cfg(test)]
 mod instructions;
 #[cfg(test)]
 mod lookups;
