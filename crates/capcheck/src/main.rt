@@ -5,7 +5,7 @@ ghost use Rattle.std.specs.Prelude.{None};
 
 use rights::write_all;
 use service::statuses::{REFUSED, STOPPED};
-use service::{Console, Source, Unread, serve};
+use service::{Console, Source, Unread, closed, fetched, serve};
 use std::io::{BufWriter, ErrorKind};
 use std::process::ExitCode;
 use std::{env, fs};
@@ -20,15 +20,7 @@ impl<'a> Source for Disk<'a> {
     ghost files = { λ _. None };
 
     fn fetch(&mut self, name: &str) -> Result<Vec<u8>, Unread> {
-        match fs::read(self.rt, name) {
-            Ok(bytes) => Ok(bytes),
-            Err(error) => {
-                if error.kind() == ErrorKind::OutOfMemory {
-                    return Err(Unread::Memory);
-                }
-                Err(Unread::NotThere)
-            }
-        }
+        fetched(fs::read(self.rt, name))
     }
 }
 
@@ -69,14 +61,7 @@ fn run(rt: &HostRuntime) -> u8 {
     let mut out = Console::new(stream);
     let mut disk = Disk { rt };
     let status = serve(rt.alloc(), &words, &mut disk, &mut out, &mut err);
-    if out.flush() {
-        return status;
-    }
-    if status < REFUSED {
-        let mut err = Console::new(rt.stderr());
-        let _ = write_all(&mut err, b"capcheck: output\n");
-    }
-    STOPPED
+    closed(status, out.flush(), &mut Console::new(rt.stderr()))
 }
 
 fn main(rt: HostRuntime) -> ExitCode {

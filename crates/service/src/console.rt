@@ -1,11 +1,16 @@
 //! Standard output and standard error, as writers that count their failures.
 
-ghost use Rattle.std.specs.Prelude.{◌≡◌, None};
+ghost use Rattle.std.specs.Prelude.{◌≡◌, ◌<◌, ◌≤◌, ◌-◌, ◌^◌, true, false, Ok, None, length, IfOk, OnErr, OnOk};
+ghost use Rattle.std.specs.Io.KnownBytes.{Keeps, WriteAppends};
+ghost use Rattle.service.specs.Fails.{TellsLine};
+ghost use Rattle.service.specs.Faults.{No_output, fault_status, fault_text};
 
-use rights::{Out, OutFault};
+use crate::statuses::{REFUSED, STOPPED};
+use rights::{Out, OutFault, write_all};
 use std::io::Write;
 
-/// A stream of the process. What it takes isn't told.
+/// A stream of the process. What it takes isn't told as of other writers, but the stream underneath gets what was taken
+/// and no more.
 #[derive(Drop)]
 pub struct Console<W: Write + Drop> {
     stream: W,
@@ -25,7 +30,8 @@ impl<W: Write + Drop> Console<W> {
 
     /// Hands on what a buffer still holds, and says whether that went well.
     pub fn flush(&mut self) -> bool
-        ensures { self.new.failures ≡ self.old.failures }
+        ensures failures { self.new.failures ≡ self.old.failures }
+        ensures kept { Keeps (W.contents self.old.stream) (W.contents self.new.stream) }
     {
         self.stream.flush().is_ok()
     }
@@ -36,7 +42,15 @@ impl<W: Write + Drop> Out for Console<W> {
 
     ghost faults = { λ console. console.failures };
 
-    fn write_some(&mut self, bytes: &[u8]) -> Result<usize, OutFault> {
+    fn write_some(&mut self, bytes: &[u8]) -> Result<usize, OutFault>
+        requires { self.old.failures < 2 ^ 64 - 1 }
+        ensures within { IfOk result (λ count. count ≤ length bytes.now) }
+        ensures steady { IfOk result (λ count. 0 < count → self.new.failures ≡ self.old.failures) }
+        ensures nothing_to_take { length bytes.now ≡ 0 → OnOk result (self.new.failures ≡ self.old.failures) }
+        ensures none_taken { result ≡ Ok 0 → 0 < length bytes.now → self.old.failures < self.new.failures }
+        ensures err { OnErr result (self.old.failures < self.new.failures) }
+        ensures appends { WriteAppends (W.contents self.old.stream) (W.contents self.new.stream) result bytes.now }
+    {
         match self.stream.write(bytes) {
             Ok(count) => {
                 if count == 0 && !bytes.is_empty() {
@@ -50,4 +64,23 @@ impl<W: Write + Drop> Out for Console<W> {
             }
         }
     }
+}
+
+/// The status of the program, once the output was flushed: the one that it has; or 3 where that failed, which is told
+/// unless a fault was told before.
+pub fn closed<V: Out>(status: u8, flushed: bool, err: &mut V) -> u8
+    requires { V.faults err.old < 2 ^ 64 - 1 }
+    ensures kept { flushed ≡ true → (result ≡ status) × (V.taken err.new ≡ V.taken err.old) }
+    ensures failed { flushed ≡ false → result ≡ fault_status No_output }
+    ensures told { flushed ≡ false → status < 2
+        → TellsLine (V.taken err.old) (V.taken err.new) (V.faults err.old) (V.faults err.new) (fault_text No_output) }
+    ensures told_before { flushed ≡ false → 2 ≤ status → V.taken err.new ≡ V.taken err.old }
+{
+    if flushed {
+        return status;
+    }
+    if status < REFUSED {
+        let _ = write_all(err, b"capcheck: output\n");
+    }
+    STOPPED
 }

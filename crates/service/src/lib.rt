@@ -14,8 +14,8 @@ pub mod sources;
 pub mod statuses;
 
 pub use certificates::certificate_named;
-pub use console::Console;
+pub use console::{Console, closed};
 pub use judging::judge;
 pub use named::{task_named, task_of};
 pub use serving::serve;
-pub use sources::{Source, Unread};
+pub use sources::{Source, Unread, fetched};

@@ -1,7 +1,11 @@
 //! Where the program's files come from.
 
-ghost use Rattle.std.specs.Prelude.{◌≡◌, ℕ, List, Option, IfErr, IfOk};
+ghost use Rattle.std.specs.Prelude.{◌≡◌, ℕ, List, Option, Ok, Err, IfErr, IfOk};
+ghost use Rattle.std.specs.IoError.{error_kind};
 ghost use Rattle.service.specs.Files.{IsFile, IsMissing};
+
+use std::io;
+use std::io::ErrorKind;
 
 /// Why a file isn't read.
 #[derive(Clone, Copy, PartialEq, Eq, Debug)]
@@ -23,4 +27,21 @@ pub trait Source {
         ensures text { IfOk result (λ bytes. IsFile (files self.old) name.now bytes.items) }
         ensures missing { IfErr result (λ e. e ≡ Unread.NotThere → IsMissing (files self.old) name.now) }
         ensures same { files self.new ≡ files self.old };
+}
+
+/// What a read of a file comes to.
+pub fn fetched(read: io::Result<Vec<u8>>) -> Result<Vec<u8>, Unread>
+    ensures text { IfOk read (λ bytes. result ≡ Ok bytes) }
+    ensures memory { IfErr read (λ e. error_kind e ≡ ErrorKind.OutOfMemory → result ≡ Err Unread.Memory) }
+    ensures missing { IfErr read (λ e. (error_kind e ≡ ErrorKind.OutOfMemory → ⊥) → result ≡ Err Unread.NotThere) }
+{
+    match read {
+        Ok(bytes) => Ok(bytes),
+        Err(error) => {
+            if error.kind() == ErrorKind::OutOfMemory {
+                return Err(Unread::Memory);
+            }
+            Err(Unread::NotThere)
+        }
+    }
 }

@@ -7,6 +7,8 @@ mod base;
 #[cfg(test)]
 mod bounds;
 #[cfg(test)]
+mod consoles;
+#[cfg(test)]
 mod instructions;
 #[cfg(test)]
 mod lookups;
