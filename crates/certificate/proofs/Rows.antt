@@ -1,5 +1,5 @@
 -- Which bound is within which, and what each describes, by computation.
-use Rattle.std.proofs.Common.{◌≡◌, Bool, true, false, List, [], ◌∷◌, refl}
+use Rattle.std.proofs.Common.{◌≡◌, true, false, [], ◌∷◌, refl}
 use Rattle.std.specs.Prelude.{ℕ, Some, None}
 use Rattle.std.specs.Str.{bytes_eq}
 use Rattle.rights.specs.Classes.{Initial, Made_at}
