@@ -1,20 +1,14 @@
 -- What no step does is refused by the relation.
-use Rattle.std.proofs.Common.{◌≡◌, ℕ, zero, suc, ◌⊎◌, inl, inr, true, false, subst, sym, ap, arith, [], refl}
+use Rattle.std.proofs.Common.{◌≡◌, ℕ, zero, suc, inl, inr, true, false, length, subst, sym, ap, arith, refl}
 use Rattle.std.specs.Prelude.{Option, Some, None, is_some}
 use Rattle.std.proofs.Math.Decide.{ℕ_discrete}
-use Rattle.rights.specs.Opens.{open_request}
+use Rattle.rights.specs.Sets.{is_within, all_rights, all_commands, read_right}
 use Rattle.process.specs.State.{new_process}
-use Rattle.prog_asm.specs.Programs.{Syscall, Number, Open, Dup, Fork}
+use Rattle.prog_asm.specs.Programs.{Number, Sendfd, Dup, Cap_rights_limit, Fork}
 use Rattle.fd_table.specs.Descriptions.{Descriptor}
-use Rattle.kernel.specs.Origins.{Caller, ComesFrom, stood, was_made, was_copied, IsMade, IsWithin, IsOwn, QueuedFrom, had_waited, was_sent}
-use Rattle.kernel.specs.Gainful.{NothingComesFromElsewhere, wide, narrow, two_processes, second_calls}
-
-abbrev second : Syscall → Caller
-second call = record { process = 1; state = new_process 0 false; call = call }
-
--- the caller is the one that calls
-is_second : (call : Syscall) (c : Caller) → second_calls call ≡ Some c → second call ≡ c
-is_second call c is = cc
+use Rattle.kernel.specs.World.{World}
+use Rattle.kernel.specs.Origins.{Caller, ComesFrom, stood, was_made, was_copied, IsMade, IsSent, QueuedFrom, had_waited, was_sent}
+use Rattle.kernel.specs.Gainful.{NothingComesFromElsewhere, wide, narrow, two_processes, two_ends, second, opens}
 
 some_is : (o : Option Descriptor) (d : Descriptor) → o ≡ Some d → is_some o ≡ true
 some_is o d is = ap is_some is
@@ -30,49 +24,90 @@ description_in (Some d) = d.description
 others : Some narrow ≡ Some wide → ⊥
 others is = let numbers : suc zero ≡ zero = ap description_in is in absurd (omega (arith, numbers))
 
-no_other_table : ComesFrom two_processes (second_calls Fork) 2 0 wide → ⊥
+-- what stands at a number of the second process is what stood there, or what its call has made
+by_call : (w : World) (caller : Caller) (n : ℕ) (d : Descriptor) → length w.processes ≡ 2 → (w.files.table 1 n ≡ Some d → ⊥) → (IsMade w caller n d → ⊥) → ComesFrom w (Some caller) 1 n d → ⊥
+by_call w caller n d two old made (stood is) = old is
+by_call w caller n d two old made (was_made c is at made_so) = let same : caller ≡ c = cc in made (subst (λ c. IsMade w c n d) (sym same) made_so)
+by_call w caller n d two old made (was_copied c is forks at held) = absurd (omega (arith, at, two))
+
+empty_there : (d : Descriptor) → two_processes.files.table 1 1 ≡ Some d → ⊥
+unfolding ℕ_discrete
+empty_there d is = impossible (some_is _ _ is)
+
+no_other_table : ComesFrom two_processes (Some (second false Fork)) 2 0 wide → ⊥
 unfolding ℕ_discrete
 no_other_table (stood is) = impossible (some_is _ _ is)
-no_other_table (was_made c is at made) = absurd (omega (arith, subst (λ (c : Caller). 2 ≡ c.process) (sym (is_second Fork c is)) at))
+no_other_table (was_made c is at made) = let same : second false Fork ≡ c = cc in absurd (omega (arith, subst (λ (c : Caller). 2 ≡ c.process) (sym same) at))
 no_other_table (was_copied c is forks at held) =
-    others (subst (λ (c : Caller). two_processes.files.table c.process 0 ≡ Some wide) (sym (is_second Fork c is)) held)
+    let same : second false Fork ≡ c = cc in
+    others (subst (λ (c : Caller). two_processes.files.table c.process 0 ≡ Some wide) (sym same) held)
 
-no_rights : (made : IsMade two_processes (second (Dup (Number 0))) 1 wide) → ⊥
+no_rights : IsMade two_processes (second false (Dup (Number 0))) 1 wide → ⊥
 unfolding ℕ_discrete
-no_rights made = go made.comes
-  where
-    go : IsWithin wide (Some narrow) ⊎ IsOwn (new_process 0 false) (Dup (Number 0)) wide → ⊥
-    go (inl within) = impossible within.0
-    go (inr own) = impossible own.makes
+no_rights made = elim made.comes [ inl within ↦ impossible within.0 | inr own ↦ impossible own.makes ]
 
-no_other_rights : ComesFrom two_processes (second_calls (Dup (Number 0))) 1 1 wide → ⊥
+no_commands : IsMade two_processes (second false (Dup (Number 0))) 1 (record narrow { fcntls = all_commands }) → ⊥
 unfolding ℕ_discrete
-no_other_rights (stood is) = impossible (some_is _ _ is)
-no_other_rights (was_made c is at made) = no_rights (subst (λ (c : Caller). IsMade two_processes c 1 wide) (sym (is_second (Dup (Number 0)) c is)) made)
-no_other_rights (was_copied c is forks at held) = absurd (omega (arith, at))
+no_commands made = elim made.comes [ inl within ↦ impossible within.1 | inr own ↦ impossible own.makes ]
 
-abbrev opens : Syscall
-opens = Open [] (open_request true false false false false)
-
-no_taken_number : ComesFrom two_processes (second_calls (Open [] (open_request true false false false false))) 1 0 wide → ⊥
+no_wider : IsMade two_processes (second false (Cap_rights_limit (Number 0) all_rights)) 0 (record narrow { rights = all_rights }) → ⊥
 unfolding ℕ_discrete
-no_taken_number (stood is) = others is
-no_taken_number (was_made c is at made) =
-    let mine : IsMade two_processes (second opens) 0 wide = subst (λ (c : Caller). IsMade two_processes c 0 wide) (sym (is_second opens c is)) made in
-    impossible (sym (ap is_some mine.place))
-no_taken_number (was_copied c is forks at held) = absurd (omega (arith, at))
+no_wider made = elim made.comes [ inl within ↦ impossible within.0 | inr own ↦ impossible own.makes ]
+
+no_elsewhere : IsMade two_processes (second false (Cap_rights_limit (Number 0) read_right)) 1 narrow → ⊥
+unfolding ℕ_discrete
+no_elsewhere made = let same : suc zero ≡ zero = made.place in absurd (omega (arith, same))
+
+no_taken : IsMade two_processes (second false opens) 0 wide → ⊥
+unfolding ℕ_discrete
+no_taken made = impossible (sym (ap is_some made.place))
+
+no_open : IsMade two_processes (second true opens) 1 wide → ⊥
+unfolding ℕ_discrete
+no_open made = elim made.comes [ inl within ↦ within | inr own ↦ impossible own.makes ]
+
+abbrev rights_in : Option Descriptor → ℕ
+rights_in None = 0
+rights_in (Some d) = d.rights
+
+other_narrow : Some narrow ≡ Some (record narrow { rights = all_rights }) → ⊥
+other_narrow is = impossible (sym (ap (λ o. is_within (rights_in o) read_right) is))
 
 no_unsent_message : QueuedFrom two_processes None 0 0 wide → ⊥
 no_unsent_message (had_waited i m here carried) = absurd cc
 no_unsent_message (was_sent c is sent) = absurd cc
 
+abbrev sends : Caller
+sends = second false (Sendfd (Number 0) (Number 0) (Number 0))
+
+no_wider_message : QueuedFrom two_ends (Some sends) 0 0 wide → ⊥
+unfolding ℕ_discrete
+no_wider_message (had_waited i m here carried) = absurd cc
+no_wider_message (was_sent c is sent) =
+    let same : sends ≡ c = cc in
+    let mine : IsSent two_ends 1 (new_process 0 false) sends.call 0 0 wide = subst (λ (c : Caller). IsSent two_ends c.process c.state c.call 0 0 wide) (sym same) sent in
+    impossible mine.1.0
+
+no_other_sender : QueuedFrom two_ends (Some (second false (Dup (Number 0)))) 0 0 wide → ⊥
+no_other_sender (had_waited i m here carried) = absurd cc
+no_other_sender (was_sent c is sent) =
+    let same : second false (Dup (Number 0)) ≡ c = cc in
+    let mine : IsSent two_ends 1 (new_process 0 false) (Dup (Number 0)) 0 0 wide = subst (λ (c : Caller). IsSent two_ends c.process c.state c.call 0 0 wide) (sym same) sent in
+    mine
+
 pub nothing_comes_from_elsewhere : NothingComesFromElsewhere
 unfolding ℕ_discrete
 nothing_comes_from_elsewhere = record {
   no_other_table = λ gains. no_other_table (gains.entries 2 0);
-  no_other_rights = λ gains. no_other_rights (gains.entries 1 1);
-  no_taken_number = λ gains. no_taken_number (gains.entries 1 0);
+  no_other_rights = λ gains. by_call two_processes _ 1 wide refl (empty_there wide) no_rights (gains.entries 1 1);
+  no_other_commands = λ gains. by_call two_processes _ 1 _ refl (empty_there _) no_commands (gains.entries 1 1);
+  no_wider_limit = λ gains. by_call two_processes _ 0 _ refl other_narrow no_wider (gains.entries 1 0);
+  no_limit_elsewhere = λ gains. by_call two_processes _ 1 narrow refl (empty_there narrow) no_elsewhere (gains.entries 1 1);
+  no_taken_number = λ gains. by_call two_processes _ 0 wide refl others no_taken (gains.entries 1 0);
+  no_open_in_the_mode = λ gains. by_call two_processes _ 1 wide refl (empty_there wide) no_open (gains.entries 1 1);
   no_unsent_message = λ gains. no_unsent_message (gains.messages 0 0).0;
+  no_wider_message = λ gains. no_wider_message (gains.messages 0 0).0;
+  no_other_sender = λ gains. no_other_sender (gains.messages 0 0).0;
   no_left_mode = λ gains. impossible (gains.modes 0 refl);
   no_child_outside = λ gains. impossible (gains.modes 1 refl);
 }

@@ -5,8 +5,8 @@ use Rattle.rights.specs.Maps.{put2}
 use Rattle.rights.specs.Opens.{open_request}
 use Rattle.rights.specs.Sets.{all_rights, all_commands, read_right}
 use Rattle.process.specs.State.{new_process}
-use Rattle.prog_asm.specs.Programs.{Syscall, Number, Open, Dup, Fork}
-use Rattle.fd_table.specs.Descriptions.{At_node, Descriptor, descriptor_of, message_of, new_state}
+use Rattle.prog_asm.specs.Programs.{Syscall, Number, Open, Sendfd, Dup, Cap_rights_limit, Fork}
+use Rattle.fd_table.specs.Descriptions.{Initial, At_node, At_end, Descriptor, descriptor_of, message_of, new_state}
 use Rattle.kernel.specs.World.{World}
 use Rattle.kernel.specs.Origins.{Caller}
 use Rattle.kernel.specs.Gains.{GainsNothing}
@@ -33,28 +33,41 @@ two_processes = record {
   processes = new_process 0 false ∷ new_process 0 false ∷ [];
 }
 
--- the second process makes the call
-abbrev pub second_calls : Syscall → Option Caller
-second_calls call = Some (record { process = 1; state = new_process 0 false; call = call })
+-- the second process makes the call, in the mode or not
+abbrev pub second : Bool → Syscall → Caller
+second mode call = record { process = 1; state = new_process 0 mode; call = call }
 
--- the same world with the first one's descriptor at (p, n), with it in a message, and with other processes
-abbrev pub with_wide : ℕ → ℕ → World
-with_wide p n = record two_processes { files = record two_processes.files { table = put2 two_tables p n (Some wide) } }
+abbrev pub opens : Syscall
+opens = Open [] (open_request true false false false false)
 
-abbrev pub with_message : World
-with_message = record two_processes {
-  files = record two_processes.files { queue = put2 two_processes.files.queue 0 0 (message_of 0 (Some wide) ∷ []) };
-}
+-- the same world with a descriptor at (p, n), with the first one's in a message, and with other processes
+abbrev pub with_at : ℕ → ℕ → Descriptor → World
+with_at p n d = record two_processes { files = record two_processes.files { table = put2 two_tables p n (Some d) } }
+
+abbrev pub with_message : World → World
+with_message w = record w { files = record w.files { queue = put2 w.files.queue 0 0 (message_of 0 (Some wide) ∷ []) } }
+
+-- the same with an end of a pair behind each descriptor
+abbrev pub two_ends : World
+two_ends = record two_processes { files = record two_processes.files { objects = λ n. At_end 0 0 (Initial 0) } }
 
 abbrev pub with_modes : List Bool → World
 with_modes modes = record two_processes { processes = map (new_process 0) modes }
 
--- A child of the second process hasn't the first one's table; a dup of the second has no rights of the first's; an open takes
--- no number that is taken; no message carries what nobody sent; nobody leaves the mode, and no child of one in it is outside.
+-- A child of the second process hasn't the first one's table. A dup of the second has no rights of the first's, and no
+-- commands that its original hasn't. A limit doesn't widen, and leaves what it narrows where it stood. An open takes no number
+-- that is taken, and makes nothing in the mode. No message carries what nobody sent, or more than what was sent, and `sendfd`
+-- alone sends. Nobody leaves the mode, and no child of one in it is outside.
 pub record NothingComesFromElsewhere : Type 0 where
-  pub no_other_table : GainsNothing two_processes 1 (second_calls Fork) (with_wide 2 0) → ⊥
-  pub no_other_rights : GainsNothing two_processes 1 (second_calls (Dup (Number 0))) (with_wide 1 1) → ⊥
-  pub no_taken_number : GainsNothing two_processes 1 (second_calls (Open [] (open_request true false false false false))) (with_wide 1 0) → ⊥
-  pub no_unsent_message : GainsNothing two_processes 1 None with_message → ⊥
+  pub no_other_table : GainsNothing two_processes 1 (Some (second false Fork)) (with_at 2 0 wide) → ⊥
+  pub no_other_rights : GainsNothing two_processes 1 (Some (second false (Dup (Number 0)))) (with_at 1 1 wide) → ⊥
+  pub no_other_commands : GainsNothing two_processes 1 (Some (second false (Dup (Number 0)))) (with_at 1 1 (record narrow { fcntls = all_commands })) → ⊥
+  pub no_wider_limit : GainsNothing two_processes 1 (Some (second false (Cap_rights_limit (Number 0) all_rights))) (with_at 1 0 (record narrow { rights = all_rights })) → ⊥
+  pub no_limit_elsewhere : GainsNothing two_processes 1 (Some (second false (Cap_rights_limit (Number 0) read_right))) (with_at 1 1 narrow) → ⊥
+  pub no_taken_number : GainsNothing two_processes 1 (Some (second false opens)) (with_at 1 0 wide) → ⊥
+  pub no_open_in_the_mode : GainsNothing two_processes 1 (Some (second true opens)) (with_at 1 1 wide) → ⊥
+  pub no_unsent_message : GainsNothing two_processes 1 None (with_message two_processes) → ⊥
+  pub no_wider_message : GainsNothing two_ends 1 (Some (second false (Sendfd (Number 0) (Number 0) (Number 0)))) (with_message two_ends) → ⊥
+  pub no_other_sender : GainsNothing two_ends 1 (Some (second false (Dup (Number 0)))) (with_message two_ends) → ⊥
   pub no_left_mode : GainsNothing (with_modes (true ∷ false ∷ [])) 0 None (with_modes (false ∷ false ∷ [])) → ⊥
   pub no_child_outside : GainsNothing (with_modes (true ∷ [])) 0 (Some (record { process = 0; state = new_process 0 true; call = Fork })) (with_modes (true ∷ false ∷ [])) → ⊥
