@@ -4,11 +4,11 @@ use Rattle.std.specs.Prelude.{Option, Some, None, is_some}
 use Rattle.std.proofs.Math.Decide.{ℕ_discrete}
 use Rattle.rights.specs.Sets.{is_within, all_rights, all_commands, read_right}
 use Rattle.process.specs.State.{new_process}
-use Rattle.prog_asm.specs.Programs.{Number, Sendfd, Dup, Cap_rights_limit, Fork}
+use Rattle.prog_asm.specs.Programs.{Syscall, Number, Dup, Cap_rights_limit, Cap_fcntls_limit, Fork}
 use Rattle.fd_table.specs.Descriptions.{Descriptor}
 use Rattle.kernel.specs.World.{World}
 use Rattle.kernel.specs.Origins.{Caller, ComesFrom, stood, was_made, was_copied, IsMade, IsSent, QueuedFrom, had_waited, was_sent}
-use Rattle.kernel.specs.Gainful.{NothingComesFromElsewhere, wide, narrow, two_processes, two_ends, second, opens}
+use Rattle.kernel.specs.Gainful.{NothingComesFromElsewhere, wide, narrow, two_processes, at_ends, second, opens, sends}
 
 some_is : (o : Option Descriptor) (d : Descriptor) → o ≡ Some d → is_some o ≡ true
 some_is o d is = ap is_some is
@@ -42,6 +42,18 @@ no_other_table (was_copied c is forks at held) =
     let same : second false Fork ≡ c = cc in
     others (subst (λ (c : Caller). two_processes.files.table c.process 0 ≡ Some wide) (sym same) held)
 
+no_other_child : ComesFrom two_processes (Some (second false Fork)) 3 0 narrow → ⊥
+unfolding ℕ_discrete
+no_other_child (stood is) = impossible (some_is _ _ is)
+no_other_child (was_made c is at made) = let same : second false Fork ≡ c = cc in absurd (omega (arith, subst (λ (c : Caller). 3 ≡ c.process) (sym same) at))
+no_other_child (was_copied c is forks at held) = absurd (omega (arith, at))
+
+no_other_copy : ComesFrom two_processes (Some (second false (Dup (Number 0)))) 2 0 narrow → ⊥
+unfolding ℕ_discrete
+no_other_copy (stood is) = impossible (some_is _ _ is)
+no_other_copy (was_made c is at made) = let same : second false (Dup (Number 0)) ≡ c = cc in absurd (omega (arith, subst (λ (c : Caller). 2 ≡ c.process) (sym same) at))
+no_other_copy (was_copied c is forks at held) = absurd cc
+
 no_rights : IsMade two_processes (second false (Dup (Number 0))) 1 wide → ⊥
 unfolding ℕ_discrete
 no_rights made = elim made.comes [ inl within ↦ impossible within.0 | inr own ↦ impossible own.makes ]
@@ -58,6 +70,10 @@ no_elsewhere : IsMade two_processes (second false (Cap_rights_limit (Number 0) r
 unfolding ℕ_discrete
 no_elsewhere made = let same : suc zero ≡ zero = made.place in absurd (omega (arith, same))
 
+no_moved_commands : IsMade two_processes (second false (Cap_fcntls_limit (Number 0) 0)) 1 narrow → ⊥
+unfolding ℕ_discrete
+no_moved_commands made = let same : suc zero ≡ zero = made.place in absurd (omega (arith, same))
+
 no_taken : IsMade two_processes (second false opens) 0 wide → ⊥
 unfolding ℕ_discrete
 no_taken made = impossible (sym (ap is_some made.place))
@@ -65,6 +81,14 @@ no_taken made = impossible (sym (ap is_some made.place))
 no_open : IsMade two_processes (second true opens) 1 wide → ⊥
 unfolding ℕ_discrete
 no_open made = elim made.comes [ inl within ↦ within | inr own ↦ impossible own.makes ]
+
+no_other_right : IsMade two_processes (second false opens) 1 (record wide { rights = read_right }) → ⊥
+unfolding ℕ_discrete
+no_other_right made = elim made.comes [ inl within ↦ within | inr own ↦ impossible (ap (λ held. is_within all_rights held) own.rights) ]
+
+no_other_command : IsMade two_processes (second false opens) 1 (record wide { fcntls = 0 }) → ⊥
+unfolding ℕ_discrete
+no_other_command made = elim made.comes [ inl within ↦ within | inr own ↦ impossible (ap (λ held. is_within all_commands held) own.fcntls) ]
 
 abbrev rights_in : Option Descriptor → ℕ
 rights_in None = 0
@@ -77,37 +101,42 @@ no_unsent_message : QueuedFrom two_processes None 0 0 wide → ⊥
 no_unsent_message (had_waited i m here carried) = absurd cc
 no_unsent_message (was_sent c is sent) = absurd cc
 
-abbrev sends : Caller
-sends = second false (Sendfd (Number 0) (Number 0) (Number 0))
+-- what end (0, 0) has sent is what a call of the second process sends
+by_sending : (side : ℕ) (call : Syscall) (d : Descriptor) → (IsSent (at_ends side) 1 (new_process 0 false) call 0 0 d → ⊥) → QueuedFrom (at_ends side) (Some (second false call)) 0 0 d → ⊥
+by_sending side call d not_sent (had_waited i m here carried) = absurd cc
+by_sending side call d not_sent (was_sent c is sent) =
+    let same : second false call ≡ c = cc in
+    not_sent (subst (λ (c : Caller). IsSent (at_ends side) c.process c.state c.call 0 0 d) (sym same) sent)
 
-no_wider_message : QueuedFrom two_ends (Some sends) 0 0 wide → ⊥
+no_wider_message : IsSent (at_ends 0) 1 (new_process 0 false) sends 0 0 wide → ⊥
 unfolding ℕ_discrete
-no_wider_message (had_waited i m here carried) = absurd cc
-no_wider_message (was_sent c is sent) =
-    let same : sends ≡ c = cc in
-    let mine : IsSent two_ends 1 (new_process 0 false) sends.call 0 0 wide = subst (λ (c : Caller). IsSent two_ends c.process c.state c.call 0 0 wide) (sym same) sent in
-    impossible mine.1.0
+no_wider_message sent = impossible sent.1.0
 
-no_other_sender : QueuedFrom two_ends (Some (second false (Dup (Number 0)))) 0 0 wide → ⊥
-no_other_sender (had_waited i m here carried) = absurd cc
-no_other_sender (was_sent c is sent) =
-    let same : second false (Dup (Number 0)) ≡ c = cc in
-    let mine : IsSent two_ends 1 (new_process 0 false) (Dup (Number 0)) 0 0 wide = subst (λ (c : Caller). IsSent two_ends c.process c.state c.call 0 0 wide) (sym same) sent in
-    mine
+no_other_end : IsSent (at_ends 1) 1 (new_process 0 false) sends 0 0 narrow → ⊥
+unfolding ℕ_discrete
+no_other_end sent = let same : suc zero ≡ zero = sent.0.1 in absurd (omega (arith, same))
 
 pub nothing_comes_from_elsewhere : NothingComesFromElsewhere
 unfolding ℕ_discrete
 nothing_comes_from_elsewhere = record {
   no_other_table = λ gains. no_other_table (gains.entries 2 0);
+  no_other_child = λ gains. no_other_child (gains.entries 3 0);
+  no_other_copy = λ gains. no_other_copy (gains.entries 2 0);
   no_other_rights = λ gains. by_call two_processes _ 1 wide refl (empty_there wide) no_rights (gains.entries 1 1);
   no_other_commands = λ gains. by_call two_processes _ 1 _ refl (empty_there _) no_commands (gains.entries 1 1);
   no_wider_limit = λ gains. by_call two_processes _ 0 _ refl other_narrow no_wider (gains.entries 1 0);
   no_limit_elsewhere = λ gains. by_call two_processes _ 1 narrow refl (empty_there narrow) no_elsewhere (gains.entries 1 1);
+  no_command_limit_elsewhere = λ gains. by_call two_processes _ 1 narrow refl (empty_there narrow) no_moved_commands (gains.entries 1 1);
   no_taken_number = λ gains. by_call two_processes _ 0 wide refl others no_taken (gains.entries 1 0);
   no_open_in_the_mode = λ gains. by_call two_processes _ 1 wide refl (empty_there wide) no_open (gains.entries 1 1);
+  no_open_of_other_rights = λ gains. by_call two_processes _ 1 _ refl (empty_there _) no_other_right (gains.entries 1 1);
+  no_open_of_other_commands = λ gains. by_call two_processes _ 1 _ refl (empty_there _) no_other_command (gains.entries 1 1);
   no_unsent_message = λ gains. no_unsent_message (gains.messages 0 0).0;
-  no_wider_message = λ gains. no_wider_message (gains.messages 0 0).0;
-  no_other_sender = λ gains. no_other_sender (gains.messages 0 0).0;
+  no_wider_message = λ gains. by_sending 0 sends wide no_wider_message (gains.messages 0 0).0;
+  no_other_end = λ gains. by_sending 1 sends narrow no_other_end (gains.messages 0 0).0;
+  no_other_sender = λ gains. by_sending 0 (Dup (Number 0)) narrow (λ sent. sent) (gains.messages 0 0).0;
   no_left_mode = λ gains. impossible (gains.modes 0 refl);
   no_child_outside = λ gains. impossible (gains.modes 1 refl);
+  no_process_vanishes = λ gains. gains.modes 1;
+  no_process_from_nowhere = λ gains. gains.modes 1;
 }

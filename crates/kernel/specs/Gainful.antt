@@ -5,7 +5,7 @@ use Rattle.rights.specs.Maps.{put2}
 use Rattle.rights.specs.Opens.{open_request}
 use Rattle.rights.specs.Sets.{all_rights, all_commands, read_right}
 use Rattle.process.specs.State.{new_process}
-use Rattle.prog_asm.specs.Programs.{Syscall, Number, Open, Sendfd, Dup, Cap_rights_limit, Fork}
+use Rattle.prog_asm.specs.Programs.{Syscall, Number, Open, Sendfd, Dup, Cap_rights_limit, Cap_fcntls_limit, Fork}
 use Rattle.fd_table.specs.Descriptions.{Initial, At_node, At_end, Descriptor, descriptor_of, message_of, new_state}
 use Rattle.kernel.specs.World.{World}
 use Rattle.kernel.specs.Origins.{Caller}
@@ -40,34 +40,46 @@ second mode call = record { process = 1; state = new_process 0 mode; call = call
 abbrev pub opens : Syscall
 opens = Open [] (open_request true false false false false)
 
--- the same world with a descriptor at (p, n), with the first one's in a message, and with other processes
+abbrev pub sends : Syscall
+sends = Sendfd (Number 0) (Number 0) (Number 0)
+
+-- the same world with a descriptor at (p, n), with one in a message of end (0, 0), and with other processes
 abbrev pub with_at : ℕ → ℕ → Descriptor → World
 with_at p n d = record two_processes { files = record two_processes.files { table = put2 two_tables p n (Some d) } }
 
-abbrev pub with_message : World → World
-with_message w = record w { files = record w.files { queue = put2 w.files.queue 0 0 (message_of 0 (Some wide) ∷ []) } }
+abbrev pub with_message : World → Descriptor → World
+with_message w d = record w { files = record w.files { queue = put2 w.files.queue 0 0 (message_of 0 (Some d) ∷ []) } }
 
--- the same with an end of a pair behind each descriptor
-abbrev pub two_ends : World
-two_ends = record two_processes { files = record two_processes.files { objects = λ n. At_end 0 0 (Initial 0) } }
+-- the same with that end of a pair behind each descriptor
+abbrev pub at_ends : ℕ → World
+at_ends side = record two_processes { files = record two_processes.files { objects = λ n. At_end 0 side (Initial 0) } }
 
 abbrev pub with_modes : List Bool → World
 with_modes modes = record two_processes { processes = map (new_process 0) modes }
 
--- A child of the second process hasn't the first one's table. A dup of the second has no rights of the first's, and no
--- commands that its original hasn't. A limit doesn't widen, and leaves what it narrows where it stood. An open takes no number
--- that is taken, and makes nothing in the mode. No message carries what nobody sent, or more than what was sent, and `sendfd`
--- alone sends. Nobody leaves the mode, and no child of one in it is outside.
+-- Copies are made by `fork` alone, and for its child alone: a child of the second process hasn't the first one's table. A dup
+-- of the second has no rights of the first's, and no commands that its original hasn't. A limit doesn't widen, and leaves what
+-- it narrows where it stood. An open takes no number that is taken, makes nothing in the mode, and makes all rights and
+-- commands. No message carries what nobody sent, or more than what was sent, and `sendfd` alone sends, into its own end's
+-- queue. Nobody leaves the mode, no child of one in it is outside, and no process vanishes or comes from nowhere.
 pub record NothingComesFromElsewhere : Type 0 where
   pub no_other_table : GainsNothing two_processes 1 (Some (second false Fork)) (with_at 2 0 wide) → ⊥
+  pub no_other_child : GainsNothing two_processes 1 (Some (second false Fork)) (with_at 3 0 narrow) → ⊥
+  pub no_other_copy : GainsNothing two_processes 1 (Some (second false (Dup (Number 0)))) (with_at 2 0 narrow) → ⊥
   pub no_other_rights : GainsNothing two_processes 1 (Some (second false (Dup (Number 0)))) (with_at 1 1 wide) → ⊥
   pub no_other_commands : GainsNothing two_processes 1 (Some (second false (Dup (Number 0)))) (with_at 1 1 (record narrow { fcntls = all_commands })) → ⊥
   pub no_wider_limit : GainsNothing two_processes 1 (Some (second false (Cap_rights_limit (Number 0) all_rights))) (with_at 1 0 (record narrow { rights = all_rights })) → ⊥
   pub no_limit_elsewhere : GainsNothing two_processes 1 (Some (second false (Cap_rights_limit (Number 0) read_right))) (with_at 1 1 narrow) → ⊥
+  pub no_command_limit_elsewhere : GainsNothing two_processes 1 (Some (second false (Cap_fcntls_limit (Number 0) 0))) (with_at 1 1 narrow) → ⊥
   pub no_taken_number : GainsNothing two_processes 1 (Some (second false opens)) (with_at 1 0 wide) → ⊥
   pub no_open_in_the_mode : GainsNothing two_processes 1 (Some (second true opens)) (with_at 1 1 wide) → ⊥
-  pub no_unsent_message : GainsNothing two_processes 1 None (with_message two_processes) → ⊥
-  pub no_wider_message : GainsNothing two_ends 1 (Some (second false (Sendfd (Number 0) (Number 0) (Number 0)))) (with_message two_ends) → ⊥
-  pub no_other_sender : GainsNothing two_ends 1 (Some (second false (Dup (Number 0)))) (with_message two_ends) → ⊥
+  pub no_open_of_other_rights : GainsNothing two_processes 1 (Some (second false opens)) (with_at 1 1 (record wide { rights = read_right })) → ⊥
+  pub no_open_of_other_commands : GainsNothing two_processes 1 (Some (second false opens)) (with_at 1 1 (record wide { fcntls = 0 })) → ⊥
+  pub no_unsent_message : GainsNothing two_processes 1 None (with_message two_processes wide) → ⊥
+  pub no_wider_message : GainsNothing (at_ends 0) 1 (Some (second false sends)) (with_message (at_ends 0) wide) → ⊥
+  pub no_other_end : GainsNothing (at_ends 1) 1 (Some (second false sends)) (with_message (at_ends 1) narrow) → ⊥
+  pub no_other_sender : GainsNothing (at_ends 0) 1 (Some (second false (Dup (Number 0)))) (with_message (at_ends 0) narrow) → ⊥
   pub no_left_mode : GainsNothing (with_modes (true ∷ false ∷ [])) 0 None (with_modes (false ∷ false ∷ [])) → ⊥
   pub no_child_outside : GainsNothing (with_modes (true ∷ [])) 0 (Some (record { process = 0; state = new_process 0 true; call = Fork })) (with_modes (true ∷ false ∷ [])) → ⊥
+  pub no_process_vanishes : GainsNothing (with_modes (false ∷ false ∷ [])) 0 None (with_modes (false ∷ [])) → ⊥
+  pub no_process_from_nowhere : GainsNothing (with_modes (false ∷ [])) 1 None (with_modes (false ∷ false ∷ [])) → ⊥

@@ -66,10 +66,11 @@ pub fn no_run_gains()
 {}
 
 /// That says something: in a world of two processes the relation refuses that the second one's child has the first one's
-/// descriptors; that a `dup` of the second has the first one's rights or more commands; that a limit widens, or puts what it
-/// narrows elsewhere; that an `open` takes a number that is taken, or makes something in the mode; a message with a descriptor
-/// that nobody sent, with more than what was sent, or of another call than `sendfd`; that a process leaves the mode; and that
-/// a child of one in the mode is outside it.
+/// descriptors, or that another call or for another process than the child copies them; that a `dup` of the second has the
+/// first one's rights or more commands; that a limit widens, or puts what it narrows elsewhere; that an `open` takes a number
+/// that is taken, makes something in the mode, or less than all rights and commands; a message with a descriptor that nobody
+/// sent, with more than what was sent, into another end's queue, or of another call than `sendfd`; that a process leaves the
+/// mode, vanishes, or comes from nowhere; and that a child of one in the mode is outside it.
 pub fn nothing_comes_from_elsewhere()
     ensures { NothingComesFromElsewhere }
 {}
