@@ -1,6 +1,10 @@
 -- What the values of the code stand for.
 use Rattle.std.specs.Prelude.{ℕ, List, [], map, take}
 use Rattle.certificate.specs.declared.names.Name.{Name as NameCode}
+use Rattle.certificate.specs.declared.classes.Class.{Class as ClassCode}
+use Rattle.certificate.specs.declared.classes.Class.TheVariants as class
+use Rattle.certificate.specs.declared.classes.Side.{Side as SideCode}
+use Rattle.certificate.specs.declared.classes.Side.TheVariants as side
 use Rattle.certificate.specs.declared.bounds.ModeBound.{ModeBound as ModeBoundCode}
 use Rattle.certificate.specs.declared.bounds.ModeBound.TheVariants as mode
 use Rattle.certificate.specs.declared.bounds.Interval.{Interval as IntervalCode}
@@ -12,10 +16,20 @@ use Rattle.certificate.specs.declared.bounds.Slot.TheVariants as slots
 use Rattle.certificate.specs.declared.bounds.Bound.{Bound as BoundCode}
 use Rattle.certificate.specs.declared.bounds.Point.{Point as PointCode}
 use Rattle.certificate.specs.declared.bounds.Cert.{Cert as CertCode}
-use Rattle.certificate.specs.Bounds.{ModeBound, Off, On, Either, Interval, Target, In_grant, Any_node, Unknown, Held, Slot, Closed, Open, Maybe, Bound, PointBound, Certificate}
+use Rattle.rights.specs.Classes.{Class, Initial, Made_at}
+use Rattle.certificate.specs.Bounds.{ModeBound, Off, On, Either, Interval, Target, In_grant, Any_node, Socket, Unknown, Held, Slot, Closed, Open, Maybe, Bound, PointBound, Certificate}
 
 abbrev pub name_of : NameCode → List ℕ
 name_of n = take n.length n.bytes
+
+abbrev pub class_of : ClassCode → Class
+class_of (class.Initial pair) = Initial pair
+class_of (class.MadeAt program point) = Made_at (name_of program) point
+
+-- a is 0 and b is 1
+abbrev pub side_of : SideCode → ℕ
+side_of side.A = 0
+side_of side.B = 1
 
 abbrev pub mode_of : ModeBoundCode → ModeBound
 mode_of mode.Off = Off
@@ -28,6 +42,7 @@ interval_of i = record { low = i.low; high = i.high }
 abbrev pub target_of : TargetCode → Target
 target_of (target.InGrant name) = In_grant (name_of name)
 target_of target.AnyNode = Any_node
+target_of (target.Socket c s) = Socket (class_of c) (side_of s)
 target_of target.Unknown = Unknown
 
 abbrev pub held_of : HeldCode → Held

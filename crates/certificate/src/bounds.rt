@@ -4,6 +4,7 @@ ghost use Rattle.std.specs.Prelude.{◌≡◌, option_map};
 ghost use Rattle.certificate.specs.Bounds.{bound_at, bound_in, held_in, interval, slot, with_interval};
 ghost use Rattle.certificate.specs.Views.{bound_of, certificate_of, held_of, interval_of, points_of, slot_of};
 
+use crate::classes::{Class, Side};
 use crate::names::Name;
 use rights::limits::{MAX_DESCRIPTORS, REGISTERS};
 use rights::{Fcntls, Rights};
@@ -31,6 +32,8 @@ pub enum Target {
     InGrant(Name),
     /// Any file or directory.
     AnyNode,
+    /// This side of a socket pair of this class.
+    Socket(Class, Side),
     /// Anything.
     Unknown,
 }

@@ -3,6 +3,7 @@
 #![tactic(auto)]
 
 pub mod bounds;
+pub mod classes;
 pub mod laws;
 pub mod names;
 pub mod order;
@@ -10,4 +11,5 @@ pub mod order;
 pub use bounds::{
     Bound, Cert, FcntlsRange, Held, Interval, ModeBound, Point, RightsRange, Slot, Target,
 };
+pub use classes::{Class, Side};
 pub use names::Name;

@@ -32,16 +32,20 @@ impl Interval {
 }
 
 impl Target {
-    /// Whether what a descriptor of this is of the other may be of too: a grant's nodes are among all nodes, and
-    /// all is within unknown.
+    /// Whether what a descriptor of this is of the other may be of too: a grant's nodes are among all nodes, an end
+    /// is within itself, and all is within unknown.
     pub fn within(&self, other: &Target) -> bool
         ensures { result ≡ target_within (target_of self.now) (target_of other.now) }
     {
         match (self, other) {
             (_, Target::Unknown) | (Target::InGrant(_) | Target::AnyNode, Target::AnyNode) => true,
             (Target::InGrant(name), Target::InGrant(same)) => name.as_bytes() == same.as_bytes(),
-            (Target::AnyNode | Target::Unknown, Target::InGrant(_))
-            | (Target::Unknown, Target::AnyNode) => false,
+            (Target::Socket(class, side), Target::Socket(same, end)) => {
+                class.is(same) && side.is(*end)
+            }
+            (Target::AnyNode | Target::Socket(..) | Target::Unknown, Target::InGrant(_))
+            | (Target::Socket(..) | Target::Unknown, Target::AnyNode)
+            | (Target::InGrant(_) | Target::AnyNode | Target::Unknown, Target::Socket(..)) => false,
         }
     }
 }

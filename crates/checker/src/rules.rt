@@ -58,12 +58,12 @@ fn may_be_on(mode: ModeBound) -> bool
     }
 }
 
-/// Whether what it is of is known: a node of a grant.
+/// Whether what it is of is known: a node of a grant, or a socket.
 fn is_known(target: &Target) -> bool
     ensures { result ≡ is_known (target_of target.now) }
 {
     match target {
-        Target::InGrant(_) => true,
+        Target::InGrant(_) | Target::Socket(..) => true,
         Target::AnyNode | Target::Unknown => false,
     }
 }
@@ -74,7 +74,7 @@ fn target_lists(task: &Task, operation: Op, target: &Target) -> bool
 {
     match target {
         Target::InGrant(name) => grant_lists(task.grants(), name.as_bytes(), operation),
-        Target::AnyNode | Target::Unknown => true,
+        Target::AnyNode | Target::Socket(..) | Target::Unknown => true,
     }
 }
 

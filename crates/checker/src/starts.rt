@@ -58,6 +58,7 @@ fn target_describes(grants: &[Grant], target: &Target, place: &[Vec<u8>]) -> boo
     match target {
         Target::InGrant(name) => grant_holds(grants, name.as_bytes(), place),
         Target::AnyNode | Target::Unknown => true,
+        Target::Socket(..) => false,
     }
 }
 
