@@ -1,14 +1,14 @@
 -- What no step does is refused by the relation.
-use Rattle.std.proofs.Common.{◌≡◌, ℕ, zero, suc, inl, inr, true, false, length, subst, sym, ap, arith, refl}
+use Rattle.std.proofs.Common.{◌≡◌, ℕ, zero, suc, inl, inr, true, false, length, subst, sym, ap, arith, refl, ◌∙◌}
 use Rattle.std.specs.Prelude.{Option, Some, None, is_some}
 use Rattle.std.proofs.Math.Decide.{ℕ_discrete}
 use Rattle.rights.specs.Sets.{is_within, all_rights, all_commands, read_right}
 use Rattle.process.specs.State.{new_process}
 use Rattle.prog_asm.specs.Programs.{Syscall, Number, Dup, Cap_rights_limit, Cap_fcntls_limit, Fork}
-use Rattle.fd_table.specs.Descriptions.{Descriptor}
+use Rattle.fd_table.specs.Descriptions.{Descriptor, Message, message_of}
 use Rattle.kernel.specs.World.{World}
 use Rattle.kernel.specs.Origins.{Caller, ComesFrom, stood, was_made, was_copied, IsMade, IsSent, QueuedFrom, had_waited, was_sent}
-use Rattle.kernel.specs.Gainful.{NothingComesFromElsewhere, wide, narrow, two_processes, at_ends, second, opens, sends}
+use Rattle.kernel.specs.Gainful.{NothingComesFromElsewhere, wide, narrow, two_processes, with_message, at_ends, second, opens, sends}
 
 some_is : (o : Option Descriptor) (d : Descriptor) → o ≡ Some d → is_some o ≡ true
 some_is o d is = ap is_some is
@@ -101,6 +101,13 @@ no_unsent_message : QueuedFrom two_processes None 0 0 wide → ⊥
 no_unsent_message (had_waited i m here carried) = absurd cc
 no_unsent_message (was_sent c is sent) = absurd cc
 
+no_other_message : QueuedFrom (with_message two_processes narrow) None 0 0 wide → ⊥
+unfolding ℕ_discrete
+no_other_message (had_waited zero m here carried) =
+    let same : message_of 0 (Some narrow) ≡ m = cc in others (ap (λ (x : Message). x.passed) same ∙ carried)
+no_other_message (had_waited (suc i) m here carried) = absurd cc
+no_other_message (was_sent c is sent) = absurd cc
+
 -- what end (0, 0) has sent is what a call of the second process sends
 by_sending : (side : ℕ) (call : Syscall) (d : Descriptor) → (IsSent (at_ends side) 1 (new_process 0 false) call 0 0 d → ⊥) → QueuedFrom (at_ends side) (Some (second false call)) 0 0 d → ⊥
 by_sending side call d not_sent (had_waited i m here carried) = absurd cc
@@ -132,6 +139,7 @@ nothing_comes_from_elsewhere = record {
   no_open_of_other_rights = λ gains. by_call two_processes _ 1 _ refl (empty_there _) no_other_right (gains.entries 1 1);
   no_open_of_other_commands = λ gains. by_call two_processes _ 1 _ refl (empty_there _) no_other_command (gains.entries 1 1);
   no_unsent_message = λ gains. no_unsent_message (gains.messages 0 0).0;
+  no_other_message = λ gains. no_other_message (gains.messages 0 0).0;
   no_wider_message = λ gains. by_sending 0 sends wide no_wider_message (gains.messages 0 0).0;
   no_other_end = λ gains. by_sending 1 sends narrow no_other_end (gains.messages 0 0).0;
   no_other_sender = λ gains. by_sending 0 (Dup (Number 0)) narrow (λ sent. sent) (gains.messages 0 0).0;

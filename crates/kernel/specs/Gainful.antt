@@ -60,8 +60,9 @@ with_modes modes = record two_processes { processes = map (new_process 0) modes 
 -- Copies are made by `fork` alone, and for its child alone: a child of the second process hasn't the first one's table. A dup
 -- of the second has no rights of the first's, and no commands that its original hasn't. A limit doesn't widen, and leaves what
 -- it narrows where it stood. An open takes no number that is taken, makes nothing in the mode, and makes all rights and
--- commands. No message carries what nobody sent, or more than what was sent, and `sendfd` alone sends, into its own end's
--- queue. Nobody leaves the mode, no child of one in it is outside, and no process vanishes or comes from nowhere.
+-- commands. No message carries what nobody sent, another thing than it did, or more than what was sent, and `sendfd` alone
+-- sends, into its own end's queue. Nobody leaves the mode, no child of one in it is outside, and no process vanishes or comes
+-- from nowhere.
 pub record NothingComesFromElsewhere : Type 0 where
   pub no_other_table : GainsNothing two_processes 1 (Some (second false Fork)) (with_at 2 0 wide) → ⊥
   pub no_other_child : GainsNothing two_processes 1 (Some (second false Fork)) (with_at 3 0 narrow) → ⊥
@@ -76,6 +77,7 @@ pub record NothingComesFromElsewhere : Type 0 where
   pub no_open_of_other_rights : GainsNothing two_processes 1 (Some (second false opens)) (with_at 1 1 (record wide { rights = read_right })) → ⊥
   pub no_open_of_other_commands : GainsNothing two_processes 1 (Some (second false opens)) (with_at 1 1 (record wide { fcntls = 0 })) → ⊥
   pub no_unsent_message : GainsNothing two_processes 1 None (with_message two_processes wide) → ⊥
+  pub no_other_message : GainsNothing (with_message two_processes narrow) 1 None (with_message two_processes wide) → ⊥
   pub no_wider_message : GainsNothing (at_ends 0) 1 (Some (second false sends)) (with_message (at_ends 0) wide) → ⊥
   pub no_other_end : GainsNothing (at_ends 1) 1 (Some (second false sends)) (with_message (at_ends 1) narrow) → ⊥
   pub no_other_sender : GainsNothing (at_ends 0) 1 (Some (second false (Dup (Number 0)))) (with_message (at_ends 0) narrow) → ⊥

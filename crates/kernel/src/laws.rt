@@ -69,8 +69,8 @@ pub fn no_run_gains()
 /// descriptors, or that another call or for another process than the child copies them; that a `dup` of the second has the
 /// first one's rights or more commands; that a limit widens, or puts what it narrows elsewhere; that an `open` takes a number
 /// that is taken, makes something in the mode, or less than all rights and commands; a message with a descriptor that nobody
-/// sent, with more than what was sent, into another end's queue, or of another call than `sendfd`; that a process leaves the
-/// mode, vanishes, or comes from nowhere; and that a child of one in the mode is outside it.
+/// sent, with another than it had, with more than what was sent, into another end's queue, or of another call than `sendfd`;
+/// that a process leaves the mode, vanishes, or comes from nowhere; and that a child of one in the mode is outside it.
 pub fn nothing_comes_from_elsewhere()
     ensures { NothingComesFromElsewhere }
 {}
