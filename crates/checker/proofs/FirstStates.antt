@@ -12,15 +12,15 @@ use Rattle.fd_table.specs.Descriptions.{Descriptor}
 use Rattle.prog_asm.specs.Programs.{Instruction}
 use Rattle.kernel.specs.World.{World}
 use Rattle.kernel.specs.WellFormed.{IsMade, IsPoint}
-use Rattle.task.specs.Plans.{FirstDescriptor, Start, Plan, programs_of_plan}
+use Rattle.task.specs.Plans.{FirstObject, On_node, On_end, FirstDescriptor, Start, Plan, programs_of_plan}
 use Rattle.task.specs.Limits.{is_plan}
 use Rattle.task.specs.Policies.{grant_holds}
-use Rattle.task.specs.Begins.{first_world}
-use Rattle.task.specs.Laws.{IsFirstProcess, with_number, given_to, IsFirstEntry}
+use Rattle.task.specs.Begins.{first_object, first_world, given_to, with_number}
+use Rattle.task.specs.Laws.{IsFirstProcess, IsFirstEntry}
 use Rattle.task.proofs.AsGiven.{first_is_first}
 use Rattle.task.proofs.FirstWorlds.{first_well_formed}
 use Rattle.checker.specs.Points.{instruction_at}
-use Rattle.checker.specs.Rules.{first_seen, first_table, start_within, starts_within, is_started}
+use Rattle.checker.specs.Rules.{first_subject, first_seen, first_table, start_within, starts_within, is_started}
 use Rattle.checker.specs.Verdicts.{MeetsRules}
 use Rattle.checker.proofs.Describing.{described, from_described, slots_go_on}
 use Rattle.checker.proofs.Asked.{asked, started}
@@ -43,17 +43,24 @@ any_at test (y ∷ xs) (suc j) x here passes = either_right (test y) (list_any t
     either_right true b h = refl
     either_right false b h = h
 
+-- what a first descriptor is of, as a bound sees it
+object_seen : (plan : Plan) (x : FirstObject) → first_subject plan.nodes x ≡ subject_of plan plan.nodes (first_object x)
+object_seen plan (On_node n access) = refl
+object_seen plan (On_end pair side) = refl
+
 -- a first descriptor, as a bound sees it
 entry_seen : (plan : Plan) (w : World) → w.tree ≡ plan.nodes → (given : Option FirstDescriptor) (entry : Option Descriptor) → IsFirstEntry w.files given entry → option_map (first_seen plan.nodes) given ≡ option_map (seen_of plan w) entry
 entry_seen plan w tree None None is = refl
 entry_seen plan w tree None (Some d) is = absurd is
 entry_seen plan w tree (Some given) None is = absurd is
-entry_seen plan w tree (Some given) (Some d) is = λ i.
+entry_seen plan w tree (Some given) (Some d) is =
+    (λ i. Some (record { subject = object_seen plan given.object i; rights = given.rights; fcntls = given.fcntls }))
+    ∙ (λ i.
     Some (record {
       subject = subject_of plan (sym tree i) (sym is.object i);
       rights = sym is.rights i;
       fcntls = sym is.fcntls i;
-    })
+    }))
 
 -- what the rules say of a first process
 module _ (plan : Plan) (certificate : Certificate) (valid : is_plan plan ≡ true) (meets : MeetsRules plan certificate) (p : ℕ) (st : Start) (here : slice_get plan.starts p ≡ Some st) where

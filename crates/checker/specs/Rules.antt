@@ -8,12 +8,13 @@ use Rattle.rights.specs.Operations.{Operation}
 use Rattle.rights.specs.Operations as operations
 use Rattle.certificate.specs.Bounds.{ModeBound, Off, On, Either, Target, In_grant, Any_node, Socket, Unknown, Held, slot, held_in, Bound, Certificate, bound_at}
 use Rattle.certificate.specs.Order.{bound_within}
-use Rattle.certificate.specs.Describes.{Seen, Node_at, describes}
+use Rattle.rights.specs.Classes.{Initial}
+use Rattle.certificate.specs.Describes.{Subject, Node_at, End_of, Seen, describes}
 use Rattle.file_tree.specs.Nodes.{Node, node}
 use Rattle.prog_asm.specs.Programs.{Number, Read, Instruction, Invoke}
-use Rattle.task.specs.Plans.{FirstDescriptor, Start, Plan}
+use Rattle.task.specs.Plans.{FirstObject, On_node, On_end, FirstDescriptor, Start, Plan}
 use Rattle.task.specs.Policies.{grant_holds, grant_lists}
-use Rattle.task.specs.Laws.{with_number}
+use Rattle.task.specs.Begins.{with_number}
 use Rattle.checker.specs.Points.{instruction_at}
 use Rattle.task.specs.Plans.{program_name}
 use Rattle.checker.specs.Outcomes.{Outcome, is_covered, outcomes, error_outcomes}
@@ -24,8 +25,12 @@ pub record Test : Type 0 where
   pub kept : Bool
 
 -- The first state of a process: the task's mode, all registers 0, and its first descriptors.
+abbrev pub first_subject : List Node → FirstObject → Subject
+first_subject tree (On_node n access) = Node_at (node tree n).place
+first_subject tree (On_end pair side) = End_of (Initial pair) side
+
 abbrev pub first_seen : List Node → FirstDescriptor → Seen
-first_seen tree d = record { subject = Node_at (node tree d.node).place; rights = d.rights; fcntls = d.fcntls }
+first_seen tree d = record { subject = first_subject tree d.object; rights = d.rights; fcntls = d.fcntls }
 
 abbrev pub first_table : List Node → Start → ℕ → Option Seen
 first_table tree s n = option_map (first_seen tree) (with_number n s.descriptors)

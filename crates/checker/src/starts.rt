@@ -1,18 +1,21 @@
 //! Whether a bound describes the first states of a program's processes.
 
-ghost use Rattle.std.specs.Prelude.{◌≡◌, ◌+◌, ◌≤◌, length, map, option_map, true};
-ghost use Rattle.certificate.specs.Describes.{held_describes, interval_describes, mode_describes, registers_describe, slot_describes, slots_describe, target_describes, Node_at};
-ghost use Rattle.certificate.specs.Views.{bound_of, held_of, interval_of, mode_of, slot_of, target_of};
-ghost use Rattle.checker.specs.Rules.{all_starts_within, first_seen, first_table, is_started, start_within, starts_program, starts_within};
+ghost use Rattle.std.specs.Prelude.{◌≡◌, ◌==◌, ◌&&◌, ◌+◌, ◌≤◌, length, map, option_map, true};
+ghost use Rattle.certificate.specs.Describes.{held_describes, interval_describes, mode_describes, registers_describe, slot_describes, slots_describe, target_describes};
+ghost use Rattle.certificate.specs.Views.{bound_of, class_of, held_of, interval_of, mode_of, side_of, slot_of, target_of};
+ghost use Rattle.certificate.specs.Order.{same_class};
+ghost use Rattle.rights.specs.Classes.{Initial};
+ghost use Rattle.fd_table.specs.Views.{side_seen};
+ghost use Rattle.checker.specs.Rules.{all_starts_within, first_seen, first_subject, first_table, is_started, start_within, starts_program, starts_within};
 ghost use Rattle.file_tree.specs.Nodes.{node};
 ghost use Rattle.file_tree.specs.Views.{names_of};
-ghost use Rattle.task.specs.Laws.{with_number};
+ghost use Rattle.task.specs.Begins.{with_number};
 ghost use Rattle.task.specs.Policies.{grant_holds};
-ghost use Rattle.task.specs.Views.{first_descriptor_of, grants_of, nodes_of, start_of, starts_of};
+ghost use Rattle.task.specs.Views.{first_descriptor_of, first_object_of, grants_of, nodes_of, start_of, starts_of};
 
-use certificate::{Bound, Held, Interval, ModeBound, Slot, Target};
+use certificate::{Bound, Class, Held, Interval, ModeBound, Slot, Target};
 use rights::Rights;
-use task::{FirstDescriptor, Grant, Start, Task, TaskNode, grant_holds};
+use task::{FirstDescriptor, FirstObject, Grant, Start, Task, TaskNode, grant_holds};
 
 /// Whether a process may be in this mode.
 fn mode_describes(bound: ModeBound, mode: bool) -> bool
@@ -50,15 +53,41 @@ fn place_of(nodes: &[TaskNode], number: u16) -> &[Vec<u8>]
     }
 }
 
-/// Whether a descriptor of a node may be of this target.
-fn target_describes(grants: &[Grant], target: &Target, place: &[Vec<u8>]) -> bool
-    ensures { result
-        ≡ target_describes (grant_holds (grants_of grants.now)) (target_of target.now) (Node_at (names_of place.now)) }
+/// Whether a side of an initial pair is this side of a class.
+fn is_side(class: &Class, side: certificate::Side, pair: u8, its: fd_table::Side) -> bool
+    ensures { result ≡ (same_class (Initial pair) (class_of class.now) && (side_seen its == side_of side)) }
 {
-    match target {
-        Target::InGrant(name) => grant_holds(grants, name.as_bytes(), place),
-        Target::AnyNode | Target::Unknown => true,
-        Target::Socket(..) => false,
+    let is_pair = match class {
+        Class::Initial(own) => *own == pair,
+        Class::MadeAt(..) => false,
+    };
+    is_pair
+        && match its {
+            fd_table::Side::A => side.is(certificate::Side::A),
+            fd_table::Side::B => side.is(certificate::Side::B),
+        }
+}
+
+/// Whether what a first descriptor is of may be of this target.
+fn target_describes(
+    grants: &[Grant],
+    nodes: &[TaskNode],
+    target: &Target,
+    object: FirstObject,
+) -> bool
+    ensures { result ≡ target_describes (grant_holds (grants_of grants.now)) (target_of target.now)
+        (first_subject (nodes_of nodes.now) (first_object_of object)) }
+{
+    match (target, object) {
+        (Target::InGrant(name), FirstObject::Node { node, .. }) => {
+            grant_holds(grants, name.as_bytes(), place_of(nodes, node))
+        }
+        (Target::Socket(class, side), FirstObject::End { pair, side: its }) => {
+            is_side(class, *side, pair, its)
+        }
+        (Target::AnyNode, FirstObject::Node { .. }) | (Target::Unknown, _) => true,
+        (Target::InGrant(_) | Target::AnyNode, FirstObject::End { .. })
+        | (Target::Socket(..), FirstObject::Node { .. }) => false,
     }
 }
 
@@ -72,7 +101,7 @@ fn held_describes(
     ensures { result ≡ held_describes (grant_holds (grants_of grants.now)) (held_of held.now)
         (first_seen (nodes_of nodes.now) (first_descriptor_of descriptor)) }
 {
-    target_describes(grants, &held.target, place_of(nodes, descriptor.node))
+    target_describes(grants, nodes, &held.target, descriptor.object)
         && descriptor.rights.contains(held.rights.least)
         && held.rights.greatest.contains(descriptor.rights)
         && descriptor.fcntls.contains(held.fcntls.least)

@@ -76,10 +76,10 @@ aim-pair-kept : (r : Renaming) (n k m : ℕ) → m ≢ n → r.pair m ≢ k → 
 aim-pair-kept r n k m other away =
     swap-other (r.pair n) k (r.pair m) (λ same. other (sym (r.pair_here m) ∙ ap r.pair_back same ∙ r.pair_here n)) away
 
-abbrev aimed_at : Renaming → Choice → Choice → Renaming
+abbrev pub aimed_at : Renaming → Choice → Choice → Renaming
 aimed_at r j k = aimed_pair (aimed (aimed r j.first k.first) j.second k.second) j.pair k.pair
 
-aims : (r : Renaming) (j k : Choice) → j.first ≢ j.second → k.first ≢ k.second → Aims (aimed_at r j k) j k
+pub aims : (r : Renaming) (j k : Choice) → j.first ≢ j.second → k.first ≢ k.second → Aims (aimed_at r j k) j k
 aims r j k one two =
     let turned : Renaming = aimed r j.first k.first in
     let first : turned.description j.first ≡ k.first = swap-left (r.description j.first) k.first in
@@ -90,10 +90,10 @@ aims r j k one two =
     }
 
 -- ## What is named keeps its other number
-record Separate (r : Renaming) (w v : OpenFiles) (j k : Choice) (n : ℕ) : Type 0 where
-  twin : SameDescription r w v n
-  here : IsApart w j n
-  there : IsApart v k (r.description n)
+pub record Separate (r : Renaming) (w v : OpenFiles) (j k : Choice) (n : ℕ) : Type 0 where
+  pub twin : SameDescription r w v n
+  pub here : IsApart w j n
+  pub there : IsApart v k (r.description n)
 
 not_end : (pair q side : ℕ) (class : Class) → is_end pair side (At_end q side class) ≡ false → q ≢ pair
 not_end pair q side class none same = both_ways (is_end pair side (At_end q side class)) none (rw (eq-eqb q pair same, eq-eqb side side refl) refl)
@@ -136,7 +136,7 @@ module _ (r : Renaming) (w v : OpenFiles) (j k : Choice) where
   no_messages [] is = refl
   no_messages (m ∷ messages) is = absurd cc
 
-  aimed_files : SameFiles r w v → ((p n : ℕ) → IfHeld (λ d. Separate r w v j k d.description) (w.table p n)) → ((pair side : ℕ) → EachNamed (Separate r w v j k) (w.queue pair side)) → ((side : ℕ) → w.queue j.pair side ≡ []) → ((side : ℕ) → v.queue k.pair side ≡ []) → SameFiles (aimed_at r j k) w v
+  pub aimed_files : SameFiles r w v → ((p n : ℕ) → IfHeld (λ d. Separate r w v j k d.description) (w.table p n)) → ((pair side : ℕ) → EachNamed (Separate r w v j k) (w.queue pair side)) → ((side : ℕ) → w.queue j.pair side ≡ []) → ((side : ℕ) → v.queue k.pair side ≡ []) → SameFiles (aimed_at r j k) w v
   aimed_files same entries messages empty there = record {
     table = λ p n. same.table p n ∙ entry_again (w.table p n) (entries p n);
     queue = queue;

@@ -46,6 +46,10 @@ most_programs = 8
 abbrev pub most_grants : ℕ
 most_grants = 8
 
+-- socket pairs that a task starts with
+abbrev pub most_pairs : ℕ
+most_pairs = 32
+
 -- events of a schedule's text
 abbrev pub most_events : ℕ
 most_events = 65536

@@ -39,5 +39,8 @@ pub const MAX_PROGRAMS: usize = 8;
 /// Grants of a task.
 pub const MAX_GRANTS: usize = 8;
 
+/// Socket pairs that a task starts with.
+pub const MAX_PAIRS: u8 = 32;
+
 /// Events of a schedule's text.
 pub const MAX_EVENTS: usize = 65_536;

@@ -9,7 +9,7 @@ use Rattle.kernel.specs.Calls.{answer}
 use Rattle.kernel.specs.Changes.{files_after, changed}
 use Rattle.kernel.specs.Runs.{Runs}
 use Rattle.kernel.specs.Steps.{Acted, answered, jumped, executed, stepped_at, stepped_by, stepped, step}
-use Rattle.task.specs.Begins.{first_world}
+use Rattle.task.specs.Begins.{first_files, first_world}
 use Rattle.task.specs.Plans.{Plan, programs_of_plan}
 use Rattle.simulator.specs.Lines.{line_at}
 use Rattle.simulator.specs.Traces.{line_text, trace_text}
@@ -50,22 +50,22 @@ always plan events text is lines run =
     shown.1 ∙ is shown.0
 
 pub every_first : AlwaysShows first_plan (events_of_first 5) (codes "0 main:0 = 0\n0 main:1 = 65 read /work/in\n0 main:2 halt\n0 main:2 ended\n0 main:2 ended\n")
-unfolding ℕ_discrete digits unless held at_object answer files_after changed answered jumped executed stepped_at stepped_by stepped step first_world
+unfolding ℕ_discrete digits unless held at_object answer files_after changed answered jumped executed stepped_at stepped_by stepped step first_world first_files
 every_first = always first_plan (events_of_first 5) _ (λ choose. refl)
 
 pub every_bare : AlwaysShows bare_plan (events_of_first 3) (codes "0 main:0 = 0\n0 main:1 ! ENOTCAPABLE MissingRight\n0 main:2 halt\n")
-unfolding ℕ_discrete digits unless held at_object answer files_after changed answered jumped executed stepped_at stepped_by stepped step first_world
+unfolding ℕ_discrete digits unless held at_object answer files_after changed answered jumped executed stepped_at stepped_by stepped step first_world first_files
 every_bare = always bare_plan (events_of_first 3) _ (λ choose. refl)
 
 pub every_loop : AlwaysShows loop_plan (events_of_first 10) (codes "0 main:0 = 65 read /work/in\n0 main:1 ok\n0 main:2 ok\n0 main:0 = 66 read /work/in\n0 main:1 ok\n0 main:2 ok\n0 main:3 ok\n0 main:0 = 256 read /work/in\n0 main:1 ok\n0 main:4 halt\n")
-unfolding ℕ_discrete digits unless held at_object answer files_after changed answered jumped executed stepped_at stepped_by stepped step first_world
+unfolding ℕ_discrete digits unless held at_object answer files_after changed answered jumped executed stepped_at stepped_by stepped step first_world first_files
 every_loop = always loop_plan (events_of_first 10) _ (λ choose. refl)
 
 -- the event of a process that was not made
 pub every_absent : AlwaysShows first_plan (absent_event ∷ events_of_first 1) (codes "5 - none\n0 main:0 = 0\n")
-unfolding ℕ_discrete digits unless held at_object answer files_after changed answered jumped executed stepped_at stepped_by stepped step first_world
+unfolding ℕ_discrete digits unless held at_object answer files_after changed answered jumped executed stepped_at stepped_by stepped step first_world first_files
 every_absent = always first_plan (absent_event ∷ events_of_first 1) _ (λ choose. refl)
 
 pub every_example : AlwaysShows first_plan example_events (codes "0 main:0 = 0\n0 main:1 = 65 read /work/in\n")
-unfolding ℕ_discrete digits unless held at_object answer files_after changed answered jumped executed stepped_at stepped_by stepped step first_world
+unfolding ℕ_discrete digits unless held at_object answer files_after changed answered jumped executed stepped_at stepped_by stepped step first_world first_files
 every_example = always first_plan example_events _ (λ choose. refl)

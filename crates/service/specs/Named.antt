@@ -7,7 +7,7 @@ use Rattle.rights.specs.Sets.{all_rights, all_commands, seek_right}
 use Rattle.rights.specs.Operations.{Look, Read as Reads}
 use Rattle.prog_asm.specs.Programs.{Instruction, Jeq, Halt, Invoke, Cap_enter, Read, Number}
 use Rattle.task.specs.Breaches.{small_tree}
-use Rattle.task.specs.Plans.{Plan, Grant, Start}
+use Rattle.task.specs.Plans.{On_node, Plan, Grant, Start}
 
 abbrev pub work_grant : Grant
 work_grant = record { name = codes "work"; path = codes "work" ∷ []; operations = Look ∷ Reads ∷ [] }
@@ -20,8 +20,7 @@ start_with rights = record {
   descriptors =
       record {
         number = 2;
-        node = 2;
-        access = record { readable = true; writable = false };
+        object = On_node 2 (record { readable = true; writable = false });
         rights = rights;
         fcntls = all_commands;
       }

@@ -15,7 +15,7 @@ use file_tree::Kind;
 use prog_asm::{Instruction, Operand, Program, Register, Syscall};
 use rights::{Fcntls, Op, Rights};
 use std::alloc::{AllocError, Global};
-use task::{FirstDescriptor, Grant, NamedProgram, Start, Task, TaskNode};
+use task::{FirstDescriptor, FirstObject, Grant, NamedProgram, Start, Task, TaskNode};
 
 /// `/work`.
 fn work(alloc: Global) -> Result<Vec<Vec<u8>>, AllocError>
@@ -76,10 +76,12 @@ fn starts(alloc: Global, rights: Rights) -> Result<Vec<Start>, AllocError>
     let mut descriptors = Vec::new(alloc);
     descriptors.push(FirstDescriptor {
         number: 2,
-        node: 2,
-        access: Access {
-            readable: true,
-            writable: false,
+        object: FirstObject::Node {
+            node: 2,
+            access: Access {
+                readable: true,
+                writable: false,
+            },
         },
         rights,
         fcntls: Fcntls::all(),

@@ -1,164 +1,325 @@
 -- First descriptors, opened one after another under any numbers.
-use Rattle.std.proofs.Common.{◌≡◌, ℕ, ◌+◌, ◌<◌, ◌≤◌, true, false, suc, List, [], ◌∷◌, length, take, drop, ◌-◌, refl, ap, sym, subst, ◌∙◌, arith}
-use Rattle.std.specs.Prelude.{◌≢◌, ◌==◌, ◌||◌, nat_lt, Bool, Option, Some, None}
-use Rattle.std.specs.List.{list_all}
-use Rattle.std.proofs.Math.ListN.{get_or}
+use Rattle.std.proofs.Common.{◌≡◌, inl, inr, ℕ, zero, suc, ◌+◌, ◌<◌, true, false, List, [], ◌∷◌, length, take, drop, ◌-◌, refl, ap, sym, subst, ◌∙◌, arith}
+use Rattle.std.specs.Prelude.{◌≢◌, ◌||◌, Option, Some, None, option_map}
+use Rattle.std.specs.Option.{IsSome}
+use Rattle.std.specs.List.{slice_get, slice_index_or, list_all}
+use Rattle.std.proofs.lemmas.Bool.{ltb-true}
 use Rattle.std.proofs.Math.Seq.{take-length}
-use Rattle.std.proofs.lemmas.Bool.{both_ways, eq-eqb, ltb-true}
-use Rattle.rights.specs.Maps.{put}
-use Rattle.rights.proofs.Changes.{put-cases, put2-cases, put-both, put-same, put-other}
-use Rattle.rights.proofs.Tests.{both_left, both_right, not_true}
-use Rattle.fd_table.specs.Descriptions.{Access, At_node, At_end, Descriptor, Object, descriptor_of, new_state, IfHeld}
-use Rattle.fd_table.specs.Openings.{opened}
-use Rattle.fd_table.specs.Filled.{Opens}
-use Rattle.fd_table.specs.OpenFiles.{Alike, IsOther, IsUnnamed, OpenFiles}
-use Rattle.kernel.specs.Renamings.{EachNamed, Renaming, SameDescription, SameFiles, renamed_entry, renamed_messages, renamed_object}
-use Rattle.kernel.proofs.Aimed.{aim-kept, aimed, swap-left}
-use Rattle.kernel.proofs.Determined.{alike_share, differs_twice}
-use Rattle.kernel.proofs.Fresh.{held_map}
-use Rattle.syscalls.specs.Views.{world_with}
-use Rattle.task.specs.Begins.{Opening, with_descriptor}
-use Rattle.task.specs.Limits.{are_numbered_apart}
-use Rattle.task.specs.Plans.{FirstDescriptor}
-use Rattle.simulator.specs.Starts.{AreFree, Begins, is_usable}
+use Rattle.std.proofs.Math.ListN.{length-drop}
+use Rattle.rights.specs.Maps.{put2}
+use Rattle.rights.proofs.Changes.{put-same}
+use Rattle.rights.proofs.Lists.{list_all-slice_get}
+use Rattle.rights.proofs.Tests.{both_left, both_right}
+use Rattle.fd_table.specs.Descriptions.{Access, At_node, Descriptor, descriptor_of, new_state, IfHeld}
+use Rattle.fd_table.specs.declared.descriptors.Entry.{Entry as EntryCode}
+use Rattle.fd_table.specs.Views.{entry_seen}
+use Rattle.fd_table.specs.Filled.{Entry, IsFreeAt, MayLimit, Opens, limited}
+use Rattle.fd_table.specs.Openings.{described, opened, with_entry, with_table}
+use Rattle.fd_table.specs.OpenFiles.{Alike, OpenFiles}
+use Rattle.kernel.specs.Renamings.{Renaming, SameDescription, SameFiles, renamed_descriptor, renamed_entry, renamed_object}
+use Rattle.kernel.proofs.Aimed.{aimed, swap-left}
+use Rattle.task.specs.Plans.{FirstObject, On_node, On_end}
+use Rattle.task.specs.Limits.{all_apart}
+use Rattle.task.specs.Begins.{description_of, end_description, node_description, first_object, object_given, first_entry, first_entries, first_files}
+use Rattle.task.proofs.Openings.{at_node}
+use Rattle.simulator.specs.declared.gifts.Gift.{Gift as GiftCode}
+use Rattle.simulator.specs.GiftViews.{gift_of, gifts_of}
+use Rattle.simulator.specs.Starts.{Gift, given_in, is_gift, are_apart, are_gifts, last_of, whole_end, whole_or_none, waiting, awaiting, is_opened, is_among, are_among, HasTable, IsEnd, Awaits}
+use Rattle.simulator.proofs.Numbered.{then_alike, differs, retabled, put-twice, turned_same, described_same, filled_same}
+use Rattle.simulator.proofs.Waiting.{Fits, IsGift, Table, all_dropped, all_gifts, apart_dropped, at_place, awaiting_away, awaiting_fits, gift_is, given_fits, given_here, last_away, last_whole, put2-away, put2-here}
 
--- ## Lists by their first
-pub first_rest : {A : Type 0} (xs : List A) (x : A) → 1 ≤ length xs → x ≡ get_or xs 0 x → xs ≡ x ∷ take (length xs - 1) (drop 1 xs)
-first_rest [] x some is = absurd (omega arith)
-first_rest (y ∷ xs) x some is =
-    let left : suc (length xs) - 1 ≡ length xs = omega arith in
-    (λ i. sym is i ∷ sym (take-length xs) i) ∙ ap (λ n. x ∷ take n xs) (sym left)
+drop_at : {A : Type 0} (xs : List A) (k : ℕ) (x : A) → slice_get xs k ≡ Some x → drop k xs ≡ x ∷ drop (suc k) xs
+drop_at [] k x is = absurd cc
+drop_at (y ∷ xs) zero x is = let same : y ≡ x = cc in ap (λ z. z ∷ xs) same
+drop_at (y ∷ xs) (suc k) x is = drop_at xs k x is
 
--- ## A descriptor is opened under a number in each of two
-module _ (r : Renaming) (w g : OpenFiles) (same : SameFiles r w g) (empty : (pair side : ℕ) → w.queue pair side ≡ []) (n k : ℕ) (unnamed : (p m : ℕ) → IfHeld (λ d. d.description ≢ n) (w.table p m)) (fresh : IsUnnamed g k) where
-  abbrev turned : Renaming
-  turned = aimed r n k
+-- the one at an index, and those behind it
+pub at_index : (gifts : List GiftCode) (k : ℕ) (none : GiftCode) → k < length gifts → slice_get (gifts_of gifts) k ≡ Some (gift_of (slice_index_or gifts k none))
+at_index [] k none low = absurd (omega arith)
+at_index (g ∷ gifts) zero none low = refl
+at_index (g ∷ gifts) (suc k) none low = at_index gifts k none (omega arith)
 
-  record IsKept (d : Descriptor) : Type 0 where
-    twin : SameDescription r w g d.description
-    here : d.description ≢ n
-    there : r.description d.description ≢ k
+pub behind : (gifts : List GiftCode) (k : ℕ) → gifts_of (drop k gifts) ≡ drop k (gifts_of gifts)
+behind gifts zero = refl
+behind [] (suc k) = refl
+behind (g ∷ gifts) (suc k) = behind gifts k
 
-  number : (d : Descriptor) → IsKept d → turned.description d.description ≡ r.description d.description
-  number d is = aim-kept r n k d.description is.here is.there
+pub rest_of : (gifts : List GiftCode) (k : ℕ) → gifts_of (take (length gifts - (k + 1)) (drop (k + 1) gifts)) ≡ drop (suc k) (gifts_of gifts)
+rest_of gifts k =
+    let same : k + 1 ≡ suc k = omega arith in
+    ap (λ n. gifts_of (take n (drop (k + 1) gifts))) (sym (length-drop (k + 1) gifts)) ∙ ap gifts_of (take-length (drop (k + 1) gifts))
+    ∙ behind gifts (k + 1) ∙ ap (λ n. drop n (gifts_of gifts)) same
 
-  kept_one : (e : Option Descriptor) → IfHeld (λ d. SameDescription r w g d.description) e → IfHeld (λ d. d.description ≢ n) e → IsOther k (renamed_entry r e) → IfHeld IsKept e
-  kept_one None twin here there = tt
-  kept_one (Some d) twin here there = record { twin = twin; here = here; there = there }
+pub next_index : (gifts : List Gift) (k : ℕ) → drop (suc k) gifts ≡ drop (k + 1) gifts
+next_index gifts k = let same : suc k ≡ k + 1 = omega arith in ap (λ n. drop n gifts) same
 
-  kept : (p m : ℕ) → IfHeld IsKept (w.table p m)
-  kept p m = kept_one (w.table p m) (same.entries p m) (unnamed p m) (subst (IsOther k) (same.table p m) (fresh.entries p m))
+-- nothing is queued, and the table is another
+abbrev with_entries : List Gift → Table → OpenFiles
+with_entries gifts table = with_table (first_files (given_in gifts)) table
 
-  entry_again : (e : Option Descriptor) → IfHeld IsKept e → renamed_entry r e ≡ renamed_entry turned e
-  entry_again None is = refl
-  entry_again (Some d) is = ap (λ x. Some (record d { description = x })) (sym (number d is))
+no_queue : (gifts : List Gift) (table : Table) (pair side : ℕ) → (with_entries gifts table).queue pair side ≡ []
+unfolding first_files
+no_queue gifts table pair side = refl
 
-  object_again : (x : Object) → renamed_object r x ≡ renamed_object turned x
-  object_again (At_node node access) = refl
-  object_again (At_end pair side class) = refl
+first_state : (gifts : List Gift) (n : ℕ) → (first_files (given_in gifts)).states n ≡ new_state false
+unfolding first_files
+first_state gifts n = refl
 
-  module _ (p m node : ℕ) (access : Access) (append : Bool) (rights fcntls : ℕ) where
-    abbrev left : OpenFiles
-    left = opened w n p m node access append rights fcntls
+node_object : (gifts : List Gift) (p n : ℕ) → n < 16 → (first_files (given_in gifts)).objects (node_description p n) ≡ object_given (given_in gifts p n)
+unfolding first_files
+node_object gifts p n few = at_node (given_in gifts) p n few
 
-    abbrev right : OpenFiles
-    right = opened g k p m node access append rights fcntls
+-- ## One descriptor, where those before it are open
+module _ (gifts : List Gift) (valid : are_gifts gifts ≡ true) (k : ℕ) (g : Gift) (here : slice_get gifts k ≡ Some g) where
+  abbrev later : List Gift
+  later = drop (suc k) gifts
 
-    old : (q j : ℕ) → g.table q j ≡ renamed_entry turned (w.table q j)
-    old q j = same.table q j ∙ entry_again (w.table q j) (kept q j)
+  abbrev full : Table
+  full = first_entries (given_in gifts)
 
-    table : (q j : ℕ) → right.table q j ≡ renamed_entry turned (left.table q j)
-    table q j =
-        let new : Some (descriptor_of k rights fcntls) ≡ renamed_entry turned (Some (descriptor_of n rights fcntls)) = ap (λ x. Some (descriptor_of x rights fcntls)) (sym (swap-left (r.description n) k)) in
-        put-both (λ (c d : ℕ → Option Descriptor). d j ≡ renamed_entry turned (c j)) w.table g.table p (put (w.table p) m (Some (descriptor_of n rights fcntls))) (put (g.table p) m (Some (descriptor_of k rights fcntls)))
-        (put-both (λ c d. d ≡ renamed_entry turned c) (w.table p) (g.table p) m (Some (descriptor_of n rights fcntls)) (Some (descriptor_of k rights fcntls)) new (old p) j)
-        (λ x. old x j) q
+  abbrev waits : Table
+  waits = awaiting full (g ∷ later)
 
-    queue : (pair side : ℕ) → g.queue (r.pair pair) side ≡ renamed_messages turned (w.queue pair side)
-    queue pair side = same.queue pair side ∙ ap (renamed_messages r) (empty pair side) ∙ sym (ap (renamed_messages turned) (empty pair side))
+  abbrev model : OpenFiles
+  model = with_entries gifts waits
 
-    twin_new : SameDescription turned left right n
-    twin_new =
-        let at : turned.description n ≡ k = swap-left (r.description n) k in
-        record {
-          object =
-              ap (put g.objects k (At_node node access)) at ∙ put-same g.objects k (At_node node access)
-              ∙ sym (ap (renamed_object turned) (put-same w.objects n (At_node node access)));
-          state = ap (put g.states k (new_state append)) at ∙ put-same g.states k (new_state append) ∙ sym (put-same w.states n (new_state append));
-        }
+  rest : drop k gifts ≡ g ∷ later
+  rest = drop_at gifts k g here
 
-    twin_old : (d : Descriptor) → IsKept d → SameDescription turned left right d.description
-    twin_old d is = record {
-      object =
-          ap (put g.objects k (At_node node access)) (number d is) ∙ put-other g.objects k (At_node node access) (r.description d.description) is.there
-          ∙ is.twin.object ∙ object_again (w.objects d.description)
-          ∙ sym (ap (renamed_object turned) (put-other w.objects n (At_node node access) d.description is.here));
-      state =
-          ap (put g.states k (new_state append)) (number d is) ∙ put-other g.states k (new_state append) (r.description d.description) is.there
-          ∙ is.twin.state ∙ sym (put-other w.states n (new_state append) d.description is.here);
-    }
+  apart : all_apart are_apart (g ∷ later) ≡ true
+  apart = subst (λ xs. all_apart are_apart xs ≡ true) rest (apart_dropped gifts k (all_gifts gifts valid).1)
 
-    pub opened_same : SameFiles turned left right
-    opened_same = record {
-      table = table;
-      queue = queue;
-      entries = λ q j.
-          put2-cases (IfHeld (λ d. SameDescription turned left right d.description)) w.table p m (Some (descriptor_of n rights fcntls)) q j twin_new
-          (held_map IsKept (λ d. SameDescription turned left right d.description) twin_old (w.table q j) (kept q j));
-      messages = λ pair side. subst (EachNamed (SameDescription turned left right)) (sym (empty pair side)) tt;
-    }
+  pub gift : IsGift g
+  gift = gift_is g (list_all-slice_get is_gift gifts k g (all_gifts gifts valid).0 here)
 
--- ## One descriptor more
-other_than : (next : ℕ) (e : Option Descriptor) → IfHeld (λ d. d.description < next) e → IfHeld (λ d. d.description ≢ next) e
-other_than next None low = tt
-other_than next (Some d) low = λ same. absurd (omega (arith, same))
+  pub begun : (f : OpenFiles) → Awaits gifts (drop k gifts) f → Awaits gifts (g ∷ later) f
+  begun f b = subst (λ xs. Awaits gifts xs f) rest b
 
-below_more : (next : ℕ) (e : Option Descriptor) → IfHeld (λ d. d.description < next) e → IfHeld (λ d. d.description < next + 1) e
-below_more next None low = tt
-below_more next (Some d) low = omega arith
+  own : waits g.process g.given.number ≡ waiting later g.given.object
+  unfolding awaiting
+  own = put2-here (awaiting full later) g.process g.given.number (waiting later g.given.object)
 
-pub opens_begun : (made p : ℕ) (o : Opening) (d : FirstDescriptor) (f g : OpenFiles) (node : ℕ) → p < made → node ≡ d.node → Begins made o f → Opens f g p d.number node d.access false d.rights d.fcntls → Begins made (with_descriptor o p d) g
-opens_begun made p o d f g node low there b x =
-    let k = x.description in
-    let files = opened_same b.same.renaming o.files f b.same.files b.queues o.next k (λ q m. other_than o.next (o.files.table q m) (b.numbered q m)) x.fresh p d.number d.node d.access false d.rights d.fcntls in
-    record {
-      numbered = λ q m. put2-cases (IfHeld (λ e. e.description < o.next + 1)) o.files.table p d.number (Some (descriptor_of o.next d.rights d.fcntls)) q m (omega arith) (below_more o.next (o.files.table q m) (b.numbered q m));
-      unmade = λ q m high.
-          put-cases (λ (row : ℕ → Option Descriptor). row m ≡ None) o.files.table p (put (o.files.table p) d.number (Some (descriptor_of o.next d.rights d.fcntls))) q
-          (λ same. absurd (omega (arith, same))) (λ _. b.unmade q m high);
-      queues = b.queues;
+  -- once it is open it is as it is given
+  done : awaiting full later g.process g.given.number ≡ Some (first_entry g.process g.given)
+  done =
+      awaiting_away full later g (both_left _ (all_apart are_apart later) apart)
+      ∙ ap (option_map (first_entry g.process)) (given_here gifts k g (all_gifts gifts valid).1 here)
+
+  next_table : (q m : ℕ) → awaiting full later q m ≡ put2 waits g.process g.given.number (Some (first_entry g.process g.given)) q m
+  unfolding awaiting
+  next_table = put-twice (awaiting full later) g.process g.given.number (waiting later g.given.object) (Some (first_entry g.process g.given)) done
+
+  fits : (q m : ℕ) → IfHeld (λ d. Fits q m d.description) (waits q m)
+  fits q m =
+      awaiting_fits full (g ∷ later) (subst (λ xs. list_all is_gift xs ≡ true) rest (all_dropped is_gift gifts k (all_gifts gifts valid).0)) q m
+      (given_fits gifts (all_gifts gifts valid).0 q m)
+
+  -- ## A node
+  module _ (node : ℕ) (access : Access) (of : g.given.object ≡ On_node node access) (f : OpenFiles) (b : Awaits gifts (g ∷ later) f) where
+    abbrev r : Renaming
+    r = b.renaming
+
+    abbrev number : ℕ
+    number = node_description g.process g.given.number
+
+    empty_now : waits g.process g.given.number ≡ None
+    empty_now = own ∙ ap (waiting later) of
+
+    pub node_free : f.table g.process g.given.number ≡ None
+    node_free = b.files.table g.process g.given.number ∙ ap (renamed_entry r) empty_now
+
+    other_number : (q m n : ℕ) → Fits q m n → (q ≡ g.process → m ≡ g.given.number → ⊥) → n ≢ number
+    other_number q m n (inl at) away same =
+        let is : n ≡ node_description q m = at.0 in
+        let few : m < 16 = at.1 in
+        let low : g.given.number < 16 = gift.number in
+        away (omega (arith, same)) (omega (arith, same))
+    other_number q m n (inr below) away same = absurd (omega (arith, same))
+
+    unnamed_one : (q m : ℕ) (e : Option Descriptor) → waits q m ≡ e → IfHeld (λ d. Fits q m d.description) e → IfHeld (λ d. d.description ≢ number) e
+    unnamed_one q m None is fit = tt
+    unnamed_one q m (Some d) is fit =
+        other_number q m d.description fit
+        (λ process at. let none : None ≡ Some d = sym (ap (λ p. waits p m) process ∙ ap (waits g.process) at ∙ empty_now) ∙ is in absurd cc)
+
+    unnamed : (q m : ℕ) → IfHeld (λ d. d.description ≢ number) (waits q m)
+    unnamed q m = unnamed_one q m (waits q m) refl (fits q m)
+
+    module _ (next : OpenFiles) (x : Opens f next g.process g.given.number node access false g.given.rights g.given.fcntls) where
+      abbrev turned : Renaming
+      turned = aimed r number x.description
+
+      abbrev with_node : OpenFiles
+      with_node = described f x.description (At_node node access) false
+
+      at : turned.description number ≡ x.description
+      at = swap-left (r.description number) x.description
+
+      same : SameFiles turned model with_node
       same =
-          differs_twice _ _ _
-          (record { renaming = aimed b.same.renaming o.next k; tree = refl; processes = refl; files = files })
-          (alike_share (world_with [] (opened f k p d.number d.node d.access false d.rights d.fcntls) []) (world_with [] g [])
-          (record { tree = refl; processes = refl; files = subst (λ m. Alike (opened f k p d.number m d.access false d.rights d.fcntls) g) there x.alike }));
-    }
+          described_same turned model f (turned_same r model f b.files (no_queue gifts waits) number x.description unnamed x.fresh) (no_queue gifts waits) x.description x.fresh (At_node node access) false
 
--- the other entries are as they were
-pub opens_others : (p : ℕ) (d : FirstDescriptor) (f g : OpenFiles) (node : ℕ) (access : Access) → Opens f g p d.number node access false d.rights d.fcntls → (q n : ℕ) → (q ≡ p → n ≢ d.number) → g.table q n ≡ f.table q n
-opens_others p d f g node access x q n other =
-    x.alike.table q n
-    ∙ put-cases (λ (row : ℕ → Option Descriptor). row n ≡ f.table q n) f.table p (put (f.table p) d.number (Some (descriptor_of x.description d.rights d.fcntls))) q
-    (λ same. put-other (f.table p) d.number (Some (descriptor_of x.description d.rights d.fcntls)) n (other same) ∙ ap (λ r. f.table r n) (sym same))
-    (λ _. refl)
+      object : (first_files (given_in gifts)).objects number ≡ At_node node access
+      object = node_object gifts g.process g.given.number gift.number ∙ ap object_given (given_here gifts k g (all_gifts gifts valid).1 here) ∙ ap first_object of
 
--- numbers that are free stay free
-pub still_free : (f g : OpenFiles) (p : ℕ) (d : FirstDescriptor) (descriptors : List FirstDescriptor) → list_all (are_numbered_apart d) descriptors ≡ true → ((q n : ℕ) → (q ≡ p → n ≢ d.number) → g.table q n ≡ f.table q n) → AreFree f p descriptors → AreFree g p descriptors
-still_free f g p d [] apart others free = tt
-still_free f g p d (e ∷ descriptors) apart others free =
-    let own : (d.number == e.number) ≡ false = not_true _ (both_left _ (list_all (are_numbered_apart d) descriptors) apart) in (
-      others p e.number (λ _ same. both_ways _ own (eq-eqb d.number e.number (sym same))) ∙ free.0,
-      still_free f g p d descriptors (both_right (are_numbered_apart d e) _ apart) others free.1,
-    )
+      twin : SameDescription turned model with_node number
+      twin = record {
+        object = ap with_node.objects at ∙ put-same f.objects x.description (At_node node access) ∙ sym (ap (renamed_object turned) object);
+        state = ap with_node.states at ∙ put-same f.states x.description (new_state false) ∙ sym (first_state gifts number);
+      }
 
-pub row_free : (f : OpenFiles) (p : ℕ) → ((q n : ℕ) → p ≤ q → f.table q n ≡ None) → (descriptors : List FirstDescriptor) → AreFree f p descriptors
-row_free f p free [] = tt
-row_free f p free (d ∷ descriptors) = (free p d.number (omega arith), row_free f p free descriptors)
+      filled : SameFiles turned (with_entry model g.process g.given.number (Some (descriptor_of number g.given.rights g.given.fcntls))) (opened f x.description g.process g.given.number node access false g.given.rights g.given.fcntls)
+      filled =
+          subst (λ n. SameFiles turned (with_entry model g.process g.given.number (Some (descriptor_of number g.given.rights g.given.fcntls))) (with_entry with_node g.process g.given.number (Some (descriptor_of n g.given.rights g.given.fcntls)))) at
+          (filled_same turned model with_node same (no_queue gifts waits) g.process g.given.number (descriptor_of number g.given.rights g.given.fcntls) twin)
 
--- what is begun for some processes is so for more
-pub begun_more : (made : ℕ) (o : Opening) (f : OpenFiles) → Begins made o f → Begins (made + 1) o f
-begun_more made o f b = record { numbered = b.numbered; unmade = λ q n high. b.unmade q n (omega arith); queues = b.queues; same = b.same }
+      entry : Some (first_entry g.process g.given) ≡ Some (descriptor_of number g.given.rights g.given.fcntls)
+      entry = ap (λ (o : FirstObject). Some (descriptor_of (description_of g.process g.given.number o) g.given.rights g.given.fcntls)) of
 
--- what is known of a descriptor that is usable
-pub node_there : (nodes : ℕ) (d : FirstDescriptor) → is_usable nodes d ≡ true → d.node < nodes
-node_there nodes d is = ltb-true d.node nodes (both_right (nat_lt d.number 16) _ (both_left _ (d.access.readable || d.access.writable) is))
+      pub node_opened : Awaits gifts later next
+      node_opened =
+          then_alike (with_entries gifts (awaiting full later)) _ next
+          (differs turned _ _
+          (retabled turned (with_entry model g.process g.given.number (Some (descriptor_of number g.given.rights g.given.fcntls))) _ (awaiting full later)
+          (λ q m. next_table q m ∙ ap (λ e. put2 waits g.process g.given.number e q m) entry) (no_queue gifts waits) filled))
+          x.alike
+
+  -- ## An end
+  module _ (pair side : ℕ) (of : g.given.object ≡ On_end pair side) where
+    -- the entry has the end with all rights
+    abbrev pub Ready : OpenFiles → Type 0
+    Ready f = HasTable gifts (put2 waits g.process g.given.number (Some (whole_end pair side))) f
+
+    -- it had so before, or shares it
+    pub ready_own : (f : OpenFiles) → Awaits gifts (g ∷ later) f → last_of pair side later ≡ None → Ready f
+    ready_own f b none =
+        differs b.renaming _ f (retabled b.renaming model f (put2 waits g.process g.given.number (Some (whole_end pair side))) same (no_queue gifts waits) b.files)
+      where
+        here_now : waits g.process g.given.number ≡ Some (whole_end pair side)
+        here_now = own ∙ ap (waiting later) of ∙ ap (λ o. whole_or_none o pair side) none
+
+        same : (q m : ℕ) → put2 waits g.process g.given.number (Some (whole_end pair side)) q m ≡ waits q m
+        same q m =
+            at_place (λ x. x ≡ waits q m) waits g.process g.given.number (Some (whole_end pair side)) q m
+            (λ process number. sym (ap (λ p. waits p m) process ∙ ap (waits g.process) number ∙ here_now)) (λ _. refl)
+
+    module _ (f : OpenFiles) (b : Awaits gifts (g ∷ later) f) (e : Entry) (found : last_of pair side later ≡ Some e) where
+      source_waits : waits e.process e.number ≡ Some (whole_end pair side)
+      unfolding awaiting
+      source_waits =
+          put2-away (awaiting full later) g.process g.given.number (waiting later g.given.object) e.process e.number
+          (last_away pair side later g e (both_left _ (all_apart are_apart later) apart) found)
+          ∙ last_whole full pair side later e (both_right (list_all (are_apart g) later) _ apart) found
+
+      pub source_is : f.table e.process e.number ≡ Some (renamed_descriptor b.renaming (whole_end pair side))
+      source_is = b.files.table e.process e.number ∙ ap (renamed_entry b.renaming) source_waits
+
+      pub end_free : f.table g.process g.given.number ≡ None
+      end_free = b.files.table g.process g.given.number ∙ ap (renamed_entry b.renaming) (own ∙ ap (waiting later) of ∙ ap (λ o. whole_or_none o pair side) found)
+
+      source_twin : SameDescription b.renaming model f (end_description pair side)
+      source_twin = subst (IfHeld (λ d. SameDescription b.renaming model f d.description)) source_waits (b.files.entries e.process e.number)
+
+      pub ready_shared : (next : OpenFiles) → Alike (with_entry f g.process g.given.number (f.table e.process e.number)) next → Ready next
+      ready_shared next alike =
+          then_alike _ _ next
+          (differs b.renaming _ _ (filled_same b.renaming model f b.files (no_queue gifts waits) g.process g.given.number (whole_end pair side) source_twin))
+          (subst (λ x. Alike (with_entry f g.process g.given.number x) next) source_is alike)
+
+    -- then it is limited
+    module _ (f : OpenFiles) (b : Ready f) where
+      abbrev readied : Table
+      readied = put2 waits g.process g.given.number (Some (whole_end pair side))
+
+      pub entry_is : f.table g.process g.given.number ≡ Some (renamed_descriptor b.renaming (whole_end pair side))
+      entry_is = b.files.table g.process g.given.number ∙ ap (renamed_entry b.renaming) (put2-here waits g.process g.given.number (Some (whole_end pair side)))
+
+      pub may_limit : MayLimit (f.table g.process g.given.number) g.given.rights g.given.fcntls
+      may_limit = subst (λ x. MayLimit x g.given.rights g.given.fcntls) (sym entry_is) (gift.rights, gift.fcntls)
+
+      end_twin : SameDescription b.renaming (with_entries gifts readied) f (end_description pair side)
+      end_twin =
+          subst (IfHeld (λ d. SameDescription b.renaming (with_entries gifts readied) f d.description)) (put2-here waits g.process g.given.number (Some (whole_end pair side)))
+          (b.files.entries g.process g.given.number)
+
+      abbrev narrow : Descriptor
+      narrow = descriptor_of (end_description pair side) g.given.rights g.given.fcntls
+
+      end_entry : Some (first_entry g.process g.given) ≡ Some narrow
+      end_entry = ap (λ (o : FirstObject). Some (descriptor_of (description_of g.process g.given.number o) g.given.rights g.given.fcntls)) of
+
+      twice : (q m : ℕ) → awaiting full later q m ≡ put2 readied g.process g.given.number (Some narrow) q m
+      unfolding awaiting
+      twice q m =
+          at_place (λ x. awaiting full later q m ≡ x) readied g.process g.given.number (Some narrow) q m
+          (λ process number. ap (λ p. awaiting full later p m) process ∙ ap (awaiting full later g.process) number ∙ done ∙ end_entry)
+          (λ away.
+          sym (put2-away waits g.process g.given.number (Some (whole_end pair side)) q m away ∙ put2-away (awaiting full later) g.process g.given.number (waiting later g.given.object) q m away))
+
+      pub end_opened : (next : OpenFiles) → Alike (limited f g.process g.given.number g.given.rights g.given.fcntls) next → Awaits gifts later next
+      end_opened next alike =
+          then_alike (with_entries gifts (awaiting full later)) _ next
+          (differs b.renaming _ _
+          (retabled b.renaming (with_entry (with_entries gifts readied) g.process g.given.number (Some narrow)) _ (awaiting full later) twice (no_queue gifts readied)
+          (filled_same b.renaming (with_entries gifts readied) f b.files (no_queue gifts readied) g.process g.given.number narrow end_twin)))
+          (subst (λ x. Alike (with_entry f g.process g.given.number (option_map (λ (d : Descriptor). record d { rights = g.given.rights; fcntls = g.given.fcntls }) x)) next) entry_is alike)
+
+-- ## The same of the code's list
+module _ (gifts : List GiftCode) (k : ℕ) (none : GiftCode) (low : k < length gifts) (valid : are_gifts (gifts_of gifts) ≡ true) where
+  abbrev pub gift_at : Gift
+  gift_at = gift_of (slice_index_or gifts k none)
+
+  pub is_at : slice_get (gifts_of gifts) k ≡ Some gift_at
+  is_at = at_index gifts k none low
+
+  pub is_gift_at : IsGift gift_at
+  is_gift_at = gift (gifts_of gifts) valid k gift_at is_at
+
+  pub next_awaits : (f : OpenFiles) → Awaits (gifts_of gifts) (drop (suc k) (gifts_of gifts)) f → Awaits (gifts_of gifts) (drop (k + 1) (gifts_of gifts)) f
+  next_awaits f b = subst (λ xs. Awaits (gifts_of gifts) xs f) (next_index (gifts_of gifts) k) b
+
+  module _ (pair side : ℕ) (is : IsEnd (slice_get (gifts_of gifts) k) pair side) (f : OpenFiles) (b : Awaits (gifts_of gifts) (drop k (gifts_of gifts)) f) (o : Option EntryCode) (last : option_map entry_seen o ≡ last_of pair side (gifts_of (take (length gifts - (k + 1)) (drop (k + 1) gifts)))) where
+    pub of : gift_at.given.object ≡ On_end pair side
+    of = subst (λ g. IsEnd g pair side) is_at is
+
+    last_is : (e : Option EntryCode) → o ≡ e → last_of pair side (drop (suc k) (gifts_of gifts)) ≡ option_map entry_seen e
+    last_is e same = sym (last ∙ ap (last_of pair side) (rest_of gifts k)) ∙ ap (option_map entry_seen) same
+
+    waits_now : Awaits (gifts_of gifts) (gift_at ∷ drop (suc k) (gifts_of gifts)) f
+    waits_now = begun (gifts_of gifts) valid k gift_at is_at f b
+
+    abbrev pub IsReady : OpenFiles → Type 0
+    IsReady g = Ready (gifts_of gifts) valid k gift_at is_at pair side of g
+
+    pub share_there : (e : EntryCode) → o ≡ Some e → IsSome (f.table e.process e.number)
+    share_there e same = subst IsSome (sym (source_is (gifts_of gifts) valid k gift_at is_at pair side of f waits_now (entry_seen e) (last_is (Some e) same))) refl
+
+    pub share_free : (e : EntryCode) → o ≡ Some e → IsFreeAt f gift_at.process gift_at.given.number
+    share_free e same =
+        (is_gift_at.process, is_gift_at.number, end_free (gifts_of gifts) valid k gift_at is_at pair side of f waits_now (entry_seen e) (last_is (Some e) same))
+
+    pub ready_alone : o ≡ None → IsReady f
+    ready_alone same = ready_own (gifts_of gifts) valid k gift_at is_at pair side of f waits_now (last_is None same)
+
+    pub ready_by : (e : EntryCode) → o ≡ Some e → (next : OpenFiles) → Alike (with_entry f gift_at.process gift_at.given.number (f.table e.process e.number)) next → IsReady next
+    ready_by e same next alike = ready_shared (gifts_of gifts) valid k gift_at is_at pair side of f waits_now (entry_seen e) (last_is (Some e) same) next alike
+
+    pub ready_may : (g : OpenFiles) → IsReady g → MayLimit (g.table gift_at.process gift_at.given.number) gift_at.given.rights gift_at.given.fcntls
+    ready_may g r = may_limit (gifts_of gifts) valid k gift_at is_at pair side of g r
+
+    pub ready_opened : (g : OpenFiles) → IsReady g → (next : OpenFiles) → Alike (limited g gift_at.process gift_at.given.number gift_at.given.rights gift_at.given.fcntls) next → Awaits (gifts_of gifts) (drop (k + 1) (gifts_of gifts)) next
+    ready_opened g r next alike = next_awaits next (end_opened (gifts_of gifts) valid k gift_at is_at pair side of g r next alike)
+
+  module _ (node : ℕ) (access : Access) (is : gift_at.given.object ≡ On_node node access) where
+    pub used : (access.readable || access.writable) ≡ true
+    used = subst (λ x. is_opened x ≡ true) is is_gift_at.object
+
+    pub is_there : (nodes : ℕ) → are_among nodes (gifts_of gifts) ≡ true → node < nodes
+    is_there nodes all = ltb-true node nodes (subst (λ x. is_among nodes x ≡ true) is (list_all-slice_get (λ (g : Gift). is_among nodes g.given.object) (gifts_of gifts) k gift_at all is_at))
+
+    module _ (f : OpenFiles) (b : Awaits (gifts_of gifts) (drop k (gifts_of gifts)) f) where
+      pub is_free : IsFreeAt f gift_at.process gift_at.given.number
+      is_free = (is_gift_at.process, is_gift_at.number, node_free (gifts_of gifts) valid k gift_at is_at node access is f (begun (gifts_of gifts) valid k gift_at is_at f b))
+
+      pub awaits_opened : (next : OpenFiles) → Opens f next gift_at.process gift_at.given.number node access false gift_at.given.rights gift_at.given.fcntls → Awaits (gifts_of gifts) (drop (k + 1) (gifts_of gifts)) next
+      awaits_opened next x = next_awaits next (node_opened (gifts_of gifts) valid k gift_at is_at node access is f (begun (gifts_of gifts) valid k gift_at is_at f b) next x)

@@ -1,6 +1,10 @@
 pub mod Doing
 pub mod Built
+pub mod Numbered
+pub mod Waiting
 pub mod Begun
+pub mod Paired
+pub mod Given
 pub mod Started
 pub mod Tracing
 pub mod ScheduleRows

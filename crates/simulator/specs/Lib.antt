@@ -5,5 +5,6 @@ pub mod Traces
 pub mod Simulations
 pub mod Machines
 pub mod Starts
+pub mod GiftViews
 pub mod Schedules
 pub mod ScheduleViews

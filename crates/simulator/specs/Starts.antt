@@ -1,18 +1,22 @@
 -- How a task's first world is made, node by node and descriptor by descriptor. (own)
-use Rattle.std.specs.Prelude.{◌≡◌, ◌<◌, ◌≤◌, ◌++◌, ◌||◌, ◌&&◌, ℕ, Bool, true, nat_lt, List, [], ◌∷◌, length, None}
+use Rattle.std.specs.Prelude.{◌≡◌, ◌<◌, ◌+◌, ◌++◌, ◌||◌, ◌&&◌, ◌==◌, not, ℕ, Bool, true, false, nat_lt, List, [], ◌∷◌, map, length, Option, Some, None, if◌then◌else◌}
 use Rattle.std.specs.List.{list_all, slice_index_or}
-use Rattle.rights.specs.Limits.{most_descriptors}
+use Rattle.rights.specs.Limits.{most_descriptors, most_processes, most_pairs}
+use Rattle.rights.specs.Maps.{put2}
+use Rattle.rights.specs.Sets.{is_within, all_rights, all_commands}
 use Rattle.file_tree.specs.Places.{is_name}
 use Rattle.file_tree.specs.Nodes.{Dir, Node, node}
 use Rattle.file_tree.specs.Refusals.{created, create_fault}
 use Rattle.file_tree.specs.WellFormed.{is_content}
 use Rattle.fd_table.specs.OpenFiles.{OpenFiles}
-use Rattle.fd_table.specs.Descriptions.{IfHeld}
+use Rattle.fd_table.specs.Openings.{with_table}
+use Rattle.fd_table.specs.Filled.{Entry}
+use Rattle.fd_table.specs.Descriptions.{Descriptor, descriptor_of}
 use Rattle.kernel.specs.Renamings.{DiffersInNumbers}
 use Rattle.syscalls.specs.Views.{world_with}
-use Rattle.task.specs.Plans.{FirstDescriptor, Start}
-use Rattle.task.specs.Limits.{all_apart, are_numbered_apart}
-use Rattle.task.specs.Begins.{Opening}
+use Rattle.task.specs.Plans.{FirstObject, On_node, On_end, FirstDescriptor, Start}
+use Rattle.task.specs.Limits.{all_apart}
+use Rattle.task.specs.Begins.{end_description, first_entries, first_files}
 
 -- The node is what `create` makes of that name in that directory, and that is not refused.
 pub record IsMadeIn (made : List Node) (directory : ℕ) (name : List ℕ) (m : Node) : Type 0 where
@@ -26,24 +30,104 @@ pub record IsMadeIn (made : List Node) (directory : ℕ) (name : List ℕ) (m : 
 abbrev pub AreNumbers : List ℕ → Type 0
 AreNumbers numbers = (k : ℕ) → k < length numbers → slice_index_or numbers k 0 ≡ k
 
--- A first descriptor is at a number of a table, of a node of so many, and for reading or writing.
-abbrev pub is_usable : ℕ → FirstDescriptor → Bool
-is_usable nodes d = nat_lt d.number most_descriptors && nat_lt d.node nodes && (d.access.readable || d.access.writable)
+-- a first descriptor, and the process whose it is
+pub record Gift : Type 0 where
+  pub process : ℕ
+  pub given : FirstDescriptor
 
--- no entry of the process has their numbers
-abbrev pub AreFree : OpenFiles → ℕ → List FirstDescriptor → Type 0
-AreFree f p [] = Unit {0}
-AreFree f p (d ∷ descriptors) = (f.table p d.number ≡ None) × AreFree f p descriptors
+-- those of all processes from one on, in the order of the task
+abbrev pub gifts_to : ℕ → List FirstDescriptor → List Gift
+gifts_to p descriptors = map (λ d. record { process = p; given = d }) descriptors
 
--- What is open so far, of the processes below `made`, differs from the model's in numbers alone.
-pub record Begins (made : ℕ) (o : Opening) (f : OpenFiles) : Type 0 where
-  pub numbered : (p n : ℕ) → IfHeld (λ d. d.description < o.next) (o.files.table p n)
-  pub unmade : (p n : ℕ) → made ≤ p → o.files.table p n ≡ None
-  pub queues : (pair side : ℕ) → o.files.queue pair side ≡ []
-  pub same : DiffersInNumbers (world_with [] o.files []) (world_with [] f [])
+abbrev pub gifts_from : ℕ → List Start → List Gift
+gifts_from p [] = []
+gifts_from p (s ∷ starts) = gifts_to p s.descriptors ++ gifts_from (p + 1) starts
 
--- each start's descriptors are usable, and at numbers of their own
-abbrev pub AreStarts : ℕ → List Start → Type 0
-AreStarts nodes [] = Unit {0}
-AreStarts nodes (s ∷ starts) =
-    ((list_all (is_usable nodes) s.descriptors ≡ true) × (all_apart are_numbered_apart s.descriptors ≡ true)) × AreStarts nodes starts
+abbrev pub given_in : List Gift → ℕ → ℕ → Option FirstDescriptor
+given_in [] p n = None
+given_in (g ∷ gifts) p n = put2 (given_in gifts) g.process g.given.number (Some g.given) p n
+
+-- A gift is at a number of a table, within all rights and commands; it is for reading or writing, or of a side of an initial
+-- pair. No two are at one number.
+abbrev pub is_opened : FirstObject → Bool
+is_opened (On_node node access) = access.readable || access.writable
+is_opened (On_end pair side) = nat_lt pair most_pairs && nat_lt side 2
+
+abbrev pub is_gift : Gift → Bool
+is_gift g =
+    nat_lt g.process most_processes && nat_lt g.given.number most_descriptors && is_opened g.given.object
+    && is_within g.given.rights all_rights && is_within g.given.fcntls all_commands
+
+abbrev pub are_apart : Gift → Gift → Bool
+are_apart g h = not ((g.process == h.process) && (g.given.number == h.given.number))
+
+abbrev pub are_gifts : List Gift → Bool
+are_gifts gifts = list_all is_gift gifts && all_apart are_apart gifts
+
+-- if it is of a node, then of one of so many
+abbrev pub is_among : ℕ → FirstObject → Bool
+is_among nodes (On_node node access) = nat_lt node nodes
+is_among nodes (On_end pair side) = true
+
+abbrev pub are_among : ℕ → List Gift → Bool
+are_among nodes gifts = list_all (λ (g : Gift). is_among nodes g.given.object) gifts
+
+-- where the last of some is that is of a side of a pair
+abbrev pub entry_of : Gift → Entry
+entry_of g = record { process = g.process; number = g.given.number }
+
+abbrev pub is_on : ℕ → ℕ → FirstObject → Bool
+is_on pair side (On_node node access) = false
+is_on pair side (On_end own its) = (own == pair) && (its == side)
+
+abbrev pub last_or : Option Entry → Bool → Gift → Option Entry
+last_or (Some e) here g = Some e
+last_or None true g = Some (entry_of g)
+last_or None false g = None
+
+unfoldable pub last_of : ℕ → ℕ → List Gift → Option Entry
+last_of pair side [] = None
+last_of pair side (g ∷ gifts) = last_or (last_of pair side gifts) (is_on pair side g.given.object) g
+
+-- Before its turn an entry is free. But the last one of each side has that end from the start, with all rights: the others
+-- share its description before it is limited itself.
+abbrev pub whole_end : ℕ → ℕ → Descriptor
+whole_end pair side = descriptor_of (end_description pair side) all_rights all_commands
+
+abbrev pub whole_or_none : Option Entry → ℕ → ℕ → Option Descriptor
+whole_or_none None pair side = Some (whole_end pair side)
+whole_or_none (Some e) pair side = None
+
+abbrev pub waiting : List Gift → FirstObject → Option Descriptor
+waiting later (On_node node access) = None
+waiting later (On_end pair side) = whole_or_none (last_of pair side later) pair side
+
+-- it is there, and of that side of that pair
+abbrev pub IsEnd : Option Gift → ℕ → ℕ → Type 0
+IsEnd None pair side = ⊥
+IsEnd (Some g) pair side = g.given.object ≡ On_end pair side
+
+-- a table in which these wait
+unfoldable pub awaiting : (ℕ → ℕ → Option Descriptor) → List Gift → ℕ → ℕ → Option Descriptor
+awaiting table [] = table
+awaiting table (g ∷ later) = put2 (awaiting table later) g.process g.given.number (waiting later g.given.object)
+
+-- of a table the entries whose descriptions are below a number
+abbrev pub if_below : ℕ → Option Descriptor → Option Descriptor
+if_below bound None = None
+if_below bound (Some d) = if nat_lt d.description bound then Some d else None
+
+-- What is open differs from the model's in numbers alone, where the model has this table.
+abbrev pub HasTable : List Gift → (ℕ → ℕ → Option Descriptor) → OpenFiles → Type 0
+HasTable gifts table f = DiffersInNumbers (world_with [] (with_table (first_files (given_in gifts)) table) []) (world_with [] f [])
+
+-- so many pairs are open, and nothing else
+abbrev pub nothing_given : ℕ → ℕ → Option Descriptor
+nothing_given p n = None
+
+abbrev pub HasPairs : List Gift → ℕ → OpenFiles → Type 0
+HasPairs gifts pairs f = HasTable gifts (λ p n. if_below (end_description pairs 0) (awaiting nothing_given gifts p n)) f
+
+-- these wait, and all others are as they are given
+abbrev pub Awaits : List Gift → List Gift → OpenFiles → Type 0
+Awaits gifts later f = HasTable gifts (awaiting (first_entries (given_in gifts)) later) f

@@ -5,6 +5,7 @@
 
 mod actions;
 mod building;
+mod gifts;
 pub mod lines;
 pub mod machine;
 pub mod schedule;

@@ -43,8 +43,9 @@ impl<'a, T: Tree> Model for Machine<'a, T> {
 
 impl<'a, T: Tree> Machine<'a, T> {
     /// The machine at the start of a task: its first processes stand at point 0 with all registers 0, each first
-    /// descriptor has a description of its own, and nothing is queued. The numbers of descriptions, which nothing shows,
-    /// may be others than the model's. Want of memory alone keeps it from starting.
+    /// descriptor of a file or directory has a description of its own, those of one side of an initial socket pair share its
+    /// description, and nothing is queued. The numbers of descriptions and pairs, which nothing shows, may be others than the
+    /// model's. Want of memory alone keeps it from starting.
     pub fn start(alloc: Global, task: &'a Task) -> Result<Machine<'a, T>, Stop>
         ensures plan { IfOk result (λ machine. machine.plan ≡ task.now) }
         ensures valid { IfOk result (λ machine. is_plan machine.plan ≡ true) }

@@ -1,103 +1,145 @@
 //! The world in which a task starts.
 
-ghost use Rattle.std.specs.Prelude.{◌≡◌, ◌≢◌, ◌+◌, ◌<◌, ◌≤◌, ℕ, None, IfOk, OnOk, length, map, nat_lt, true};
-ghost use Rattle.std.specs.List.{list_all};
+ghost use Rattle.std.specs.Prelude.{◌≡◌, ◌||◌, ◌+◌, ◌<◌, ◌≤◌, [], IfOk, OnOk, drop, length, map, option_map, false, true};
+ghost use Rattle.std.specs.List.{slice_get};
+ghost use Rattle.fd_table.specs.Filled.{IsEmpty, IsFreeAt, Opens};
 ghost use Rattle.fd_table.specs.Kept.{open_files};
+ghost use Rattle.fd_table.specs.Views.{access_seen, side_seen};
 ghost use Rattle.kernel.specs.Renamings.{DiffersInNumbers};
 ghost use Rattle.kernel.specs.WellFormed.{IsWellFormed};
 ghost use Rattle.syscalls.specs.Views.{world_of};
-ghost use Rattle.task.specs.Begins.{Opening, first_process, first_world, with_descriptor, with_descriptors, with_starts};
-ghost use Rattle.task.specs.Limits.{all_apart, are_numbered_apart, is_plan};
+ghost use Rattle.task.specs.Begins.{first_process, first_world};
+ghost use Rattle.task.specs.Limits.{is_plan};
 ghost use Rattle.task.specs.Plans.{programs_of_plan};
-ghost use Rattle.task.specs.Views.{first_descriptor_of, starts_of};
-ghost use Rattle.simulator.specs.Starts.{AreFree, AreNumbers, AreStarts, Begins, is_usable};
+ghost use Rattle.task.specs.Views.{starts_of};
+ghost use Rattle.simulator.specs.GiftViews.{gifts_of};
+ghost use Rattle.simulator.specs.Starts.{AreNumbers, Awaits, HasPairs, IsEnd, are_among, are_gifts, gifts_from};
 
 use crate::building::build_tree;
-use fd_table::Files;
+use crate::gifts::{Gift, last_of, list_gifts};
+use fd_table::{Access, Class, Files, Side};
 use file_tree::{NodeId, Tree};
 use process::Process;
+use rights::limits::MAX_PAIRS;
 use rights::{Memory, OpenFlags};
 use std::alloc::Global;
 use syscalls::World;
-use task::{FirstDescriptor, Start, Task};
+use task::{FirstObject, Start, Task};
 
-/// Opens a first descriptor of a process.
-fn open_first(
+/// Opens an initial pair, if some descriptor is of it. Each of its sides goes to the last descriptor of that side, with all
+/// rights, or nowhere.
+fn open_initial(files: &mut Files, gifts: &[Gift], pair: u8) -> Result<(), Memory>
+    requires few { pair < 32 }
+    requires gifts { are_gifts (gifts_of gifts.now) ≡ true }
+    requires begun { HasPairs (gifts_of gifts.now) pair (open_files files.old) }
+    ensures { OnOk result (HasPairs (gifts_of gifts.now) (pair + 1) (open_files files.new)) }
+{
+    let a = last_of(gifts, pair, Side::A);
+    let b = last_of(gifts, pair, Side::B);
+    if a.is_none() && b.is_none() {
+        return Ok(());
+    }
+    files.open_pair(Class::Initial(pair), a, b)
+}
+
+/// Opens the initial pairs that some descriptor is of.
+fn open_initials(files: &mut Files, gifts: &[Gift]) -> Result<(), Memory>
+    requires gifts { are_gifts (gifts_of gifts.now) ≡ true }
+    requires empty { IsEmpty (open_files files.old) }
+    ensures { OnOk result (Awaits (gifts_of gifts.now) (gifts_of gifts.now) (open_files files.new)) }
+{
+    for pair in 0..MAX_PAIRS {
+        open_initial(files, gifts, pair)?;
+    }
+    Ok(())
+}
+
+/// Opens a first descriptor of a side of an initial pair, where all before it are open: it shares the description of the last of
+/// that side, if that is another, and is limited.
+fn open_end(files: &mut Files, gifts: &[Gift], at: usize, pair: u8, side: Side)
+    requires there { at < length gifts.now }
+    requires gifts { are_gifts (gifts_of gifts.now) ≡ true }
+    requires end { IsEnd (slice_get (gifts_of gifts.now) at) pair (side_seen side) }
+    requires begun { Awaits (gifts_of gifts.now) (drop at (gifts_of gifts.now)) (open_files files.old) }
+    ensures { Awaits (gifts_of gifts.now) (drop (at + 1) (gifts_of gifts.now)) (open_files files.new) }
+{
+    let gift = gifts[at];
+    let given = gift.given;
+    if let Some(entry) = last_of(&gifts[at + 1..], pair, side) {
+        files.share(entry.process, entry.number, gift.process, given.number);
+    }
+    files.limit(gift.process, given.number, given.rights, given.fcntls);
+}
+
+/// Opens a node of the tree for a first descriptor.
+fn open_node(
     files: &mut Files,
     numbers: &[NodeId],
-    process: u8,
-    first: FirstDescriptor,
+    gift: Gift,
+    node: u16,
+    access: Access,
 ) -> Result<(), Memory>
-    requires few { process < 16 }
     requires numbers { AreNumbers numbers.now }
-    requires usable { is_usable (length numbers.now) (first_descriptor_of first) ≡ true }
-    requires free { (open_files files.old).table process first.number ≡ None }
-    ensures begun { (o : Opening) → Begins (process + 1) o (open_files files.old)
-        → OnOk result (Begins (process + 1) (with_descriptor o process (first_descriptor_of first)) (open_files files.new)) }
-    ensures others { OnOk result ((q n : ℕ) → (q ≡ process → n ≢ first.number)
-        → (open_files files.new).table q n ≡ (open_files files.old).table q n) }
+    requires there { node < length numbers.now }
+    requires used { (access.readable || access.writable) ≡ true }
+    requires free { IsFreeAt (open_files files.old) gift.process gift.given.number }
+    ensures { OnOk result (Opens (open_files files.old) (open_files files.new) gift.process gift.given.number node (access_seen access) false
+        gift.given.rights.0 gift.given.fcntls.0) }
 {
-    let access = first.access;
+    let given = gift.given;
     match OpenFlags::new(access.readable, access.writable, false, false, false) {
         Some(flags) => files.open_node(
-            process,
-            first.number,
-            numbers[first.node as usize],
+            gift.process,
+            given.number,
+            numbers[node as usize],
             flags,
-            first.rights,
-            first.fcntls,
+            given.rights,
+            given.fcntls,
         ),
         // No first descriptor is for neither.
         None => unreachable!(),
     }
 }
 
-/// Opens the first descriptors of a process, each at a number of its own.
-fn open_all(
+/// Opens a first descriptor, where all before it are open.
+fn open_first(
     files: &mut Files,
     numbers: &[NodeId],
-    process: u8,
-    descriptors: &[FirstDescriptor],
+    gifts: &[Gift],
+    at: usize,
 ) -> Result<(), Memory>
-    requires few { process < 16 }
+    requires there { at < length gifts.now }
     requires numbers { AreNumbers numbers.now }
-    requires usable { list_all (is_usable (length numbers.now)) (map first_descriptor_of descriptors.now) ≡ true }
-    requires apart { all_apart are_numbered_apart (map first_descriptor_of descriptors.now) ≡ true }
-    requires free { AreFree (open_files files.old) process (map first_descriptor_of descriptors.now) }
-    ensures begun { (o : Opening) → Begins (process + 1) o (open_files files.old)
-        → OnOk result (Begins (process + 1) (with_descriptors o process (map first_descriptor_of descriptors.now)) (open_files files.new)) }
-    ensures others { OnOk result ((q n : ℕ) → q ≢ process → (open_files files.new).table q n ≡ (open_files files.old).table q n) }
+    requires gifts { are_gifts (gifts_of gifts.now) ≡ true }
+    requires among { are_among (length numbers.now) (gifts_of gifts.now) ≡ true }
+    requires begun { Awaits (gifts_of gifts.now) (drop at (gifts_of gifts.now)) (open_files files.old) }
+    ensures { OnOk result (Awaits (gifts_of gifts.now) (drop (at + 1) (gifts_of gifts.now)) (open_files files.new)) }
 {
-    match descriptors {
-        [] => Ok(()),
-        [first, rest @ ..] => {
-            open_first(files, numbers, process, *first)?;
-            open_all(files, numbers, process, rest)
+    let gift = gifts[at];
+    match gift.given.object {
+        FirstObject::Node { node, access } => open_node(files, numbers, gift, node, access),
+        FirstObject::End { pair, side } => {
+            open_end(files, gifts, at, pair, side);
+            Ok(())
         }
     }
 }
 
-/// Opens the first descriptors of all processes from this one on.
-fn open_starts(
-    files: &mut Files,
-    numbers: &[NodeId],
-    process: u8,
-    starts: &[Start],
-) -> Result<(), Memory>
-    requires few { process + length starts.now ≤ 16 }
+/// Opens all first descriptors: the pairs first, and then one descriptor after another.
+fn open_all(alloc: Global, numbers: &[NodeId], starts: &[Start]) -> Result<Files, Memory>
+    requires few { length starts.now ≤ 16 }
     requires numbers { AreNumbers numbers.now }
-    requires usable { AreStarts (length numbers.now) (starts_of starts.now) }
-    requires free { (q n : ℕ) → process ≤ q → (open_files files.old).table q n ≡ None }
-    ensures begun { (o : Opening) → Begins process o (open_files files.old)
-        → OnOk result (Begins (process + length starts.now) (with_starts o process (starts_of starts.now)) (open_files files.new)) }
+    requires gifts { are_gifts (gifts_from 0 (starts_of starts.now)) ≡ true }
+    requires among { are_among (length numbers.now) (gifts_from 0 (starts_of starts.now)) ≡ true }
+    ensures { IfOk result (λ files. Awaits (gifts_from 0 (starts_of starts.now)) [] (open_files files)) }
 {
-    match starts {
-        [] => Ok(()),
-        [first, rest @ ..] => {
-            open_all(files, numbers, process, &first.descriptors)?;
-            open_starts(files, numbers, process + 1, rest)
-        }
+    let gifts = list_gifts(alloc, starts)?;
+    let mut files = Files::new(alloc)?;
+    open_initials(&mut files, &gifts)?;
+    for at in 0..gifts.len() {
+        open_first(&mut files, numbers, &gifts, at)?;
     }
+    Ok(files)
 }
 
 /// The first processes, each at point 0.
@@ -120,8 +162,7 @@ pub(crate) fn first_world<T: Tree>(alloc: Global, task: &Task) -> Result<World<T
     ensures valid { OnOk result (is_plan task.now ≡ true) }
 {
     let built = build_tree(alloc, task.nodes())?;
-    let mut files = Files::new(alloc)?;
-    open_starts(&mut files, &built.numbers, 0, task.starts())?;
+    let files = open_all(alloc, &built.numbers, task.starts())?;
     let processes = first_processes(alloc, task.starts())?;
     Ok(World {
         tree: built.tree,

@@ -17,7 +17,7 @@ use Rattle.kernel.specs.Calls.{looks, looks_twice, answer}
 use Rattle.kernel.specs.Changes.{files_after, changed}
 use Rattle.kernel.specs.Steps.{answered, jumped, executed, stepped_at, stepped_by, stepped, step}
 use Rattle.kernel.proofs.Keeping.{next_world}
-use Rattle.task.specs.Begins.{first_world}
+use Rattle.task.specs.Begins.{first_files, first_world}
 use Rattle.task.specs.Limits.{is_plan}
 use Rattle.task.specs.Plans.{Grant, Plan, programs_of_plan}
 use Rattle.task.specs.Policies.{is_allowed}
@@ -51,19 +51,19 @@ forbidden : (grants : List Grant) (operation : Operation) (place : List (List �
 forbidden grants operation place is allowed = let tested : is_allowed grants operation place ≡ true = (allowed_is_tested grants operation place).1 allowed in absurd cc
 
 missing_right : IsSandboxed reading_plan → ⊥
-unfolding is_within_limits is_name ℕ_discrete unless held at_object answer files_after changed answered jumped executed stepped_at stepped_by stepped step first_world
+unfolding is_within_limits is_name ℕ_discrete unless held at_object answer files_after changed answered jumped executed stepped_at stepped_by stepped step first_world first_files
 missing_right = second_step reading_plan refl (λ c d safe. safe.unrefused)
 
 capability_mode : IsSandboxed opening_plan → ⊥
-unfolding is_within_limits is_name ℕ_discrete unless held at_object answer files_after changed answered jumped executed stepped_at stepped_by stepped step first_world
+unfolding is_within_limits is_name ℕ_discrete unless held at_object answer files_after changed answered jumped executed stepped_at stepped_by stepped step first_world first_files
 capability_mode = second_step opening_plan refl (λ c d safe. safe.unrefused)
 
 unlisted_operation : IsSandboxed writing_plan → ⊥
-unfolding is_within_limits is_name ℕ_discrete filled unless held at_object answer files_after changed answered jumped executed stepped_at stepped_by stepped step first_world
+unfolding is_within_limits is_name ℕ_discrete filled unless held at_object answer files_after changed answered jumped executed stepped_at stepped_by stepped step first_world first_files
 unlisted_operation = second_step writing_plan refl (λ c d safe. forbidden writing_plan.grants Write (codes "work" ∷ codes "in" ∷ []) refl (safe.allowed refl).0)
 
 second_effect : IsSandboxed moving_plan → ⊥
-unfolding is_within_limits is_name ℕ_discrete find_of looks looks_twice lookup_fault path_fault path_components last_component looked by_places node_at unless held at_object at_number answer files_after changed answered jumped executed stepped_at stepped_by stepped step first_world
+unfolding is_within_limits is_name ℕ_discrete find_of looks looks_twice lookup_fault path_fault path_components last_component looked by_places node_at unless held at_object at_number answer files_after changed answered jumped executed stepped_at stepped_by stepped step first_world first_files
 second_effect = second_step moving_plan refl (λ c d safe. forbidden moving_plan.grants Create (codes "work" ∷ codes "new" ∷ []) refl (safe.allowed refl).1.0)
 
 pub some_are_not_sandboxed : SomeAreNotSandboxed

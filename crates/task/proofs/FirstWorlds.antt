@@ -1,5 +1,5 @@
 -- A task starts in a well-formed world.
-use Rattle.std.proofs.Common.{◌≡◌, ℕ, zero, suc, ◌+◌, ◌<◌, ◌≤◌, ◌^◌, true, List, [], ◌∷◌, refl, arith, length, map, replicate, sym, subst, ap}
+use Rattle.std.proofs.Common.{◌≡◌, ℕ, zero, suc, ◌<◌, ◌≤◌, ◌^◌, true, List, [], ◌∷◌, refl, arith, length, map, replicate}
 use Rattle.std.specs.Prelude.{◌&&◌, nat_le, Option, None}
 use Rattle.std.specs.List.{slice_get, list_all}
 use Rattle.std.proofs.lemmas.Bool.{ltb-true, leb-true}
@@ -9,13 +9,13 @@ use Rattle.texts.specs.Names.{is_name}
 use Rattle.prog_asm.specs.Programs.{Instruction, is_program, is_instruction, ends_well}
 use Rattle.fd_table.specs.Descriptions.{Descriptor}
 use Rattle.rights.specs.Limits.{most_processes, most_programs}
-use Rattle.kernel.specs.WellFormed.{IsCode, IsPoint, IsMade, HasNone, FitsRegister, EachMessage, IsWorld}
+use Rattle.kernel.specs.WellFormed.{IsCode, IsPoint, IsMade, HasNone, FitsRegister, IsWorld}
 use Rattle.task.specs.Plans.{NamedProgram, Start, Plan, code_in, programs_of_plan}
 use Rattle.task.specs.Limits.{are_grants, is_named, are_named_apart, all_apart, are_programs, are_descriptors, is_start, are_starts, is_tree, is_plan}
-use Rattle.task.specs.Begins.{nothing_open, first_opening, first_process, first_world}
+use Rattle.task.specs.Begins.{first_files, first_process, first_world}
 use Rattle.task.specs.Laws.{FirstWorldsAreWellFormed}
 use Rattle.task.proofs.FirstTrees.{tested_tree}
-use Rattle.task.proofs.Openings.{numbering_of, Good, IsOpened, opened_starts, opened_nothing}
+use Rattle.task.proofs.Openings.{numbering_of, good_entry, no_entry, not_made}
 
 -- what the test of a plan says
 pub record Checked (plan : Plan) : Type 0 where
@@ -95,10 +95,9 @@ none_gone [] p none = none (omega arith)
 none_gone (s ∷ starts) zero none = λ ended. absurd cc
 none_gone (s ∷ starts) (suc p) none = none_gone starts p (λ far. none (omega (arith, far)))
 
-first_is_world : (plan : Plan) → Checked plan → IsWorld (programs_of_plan plan) (numbering_of (first_opening plan).next) (first_world plan)
-unfolding first_world
+first_is_world : (plan : Plan) → Checked plan → IsWorld (programs_of_plan plan) (numbering_of plan.starts) (first_world plan)
+unfolding first_world first_files
 first_is_world plan facts =
-    let opened : IsOpened plan.nodes (0 + length plan.starts) (first_opening plan) = opened_starts plan.nodes (length plan.programs) 0 nothing_open plan.starts (opened_nothing plan.nodes) facts.starts in
     let same : length (map first_process plan.starts) ≡ length plan.starts = length-map plan.starts first_process in
     let some : 1 ≤ length plan.starts = facts.some in
     let few : length plan.starts ≤ most_processes = facts.few in
@@ -107,20 +106,18 @@ first_is_world plan facts =
       some = omega arith;
       few = omega arith;
       processes = first_made plan (named_programs plan.programs facts.programs) plan.starts facts.starts;
-      entries = opened.entries;
-      numbers = opened.numbers;
-      gone = λ p. none_gone plan.starts p (λ far n. opened.unmade p n (omega (arith, far)));
-      messages = λ pair side.
-          subst (EachMessage (Good plan.nodes (first_opening plan))) (sym (opened.queues pair side)) tt;
-      short = λ pair side.
-          let empty : length ((first_opening plan).files.queue pair side) ≡ 0 = ap length (opened.queues pair side) in omega arith;
-      idle = λ pair side far. opened.queues pair side;
-      sides = λ pair side far. opened.queues pair side;
+      entries = λ p n. good_entry plan.nodes (length plan.programs) plan.starts p n facts.starts;
+      numbers = λ p n far. no_entry plan.nodes (length plan.programs) plan.starts p n facts.starts far;
+      gone = λ p. none_gone plan.starts p (λ far n. not_made plan.starts p n far);
+      messages = λ pair side. tt;
+      short = λ pair side. omega arith;
+      idle = λ pair side far. refl;
+      sides = λ pair side far. refl;
     }
 
 pub first_well_formed : FirstWorldsAreWellFormed
 first_well_formed plan good =
     let facts = checked plan good in (
       (λ n. valid_code plan.programs n (named_programs plan.programs facts.programs)),
-      record { numbering = numbering_of (first_opening plan).next; world = first_is_world plan facts },
+      record { numbering = numbering_of plan.starts; world = first_is_world plan facts },
     )

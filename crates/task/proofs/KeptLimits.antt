@@ -6,7 +6,6 @@ use Rattle.std.specs.Str.{bytes_eq}
 use Rattle.std.specs.Cmp.Derive.{both_true}
 use Rattle.std.proofs.lemmas.Slice.Eq.{bytes_eq-Decides}
 use Rattle.std.proofs.lemmas.Bool.{both_ways, false_from_ne_true, eqb-true, eq-eqb, ltb-true, leb-true}
-use Rattle.rights.specs.Sets.{is_within, all_rights, all_commands}
 use Rattle.rights.proofs.Tests.{both_left, both_right, either_one, not_true}
 use Rattle.file_tree.specs.Places.{begins, above}
 use Rattle.file_tree.specs.Nodes.{Kind, Dir, Link, Node, node, is_dir, is_link, stands_at}
@@ -14,13 +13,14 @@ use Rattle.file_tree.specs.WellFormed.{has_directory, is_within_limits}
 use Rattle.prog_asm.specs.Programs.{is_program}
 use Rattle.texts.specs.Bytes.{is_lower, is_digit}
 use Rattle.texts.specs.Names.{is_name, is_name_byte}
-use Rattle.task.specs.Plans.{Grant, NamedProgram, FirstDescriptor, Start, Plan, code_in}
+use Rattle.fd_table.specs.Descriptions.{Access}
+use Rattle.task.specs.Plans.{Grant, NamedProgram, FirstObject, On_node, On_end, FirstDescriptor, Start, Plan, code_in}
 use Rattle.rights.specs.Limits.{most_grants, most_programs}
-use Rattle.task.specs.Limits.{can_follow, are_made, is_tree, is_grant, are_apart, are_grants, is_named, are_named_apart, are_programs, all_apart, is_descriptor, are_numbered_apart, are_descriptors, is_start, is_plan}
+use Rattle.task.specs.Limits.{can_follow, are_made, is_tree, is_grant, are_apart, are_grants, is_named, are_named_apart, are_programs, all_apart, is_object, is_descriptor, are_numbered_apart, are_descriptors, is_start, is_plan}
 use Rattle.task.specs.Policies.{grant_named}
-use Rattle.task.specs.KeptLimits.{IsLetter, IsNameByte, IsShortName, IsUsable, KeepsGrants, KeepsPrograms, KeepsStarts, PlansKeepLimits, TreesAreMadeInOrder}
+use Rattle.task.specs.KeptLimits.{IsLetter, IsNameByte, IsShortName, CanBeOpened, IsThere, IsUsable, KeepsGrants, KeepsPrograms, KeepsStarts, PlansKeepLimits, TreesAreMadeInOrder}
 use Rattle.task.proofs.FirstTrees.{tested_tree, made_in_order}
-use Rattle.task.proofs.Openings.{tested}
+use Rattle.task.proofs.Openings.{tested, not_a_link, a_side}
 use Rattle.task.proofs.FirstWorlds.{checked}
 
 -- what passes in a list
@@ -179,23 +179,27 @@ no_link k test is = both_ways _ test (ap is_link is)
 directory_unwritten : (k : Kind) (writable : Bool) → (is_dir k && writable) ≡ false → k ≡ Dir → writable ≡ false
 directory_unwritten k writable test is = ap (λ kind. is_dir kind && writable) (sym is) ∙ test
 
+can_be_opened : (tree : List Node) (n : ℕ) (access : Access) → is_object tree (On_node n access) ≡ true → CanBeOpened tree n access
+can_be_opened tree n access test =
+    let used = both_left _ (not (is_dir (node tree n).kind && access.writable)) test in
+    let not_link = not_a_link tree n access test in
+    record {
+      there = node_there tree n not_link;
+      no_link = no_link (node tree n).kind not_link;
+      used = either_one access.readable access.writable (both_right (not (is_link (node tree n).kind)) _ used);
+      directory =
+          directory_unwritten (node tree n).kind access.writable
+          (not_true _ (both_right (not (is_link (node tree n).kind) && (access.readable || access.writable)) _ test));
+    }
+
+is_there : (tree : List Node) (x : FirstObject) → is_object tree x ≡ true → IsThere tree x
+is_there tree (On_node n access) test = can_be_opened tree n access test
+is_there tree (On_end pair side) test = a_side tree pair side test
+
 usable : (tree : List Node) (d : FirstDescriptor) → is_descriptor tree d ≡ true → IsUsable tree d
 usable tree d test =
     let facts = tested tree d test in
-    let two = both_left _ (is_within d.rights all_rights) (both_left _ (is_within d.fcntls all_commands) test) in
-    let accessed = both_right (nat_lt d.number 16) _ two in
-    let used = both_left _ (not (is_dir (node tree d.node).kind && d.access.writable)) accessed in
-    record {
-      number = facts.number;
-      there = node_there tree d.node facts.no_link;
-      no_link = no_link (node tree d.node).kind facts.no_link;
-      used = either_one d.access.readable d.access.writable (both_right (not (is_link (node tree d.node).kind)) _ used);
-      directory =
-          directory_unwritten (node tree d.node).kind d.access.writable
-          (not_true _ (both_right (not (is_link (node tree d.node).kind) && (d.access.readable || d.access.writable)) _ accessed));
-      rights = facts.rights;
-      fcntls = facts.fcntls;
-    }
+    record { number = facts.number; object = is_there tree d.object facts.object; rights = facts.rights; fcntls = facts.fcntls }
 
 abbrev OtherNumbers : FirstDescriptor → FirstDescriptor → Type 0
 OtherNumbers d e = d.number ≢ e.number

@@ -1,38 +1,23 @@
 -- What is open in a first world is well formed.
-use Rattle.std.proofs.Common.{◌≡◌, ◌≢◌, ℕ, ◌+◌, ◌<◌, ◌≤◌, true, false, List, [], ◌∷◌, refl, arith, length, sym, subst}
-use Rattle.std.specs.Prelude.{◌&&◌, ◌||◌, not, nat_lt, Option, Some, None}
-use Rattle.std.specs.List.{list_all}
-use Rattle.std.proofs.lemmas.Bool.{ltb-true}
+use Rattle.std.proofs.Common.{◌≡◌, ◌≢◌, ◌⊎◌, inl, inr, ℕ, zero, suc, ◌+◌, ◌*◌, ◌-◌, ◌<◌, ◌≤◌, true, false, List, [], ◌∷◌, refl, arith, length, ap, sym, ◌∙◌, subst}
+use Rattle.std.specs.Prelude.{◌&&◌, ◌||◌, ◌==◌, ◌/◌, ◌%◌, not, nat_lt, Option, Some, None, option_map, if◌then◌else◌}
+use Rattle.std.specs.List.{slice_get, list_all}
+use Rattle.std.proofs.Math.Arith.{digits_div, digits_mod}
+use Rattle.std.proofs.lemmas.Bool.{ltb-true, lt-ltb, le-ltb}
+use Rattle.std.proofs.lemmas.Bool.Decides.{eqb_tells}
 use Rattle.rights.specs.Sets.{is_within, all_rights, all_commands}
-use Rattle.rights.specs.Maps.{put}
-use Rattle.rights.proofs.Changes.{put-cases, put2-cases, put-same, put-other}
 use Rattle.rights.proofs.Tests.{both_left, both_right, not_true}
 use Rattle.file_tree.specs.Nodes.{Node, node, is_link, is_dir}
-use Rattle.rights.specs.Limits.{most_bytes}
-use Rattle.fd_table.specs.Descriptions.{Initial, Object, At_node, At_end, State, Descriptor, new_state, descriptor_of, IfHeld}
+use Rattle.fd_table.specs.Descriptions.{Access, Initial, At_end, Descriptor, new_state, IfHeld}
 use Rattle.kernel.specs.WellFormed.{Numbering, IsObject, IsDescriptor}
-use Rattle.task.specs.Plans.{FirstDescriptor, Start}
-use Rattle.task.specs.Limits.{is_accessed, is_descriptor, are_numbered_apart, all_apart, is_start}
-use Rattle.task.specs.Begins.{Opening, nothing_open, with_descriptor, with_descriptors, with_starts}
-
--- so many descriptions, and no pair
-abbrev pub numbering_of : ℕ → Numbering
-numbering_of next = record { descriptions = next; pairs = 0; holder = λ pair side. 0; class = λ pair. Initial 0 }
-
-abbrev pub Good : List Node → Opening → Descriptor → Type 0
-Good tree o = IsDescriptor tree (numbering_of o.next) o.files.objects o.files.states
-
--- The descriptors so far are as they must be, no process from `made` on has any, and nothing is queued.
-pub record IsOpened (tree : List Node) (made : ℕ) (o : Opening) : Type 0 where
-  pub entries : (p n : ℕ) → IfHeld (Good tree o) (o.files.table p n)
-  pub numbers : (p n : ℕ) → 16 ≤ n → o.files.table p n ≡ None
-  pub unmade : (p n : ℕ) → made ≤ p → o.files.table p n ≡ None
-  pub queues : (pair side : ℕ) → o.files.queue pair side ≡ []
+use Rattle.task.specs.Plans.{FirstObject, On_node, On_end, FirstDescriptor, Start}
+use Rattle.task.specs.Limits.{is_object, is_descriptor, are_numbered_apart, all_apart, is_start}
+use Rattle.task.specs.Begins.{with_number, given_to, given_by, end_description, node_description, description_of, first_object, object_given, node_object, object_of, first_entry, first_entries}
 
 -- what the test of a first descriptor says
 pub record Tested (tree : List Node) (d : FirstDescriptor) : Type 0 where
   pub number : d.number < 16
-  pub no_link : is_link (node tree d.node).kind ≡ false
+  pub object : is_object tree d.object ≡ true
   pub rights : is_within d.rights all_rights ≡ true
   pub fcntls : is_within d.fcntls all_commands ≡ true
 
@@ -40,102 +25,130 @@ pub tested : (tree : List Node) (d : FirstDescriptor) → is_descriptor tree d �
 tested tree d good =
     let three = both_left _ (is_within d.fcntls all_commands) good in
     let two = both_left _ (is_within d.rights all_rights) three in
-    let accessed = both_right (nat_lt d.number 16) _ two in
-    let kind = both_left _ (not (is_dir (node tree d.node).kind && d.access.writable)) accessed in
     record {
-      number = ltb-true d.number 16 (both_left _ (is_accessed (node tree d.node) d) two);
-      no_link = not_true _ (both_left _ (d.access.readable || d.access.writable) kind);
-      rights = both_right (nat_lt d.number 16 && is_accessed (node tree d.node) d) _ three;
-      fcntls = both_right (nat_lt d.number 16 && is_accessed (node tree d.node) d && is_within d.rights all_rights) _ good;
+      number = ltb-true d.number 16 (both_left _ (is_object tree d.object) two);
+      object = both_right (nat_lt d.number 16) _ two;
+      rights = both_right (nat_lt d.number 16 && is_object tree d.object) _ three;
+      fcntls = both_right (nat_lt d.number 16 && is_object tree d.object && is_within d.rights all_rights) _ good;
     }
 
--- one description more
-object_more : (tree : List Node) (bound number : ℕ) (x : Object) → IsObject tree (numbering_of bound) number x → IsObject tree (numbering_of (bound + 1)) number x
-object_more tree bound number (At_node n access) good = good
-object_more tree bound number (At_end pair side class) good = good
+-- what the test of an object says
+pub not_a_link : (tree : List Node) (n : ℕ) (access : Access) → is_object tree (On_node n access) ≡ true → is_link (node tree n).kind ≡ false
+not_a_link tree n access test =
+    not_true _ (both_left _ (access.readable || access.writable) (both_left _ (not (is_dir (node tree n).kind && access.writable)) test))
 
-good_more : (tree : List Node) (o : Opening) (p : ℕ) (d : FirstDescriptor) (x : Descriptor) → Good tree o x → Good tree (with_descriptor o p d) x
-good_more tree o p d x good =
-    let below : x.description < o.next = good.number in
-    let other : x.description ≢ o.next = λ same. absurd (omega (arith, same)) in
-    let object = At_node d.node d.access in
-    record {
-      number = omega arith;
-      rights = good.rights;
-      fcntls = good.fcntls;
-      object =
-          subst (IsObject tree (numbering_of (o.next + 1)) x.description) (sym (put-other o.files.objects o.next object x.description other))
-          (object_more tree o.next x.description (o.files.objects x.description) good.object);
-      offset =
-          let P : State → Type 0 = λ s. s.offset ≤ most_bytes in
-          subst P (sym (put-other o.files.states o.next (new_state false) x.description other)) good.offset;
-    }
+pub a_side : (tree : List Node) (pair side : ℕ) → is_object tree (On_end pair side) ≡ true → (pair < 32) × (side < 2)
+a_side tree pair side test = (ltb-true pair 32 (both_left _ (nat_lt side 2) test), ltb-true side 2 (both_right (nat_lt pair 32) _ test))
 
-entry_more : (tree : List Node) (o : Opening) (p : ℕ) (d : FirstDescriptor) (x : Option Descriptor) → IfHeld (Good tree o) x → IfHeld (Good tree (with_descriptor o p d)) x
-entry_more tree o p d None good = tt
-entry_more tree o p d (Some x) good = good_more tree o p d x good
+-- ## What is given at a number
+pub record IsAt (tree : List Node) (starts : List Start) (p n : ℕ) (d : FirstDescriptor) : Type 0 where
+  pub process : p < length starts
+  pub number : d.number ≡ n
+  pub tested : Tested tree d
 
-new_entry : (tree : List Node) (o : Opening) (p : ℕ) (d : FirstDescriptor) → Tested tree d → Good tree (with_descriptor o p d) (descriptor_of o.next d.rights d.fcntls)
-new_entry tree o p d facts = record {
-  number = omega arith;
-  rights = facts.rights;
-  fcntls = facts.fcntls;
-  object =
-      subst (IsObject tree (numbering_of (o.next + 1)) o.next) (sym (put-same o.files.objects o.next (At_node d.node d.access)))
-      facts.no_link;
-  offset =
-      let P : State → Type 0 = λ s. s.offset ≤ most_bytes in
-      subst P (sym (put-same o.files.states o.next (new_state false))) (omega arith);
-}
+record IsIn (tree : List Node) (n : ℕ) (d : FirstDescriptor) : Type 0 where
+  number : d.number ≡ n
+  tested : Tested tree d
 
-opened_descriptor : (tree : List Node) (made p : ℕ) (o : Opening) (d : FirstDescriptor) → p < made → IsOpened tree made o → is_descriptor tree d ≡ true → IsOpened tree made (with_descriptor o p d)
-opened_descriptor tree made p o d below good test =
-    let facts = tested tree d test in
-    let new = Some (descriptor_of o.next d.rights d.fcntls) in
-    let small : d.number < 16 = facts.number in
-    record {
-      entries = λ q n.
-          put2-cases (IfHeld (Good tree (with_descriptor o p d))) o.files.table p d.number new q n
-          (new_entry tree o p d facts) (entry_more tree o p d (o.files.table q n) (good.entries q n));
-      numbers = λ q n far.
-          put-cases (λ row. row n ≡ None) o.files.table p (put (o.files.table p) d.number new) q
-          (λ _. put-cases (λ x. x ≡ None) (o.files.table p) d.number new n (λ same. absurd (omega (arith, same))) (λ _. good.numbers p n far))
-          (λ _. good.numbers q n far);
-      unmade = λ q n above.
-          put-cases (λ row. row n ≡ None) o.files.table p (put (o.files.table p) d.number new) q
-          (λ same. absurd (omega (arith, same)))
-          (λ _. good.unmade q n above);
-      queues = good.queues;
-    }
+in_list : (tree : List Node) (descriptors : List FirstDescriptor) (n : ℕ) (d : FirstDescriptor) → list_all (is_descriptor tree) descriptors ≡ true → with_number n descriptors ≡ Some d → IsIn tree n d
+in_list tree [] n d test is = absurd cc
+in_list tree (e ∷ descriptors) n d test is =
+    by_number (eqb_tells e.number n) (in_list tree descriptors n d (both_right (is_descriptor tree e) _ test))
+  where
+    by_number : (((e.number == n) ≡ true) × (e.number ≡ n)) ⊎ (((e.number == n) ≡ false) × (e.number ≢ n)) → (with_number n descriptors ≡ Some d → IsIn tree n d) → IsIn tree n d
+    by_number (inl own) more =
+        let found : with_number n (e ∷ descriptors) ≡ Some e = rw own.0 refl in
+        let both : Some e ≡ Some d = sym found ∙ is in
+        let same : e ≡ d = cc in
+        subst (IsIn tree n) same (record { number = own.1; tested = tested tree e (both_left _ (list_all (is_descriptor tree) descriptors) test) })
+    by_number (inr other) more =
+        let next : with_number n (e ∷ descriptors) ≡ with_number n descriptors = rw other.0 refl in more (sym next ∙ is)
 
-opened_descriptors : (tree : List Node) (made p : ℕ) (o : Opening) (descriptors : List FirstDescriptor) → p < made → IsOpened tree made o → list_all (is_descriptor tree) descriptors ≡ true → IsOpened tree made (with_descriptors o p descriptors)
-opened_descriptors tree made p o [] below good test = good
-opened_descriptors tree made p o (d ∷ descriptors) below good test =
-    opened_descriptors tree made p (with_descriptor o p d) descriptors below
-    (opened_descriptor tree made p o d below good (both_left _ (list_all (is_descriptor tree) descriptors) test))
-    (both_right (is_descriptor tree d) _ test)
+pub given_at : (tree : List Node) (programs : ℕ) (starts : List Start) (p n : ℕ) (d : FirstDescriptor) → list_all (is_start tree programs) starts ≡ true → given_to (slice_get starts p) n ≡ Some d → IsAt tree starts p n d
+given_at tree programs [] p n d test is = absurd cc
+given_at tree programs (s ∷ starts) zero n d test is =
+    let start = both_right (nat_lt s.program programs) _ (both_left _ (list_all (is_start tree programs) starts) test) in
+    let found = in_list tree s.descriptors n d (both_left _ (all_apart are_numbered_apart s.descriptors) start) is in
+    record { process = omega arith; number = found.number; tested = found.tested }
+given_at tree programs (s ∷ starts) (suc p) n d test is =
+    let rest = given_at tree programs starts p n d (both_right (is_start tree programs s) _ test) is in
+    let below : p < length starts = rest.process in
+    record { process = omega arith; number = rest.number; tested = rest.tested }
 
-unmade_more : (tree : List Node) (made : ℕ) (o : Opening) → IsOpened tree made o → IsOpened tree (made + 1) o
-unmade_more tree made o good = record {
-  entries = good.entries;
-  numbers = good.numbers;
-  unmade = λ p n above. good.unmade p n (omega arith);
-  queues = good.queues;
-}
+-- ## What a description is of
+pub at_node : (given : ℕ → ℕ → Option FirstDescriptor) (p n : ℕ) → n < 16 → object_of given (node_description p n) ≡ object_given (given p n)
+at_node given p n small =
+    let high : nat_lt (node_description p n) 64 ≡ false = le-ltb _ 64 (omega arith) in
+    let rest : node_description p n - 64 ≡ p * 16 + n = omega arith in
+    (λ i. if high i then first_object (On_end (node_description p n / 2) (node_description p n % 2)) else node_object given (rest i))
+    ∙ (λ i. object_given (given (digits_div p small i) (digits_mod p small i)))
 
-pub opened_starts : (tree : List Node) (programs p : ℕ) (o : Opening) (starts : List Start) → IsOpened tree p o → list_all (is_start tree programs) starts ≡ true → IsOpened tree (p + length starts) (with_starts o p starts)
-opened_starts tree programs p o [] good test = subst (λ made. IsOpened tree made o) (omega arith) good
-opened_starts tree programs p o (s ∷ starts) good test =
-    let start : is_start tree programs s ≡ true = both_left _ (list_all (is_start tree programs) starts) test in
-    let here = opened_descriptors tree (p + 1) p o s.descriptors (omega arith) (unmade_more tree p o good)
-    (both_left _ (all_apart are_numbered_apart s.descriptors) (both_right (nat_lt s.program programs) _ start)) in
-    let rest = opened_starts tree programs (p + 1) (with_descriptors o p s.descriptors) starts here (both_right (is_start tree programs s) _ test) in
-    subst (λ made. IsOpened tree made (with_starts (with_descriptors o p s.descriptors) (p + 1) starts)) (omega arith) rest
+pub at_end : (given : ℕ → ℕ → Option FirstDescriptor) (pair side : ℕ) → pair < 32 → side < 2 → object_of given (end_description pair side) ≡ At_end pair side (Initial pair)
+at_end given pair side few two =
+    let low : nat_lt (end_description pair side) 64 ≡ true = lt-ltb _ 64 (omega arith) in
+    (λ i. if low i then first_object (On_end (end_description pair side / 2) (end_description pair side % 2)) else node_object given (end_description pair side - 64))
+    ∙ (λ i. first_object (On_end (digits_div pair two i) (digits_mod pair two i)))
 
-pub opened_nothing : (tree : List Node) → IsOpened tree 0 nothing_open
-opened_nothing tree = record {
-  entries = λ p n. tt;
-  numbers = λ p n far. refl;
-  unmade = λ p n above. refl;
-  queues = λ pair side. refl;
-}
+pub object_is : (tree : List Node) (starts : List Start) (p n : ℕ) (d : FirstDescriptor) → IsAt tree starts p n d → given_to (slice_get starts p) n ≡ Some d → object_of (given_by starts) (description_of p n d.object) ≡ first_object d.object
+object_is tree starts p n d at is = go d.object refl at.tested.object
+  where
+    go : (x : FirstObject) → d.object ≡ x → is_object tree x ≡ true → object_of (given_by starts) (description_of p n x) ≡ first_object x
+    go (On_node m access) of test =
+        let number : d.number ≡ n = at.number in
+        let few : d.number < 16 = at.tested.number in
+        at_node (given_by starts) p n (omega arith) ∙ ap object_given is ∙ ap first_object of
+    go (On_end pair side) of test =
+        let side_of = a_side tree pair side test in at_end (given_by starts) pair side side_of.0 side_of.1
+
+-- ## So it is well formed
+abbrev pub numbering_of : List Start → Numbering
+numbering_of starts = record { descriptions = node_description (length starts) 0; pairs = 32; holder = end_description; class = Initial }
+
+abbrev pub Good : List Node → List Start → Descriptor → Type 0
+Good tree starts = IsDescriptor tree (numbering_of starts) (object_of (given_by starts)) (λ n. new_state false)
+
+well_placed : (tree : List Node) (starts : List Start) (p n : ℕ) (x : FirstObject) → p < length starts → n < 16 → is_object tree x ≡ true → (description_of p n x < node_description (length starts) 0) × IsObject tree (numbering_of starts) (description_of p n x) (first_object x)
+well_placed tree starts p n (On_node m access) made few test = (omega arith, not_a_link tree m access test)
+well_placed tree starts p n (On_end pair side) made few test =
+    let side_of = a_side tree pair side test in
+    let small : pair < 32 = side_of.0 in
+    let two : side < 2 = side_of.1 in
+    (omega arith, (small, two, refl, refl))
+
+pub good_entry : (tree : List Node) (programs : ℕ) (starts : List Start) (p n : ℕ) → list_all (is_start tree programs) starts ≡ true → IfHeld (Good tree starts) (first_entries (given_by starts) p n)
+good_entry tree programs starts p n test = go (given_to (slice_get starts p) n) refl
+  where
+    go : (given : Option FirstDescriptor) → given_to (slice_get starts p) n ≡ given → IfHeld (Good tree starts) (option_map (first_entry p) given)
+    go None is = tt
+    go (Some d) is =
+        let at = given_at tree programs starts p n d test is in
+        let own : given_to (slice_get starts p) d.number ≡ Some d = ap (given_to (slice_get starts p)) at.number ∙ is in
+        let placed = well_placed tree starts p d.number d.object at.process at.tested.number at.tested.object in
+        record {
+          number = placed.0;
+          rights = at.tested.rights;
+          fcntls = at.tested.fcntls;
+          object =
+              subst (IsObject tree (numbering_of starts) (description_of p d.number d.object))
+              (sym (object_is tree starts p d.number d (record { process = at.process; number = refl; tested = at.tested }) own)) placed.1;
+          offset = omega arith;
+        }
+
+pub no_entry : (tree : List Node) (programs : ℕ) (starts : List Start) (p n : ℕ) → list_all (is_start tree programs) starts ≡ true → 16 ≤ n → first_entries (given_by starts) p n ≡ None
+no_entry tree programs starts p n test far = go (given_to (slice_get starts p) n) refl
+  where
+    go : (given : Option FirstDescriptor) → given_to (slice_get starts p) n ≡ given → option_map (first_entry p) given ≡ None
+    go None is = refl
+    go (Some d) is =
+        let at = given_at tree programs starts p n d test is in
+        let number : d.number ≡ n = at.number in
+        let few : d.number < 16 = at.tested.number in
+        absurd (omega arith)
+
+nobody_at : (starts : List Start) (p : ℕ) → length starts ≤ p → slice_get starts p ≡ None
+nobody_at [] p far = refl
+nobody_at (s ∷ starts) zero far = absurd (omega arith)
+nobody_at (s ∷ starts) (suc p) far = nobody_at starts p (omega arith)
+
+pub not_made : (starts : List Start) (p n : ℕ) → length starts ≤ p → first_entries (given_by starts) p n ≡ None
+not_made starts p n far = ap (λ start. option_map (first_entry p) (given_to start n)) (nobody_at starts p far)

@@ -5,7 +5,7 @@ use Rattle.rights.specs.Operations.{Operation, Look, Read as Reads, Remove as Re
 use Rattle.rights.specs.Sets.{all_rights, all_commands, seek_right}
 use Rattle.file_tree.specs.Nodes.{Node, File, Dir}
 use Rattle.prog_asm.specs.Programs.{Syscall, Halt, Invoke, Cap_enter, Open, Read, Write, Renameat, Number}
-use Rattle.task.specs.Plans.{Plan}
+use Rattle.task.specs.Plans.{On_node, Plan}
 use Rattle.task.specs.Sandboxed.{IsSandboxed}
 
 -- the root, `/work`, and the file `/work/in` with the bytes `AB`
@@ -30,8 +30,7 @@ entering operations rights node writable call = record {
         descriptors =
             record {
               number = 2;
-              node = node;
-              access = record { readable = true; writable = writable };
+              object = On_node node (record { readable = true; writable = writable });
               rights = rights;
               fcntls = all_commands;
             }

@@ -2,13 +2,14 @@
 use Rattle.std.specs.Prelude.{◌≡◌, ◌≢◌, ◌⊎◌, ◌<◌, ◌≤◌, ℕ, true, false, List, [], ◌∷◌, ◌++◌, length, Some, None}
 use Rattle.std.specs.List.{slice_get}
 use Rattle.rights.specs.Sets.{is_within, all_rights, all_commands}
-use Rattle.rights.specs.Limits.{most_word, most_descriptors, most_processes}
+use Rattle.rights.specs.Limits.{most_word, most_descriptors, most_processes, most_pairs}
 use Rattle.file_tree.specs.Places.{begins, is_name}
 use Rattle.file_tree.specs.Nodes.{Dir, Link, Node, node}
 use Rattle.file_tree.specs.Refusals.{created, create_fault}
 use Rattle.file_tree.specs.WellFormed.{IsTree, has_directory, is_content}
 use Rattle.prog_asm.specs.Programs.{is_program}
-use Rattle.task.specs.Plans.{Grant, NamedProgram, FirstDescriptor, Start, Plan, programs_of_plan}
+use Rattle.fd_table.specs.Descriptions.{Access}
+use Rattle.task.specs.Plans.{Grant, NamedProgram, FirstObject, On_node, On_end, FirstDescriptor, Start, Plan, programs_of_plan}
 use Rattle.task.specs.Limits.{is_plan}
 use Rattle.task.specs.Policies.{grant_named}
 
@@ -25,12 +26,21 @@ pub record IsShortName (name : List ℕ) : Type 0 where
   pub first : (b : ℕ) → slice_get name 0 ≡ Some b → IsLetter b
   pub bytes : (k b : ℕ) → slice_get name k ≡ Some b → IsNameByte b
 
+-- A node that can be opened so: a file or directory of the tree, for reading or writing; a directory for reading alone.
+pub record CanBeOpened (tree : List Node) (n : ℕ) (access : Access) : Type 0 where
+  pub there : n < length tree
+  pub no_link : (node tree n).kind ≢ Link
+  pub used : (access.readable ≡ true) ⊎ (access.writable ≡ true)
+  pub directory : (node tree n).kind ≡ Dir → access.writable ≡ false
+
+-- a node, or a side of an initial pair
+abbrev pub IsThere : List Node → FirstObject → Type 0
+IsThere tree (On_node n access) = CanBeOpened tree n access
+IsThere tree (On_end pair side) = (pair < most_pairs) × (side < 2)
+
 pub record IsUsable (tree : List Node) (d : FirstDescriptor) : Type 0 where
   pub number : d.number < most_descriptors
-  pub there : d.node < length tree
-  pub no_link : (node tree d.node).kind ≢ Link
-  pub used : (d.access.readable ≡ true) ⊎ (d.access.writable ≡ true)
-  pub directory : (node tree d.node).kind ≡ Dir → d.access.writable ≡ false
+  pub object : IsThere tree d.object
   pub rights : is_within d.rights all_rights ≡ true
   pub fcntls : is_within d.fcntls all_commands ≡ true
 

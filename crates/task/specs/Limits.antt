@@ -6,10 +6,11 @@ use Rattle.texts.specs.Names.{is_name}
 use Rattle.rights.specs.Sets.{is_within, all_rights, all_commands}
 use Rattle.file_tree.specs.Places.{begins, above}
 use Rattle.file_tree.specs.Nodes.{Node, node, is_dir, is_link, stands_at}
-use Rattle.rights.specs.Limits.{most_nodes, most_processes, most_programs, most_grants, most_descriptors}
+use Rattle.rights.specs.Limits.{most_nodes, most_processes, most_programs, most_grants, most_descriptors, most_pairs}
 use Rattle.file_tree.specs.WellFormed.{has_directory, is_within_limits}
 use Rattle.prog_asm.specs.Programs.{is_program}
-use Rattle.task.specs.Plans.{Grant, NamedProgram, FirstDescriptor, Start, Plan}
+use Rattle.fd_table.specs.Descriptions.{Access}
+use Rattle.task.specs.Plans.{Grant, NamedProgram, FirstObject, On_node, On_end, FirstDescriptor, Start, Plan}
 
 -- each passes the test with those after it
 abbrev pub all_apart : {A : Type 0} → (A → A → Bool) → List A → Bool
@@ -53,13 +54,18 @@ are_named_apart p q = not (bytes_eq p.name q.name)
 abbrev pub are_programs : List NamedProgram → Bool
 are_programs programs = nat_le (length programs) most_programs && list_all is_named programs && all_apart are_named_apart programs
 
--- A first descriptor is of a file or directory, and is for reading or writing; a directory is not written.
-abbrev pub is_accessed : Node → FirstDescriptor → Bool
-is_accessed m d = not (is_link m.kind) && (d.access.readable || d.access.writable) && not (is_dir m.kind && d.access.writable)
+-- A first descriptor is of an end of an initial pair; or of a file or directory, and is for reading or writing; a directory is
+-- not written.
+abbrev pub is_accessed : Node → Access → Bool
+is_accessed m access = not (is_link m.kind) && (access.readable || access.writable) && not (is_dir m.kind && access.writable)
+
+abbrev pub is_object : List Node → FirstObject → Bool
+is_object tree (On_node n access) = is_accessed (node tree n) access
+is_object tree (On_end pair side) = nat_lt pair most_pairs && nat_lt side 2
 
 abbrev pub is_descriptor : List Node → FirstDescriptor → Bool
 is_descriptor tree d =
-    nat_lt d.number most_descriptors && is_accessed (node tree d.node) d && is_within d.rights all_rights && is_within d.fcntls all_commands
+    nat_lt d.number most_descriptors && is_object tree d.object && is_within d.rights all_rights && is_within d.fcntls all_commands
 
 -- each at a number of its own
 abbrev pub are_numbered_apart : FirstDescriptor → FirstDescriptor → Bool

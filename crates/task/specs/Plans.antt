@@ -17,12 +17,16 @@ pub record NamedProgram : Type 0 where
   pub name : List ℕ
   pub code : List Instruction
 
--- A descriptor that a process starts with, on a node of the task, by the node's number. Its rights and fcntl commands are
--- sets. (rights(4), cap_fcntls_limit(2))
+-- What a first descriptor is of: a node of the task, by the node's number, that it is for reading or writing; or an end of a
+-- socket pair that the task starts with, by the pair's number and the side, 0 (a) or 1 (b). (open(2), socketpair(2))
+pub data FirstObject : Type 0 where
+  On_node : (node : ℕ) (access : Access) → FirstObject
+  On_end : (pair side : ℕ) → FirstObject
+
+-- A descriptor that a process starts with. Its rights and fcntl commands are sets. (rights(4), cap_fcntls_limit(2))
 pub record FirstDescriptor : Type 0 where
   pub number : ℕ
-  pub node : ℕ
-  pub access : Access
+  pub object : FirstObject
   pub rights : ℕ
   pub fcntls : ℕ
 

@@ -3,13 +3,15 @@ use Rattle.std.specs.Prelude.{true, List, map, string_bytes}
 use Rattle.rights.specs.Views.{operation_of}
 use Rattle.file_tree.specs.Nodes.{Node}
 use Rattle.file_tree.specs.Views.{kind_of, names_of}
-use Rattle.fd_table.specs.Views.{access_seen}
+use Rattle.fd_table.specs.Views.{access_seen, side_seen}
 use Rattle.task.specs.declared.nodes.TaskNode.{TaskNode}
 use Rattle.task.specs.declared.grants.Grant.{Grant as GrantCode}
 use Rattle.task.specs.declared.programs.NamedProgram.{NamedProgram as NamedProgramCode}
+use Rattle.task.specs.declared.starts.FirstObject.{FirstObject as FirstObjectCode}
+use Rattle.task.specs.declared.starts.FirstObject.TheVariants as object
 use Rattle.task.specs.declared.starts.FirstDescriptor.{FirstDescriptor as FirstDescriptorCode}
 use Rattle.task.specs.declared.starts.Start.{Start as StartCode}
-use Rattle.task.specs.Plans.{Grant, NamedProgram, FirstDescriptor, Start}
+use Rattle.task.specs.Plans.{Grant, NamedProgram, FirstObject, On_node, On_end, FirstDescriptor, Start}
 
 -- a node of a task was not removed
 abbrev pub node_of : TaskNode → Node
@@ -30,8 +32,12 @@ program_of p = record { name = string_bytes p.name; code = p.program }
 abbrev pub programs_of : List NamedProgramCode → List NamedProgram
 programs_of programs = map program_of programs
 
+abbrev pub first_object_of : FirstObjectCode → FirstObject
+first_object_of (object.Node node access) = On_node node (access_seen access)
+first_object_of (object.End pair side) = On_end pair (side_seen side)
+
 abbrev pub first_descriptor_of : FirstDescriptorCode → FirstDescriptor
-first_descriptor_of d = record { number = d.number; node = d.node; access = access_seen d.access; rights = d.rights.0; fcntls = d.fcntls.0 }
+first_descriptor_of d = record { number = d.number; object = first_object_of d.object; rights = d.rights.0; fcntls = d.fcntls.0 }
 
 abbrev pub start_of : StartCode → Start
 start_of s = record { program = s.program; mode = s.mode; descriptors = map first_descriptor_of s.descriptors.items }

@@ -16,13 +16,14 @@ pub fn trees_are_made_in_order()
 {}
 
 /// A task starts in a well-formed world: its programs are valid, its tree is one, and what each first descriptor names is a
-/// file or directory of it.
+/// file or directory of it, or an end of an initial pair, both of whose ends are of its class.
 pub fn first_worlds_are_well_formed()
     ensures { FirstWorldsAreWellFormed }
 {}
 
 /// A task's first world has the task's tree and processes, which stand at point 0 with all registers 0; each first
-/// descriptor, and no other, with a description of its own at offset 0 and without flags; and nothing is queued.
+/// descriptor, and no other, at offset 0 and without flags; and nothing is queued. Two descriptors share a description exactly
+/// if they are of one side of one pair; one of a file or directory shares its own with no other.
 pub fn first_worlds_are_first()
     ensures { FirstWorldsAreFirst }
 {}
@@ -32,7 +33,8 @@ pub fn allowed_operations_are_tested()
     ensures { AllowedIsTested }
 {}
 
-/// Some plan is valid, of a dozen nodes, two grants and two processes: so the laws speak of something.
+/// Some plan is valid, of a dozen nodes, two grants and two processes with descriptors on nodes and on ends: so the laws
+/// speak of something.
 pub fn a_valid_plan_exists()
     ensures { PlanExists }
 {}

@@ -13,5 +13,5 @@ pub use grants::Grant;
 pub use nodes::TaskNode;
 pub use policies::{grant_holds, grant_lists, grant_named};
 pub use programs::NamedProgram;
-pub use starts::{FirstDescriptor, Start};
+pub use starts::{FirstDescriptor, FirstObject, Start};
 pub use tasks::Task;

@@ -1,15 +1,23 @@
 //! The first processes of a task.
 
-use fd_table::Access;
+use fd_table::{Access, Side};
 use rights::{Fcntls, Rights};
 
-/// A descriptor that a process starts with, on a file or directory of the task. (rights(4), cap_fcntls_limit(2))
+/// What a first descriptor is of.
+#[derive(Clone, Copy, PartialEq, Eq)]
+pub enum FirstObject {
+    /// A file or directory of the task, by its place in the list of nodes, for reading or writing. (open(2))
+    Node { node: u16, access: Access },
+    /// A side of a socket pair that the task starts with, 0 to 31. (socketpair(2))
+    End { pair: u8, side: Side },
+}
+
+/// A descriptor that a process starts with. Those of one side of a pair share its description; each other has one of its
+/// own. (rights(4), cap_fcntls_limit(2))
 #[derive(Clone, Copy, PartialEq, Eq)]
 pub struct FirstDescriptor {
     pub number: u8,
-    /// The node's place in the list of nodes.
-    pub node: u16,
-    pub access: Access,
+    pub object: FirstObject,
     pub rights: Rights,
     pub fcntls: Fcntls,
 }

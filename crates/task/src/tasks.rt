@@ -8,8 +8,8 @@ use std::marker::Model;
 
 /// A task, valid by construction: its nodes are a tree within the limits, its up to 8 grants are of directories apart from
 /// each other, its up to 8 programs are valid, names are words that are given once, and its 1 to 16 first processes have
-/// descriptors on files and directories, each at a number of its own from 0 to 15. A clause sees the plan of its parts.
-/// (own)
+/// descriptors on files, directories and sides of 32 socket pairs, each at a number of its own from 0 to 15. A clause sees the
+/// plan of its parts. (own)
 #[derive(Drop)]
 pub struct Task {
     nodes: Vec<TaskNode>,

@@ -1,10 +1,9 @@
 -- A field that isn't read makes its table one that isn't.
 use Rattle.std.proofs.Common.{◌≡◌, List, [], ◌∷◌, ℕ, Option, Some, None, Err, ℤ, Bool, true, false, cond, string_bytes, codes, refl, ap, ◌∙◌}
 use Rattle.rights.specs.Sets.{all_rights, all_commands, right_names, command_names}
-use Rattle.fd_table.specs.Descriptions.{Access}
 use Rattle.toml.specs.Data.{Members, get_member}
 use Rattle.task_reader.specs.Documents.{only_keys, read_or}
-use Rattle.task_reader.specs.Written.{access_in, descriptor_in, descriptor_keys, descriptor_with, reading, set_in, WrittenNode, WrittenGrant, WrittenProgram, WrittenStart, task_with, written_nodes, written_grants, written_programs, written_starts, written_task}
+use Rattle.task_reader.specs.Written.{access_in, descriptor_in, descriptor_with, object_in, path_in, path_keys, path_with, reading, set_in, WrittenObject, WrittenNode, WrittenGrant, WrittenProgram, WrittenStart, task_with, written_nodes, written_grants, written_programs, written_starts, written_task}
 use Rattle.std.specs.Prelude.{option_and_then}
 use Rattle.prog_asm.specs.Assembly.{Fault}
 use Rattle.task_reader.specs.declared.faults.TaskFault.{TaskFault}
@@ -34,37 +33,41 @@ field-fault (code.Asm program why) x y none is = no_program (string_bytes progra
 field-fault code.Limit x y none is = no_other Wrong_field _ x y (λ same. absurd cc) is
 field-fault code.Memory x y none is = is
 
--- A descriptor needs its flags, its rights and its commands.
-no_access : (number : Option ℤ) (path : Option (List ℕ)) (rights fcntls : Option ℕ) → descriptor_with number path None rights fcntls ≡ None
-no_access None path rights fcntls = refl
-no_access (Some n) None rights fcntls = refl
-no_access (Some n) (Some p) rights fcntls = refl
+-- A node at a path needs its flags, and a descriptor its object, its rights and its commands.
+no_access : (path : Option (List ℕ)) → path_with path None ≡ None
+no_access None = refl
+no_access (Some p) = refl
 
-no_rights : (number : Option ℤ) (path : Option (List ℕ)) (access : Option Access) (fcntls : Option ℕ) → descriptor_with number path access None fcntls ≡ None
-no_rights None path access fcntls = refl
-no_rights (Some n) None access fcntls = refl
-no_rights (Some n) (Some p) None fcntls = refl
-no_rights (Some n) (Some p) (Some a) fcntls = refl
+no_object : (number : Option ℤ) (rights fcntls : Option ℕ) → descriptor_with number None rights fcntls ≡ None
+no_object None rights fcntls = refl
+no_object (Some n) rights fcntls = refl
 
-no_fcntls : (number : Option ℤ) (path : Option (List ℕ)) (access : Option Access) (rights : Option ℕ) → descriptor_with number path access rights None ≡ None
-no_fcntls None path access rights = refl
-no_fcntls (Some n) None access rights = refl
-no_fcntls (Some n) (Some p) None rights = refl
-no_fcntls (Some n) (Some p) (Some a) None = refl
-no_fcntls (Some n) (Some p) (Some a) (Some r) = refl
+no_rights : (number : Option ℤ) (object : Option WrittenObject) (fcntls : Option ℕ) → descriptor_with number object None fcntls ≡ None
+no_rights None object fcntls = refl
+no_rights (Some n) None fcntls = refl
+no_rights (Some n) (Some o) fcntls = refl
+
+no_fcntls : (number : Option ℤ) (object : Option WrittenObject) (rights : Option ℕ) → descriptor_with number object rights None ≡ None
+no_fcntls None object rights = refl
+no_fcntls (Some n) None rights = refl
+no_fcntls (Some n) (Some o) None = refl
+no_fcntls (Some n) (Some o) (Some r) = refl
 
 none_if : {A : Type 0} (b : Bool) (x : Option A) → x ≡ None → cond b x None ≡ None
 none_if true x none = none
 none_if false x none = refl
 
-pub without-flags : (ms : Members) → read_or reading access_in (get_member (codes "flags") ms) ≡ None → descriptor_in ms ≡ None
-without-flags ms none = none_if (only_keys descriptor_keys ms) _ (rw none (no_access _ _ _ _))
+pub without-flags : (ms : Members) → read_or reading access_in (get_member (codes "flags") ms) ≡ None → path_in ms ≡ None
+without-flags ms none = none_if (only_keys path_keys ms) _ (rw none (no_access _))
+
+pub without-object : (ms : Members) → object_in ms ≡ None → descriptor_in ms ≡ None
+without-object ms none = rw none (no_object _ _ _)
 
 pub without-rights : (ms : Members) → read_or all_rights (set_in right_names) (get_member (codes "rights") ms) ≡ None → descriptor_in ms ≡ None
-without-rights ms none = none_if (only_keys descriptor_keys ms) _ (rw none (no_rights _ _ _ _))
+without-rights ms none = rw none (no_rights _ _ _)
 
 pub without-fcntls : (ms : Members) → read_or all_commands (set_in command_names) (get_member (codes "fcntls") ms) ≡ None → descriptor_in ms ≡ None
-without-fcntls ms none = none_if (only_keys descriptor_keys ms) _ (rw none (no_fcntls _ _ _ _))
+without-fcntls ms none = rw none (no_fcntls _ _ _)
 
 -- A task needs all its parts.
 no_starts : (nodes : Option (List WrittenNode)) (grants : Option (List WrittenGrant)) (programs : Option (List WrittenProgram)) → task_with nodes grants programs None ≡ None

@@ -7,3 +7,4 @@ pub mod PathTexts
 pub mod Stages
 pub mod EachItem
 pub mod Rows
+pub mod PairRows

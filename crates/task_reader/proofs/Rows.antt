@@ -15,7 +15,7 @@ use Rattle.prog_asm.specs.Assembly.{assembly_of, line_of, fault, Word, FallsOff}
 use Rattle.kernel.proofs.Samples.{base}
 use Rattle.toml.specs.Data.{Data, string, integer, array, table, Members, no_members, member}
 use Rattle.toml.proofs.OnLiterals.{toml_on_literals}
-use Rattle.task.specs.Plans.{Grant, FirstDescriptor, Plan, plan_with}
+use Rattle.task.specs.Plans.{Grant, On_node, FirstDescriptor, Plan, plan_with}
 use Rattle.task_reader.specs.Written.{written_task}
 use Rattle.task_reader.specs.Paths.{place_of}
 use Rattle.task_reader.specs.Reading.{Mistake, can_stand, can_grant, can_open, Not_toml, Wrong_field, Wrong_node, Wrong_grant, Wrong_descriptor, Wrong_program, Past_limit, plan_of, plan_in, task_of}
@@ -23,7 +23,7 @@ use Rattle.task_reader.proofs.BaseTask.{base_text, base_document, document, dire
 
 abbrev on_node : ℕ → ℕ → FirstDescriptor
 on_node number n =
-    record { number = number; node = n; access = record { readable = true; writable = false }; rights = all_rights; fcntls = all_commands }
+    record { number = number; object = On_node n (record { readable = true; writable = false }); rights = all_rights; fcntls = all_commands }
 
 abbrev work : Grant
 work = record { name = codes "work"; path = codes "work" ∷ []; operations = Look ∷ Read ∷ [] }
@@ -283,7 +283,7 @@ said_plan =
     (record {
       program = 0;
       mode = true;
-      descriptors = record { number = 15; node = 2; access = record { readable = true; writable = true }; rights = 3; fcntls = 0 } ∷ on_node 0 0 ∷ [];
+      descriptors = record { number = 15; object = On_node 2 (record { readable = true; writable = true }); rights = 3; fcntls = 0 } ∷ on_node 0 0 ∷ [];
     } ∷ [])
 
 all_said : plan_in (document base_nodes [] (capable ∷ []) (base_program ∷ [])) ≡ Ok said_plan

@@ -7,12 +7,13 @@ use Rattle.std.proofs.lemmas.Bool.{lt-ltb, ltb-true}
 use Rattle.rights.proofs.Tests.{both_left, both_right}
 use Rattle.file_tree.specs.Nodes.{Node}
 use Rattle.task_reader.specs.declared.faults.TaskFault.{TaskFault}
-use Rattle.task.specs.Plans.{Grant, NamedProgram, Start, Plan, plan_with}
+use Rattle.task.specs.Plans.{Grant, NamedProgram, FirstObject, On_node, On_end, Start, Plan, plan_with}
+use Rattle.task.specs.KeptLimits.{IsThere}
 use Rattle.task.specs.Limits.{is_plan}
 use Rattle.task_reader.specs.Written.{WrittenTask}
 use Rattle.task_reader.specs.Reading.{Mistake, Wrong_node, Wrong_grant, Wrong_descriptor, Past_limit, ◌>>=◌, or_mistake, tree_of, policy_of, starts_placed, all_assembled, keeps_limits, within_limits, plan_of}
 use Rattle.task_reader.specs.Faults.{FaultIs}
-use Rattle.task_reader.specs.Placed.{is_near, is_small}
+use Rattle.task_reader.specs.Placed.{has_near, is_near, is_small}
 use Rattle.task_reader.proofs.Passing.{fault-passes}
 use Rattle.task.proofs.KeptLimits.{plans_keep_limits}
 
@@ -70,6 +71,13 @@ all-from : {A : Type 0} (test : A → Bool) (xs : List A) → ((i : ℕ) (x : A)
 all-from test [] each = refl
 all-from test (x ∷ xs) each = both_true (each 0 x refl) (all-from test xs (λ i y is. each (suc i) y is))
 
+object-near : (tree : List Node) (o : FirstObject) → length tree ≤ 1024 → IsThere tree o → is_near o ≡ true
+object-near tree (On_node n access) few there =
+    let within : n < length tree = there.there in
+    let near : n < 2 ^ 16 = omega arith in
+    lt-ltb n (2 ^ 16) near
+object-near tree (On_end pair side) few there = refl
+
 pub plan-small : (plan : Plan) → is_plan plan ≡ true → list_all is_small plan.starts ≡ true
 plan-small plan valid =
     let keeps = plans_keep_limits plan valid in
@@ -79,12 +87,8 @@ plan-small plan valid =
     let few : length plan.programs ≤ 8 = keeps.programs.few in
     let program : s.program < 2 ^ 8 = omega arith in
     both_true (lt-ltb s.program (2 ^ 8) program)
-    (all-from is_near s.descriptors
-    (λ i d at_d.
-    let there : d.node < length plan.nodes = (keeps.starts.usable p i s d at at_d).there in
-    let nodes : length plan.nodes ≤ 1024 = keeps.tree.few in
-    let near : d.node < 2 ^ 16 = omega arith in
-    lt-ltb d.node (2 ^ 16) near)))
+    (all-from has_near s.descriptors
+    (λ i d at_d. object-near plan.nodes d.object keeps.tree.few (keeps.starts.usable p i s d at at_d).object)))
 
 pub small-at : {A : Type 0} {B : Type 0} (seen : A → B) (test : B → Bool) (xs : List A) (i : ℕ) (d : A) → list_all test (map seen xs) ≡ true → i < length xs → test (seen (get_or xs i d)) ≡ true
 small-at seen test [] i d all within = absurd (omega arith)

@@ -10,21 +10,21 @@ use Rattle.rights.specs.Sets.{is_within, all_rights, all_commands}
 use Rattle.rights.proofs.Tests.{both_left, both_right}
 use Rattle.file_tree.specs.Places.{begins, above}
 use Rattle.file_tree.specs.Nodes.{Dir, Node, stands_at}
-use Rattle.rights.specs.Limits.{most_nodes, most_processes, most_grants, most_programs}
+use Rattle.rights.specs.Limits.{most_nodes, most_processes, most_grants, most_programs, most_descriptors, most_pairs}
 use Rattle.file_tree.specs.Refusals.{new_tree}
 use Rattle.file_tree.specs.WellFormed.{has_directory, is_within_limits}
 use Rattle.prog_asm.specs.Programs.{Instruction}
 use Rattle.prog_asm.specs.Assembly.{Fault, assembly_of}
 use Rattle.prog_asm.proofs.GoodPrograms.{assembly-good}
 use Rattle.toml.specs.Data.{Members}
-use Rattle.task.specs.Plans.{Grant, NamedProgram, FirstDescriptor, Start, Plan}
+use Rattle.task.specs.Plans.{Grant, NamedProgram, FirstObject, On_node, On_end, FirstDescriptor, Start, Plan}
 use Rattle.texts.specs.Names.{is_name}
-use Rattle.task.specs.Limits.{all_apart, can_follow, are_made, is_tree, is_grant, are_apart, are_grants, is_named, are_named_apart, are_programs, is_descriptor, are_numbered_apart, are_descriptors, is_start, are_starts, is_plan}
+use Rattle.task.specs.Limits.{all_apart, can_follow, are_made, is_tree, is_grant, are_apart, are_grants, is_named, are_named_apart, are_programs, is_object, is_descriptor, are_numbered_apart, are_descriptors, is_start, are_starts, is_plan}
 use Rattle.task_reader.specs.Documents.{is_among, are_once}
 use Rattle.task_reader.specs.Paths.{place_of}
-use Rattle.task_reader.specs.Written.{WrittenNode, WrittenGrant, WrittenProgram, WrittenDescriptor, WrittenStart, WrittenTask, names_of_grants, names_of_programs, written_task}
-use Rattle.task_reader.specs.Reading.{Mistake, Wrong_field, Wrong_node, Wrong_grant, Wrong_descriptor, ◌>>=◌, or_mistake, can_stand, node_placed, node_behind, node_made, tree_from, tree_of, can_grant, grant_at, grant_placed, grants_placed, are_disjoint, disjoint, policy_of, descriptor_number, descriptor_on, can_open, number_of_path, descriptor_at, descriptor_placed, descriptors_placed, numbered_apart, table_of, start_from, start_placed, starts_placed, program_from, assembled, all_assembled, is_short, keeps_limits, plan_of, plan_in}
-use Rattle.task_reader.proofs.WrittenLaws.{some-equal, and_then-some, map-some, if-some, is_named_grant, is_named_program, is_bounded, is_given, IsWritten, task-written}
+use Rattle.task_reader.specs.Written.{WrittenNode, WrittenGrant, WrittenProgram, WrittenObject, By_path, By_pair, WrittenDescriptor, WrittenStart, WrittenTask, names_of_grants, names_of_programs, written_task}
+use Rattle.task_reader.specs.Reading.{Mistake, Wrong_field, Wrong_node, Wrong_grant, Wrong_descriptor, ◌>>=◌, or_mistake, can_stand, node_placed, node_behind, node_made, tree_from, tree_of, can_grant, grant_at, grant_placed, grants_placed, are_disjoint, disjoint, policy_of, number_below, can_open, number_of_path, opened, object_placed, descriptor_at, descriptor_placed, descriptors_placed, numbered_apart, table_of, start_from, start_placed, starts_placed, program_from, assembled, all_assembled, is_short, keeps_limits, plan_of, plan_in}
+use Rattle.task_reader.proofs.WrittenLaws.{some-equal, and_then-some, map-some, if-some, is_named_grant, is_named_program, has_side, is_bounded, is_given, IsWritten, task-written}
 
 ok-equal : {A : Type 0} (x y : A) → or_mistake Wrong_field (Some x) ≡ Ok y → x ≡ y
 ok-equal x y is = cc
@@ -207,34 +207,47 @@ programs-valid written programs words once is few =
     (all-named-apart programs (subst (λ ns. are_once ns ≡ true) (sym all.named) once))
 
 -- the first processes
-number-small : (z : ℤ) (n : ℕ) → descriptor_number z ≡ Some n → nat_lt n 16 ≡ true
-number-small (pos k) n is =
-    let p = if-some (nat_lt k 16) (Some k) n is in
-    subst (λ m. nat_lt m 16 ≡ true) (some-equal k n p.1) p.0
-number-small (negsuc k) n is = absurd cc
+below : (bound : ℕ) (z : ℤ) (n : ℕ) → number_below bound z ≡ Some n → nat_lt n bound ≡ true
+below bound (pos k) n is =
+    let p = if-some (nat_lt k bound) (Some k) n is in
+    subst (λ m. nat_lt m bound ≡ true) (some-equal k n p.1) p.0
+below bound (negsuc k) n is = absurd cc
 
-record On (tree : List Node) (d : WrittenDescriptor) (number at : Option ℕ) (x : FirstDescriptor) : Type 0 where
-  n : ℕ
-  m : ℕ
-  number_is : number ≡ Some n
-  opens : can_open tree m d.access ≡ true
-  same : descriptor_on d n m ≡ x
+object-valid : (tree : List Node) (o : WrittenObject) (x : FirstObject) → has_side o ≡ true → object_placed tree o ≡ Some x → is_object tree x ≡ true
+unfolding can_open
+object-valid tree (By_path path access) x sided is =
+    let p = and_then-some (opened tree access) (number_of_path tree path) x is in
+    let q = if-some (can_open tree p.0 access) (Some (On_node p.0 access)) x p.2 in
+    subst (λ y. is_object tree y ≡ true) (some-equal (On_node p.0 access) x q.1) q.0
+object-valid tree (By_pair pair side) x sided is =
+    let p = map-some (λ n. On_end n side) (number_below most_pairs pair) x is in
+    subst (λ y. is_object tree y ≡ true) p.2 (both_true (below most_pairs pair p.0 p.1) sided)
 
-on-node : (tree : List Node) (d : WrittenDescriptor) (number at : Option ℕ) (x : FirstDescriptor) → descriptor_at tree d number at ≡ Some x → On tree d number at x
-on-node tree d None at x is = absurd cc
-on-node tree d (Some n) None x is = absurd cc
-on-node tree d (Some n) (Some m) x is =
-    let p = if-some (can_open tree m d.access) (Some (descriptor_on d n m)) x is in
-    record { n = n; m = m; number_is = refl; opens = p.0; same = some-equal (descriptor_on d n m) x p.1 }
+record On (d : WrittenDescriptor) (number : Option ℕ) (object : Option FirstObject) (x : FirstDescriptor) : Type 0 where
+  number_is : number ≡ Some x.number
+  object_is : object ≡ Some x.object
+  rights_are : d.rights ≡ x.rights
+  fcntls_are : d.fcntls ≡ x.fcntls
+
+on-object : (d : WrittenDescriptor) (number : Option ℕ) (object : Option FirstObject) (x : FirstDescriptor) → descriptor_at d number object ≡ Some x → On d number object x
+on-object d None object x is = absurd cc
+on-object d (Some n) None x is = absurd cc
+on-object d (Some n) (Some o) x is =
+    let same : record { number = n; object = o; rights = d.rights; fcntls = d.fcntls } ≡ x = cc in
+    subst (On d (Some n) (Some o)) same (record { number_is = refl; object_is = refl; rights_are = refl; fcntls_are = refl })
 
 descriptor-valid : (tree : List Node) (d : WrittenDescriptor) (x : FirstDescriptor) → is_bounded d ≡ true → descriptor_placed tree d ≡ Some x → is_descriptor tree x ≡ true
-unfolding can_open
 descriptor-valid tree d x bounded is =
-    let on = on-node tree d (descriptor_number d.number) (number_of_path tree d.path) x is in
-    let rights = both_left (is_within d.rights all_rights) (is_within d.fcntls all_commands) bounded in
-    let fcntls = both_right (is_within d.rights all_rights) (is_within d.fcntls all_commands) bounded in
-    subst (λ y. is_descriptor tree y ≡ true) on.same
-    (both_true (both_true (both_true (number-small d.number on.n on.number_is) on.opens) rights) fcntls)
+    let on = on-object d (number_below most_descriptors d.number) (object_placed tree d.object) x is in
+    let side = has_side d.object in
+    let rights = is_within d.rights all_rights in
+    let fcntls = is_within d.fcntls all_commands in
+    let first = both_left (side && rights) fcntls bounded in
+    both_true
+    (both_true
+    (both_true (below most_descriptors d.number x.number on.number_is) (object-valid tree d.object x.object (both_left side rights first) on.object_is))
+    (subst (λ r. is_within r all_rights ≡ true) on.rights_are (both_right side rights first)))
+    (subst (λ f. is_within f all_commands ≡ true) on.fcntls_are (both_right (side && rights) fcntls bounded))
 
 descriptors-valid : (tree : List Node) (written : List WrittenDescriptor) (xs : List FirstDescriptor) → list_all is_bounded written ≡ true → descriptors_placed tree written ≡ Some xs → list_all (is_descriptor tree) xs ≡ true
 descriptors-valid tree [] xs bounded is = subst (λ ys. list_all (is_descriptor tree) ys ≡ true) (some-equal [] xs is) refl

@@ -14,8 +14,8 @@ use Rattle.fd_table.specs.Descriptions.{Access}
 use Rattle.texts.specs.Names.{is_name}
 use Rattle.prog_asm.specs.Fields.{named}
 use Rattle.toml.specs.Data.{Data, Items, no_items, item, Members, get_member, as_table}
-use Rattle.task_reader.specs.Documents.{are_once, each_item, words_in, read_or, only_keys, text_at, items_at}
-use Rattle.task_reader.specs.Written.{WrittenNode, WrittenGrant, WrittenProgram, WrittenDescriptor, WrittenStart, WrittenTask, grant_in, grant_with, grants_once, descriptor_in, descriptor_keys, descriptor_with, listed_starts, name_at, names_of_grants, names_of_programs, place_among, place_from, program_in, program_with, programs_once, set_from, set_in, set_named, some_start, start_in, start_with, task_with, word_if, written_descriptor, written_grant, written_program, written_programs, written_start, written_starts, written_task}
+use Rattle.task_reader.specs.Documents.{are_once, each_item, words_in, read_or, only_keys, text_at, integer_at, items_at}
+use Rattle.task_reader.specs.Written.{WrittenNode, WrittenGrant, WrittenProgram, WrittenObject, By_path, By_pair, WrittenDescriptor, WrittenStart, WrittenTask, grant_in, grant_with, grants_once, descriptor_in, descriptor_with, listed_starts, name_at, names_of_grants, names_of_programs, object_by, pair_keys, pair_with, path_keys, path_with, place_among, place_from, program_in, program_with, programs_once, set_from, set_in, set_named, side_at, side_named, some_start, start_in, start_with, task_with, word_if, written_descriptor, written_grant, written_program, written_programs, written_start, written_starts, written_task}
 
 pub some-equal : {A : Type 0} (x y : A) → Some x ≡ Some y → x ≡ y
 some-equal x y is = cc
@@ -106,31 +106,63 @@ read-within all rows (Some d) set held whole none is =
     set-within all rows p.0 0 set held none p.2
 
 -- descriptors
-abbrev pub is_bounded : WrittenDescriptor → Bool
-is_bounded d = is_within d.rights all_rights && is_within d.fcntls all_commands
+abbrev pub has_side : WrittenObject → Bool
+has_side (By_path path access) = true
+has_side (By_pair pair side) = nat_lt side 2
 
-record Sets (d : WrittenDescriptor) (rights fcntls : Option ℕ) : Type 0 where
+abbrev pub is_bounded : WrittenDescriptor → Bool
+is_bounded d = has_side d.object && is_within d.rights all_rights && is_within d.fcntls all_commands
+
+side-if : (a b : Bool) (side : ℕ) → cond a (Some 0) (cond b (Some 1) None) ≡ Some side → nat_lt side 2 ≡ true
+side-if true b side is = subst (λ n. nat_lt n 2 ≡ true) (some-equal 0 side is) refl
+side-if false true side is = subst (λ n. nat_lt n 2 ≡ true) (some-equal 1 side is) refl
+side-if false false side is = absurd cc
+
+paired : (pair : Option ℤ) (side : Option ℕ) (o : WrittenObject) → ((n : ℕ) → side ≡ Some n → nat_lt n 2 ≡ true) → pair_with pair side ≡ Some o → has_side o ≡ true
+paired None side o small is = absurd cc
+paired (Some p) None o small is = absurd cc
+paired (Some p) (Some n) o small is = subst (λ x. has_side x ≡ true) (some-equal (By_pair p n) o is) (small n refl)
+
+on-path : (path : Option (List ℕ)) (access : Option Access) (o : WrittenObject) → path_with path access ≡ Some o → has_side o ≡ true
+on-path None access o is = absurd cc
+on-path (Some p) None o is = absurd cc
+on-path (Some p) (Some a) o is = subst (λ x. has_side x ≡ true) (some-equal (By_path p a) o is) refl
+
+side-small : (ms : Members) (side : ℕ) → side_at ms ≡ Some side → nat_lt side 2 ≡ true
+side-small ms side is =
+    let p = and_then-some side_named (text_at (codes "side") ms) side is in
+    side-if (bytes_eq p.0 (codes "a")) (bytes_eq p.0 (codes "b")) side p.2
+
+object-sided : (pair : Option Data) (ms : Members) (o : WrittenObject) → object_by pair ms ≡ Some o → has_side o ≡ true
+object-sided None ms o is = on-path _ _ o (if-some (only_keys path_keys ms) _ o is).1
+object-sided (Some d) ms o is = paired (integer_at (codes "pair") ms) (side_at ms) o (side-small ms) (if-some (only_keys pair_keys ms) _ o is).1
+
+record Given (d : WrittenDescriptor) (object : Option WrittenObject) (rights fcntls : Option ℕ) : Type 0 where
+  object_is : object ≡ Some d.object
   rights_are : rights ≡ Some d.rights
   fcntls_are : fcntls ≡ Some d.fcntls
 
-descriptor-parts : (number : Option ℤ) (path : Option (List ℕ)) (access : Option Access) (rights fcntls : Option ℕ) (d : WrittenDescriptor) → descriptor_with number path access rights fcntls ≡ Some d → Sets d rights fcntls
-descriptor-parts None path access rights fcntls d is = absurd cc
-descriptor-parts (Some n) None access rights fcntls d is = absurd cc
-descriptor-parts (Some n) (Some p) None rights fcntls d is = absurd cc
-descriptor-parts (Some n) (Some p) (Some a) None fcntls d is = absurd cc
-descriptor-parts (Some n) (Some p) (Some a) (Some r) None d is = absurd cc
-descriptor-parts (Some n) (Some p) (Some a) (Some r) (Some f) d is =
-    let same : record { number = n; path = p; access = a; rights = r; fcntls = f } ≡ d = cc in
-    record { rights_are = ap (λ (x : WrittenDescriptor). Some x.rights) same; fcntls_are = ap (λ (x : WrittenDescriptor). Some x.fcntls) same }
+descriptor-parts : (number : Option ℤ) (object : Option WrittenObject) (rights fcntls : Option ℕ) (d : WrittenDescriptor) → descriptor_with number object rights fcntls ≡ Some d → Given d object rights fcntls
+descriptor-parts None object rights fcntls d is = absurd cc
+descriptor-parts (Some n) None rights fcntls d is = absurd cc
+descriptor-parts (Some n) (Some o) None fcntls d is = absurd cc
+descriptor-parts (Some n) (Some o) (Some r) None d is = absurd cc
+descriptor-parts (Some n) (Some o) (Some r) (Some f) d is =
+    let same : record { number = n; object = o; rights = r; fcntls = f } ≡ d = cc in
+    record {
+      object_is = ap (λ (x : WrittenDescriptor). Some x.object) same;
+      rights_are = ap (λ (x : WrittenDescriptor). Some x.rights) same;
+      fcntls_are = ap (λ (x : WrittenDescriptor). Some x.fcntls) same;
+    }
 
 descriptor-bounded : (d : Data) (x : WrittenDescriptor) → written_descriptor d ≡ Some x → is_bounded x ≡ true
 descriptor-bounded d x is =
     let p = and_then-some descriptor_in (as_table d) x is in
-    let q = if-some (only_keys descriptor_keys p.0) _ x p.2 in
-    let sets = descriptor-parts _ _ _ _ _ x q.1 in
+    let given = descriptor-parts _ _ _ _ x p.2 in
     both_true
-    (read-within all_rights right_names (get_member (codes "rights") p.0) x.rights refl refl refl sets.rights_are)
-    (read-within all_commands command_names (get_member (codes "fcntls") p.0) x.fcntls refl refl refl sets.fcntls_are)
+    (both_true (object-sided (get_member (codes "pair") p.0) p.0 x.object given.object_is)
+    (read-within all_rights right_names (get_member (codes "rights") p.0) x.rights refl refl refl given.rights_are))
+    (read-within all_commands command_names (get_member (codes "fcntls") p.0) x.fcntls refl refl refl given.fcntls_are)
 
 -- processes
 abbrev pub is_given : ℕ → WrittenStart → Bool

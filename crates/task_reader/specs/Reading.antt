@@ -3,18 +3,18 @@ use Rattle.std.specs.Prelude.{ℕ, ℤ, pos, negsuc, Bool, true, ◌&&◌, ◌||
 use Rattle.std.specs.List.{list_all, list_any}
 use Rattle.file_tree.specs.Places.{begins, above}
 use Rattle.file_tree.specs.Nodes.{Node, node, node_at, is_dir, is_link, stands_at}
-use Rattle.rights.specs.Limits.{most_nodes, most_path, most_processes, most_grants, most_programs}
+use Rattle.rights.specs.Limits.{most_nodes, most_path, most_processes, most_grants, most_programs, most_descriptors, most_pairs}
 use Rattle.file_tree.specs.Refusals.{new_tree}
 use Rattle.file_tree.specs.WellFormed.{has_directory, is_within_limits}
 use Rattle.prog_asm.specs.Programs.{Instruction}
 use Rattle.prog_asm.specs.Assembly.{Fault, assembly_of}
 use Rattle.fd_table.specs.Descriptions.{Access}
 use Rattle.toml.specs.Data.{Members}
-use Rattle.task.specs.Plans.{Grant, NamedProgram, FirstDescriptor, Start, Plan, plan_with}
+use Rattle.task.specs.Plans.{Grant, NamedProgram, FirstObject, On_node, On_end, FirstDescriptor, Start, Plan, plan_with}
 use Rattle.task.specs.Limits.{all_apart, are_numbered_apart}
 use Rattle.task_reader.specs.Documents.{document_of}
 use Rattle.task_reader.specs.Paths.{place_of}
-use Rattle.task_reader.specs.Written.{WrittenNode, WrittenGrant, WrittenProgram, WrittenDescriptor, WrittenStart, WrittenTask, written_task}
+use Rattle.task_reader.specs.Written.{WrittenNode, WrittenGrant, WrittenProgram, WrittenObject, By_path, By_pair, WrittenDescriptor, WrittenStart, WrittenTask, written_task}
 
 -- What can be wrong. Where more than one applies, the first of these is told.
 pub data Mistake : Type 0 where
@@ -22,7 +22,7 @@ pub data Mistake : Type 0 where
   Wrong_field : Mistake  -- a key, a value's type, a word or a name is wrong
   Wrong_node : Mistake  -- a node's path isn't one, is given twice, or comes before its directory
   Wrong_grant : Mistake  -- a grant isn't a directory's, or is in another
-  Wrong_descriptor : Mistake  -- a number is none or is given twice, there is no such node, or a directory is written
+  Wrong_descriptor : Mistake  -- a number is none or is given twice, there is no such node or pair, or a directory is written
   Wrong_program : List ℕ → Fault → Mistake  -- the named program isn't assembled
   Past_limit : Mistake  -- something is too long, empty, or too many
 
@@ -81,15 +81,11 @@ disjoint grants = if all_apart are_disjoint grants then Some grants else None
 abbrev pub policy_of : List Node → List WrittenGrant → Option (List Grant)
 policy_of tree grants = option_and_then disjoint (grants_placed tree grants)
 
--- A descriptor has a number from 0 to 15, which no other of the process has, and is on a file or a directory. A directory
--- isn't written. (open(2))
-abbrev pub descriptor_number : ℤ → Option ℕ
-descriptor_number (pos n) = if nat_lt n 16 then Some n else None
-descriptor_number (negsuc n) = None
-
-abbrev pub descriptor_on : WrittenDescriptor → ℕ → ℕ → FirstDescriptor
-descriptor_on d number n =
-    record { number = number; node = n; access = d.access; rights = d.rights; fcntls = d.fcntls }
+-- A descriptor has a number from 0 to 15, which no other of the process has. It is of an end of one of the pairs 0 to 31,
+-- or of a file or a directory; a directory isn't written. (open(2), socketpair(2))
+abbrev pub number_below : ℕ → ℤ → Option ℕ
+number_below bound (pos n) = if nat_lt n bound then Some n else None
+number_below bound (negsuc n) = None
 
 abbrev pub can_access : Node → Access → Bool
 can_access m access = not (is_link m.kind) && (access.readable || access.writable) && not (is_dir m.kind && access.writable)
@@ -100,13 +96,26 @@ can_open tree n access = can_access (node tree n) access
 abbrev pub number_of_path : List Node → List ℕ → Option ℕ
 number_of_path tree path = option_and_then (node_at tree) (place_of path)
 
-abbrev pub descriptor_at : List Node → WrittenDescriptor → Option ℕ → Option ℕ → Option FirstDescriptor
-descriptor_at tree d (Some number) (Some n) =
-    if can_open tree n d.access then Some (descriptor_on d number n) else None
-descriptor_at tree d _ _ = None
+abbrev pub opened : List Node → Access → ℕ → Option FirstObject
+opened tree access n = if can_open tree n access then Some (On_node n access) else None
+
+abbrev pub path_placed : List Node → List ℕ → Access → Option FirstObject
+path_placed tree path access = option_and_then (opened tree access) (number_of_path tree path)
+
+abbrev pub pair_placed : ℤ → ℕ → Option FirstObject
+pair_placed pair side = option_map (λ n. On_end n side) (number_below most_pairs pair)
+
+abbrev pub object_placed : List Node → WrittenObject → Option FirstObject
+object_placed tree (By_path path access) = path_placed tree path access
+object_placed tree (By_pair pair side) = pair_placed pair side
+
+abbrev pub descriptor_at : WrittenDescriptor → Option ℕ → Option FirstObject → Option FirstDescriptor
+descriptor_at d (Some number) (Some object) =
+    Some (record { number = number; object = object; rights = d.rights; fcntls = d.fcntls })
+descriptor_at d _ _ = None
 
 abbrev pub descriptor_placed : List Node → WrittenDescriptor → Option FirstDescriptor
-descriptor_placed tree d = descriptor_at tree d (descriptor_number d.number) (number_of_path tree d.path)
+descriptor_placed tree d = descriptor_at d (number_below most_descriptors d.number) (object_placed tree d.object)
 
 abbrev pub descriptors_placed : List Node → List WrittenDescriptor → Option (List FirstDescriptor)
 descriptors_placed tree [] = Some []

@@ -26,10 +26,15 @@ pub record WrittenProgram : Type 0 where
   pub name : List ℕ
   pub text : List ℕ
 
+-- what a descriptor is of: the node at a path, which is opened so; or an end of a socket pair, by the pair's number, which
+-- may be any yet, and the side, 0 (a) or 1 (b)
+pub data WrittenObject : Type 0 where
+  By_path : (path : List ℕ) (access : Access) → WrittenObject
+  By_pair : (pair : ℤ) (side : ℕ) → WrittenObject
+
 pub record WrittenDescriptor : Type 0 where
   pub number : ℤ
-  pub path : List ℕ
-  pub access : Access
+  pub object : WrittenObject
   pub rights : ℕ
   pub fcntls : ℕ
 
@@ -160,23 +165,58 @@ set_named names words = set_from names 0 words
 abbrev pub set_in : List (List ℕ × ℕ) → Data → Option ℕ
 set_in names d = option_and_then (set_named names) (words_in d)
 
--- A descriptor has a number and the path of its node. All rights and commands are its own where no list says which.
-abbrev pub descriptor_with : Option ℤ → Option (List ℕ) → Option Access → Option ℕ → Option ℕ → Option WrittenDescriptor
-descriptor_with (Some number) (Some path) (Some access) (Some rights) (Some fcntls) =
-    Some (record { number = number; path = path; access = access; rights = rights; fcntls = fcntls })
-descriptor_with _ _ _ _ _ = None
+-- A descriptor with a pair has a side and is of that end, and it has neither a path nor flags. One without is of the node
+-- at its path, and has no side. (open(2), socketpair(2); the sides' names are own)
+abbrev pub side_named : List ℕ → Option ℕ
+side_named word =
+    if bytes_eq word (codes "a") then Some 0
+    else if bytes_eq word (codes "b") then Some 1
+    else None
 
-abbrev pub descriptor_keys : List (List ℕ)
-descriptor_keys = codes "number" ∷ codes "path" ∷ codes "flags" ∷ codes "rights" ∷ codes "fcntls" ∷ []
+abbrev pub side_at : Members → Option ℕ
+side_at ms = option_and_then side_named (text_at (codes "side") ms)
+
+abbrev pub pair_with : Option ℤ → Option ℕ → Option WrittenObject
+pair_with (Some pair) (Some side) = Some (By_pair pair side)
+pair_with _ _ = None
+
+abbrev pub path_with : Option (List ℕ) → Option Access → Option WrittenObject
+path_with (Some path) (Some access) = Some (By_path path access)
+path_with _ _ = None
+
+abbrev pub pair_keys : List (List ℕ)
+pair_keys = codes "number" ∷ codes "pair" ∷ codes "side" ∷ codes "rights" ∷ codes "fcntls" ∷ []
+
+abbrev pub path_keys : List (List ℕ)
+path_keys = codes "number" ∷ codes "path" ∷ codes "flags" ∷ codes "rights" ∷ codes "fcntls" ∷ []
+
+abbrev pub pair_in : Members → Option WrittenObject
+pair_in ms = if only_keys pair_keys ms then pair_with (integer_at (codes "pair") ms) (side_at ms) else None
+
+abbrev pub path_in : Members → Option WrittenObject
+path_in ms =
+    if only_keys path_keys ms
+    then path_with (text_at (codes "path") ms) (read_or reading access_in (get_member (codes "flags") ms))
+    else None
+
+abbrev pub object_by : Option Data → Members → Option WrittenObject
+object_by None ms = path_in ms
+object_by (Some pair) ms = pair_in ms
+
+abbrev pub object_in : Members → Option WrittenObject
+object_in ms = object_by (get_member (codes "pair") ms) ms
+
+-- A descriptor has a number. All rights and commands are its own where no list says which.
+abbrev pub descriptor_with : Option ℤ → Option WrittenObject → Option ℕ → Option ℕ → Option WrittenDescriptor
+descriptor_with (Some number) (Some object) (Some rights) (Some fcntls) =
+    Some (record { number = number; object = object; rights = rights; fcntls = fcntls })
+descriptor_with _ _ _ _ = None
 
 abbrev pub descriptor_in : Members → Option WrittenDescriptor
 descriptor_in ms =
-    if only_keys descriptor_keys ms
-    then descriptor_with (integer_at (codes "number") ms) (text_at (codes "path") ms)
-    (read_or reading access_in (get_member (codes "flags") ms))
+    descriptor_with (integer_at (codes "number") ms) (object_in ms)
     (read_or all_rights (set_in right_names) (get_member (codes "rights") ms))
     (read_or all_commands (set_in command_names) (get_member (codes "fcntls") ms))
-    else None
 
 abbrev pub written_descriptor : Data → Option WrittenDescriptor
 written_descriptor d = option_and_then descriptor_in (as_table d)

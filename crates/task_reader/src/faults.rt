@@ -23,8 +23,8 @@ pub enum TaskFault {
     /// A grant isn't of a directory, or is in another.
     #[error("a grant is wrong")]
     Grant,
-    /// A descriptor's number isn't one or is given twice, its path isn't that of a file or directory, or it is to write
-    /// a directory.
+    /// A descriptor's number isn't one or is given twice, its pair isn't one, its path isn't that of a file or directory, or
+    /// it is to write a directory.
     #[error("a descriptor is wrong")]
     Descriptor,
     /// The first program whose text isn't assembled, and why it isn't.

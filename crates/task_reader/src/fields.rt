@@ -1,24 +1,20 @@
-//! The tables of a task's document: nodes, grants, programs and processes.
+//! The tables of a task's document: nodes, grants and programs.
 
 ghost use Rattle.std.specs.Prelude.{◌≡◌, map, option_and_then, option_map};
-ghost use Rattle.rights.specs.Sets.{all_commands, all_rights, command_names, right_names};
 ghost use Rattle.rights.specs.Views.{operation_of};
-ghost use Rattle.fd_table.specs.Views.{access_seen};
 ghost use Rattle.toml.specs.Data.{as_table};
 ghost use Rattle.toml.specs.View.{table_view, view};
-ghost use Rattle.task_reader.specs.Documents.{each_item, items_at, read_or};
 ghost use Rattle.task_reader.specs.Faults.{ReadsTask};
 ghost use Rattle.task_reader.specs.Reading.{Wrong_field, or_mistake};
-ghost use Rattle.task_reader.specs.Written.{access_in, descriptor_in, directory_in, file_in, grant_in, link_in, mode_in, name_at, node_in, operations_in, program_in, reading, set_in, start_in, written_descriptor, written_grant, written_node, written_program, written_start};
-ghost use Rattle.task_reader.specs.WrittenViews.{descriptor_seen, grant_seen, node_seen, program_seen, start_seen};
+ghost use Rattle.task_reader.specs.Written.{directory_in, file_in, grant_in, link_in, name_at, node_in, operations_in, program_in, written_grant, written_node, written_program};
+ghost use Rattle.task_reader.specs.WrittenViews.{grant_seen, node_seen, program_seen};
 
-use crate::documents::{has_only, integer_at, items_at, read_words, text_at, value_at};
+use crate::documents::{has_only, read_words, text_at, value_at};
 use crate::faults::TaskFault;
-use crate::words::{access, mode, place_among, read_operations, set};
-use crate::written::{WrittenDescriptor, WrittenGrant, WrittenNode, WrittenProgram, WrittenStart};
-use fd_table::Access;
+use crate::words::read_operations;
+use crate::written::{WrittenGrant, WrittenNode, WrittenProgram};
 use file_tree::Kind;
-use rights::{Fcntls, Op, Rights};
+use rights::Op;
 use std::alloc::Global;
 use texts::is_name;
 use toml::{Table, Value};
@@ -176,91 +172,6 @@ pub(crate) fn written_grant<'a>(
 {
     match value.as_table() {
         Some(table) => grant(alloc, table),
-        None => Err(TaskFault::Field),
-    }
-}
-
-/// What a descriptor's node is opened for: reading, where no list of flags says it. (open(2))
-fn read_access(alloc: Global, value: Option<&Value>) -> Result<Access, TaskFault>
-    ensures { ReadsTask access_seen result
-        (or_mistake Wrong_field (read_or reading access_in (option_map (λ v. view v.now) value.entry))) }
-{
-    let value = match value {
-        Some(value) => value,
-        None => {
-            return Ok(Access {
-                readable: true,
-                writable: false,
-            });
-        }
-    };
-    let words = read_words(alloc, value)?;
-    match access(&words) {
-        Some(access) => Ok(access),
-        None => Err(TaskFault::Field),
-    }
-}
-
-/// A descriptor's rights: all, where no list says which. (rights(4))
-fn read_rights(alloc: Global, value: Option<&Value>) -> Result<Rights, TaskFault>
-    ensures { ReadsTask (λ rights. rights.0) result
-        (or_mistake Wrong_field (read_or all_rights (set_in right_names) (option_map (λ v. view v.now) value.entry))) }
-{
-    let value = match value {
-        Some(value) => value,
-        None => return Ok(Rights::all()),
-    };
-    let words = read_words(alloc, value)?;
-    match set(&words) {
-        Some(rights) => Ok(rights),
-        None => Err(TaskFault::Field),
-    }
-}
-
-/// A descriptor's fcntl commands: all, where no list says which. (cap_fcntls_limit(2))
-fn read_fcntls(alloc: Global, value: Option<&Value>) -> Result<Fcntls, TaskFault>
-    ensures { ReadsTask (λ fcntls. fcntls.0) result
-        (or_mistake Wrong_field (read_or all_commands (set_in command_names) (option_map (λ v. view v.now) value.entry))) }
-{
-    let value = match value {
-        Some(value) => value,
-        None => return Ok(Fcntls::all()),
-    };
-    let words = read_words(alloc, value)?;
-    match set(&words) {
-        Some(fcntls) => Ok(fcntls),
-        None => Err(TaskFault::Field),
-    }
-}
-
-/// A first descriptor, with its access, rights and commands.
-fn descriptor<'a>(alloc: Global, table: &'a Table) -> Result<WrittenDescriptor<'a>, TaskFault>
-    ensures { ReadsTask descriptor_seen result (or_mistake Wrong_field (descriptor_in (table_view table.now))) }
-{
-    if !has_only(table, &["number", "path", "flags", "rights", "fcntls"]) {
-        return Err(TaskFault::Field);
-    }
-    match (integer_at(table, "number"), text_at(table, "path")) {
-        (Some(number), Some(path)) => Ok(WrittenDescriptor {
-            number,
-            path,
-            access: read_access(alloc, value_at(table, "flags"))?,
-            rights: read_rights(alloc, value_at(table, "rights"))?,
-            fcntls: read_fcntls(alloc, value_at(table, "fcntls"))?,
-        }),
-        _ => Err(TaskFault::Field),
-    }
-}
-
-/// The first descriptor that a value is.
-pub(crate) fn written_descriptor<'a>(
-    alloc: Global,
-    value: &'a Value,
-) -> Result<WrittenDescriptor<'a>, TaskFault>
-    ensures { ReadsTask descriptor_seen result (or_mistake Wrong_field (written_descriptor (view value.now))) }
-{
-    match value.as_table() {
-        Some(table) => descriptor(alloc, table),
         None => Err(TaskFault::Field),
     }
 }

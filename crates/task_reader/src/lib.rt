@@ -2,6 +2,7 @@
 #![tactic(auto)]
 
 mod assembling;
+mod descriptors;
 mod documents;
 pub mod faults;
 mod fields;

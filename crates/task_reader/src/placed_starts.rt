@@ -1,32 +1,42 @@
-//! The first processes, with their descriptors on the nodes of the tree.
+//! The first processes, with their descriptors on the nodes of the tree and on the ends of socket pairs.
 
 ghost use Rattle.std.specs.Prelude.{◌≡◌, ◌<◌, IfOk, IfSome, length, map, option_map};
 ghost use Rattle.std.specs.List.{list_all};
-ghost use Rattle.fd_table.specs.Views.{access_seen};
+ghost use Rattle.fd_table.specs.Views.{access_seen, side_seen};
 ghost use Rattle.file_tree.specs.Nodes.{node, node_at};
 ghost use Rattle.file_tree.specs.Views.{names_of};
 ghost use Rattle.task_reader.specs.Faults.{ReadsTask};
 ghost use Rattle.task.specs.Limits.{all_apart, are_numbered_apart};
-ghost use Rattle.task_reader.specs.Placed.{placed_descriptor, placed_start, placed_starts};
-ghost use Rattle.task_reader.specs.Reading.{Wrong_descriptor, can_access, can_open, descriptor_number, descriptor_placed, descriptors_placed, number_of_path, or_mistake, start_placed, starts_placed, table_of};
+ghost use Rattle.task_reader.specs.Placed.{placed_descriptor, placed_object, placed_start, placed_starts};
+ghost use Rattle.task_reader.specs.Reading.{Wrong_descriptor, can_access, can_open, descriptor_placed, descriptors_placed, number_below, number_of_path, object_placed, or_mistake, pair_placed, path_placed, start_placed, starts_placed, table_of};
 ghost use Rattle.task.specs.Views.{node_of, nodes_of};
-ghost use Rattle.task_reader.specs.WrittenViews.{descriptor_seen, start_seen, starts_seen};
+ghost use Rattle.task_reader.specs.WrittenViews.{descriptor_seen, object_seen, start_seen, starts_seen};
 
 use crate::faults::TaskFault;
 use crate::paths::read_place;
-use crate::written::{WrittenDescriptor, WrittenStart};
-use fd_table::Access;
+use crate::written::{WrittenDescriptor, WrittenObject, WrittenStart};
+use fd_table::{Access, Side};
 use file_tree::{Kind, is_same_place};
+use rights::limits::{MAX_DESCRIPTORS, MAX_PAIRS};
 use rights::{Fcntls, Rights};
 use std::alloc::{AllocError, Global};
 use task::TaskNode;
 
-/// A first descriptor on a node of a tree of any size.
+/// The numbers that a descriptor may have are below this one.
+const NUMBERS: u8 = MAX_DESCRIPTORS as u8;
+
+/// What a first descriptor is of: a node of a tree of any size, or a side of a socket pair.
+#[derive(Clone, Copy)]
+pub(crate) enum PlacedObject {
+    Node { node: usize, access: Access },
+    End { pair: u8, side: Side },
+}
+
+/// A first descriptor on its node or its end.
 #[derive(Clone, Copy)]
 pub(crate) struct PlacedDescriptor {
     pub(crate) number: u8,
-    pub(crate) node: usize,
-    pub(crate) access: Access,
+    pub(crate) object: PlacedObject,
     pub(crate) rights: Rights,
     pub(crate) fcntls: Fcntls,
 }
@@ -68,12 +78,12 @@ fn number_of_path(
     }
 }
 
-/// The number, if it is one of a descriptor's.
-fn descriptor_number(number: i64) -> Option<u8>
-    ensures { result ≡ descriptor_number number }
+/// The number, if it is one from 0 to below the bound.
+fn number_below(bound: u8, number: i64) -> Option<u8>
+    ensures { result ≡ number_below bound number }
 {
     match u8::try_from(number) {
-        Ok(number) if number < 16 => Some(number),
+        Ok(number) if number < bound => Some(number),
         _ => None,
     }
 }
@@ -97,7 +107,48 @@ fn can_open(nodes: &[TaskNode], number: usize, access: Access) -> bool
     can_access(&nodes[number], access)
 }
 
-/// The descriptor on its node, if it can be opened so.
+/// The node at a path, if it can be opened so.
+fn place_node(
+    alloc: Global,
+    nodes: &[TaskNode],
+    path: &str,
+    access: Access,
+) -> Result<Option<PlacedObject>, AllocError>
+    ensures { IfOk result (λ placed. option_map placed_object placed
+        ≡ path_placed (nodes_of nodes.now) path.now (access_seen access)) }
+{
+    match number_of_path(alloc, nodes, path.as_bytes())? {
+        Some(node) if can_open(nodes, node, access) => {
+            Ok(Some(PlacedObject::Node { node, access }))
+        }
+        _ => Ok(None),
+    }
+}
+
+/// The end of a pair, if the pair is one that a task may start with. (socketpair(2))
+fn place_end(pair: i64, side: Side) -> Option<PlacedObject>
+    ensures { option_map placed_object result ≡ pair_placed pair (side_seen side) }
+{
+    let pair = number_below(MAX_PAIRS, pair)?;
+    Some(PlacedObject::End { pair, side })
+}
+
+/// The node or the end that a descriptor is of, if it can be.
+fn place_object(
+    alloc: Global,
+    nodes: &[TaskNode],
+    object: &WrittenObject<'_>,
+) -> Result<Option<PlacedObject>, AllocError>
+    ensures { IfOk result (λ placed. option_map placed_object placed
+        ≡ object_placed (nodes_of nodes.now) (object_seen object.now)) }
+{
+    match object {
+        WrittenObject::Path { path, access } => place_node(alloc, nodes, path, *access),
+        WrittenObject::Pair { pair, side } => Ok(place_end(*pair, *side)),
+    }
+}
+
+/// The descriptor on its node or end, if its number is one and it can be.
 fn place_descriptor(
     alloc: Global,
     nodes: &[TaskNode],
@@ -106,26 +157,20 @@ fn place_descriptor(
     ensures { IfOk result (λ placed. option_map placed_descriptor placed
         ≡ descriptor_placed (nodes_of nodes.now) (descriptor_seen descriptor.now)) }
 {
-    let number = descriptor_number(descriptor.number);
-    let node = number_of_path(alloc, nodes, descriptor.path.as_bytes())?;
-    match (number, node) {
-        (Some(number), Some(node)) => {
-            if !can_open(nodes, node, descriptor.access) {
-                return Ok(None);
-            }
-            Ok(Some(PlacedDescriptor {
-                number,
-                node,
-                access: descriptor.access,
-                rights: descriptor.rights,
-                fcntls: descriptor.fcntls,
-            }))
-        }
+    let number = number_below(NUMBERS, descriptor.number);
+    let object = place_object(alloc, nodes, &descriptor.object)?;
+    match (number, object) {
+        (Some(number), Some(object)) => Ok(Some(PlacedDescriptor {
+            number,
+            object,
+            rights: descriptor.rights,
+            fcntls: descriptor.fcntls,
+        })),
         _ => Ok(None),
     }
 }
 
-/// The descriptors on their nodes, if each can be opened so.
+/// The descriptors on their nodes and ends, if each can be.
 fn place_descriptors(
     alloc: Global,
     nodes: &[TaskNode],
@@ -164,7 +209,7 @@ fn are_apart(descriptors: &[PlacedDescriptor]) -> bool
     }
 }
 
-/// A process's descriptors, if each can be opened so and has a number of its own.
+/// A process's descriptors, if each can be on its node or end and has a number of its own.
 fn make_table(
     alloc: Global,
     nodes: &[TaskNode],
@@ -182,7 +227,7 @@ fn make_table(
     Ok(Some(descriptors))
 }
 
-/// The process with its descriptors on the nodes of the tree.
+/// The process with its descriptors on their nodes and ends.
 fn place_start(
     alloc: Global,
     nodes: &[TaskNode],
@@ -200,7 +245,7 @@ fn place_start(
     }))
 }
 
-/// The first processes, with their descriptors on the nodes of the tree. (own)
+/// The first processes, with their descriptors on their nodes and ends. (own)
 pub(crate) fn place_starts(
     alloc: Global,
     nodes: &[TaskNode],

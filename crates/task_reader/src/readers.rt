@@ -9,9 +9,10 @@ ghost use Rattle.task_reader.specs.Reading.{Wrong_field, or_mistake};
 ghost use Rattle.task_reader.specs.Written.{descriptors_in, listed_starts, mode_in, names_of_grants, names_of_programs, program_place, start_in, written_descriptor, written_grant, written_grants, written_node, written_nodes, written_program, written_programs, written_start, written_starts, written_task};
 ghost use Rattle.task_reader.specs.WrittenViews.{descriptor_seen, grant_seen, grants_seen, node_seen, nodes_seen, program_seen, programs_seen, start_seen, starts_seen, task_seen};
 
+use crate::descriptors::written_descriptor;
 use crate::documents::{are_once, has_only, items_at, text_at, value_at};
 use crate::faults::TaskFault;
-use crate::fields::{written_descriptor, written_grant, written_node, written_program};
+use crate::fields::{written_grant, written_node, written_program};
 use crate::words::{mode, place_among};
 use crate::written::{
     WrittenDescriptor, WrittenGrant, WrittenNode, WrittenProgram, WrittenStart, WrittenTask,

@@ -4,9 +4,9 @@ ghost use Rattle.std.specs.Prelude.{◌≡◌, ◌^◌, ◌<◌, true, IfOk, map
 ghost use Rattle.std.specs.List.{list_all};
 ghost use Rattle.toml.specs.Data.{Members};
 ghost use Rattle.task_reader.specs.Faults.{ReadsTask};
-ghost use Rattle.task_reader.specs.Placed.{is_near, is_small, placed_descriptor, placed_start, placed_starts};
+ghost use Rattle.task_reader.specs.Placed.{has_near, is_near, is_small, placed_descriptor, placed_object, placed_start, placed_starts};
 ghost use Rattle.task_reader.specs.Reading.{plan_of, task_of};
-ghost use Rattle.task.specs.Views.{first_descriptor_of, start_of, starts_of};
+ghost use Rattle.task.specs.Views.{first_descriptor_of, first_object_of, start_of, starts_of};
 ghost use Rattle.task_reader.specs.Written.{written_task};
 ghost use Rattle.task_reader.specs.WrittenViews.{task_seen};
 
@@ -15,27 +15,40 @@ use crate::documents::read_document;
 use crate::faults::TaskFault;
 use crate::limits::keeps_limits;
 use crate::placed_grants::make_policy;
-use crate::placed_starts::{PlacedDescriptor, PlacedStart, place_starts};
+use crate::placed_starts::{PlacedDescriptor, PlacedObject, PlacedStart, place_starts};
 use crate::readers::read_written;
 use crate::trees::make_tree;
 use crate::written::WrittenTask;
 use std::alloc::{AllocError, Global};
-use task::{FirstDescriptor, Start, Task};
+use task::{FirstDescriptor, FirstObject, Start, Task};
+
+/// What a task's descriptor is of: the tree is so small that its node's number fits.
+fn kept_object(placed: PlacedObject) -> FirstObject
+    requires { is_near (placed_object placed) ≡ true }
+    ensures { first_object_of result ≡ placed_object placed }
+{
+    match placed {
+        PlacedObject::Node { node, access } => FirstObject::Node {
+            node: node as u16,
+            access,
+        },
+        PlacedObject::End { pair, side } => FirstObject::End { pair, side },
+    }
+}
 
 /// A task's descriptors: the tree is so small that their nodes' numbers fit.
 fn kept_descriptors(
     alloc: Global,
     placed: &[PlacedDescriptor],
 ) -> Result<Vec<FirstDescriptor>, AllocError>
-    requires { list_all is_near (map placed_descriptor placed.now) ≡ true }
+    requires { list_all has_near (map placed_descriptor placed.now) ≡ true }
     ensures { IfOk result (λ kept. map first_descriptor_of kept.items ≡ map placed_descriptor placed.now) }
 {
     let mut kept = Vec::new(alloc);
     for descriptor in placed {
         kept.push(FirstDescriptor {
             number: descriptor.number,
-            node: descriptor.node as u16,
-            access: descriptor.access,
+            object: kept_object(descriptor.object),
             rights: descriptor.rights,
             fcntls: descriptor.fcntls,
         })?;
@@ -83,25 +96,27 @@ fn make_task(alloc: Global, written: &WrittenTask<'_>) -> Result<Task, TaskFault
     Ok(Task::new(nodes, grants, programs, starts))
 }
 
-/// Reads a task from a TOML document. (own; descriptors after open(2), rights(4) and cap_fcntls_limit(2))
+/// Reads a task from a TOML document. (own; descriptors after open(2), socketpair(2), rights(4) and cap_fcntls_limit(2))
 ///
 /// A document has the lists `node`, `grant`, `program` and `process`, and no other key. A node has `path`, `kind` (`dir`,
 /// `file` or `link`), and a file its `content`, a link its `target`. A grant has `name`, `path` and `ops` (`look`, `read`,
 /// `write`, `create`, `remove`), a program `name` and `code`. A process has `program`, the name of one, `fd`, and `mode`
-/// (`free`, which is the default, or `cap`). A descriptor of `fd` has `number`, `path`, and maybe `flags` (`read`, the
-/// default, and `write`), `rights` and `fcntls` (all by default). Descriptors on sockets aren't read yet: the keys `pair` and
-/// `side` are unknown. A path is `/`, or each name after a `/`. The root is there and isn't listed.
+/// (`free`, which is the default, or `cap`). A descriptor of `fd` has `number`, and maybe `rights` and `fcntls` (all by
+/// default). It is of a node, and has its `path` and maybe `flags` (`read`, the default, and `write`); or of an end of a socket
+/// pair, and has the `pair` and the `side` (`a` or `b`). A path is `/`, or each name after a `/`. The root is there and isn't
+/// listed.
 ///
 /// # Errors
 ///
 /// Where several apply, the first of these: `NotToml`; `Field`, for a key that is missing or unknown, a value of a wrong type,
 /// a word that is unknown or twice in a list, a name that isn't a word or is given twice, an empty `flags`, a program that
 /// isn't there, and where there is no process; `Node`, for a path that isn't one, is given twice, or comes before its
-/// directory; `Grant`, for one that isn't of a directory, or is in another; `Descriptor`, for a number past 15 or given twice,
-/// a path where no file or directory is, and a directory that is to be written; `Asm`, for the first program whose text isn't
-/// one; `Limit`, for a path of more than 1023 bytes, a name of more than 255, a target that is empty or of more than 1023
-/// bytes or has a name of more than 255, a file of more than 4096, and more than 1024 nodes, the root counted, 8 grants, 8
-/// programs, and 16 processes. `Memory`, want of memory, may come in place of any answer.
+/// directory; `Grant`, for one that isn't of a directory, or is in another; `Descriptor`, for a number that isn't 0 to 15 or
+/// that its process has twice, a pair that isn't 0 to 31, a path where no file or directory is, and a directory that is to be
+/// written; `Asm`, for the first program whose text isn't one; `Limit`, for a path of more than 1023 bytes, a name of more
+/// than 255, a target that is empty or of more than 1023 bytes or has a name of more than 255, a file of more than 4096, and
+/// more than 1024 nodes, the root counted, 8 grants, 8 programs, and 16 processes. `Memory`, want of memory, may come in
+/// place of any answer.
 pub fn read_task(alloc: Global, bytes: &[u8]) -> Result<Task, TaskFault>
     ensures { ReadsTask (λ task. task) result (task_of bytes.now) }
 {

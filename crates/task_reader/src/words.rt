@@ -1,19 +1,19 @@
-//! The words of a task: names, operations, flags, rights and fcntl commands.
+//! The words of a task: names, operations, flags, sides, rights and fcntl commands.
 
 ghost use Rattle.std.specs.Prelude.{⊤, ◌≡◌, map, option_map};
 ghost use Rattle.std.specs.List.{list_all};
 ghost use Rattle.rights.specs.Sets.{command_names, right_names};
 ghost use Rattle.rights.specs.Views.{operation_of};
-ghost use Rattle.fd_table.specs.Views.{access_seen};
+ghost use Rattle.fd_table.specs.Views.{access_seen, side_seen};
 ghost use Rattle.prog_asm.specs.Fields.{named};
 ghost use Rattle.task_reader.specs.Faults.{ReadsTask};
 ghost use Rattle.task_reader.specs.Reading.{Wrong_field, or_mistake};
-ghost use Rattle.task_reader.specs.Written.{access_named, is_flag, mode_named, operation_named, operations_named, place_among, set_named};
+ghost use Rattle.task_reader.specs.Written.{access_named, is_flag, mode_named, operation_named, operations_named, place_among, set_named, side_named};
 
 use crate::documents::is_among;
 use crate::faults::TaskFault;
 use bitflags::{Flag, Flags};
-use fd_table::Access;
+use fd_table::{Access, Side};
 use rights::Op;
 use std::alloc::Global;
 
@@ -88,6 +88,17 @@ pub(crate) fn access(words: &[&str]) -> Option<Access>
         readable: is_among("read", words),
         writable: is_among("write", words),
     })
+}
+
+/// The side of this name.
+pub(crate) fn side(word: &str) -> Option<Side>
+    ensures { option_map side_seen result ≡ side_named word.now }
+{
+    match word {
+        "a" => Some(Side::A),
+        "b" => Some(Side::B),
+        _ => None,
+    }
 }
 
 /// The member of this name.

@@ -1,6 +1,6 @@
 //! A task as a document writes it: its words are read, and its paths and programs are texts still.
 
-use fd_table::Access;
+use fd_table::{Access, Side};
 use file_tree::Kind;
 use rights::{Fcntls, Op, Rights};
 
@@ -27,12 +27,20 @@ pub(crate) struct WrittenProgram<'a> {
     pub(crate) text: &'a str,
 }
 
+/// What a first descriptor is of.
+#[derive(Clone, Copy)]
+pub(crate) enum WrittenObject<'a> {
+    /// The node at a path, opened so. (open(2))
+    Path { path: &'a str, access: Access },
+    /// A side of a socket pair of any number. (socketpair(2))
+    Pair { pair: i64, side: Side },
+}
+
 /// A first descriptor, of any number.
 #[derive(Clone, Copy)]
 pub(crate) struct WrittenDescriptor<'a> {
     pub(crate) number: i64,
-    pub(crate) path: &'a str,
-    pub(crate) access: Access,
+    pub(crate) object: WrittenObject<'a>,
     pub(crate) rights: Rights,
     pub(crate) fcntls: Fcntls,
 }

@@ -57,6 +57,18 @@ const CHILD: Changes<'_> = &[
     ),
 ];
 
+/// Side a of the first pair as descriptor 2, and a second process, in the mode, with side b alone.
+const SIDES: (&str, &str) = (
+    "{number=1, path=\"/log\"}]}]",
+    "{number=1, path=\"/log\"}, {number=2, pair=0, side=\"a\"}]},\n {program=\"child\", mode=\"cap\", fd=[{number=0, pair=0, side=\"b\"}]}]",
+);
+
+/// Both ends of the last pair, each under two numbers in two processes.
+const SHARED_SIDES: (&str, &str) = (
+    "{number=1, path=\"/log\"}]}]",
+    "{number=1, path=\"/log\"}, {number=2, pair=31, side=\"b\"}]},\n {program=\"child\", fd=[{number=3, pair=31, side=\"a\"}, {number=0, pair=31, side=\"b\", rights=[\"FCNTL\"]}, {number=7, pair=31, side=\"a\", rights=[\"FCNTL\", \"READ\"]}]}]",
+);
+
 /// A program that closes descriptor 2 where its input isn't 0.
 const CLOSES_ON_INPUT: (&str, &str) = (
     "halt",
@@ -208,7 +220,7 @@ fn files_are_changed(rt: HostRuntime) -> Result<(), Fail> {
 
 #[test]
 fn events_name_processes_and_refusals(rt: HostRuntime) -> Result<(), Fail> {
-    let rows: [(Changes<'_>, &str, &str); 8] = [
+    let rows: [(Changes<'_>, &str, &str); 13] = [
         (
             &[(
                 "halt",
@@ -257,6 +269,67 @@ fn events_name_processes_and_refusals(rt: HostRuntime) -> Result<(), Fail> {
             CHILD,
             "1 0\n0 0\n5 0\n1 0\n0 0\n1 0\n1 0\n2 0\n",
             "1 child:0 ! ECAPMODE CapMode\n0 main:0 halt\n5 - none\n1 child:1 = 1\n0 main:0 ended\n1 child:2 halt\n1 child:2 ended\n2 - none\n",
+        ),
+        (
+            &[
+                SIDES,
+                (
+                    "halt\n'''",
+                    "open \"/etc/passwd\" read else e\nsendfd 2 3 0 else e\ne: halt\n'''\n[[program]]\nname = \"child\"\ncode = '''\nrecvfd 0 else e\nread 1 else e\ne: halt\n'''",
+                ),
+            ],
+            "0 0\n0 0\n1 0\n1 0\n",
+            "0 main:0 = 3\n0 main:1 = 1\n1 child:0 = 1\n1 child:1 = 120 read /etc/passwd\n",
+        ),
+        (
+            &[
+                SIDES,
+                (
+                    "halt\n'''",
+                    "cap_rights_limit 0 LOOKUP,READ else e\nsendfd 2 0 0 else e\ne: halt\n'''\n[[program]]\nname = \"child\"\ncode = '''\nrecvfd 0 else e\nopenat 1 \"in\" read else e\nread 2 else e\ne: halt\n'''",
+                ),
+            ],
+            "1 0\n0 0\n0 0\n1 0\n1 0\n1 0\n",
+            "1 child:0 wait\n0 main:0 = 0\n0 main:1 = 1\n1 child:0 = 1\n1 child:1 = 2\n1 child:2 = 65 read /work/in\n",
+        ),
+        (
+            &[
+                SHARED_SIDES,
+                (
+                    "halt\n'''",
+                    "fcntl_setfl 2 2 else e\nread 2 else a\na: write 2 7 else e\ne: halt\n'''\n[[program]]\nname = \"child\"\ncode = '''\nfcntl_getfl 0 else e\nfcntl_getfl 7 else e\nread 7 else e\nread 3 else f\nf: write 7 1 else e\ne: halt\n'''",
+                ),
+            ],
+            "0 0\n1 0\n1 0\n0 0\n0 0\n1 0\n1 0\n0 0\n1 0\n",
+            "0 main:0 = 0\n1 child:0 = 2\n1 child:1 = 0\n0 main:1 ! EAGAIN Refused\n0 main:2 = 1\n1 child:2 = 7\n1 child:3 wait\n0 main:3 halt\n1 child:3 wait\n",
+        ),
+        (
+            &[
+                (
+                    "{number=1, path=\"/log\"}",
+                    "{number=1, path=\"/log\"}, {number=2, pair=5, side=\"b\"}, {number=3, pair=5, side=\"b\"}",
+                ),
+                (
+                    "halt",
+                    "write 2 1 else a\na: read 3 else e\nfstat 3 else e\ne: halt",
+                ),
+            ],
+            "0 0\n0 0\n0 0\n",
+            "0 main:0 ! EPIPE Refused\n0 main:1 = 256\n0 main:2 = 3\n",
+        ),
+        (
+            &[
+                (
+                    "{number=1, path=\"/log\"}",
+                    "{number=1, path=\"/log\"}, {number=2, pair=0, side=\"a\", rights=[\"WRITE\"]}, {number=3, pair=0, side=\"b\", rights=[\"READ\"]}, {number=4, pair=0, side=\"a\"}",
+                ),
+                (
+                    "halt",
+                    "write 2 9 else e\nread 2 else a\na: read 3 else e\nwrite 3 1 else b\nb: write 4 8 else e\ne: halt",
+                ),
+            ],
+            "0 0\n0 0\n0 0\n0 0\n0 0\n",
+            "0 main:0 = 1\n0 main:1 ! ENOTCAPABLE MissingRight\n0 main:2 = 9\n0 main:3 ! ENOTCAPABLE MissingRight\n0 main:4 = 1\n",
         ),
     ];
     for (changes, schedule, trace) in rows {

@@ -2,15 +2,16 @@
 //! examples say.
 
 use crate::base::{BASE, changed, times};
+use fd_table::{Access, Side};
 use file_tree::{Kind, PlaceTree};
 use prog_asm::{AsmFault, Instruction};
-use rights::Op;
+use rights::{Fcntls, Op, Rights};
 use simulator::{LineResult, Machine};
 use std::alloc::Global;
 use std::process::Abort;
 use std::test::Fail;
 use syscalls::Event;
-use task::{Task, grant_holds, grant_lists, grant_named};
+use task::{FirstObject, Task, grant_holds, grant_lists, grant_named};
 use task_reader::{TaskFault, read_task};
 
 /// The fault's number, or 0 of a task.
@@ -18,6 +19,17 @@ fn number_of(read: Result<Task, TaskFault>) -> u8 {
     match read {
         Ok(_) => 0,
         Err(fault) => fault.number(),
+    }
+}
+
+/// A node that is open for reading.
+fn to_read(node: u16) -> FirstObject {
+    FirstObject::Node {
+        node,
+        access: Access {
+            readable: true,
+            writable: false,
+        },
     }
 }
 
@@ -58,10 +70,8 @@ fn the_base_task_is_read(rt: HostRuntime) -> Result<(), Fail> {
             assert!(rt; start.program == 0 && !start.mode);
             match start.descriptors.as_slice() {
                 [zero, one] => {
-                    assert!(rt;
-                        zero.number == 0 && zero.node == 1 && one.number == 1 && one.node == 9
-                    );
-                    assert!(rt; one.access.readable && !one.access.writable);
+                    assert!(rt; zero.number == 0 && zero.object == to_read(1));
+                    assert!(rt; one.number == 1 && one.object == to_read(9));
                 }
                 _ => panic!(rt; "not two descriptors"),
             }
@@ -96,7 +106,9 @@ fn each_change_has_its_fault(rt: HostRuntime) -> Result<(), Fail> {
             "rights=[\"READ\",\"RECV\"], fcntls=[], number=1",
             0,
         ),
-        ("path=\"/log\"}]}", "pair=0, side=\"a\"}]}", 2),
+        ("path=\"/log\"}]}", "pair=0, side=\"a\"}]}", 0),
+        ("path=\"/log\"}]}", "pair=0, side=\"c\"}]}", 2),
+        ("path=\"/log\"}]}", "path=\"/log\", side=\"a\"}]}", 2),
     ] {
         match changed(rt.alloc(), BASE, &[(old, new)])? {
             Some(text) => {
@@ -128,6 +140,8 @@ fn later_faults_are_told(rt: HostRuntime) -> Result<(), Fail> {
         ("number=1", "number=16", 5),
         ("number=1", "number=-1", 5),
         ("number=1", "number=0", 5),
+        ("path=\"/log\"}]}", "pair=31, side=\"b\"}]}", 0),
+        ("path=\"/log\"}]}", "pair=32, side=\"b\"}]}", 5),
         ("\nhalt\n", "\nfrob\n", 6),
         ("\"/log\"}]}]", "\"/log\"}]}, {program=\"main\", fd=[]}]", 0),
         ("target=\"out/../in\"", "target=\"\"", 7),
@@ -226,6 +240,49 @@ fn faults_have_names(rt: HostRuntime) {
     }
 }
 
+/// A task of two processes that share a pair: a parent has side a at two numbers, and a child in the mode has side b.
+const FAMILY: &str = "node = []
+grant = []
+process = [
+ {program=\"main\", fd=[{number=2, pair=31, side=\"a\"}, {number=3, pair=31, side=\"a\", rights=[]}]},
+ {program=\"main\", mode=\"cap\", fd=[{number=2, pair=31, side=\"b\", rights=[\"RECV\"], fcntls=[]}]}]
+[[program]]
+name = \"main\"
+code = '''
+halt
+'''
+";
+
+/// A side of the family's pair.
+fn end(side: Side) -> FirstObject {
+    FirstObject::End { pair: 31, side }
+}
+
+#[test]
+fn ends_are_read(rt: HostRuntime) {
+    let task = task(&rt, rt.alloc(), FAMILY);
+    let (parent, child) = match task.starts() {
+        [parent, child] => (parent, child),
+        _ => panic!(rt; "not two processes"),
+    };
+    match parent.descriptors.as_slice() {
+        [two, three] => {
+            assert!(rt; two.number == 2 && two.object == end(Side::A));
+            assert!(rt; two.rights == Rights::all() && two.fcntls == Fcntls::all());
+            assert!(rt; three.number == 3 && three.object == end(Side::A));
+            assert!(rt; three.rights == Rights::empty());
+        }
+        _ => panic!(rt; "not two descriptors"),
+    }
+    match child.descriptors.as_slice() {
+        [two] => {
+            assert!(rt; two.number == 2 && two.object == end(Side::B));
+            assert!(rt; two.rights == Rights::READ && two.fcntls == Fcntls::empty());
+        }
+        _ => panic!(rt; "not one descriptor"),
+    }
+}
+
 /// A task of the file `/work/in`, through which its one process starts in the mode.
 const SMALL: &str = "node = [
  {path=\"/work\", kind=\"dir\"},
@@ -260,7 +317,7 @@ fn a_task_has_its_parts(rt: HostRuntime) {
                 start
                     .descriptors
                     .iter()
-                    .all(|d| d.number == 2 && d.node == 2)
+                    .all(|d| d.number == 2 && d.object == to_read(2))
             );
         }
         _ => panic!(rt; "not one process"),

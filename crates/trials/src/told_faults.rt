@@ -135,6 +135,38 @@ fn faults_of_tasks_are_told(rt: HostRuntime) -> Result<(), Fail> {
     Ok(())
 }
 
+/// The second descriptor of the base task, on an end of a socket pair in place of its node.
+#[test]
+fn faults_of_ends_are_told(rt: HostRuntime) -> Result<(), Fail> {
+    let field: &[u8] = b"capcheck: task 2 Field\n";
+    let descriptor: &[u8] = b"capcheck: task 5 Descriptor\n";
+    let rows = [
+        ("number=1, pair=0, side=\"a\", flags=[\"read\"]", field),
+        ("number=1, pair=0, side=\"a\", path=\"/log\"", field),
+        ("number=1, path=\"/log\", side=\"a\"", field),
+        ("number=1, side=\"a\"", field),
+        ("number=1, pair=0", field),
+        ("number=1", field),
+        ("pair=0, side=\"a\"", field),
+        ("number=1, pair=0, side=\"c\"", field),
+        ("number=1, pair=0, side=\"A\"", field),
+        ("number=1, pair=0, side=0", field),
+        ("number=1, pair=\"0\", side=\"a\"", field),
+        ("number=1, pair=0.0, side=\"a\"", field),
+        ("number=1, pair=32, side=\"c\"", field),
+        ("number=1, pair=0, side=\"a\", mode=\"cap\"", field),
+        ("number=1, pair=32, side=\"a\"", descriptor),
+        ("number=1, pair=-1, side=\"b\"", descriptor),
+        ("number=16, pair=0, side=\"a\"", descriptor),
+        ("number=0, pair=0, side=\"a\"", descriptor),
+    ];
+    for (keys, line) in rows {
+        let change = ("number=1, path=\"/log\"", keys);
+        assert!(rt; is_refused(rt.alloc(), &[change], line)?, "{keys}");
+    }
+    Ok(())
+}
+
 /// A directory to be written in, which is told before a limit.
 const WRITTEN_LOG: (&str, &str) = ("path=\"/log\"}]}", "path=\"/log\", flags=[\"write\"]}]}");
 

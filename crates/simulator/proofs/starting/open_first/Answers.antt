@@ -1,16 +1,37 @@
-use Rattle.std.proofs.Common.{◌+◌, arith, subst, ◌∙◌}
+use Rattle.std.proofs.Common.{false, ap, length}
+use Rattle.fd_table.specs.Views.{access_seen}
 use Rattle.fd_table.specs.Kept.{open_files}
-use Rattle.task.specs.Views.{first_descriptor_of}
-use Rattle.fd_table.specs.Filled.{Opens}
-use Rattle.fd_table.specs.Views.{access_asked}
 use Rattle.fd_table.proofs.QueueLaws.{on_ok_so}
-use Rattle.rights.specs.Opens.{OpenRequest}
-use Rattle.simulator.proofs.Begun.{node_there, opens_begun}
-use Rattle.simulator.proofs.Built.{any_default}
+use Rattle.task.specs.declared.starts.FirstObject.TheVariants as object
+use Rattle.task.specs.Views.{first_object_of}
+use Rattle.simulator.specs.declared.gifts.Gift.{Gift as GiftCode}
+use Rattle.simulator.proofs.Begun.{used, is_there, is_free, awaits_opened}
 use Rattle.simulator.proofs.starting.open_first.Goals as goal
 
-pub returns-clause-begun : goal.returns-clause-begun
-returns-clause-begun c = λ o b.
-    on_ok_so c.open_node.result c.open_node.ensures.ok
-    (λ x. opens_begun (c.args.process + 1) c.args.process o (first_descriptor_of c.args.first) (open_files c.args.files.now) (open_files c.open_node.new.self) c.index-numbers-first.result (omega arith) (c.index-numbers-first.is ∙ any_default c.args.numbers.now c.args.first.node c.index-numbers-first.result 0 (node_there _ (first_descriptor_of c.args.first) c.requires.usable) ∙ c.requires.numbers c.args.first.node (node_there _ (first_descriptor_of c.args.first) c.requires.usable)) b
-    (subst (λ (r : OpenRequest). Opens (open_files c.args.files.now) (open_files c.open_node.new.self) c.args.process c.args.first.number c.index-numbers-first.result (access_asked r) r.append c.args.first.rights.0 c.args.first.fcntls.0) c.in-Some.ensures.value x))
+abbrev none : GiftCode
+none = record {
+  process = 0;
+  given = record {
+    number = 0;
+    object = object.Node 0 (record { readable = false; writable = false });
+    rights = record { 0 = 0 };
+    fcntls = record { 0 = 0 };
+  };
+}
+
+pub open_node-requires-clause-there : goal.open_node-requires-clause-there
+open_node-requires-clause-there c =
+    is_there c.args.gifts.now c.args.at none c.requires.there c.requires.gifts c.in-Node.node (access_seen c.in-Node.access) (ap first_object_of c.in-Node.is) (length c.args.numbers.now) c.requires.among
+
+pub open_node-requires-clause-used : goal.open_node-requires-clause-used
+open_node-requires-clause-used c =
+    used c.args.gifts.now c.args.at none c.requires.there c.requires.gifts c.in-Node.node (access_seen c.in-Node.access) (ap first_object_of c.in-Node.is)
+
+pub open_node-requires-clause-free : goal.open_node-requires-clause-free
+open_node-requires-clause-free c =
+    is_free c.args.gifts.now c.args.at none c.requires.there c.requires.gifts c.in-Node.node (access_seen c.in-Node.access) (ap first_object_of c.in-Node.is) (open_files c.args.files.now) c.requires.begun
+
+pub returns-in-Node : goal.returns-in-Node
+returns-in-Node c =
+    on_ok_so c.open_node.result c.open_node.ensures
+    (awaits_opened c.args.gifts.now c.args.at none c.requires.there c.requires.gifts c.in-Node.node (access_seen c.in-Node.access) (ap first_object_of c.in-Node.is) (open_files c.args.files.now) c.requires.begun (open_files c.open_node.new.files))

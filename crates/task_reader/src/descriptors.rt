@@ -1,0 +1,150 @@
+//! The descriptors of a task's document: each on the node at a path, or on a side of a socket pair.
+
+ghost use Rattle.std.specs.Prelude.{◌≡◌, option_map};
+ghost use Rattle.rights.specs.Sets.{all_commands, all_rights, command_names, right_names};
+ghost use Rattle.fd_table.specs.Views.{access_seen, side_seen};
+ghost use Rattle.toml.specs.View.{table_view, view};
+ghost use Rattle.task_reader.specs.Documents.{read_or};
+ghost use Rattle.task_reader.specs.Faults.{ReadsTask};
+ghost use Rattle.task_reader.specs.Reading.{Wrong_field, or_mistake};
+ghost use Rattle.task_reader.specs.Written.{access_in, descriptor_in, object_in, pair_in, path_in, reading, set_in, side_at, written_descriptor};
+ghost use Rattle.task_reader.specs.WrittenViews.{descriptor_seen, object_seen};
+
+use crate::documents::{has_only, integer_at, read_words, text_at, value_at};
+use crate::faults::TaskFault;
+use crate::words::{access, set, side};
+use crate::written::{WrittenDescriptor, WrittenObject};
+use fd_table::{Access, Side};
+use rights::{Fcntls, Rights};
+use std::alloc::Global;
+use toml::{Table, Value};
+
+/// What a descriptor's node is opened for: reading, where no list of flags says it. (open(2))
+fn read_access(alloc: Global, value: Option<&Value>) -> Result<Access, TaskFault>
+    ensures { ReadsTask access_seen result
+        (or_mistake Wrong_field (read_or reading access_in (option_map (λ v. view v.now) value.entry))) }
+{
+    let value = match value {
+        Some(value) => value,
+        None => {
+            return Ok(Access {
+                readable: true,
+                writable: false,
+            });
+        }
+    };
+    let words = read_words(alloc, value)?;
+    match access(&words) {
+        Some(access) => Ok(access),
+        None => Err(TaskFault::Field),
+    }
+}
+
+/// A descriptor's rights: all, where no list says which. (rights(4))
+fn read_rights(alloc: Global, value: Option<&Value>) -> Result<Rights, TaskFault>
+    ensures { ReadsTask (λ rights. rights.0) result
+        (or_mistake Wrong_field (read_or all_rights (set_in right_names) (option_map (λ v. view v.now) value.entry))) }
+{
+    let value = match value {
+        Some(value) => value,
+        None => return Ok(Rights::all()),
+    };
+    let words = read_words(alloc, value)?;
+    match set(&words) {
+        Some(rights) => Ok(rights),
+        None => Err(TaskFault::Field),
+    }
+}
+
+/// A descriptor's fcntl commands: all, where no list says which. (cap_fcntls_limit(2))
+fn read_fcntls(alloc: Global, value: Option<&Value>) -> Result<Fcntls, TaskFault>
+    ensures { ReadsTask (λ fcntls. fcntls.0) result
+        (or_mistake Wrong_field (read_or all_commands (set_in command_names) (option_map (λ v. view v.now) value.entry))) }
+{
+    let value = match value {
+        Some(value) => value,
+        None => return Ok(Fcntls::all()),
+    };
+    let words = read_words(alloc, value)?;
+    match set(&words) {
+        Some(fcntls) => Ok(fcntls),
+        None => Err(TaskFault::Field),
+    }
+}
+
+/// The side that a table names.
+fn side_at(table: &Table) -> Option<Side>
+    ensures { option_map side_seen result ≡ side_at (table_view table.now) }
+{
+    match text_at(table, "side") {
+        Some(word) => side(word),
+        None => None,
+    }
+}
+
+/// An end of a socket pair, of any number yet. (socketpair(2))
+fn pair(table: &Table) -> Option<WrittenObject<'_>>
+    ensures { option_map object_seen result ≡ pair_in (table_view table.now) }
+{
+    if !has_only(table, &["number", "pair", "side", "rights", "fcntls"]) {
+        return None;
+    }
+    match (integer_at(table, "pair"), side_at(table)) {
+        (Some(pair), Some(side)) => Some(WrittenObject::Pair { pair, side }),
+        _ => None,
+    }
+}
+
+/// The node at a path, and what it is opened for.
+fn path(alloc: Global, table: &Table) -> Result<WrittenObject<'_>, TaskFault>
+    ensures { ReadsTask object_seen result (or_mistake Wrong_field (path_in (table_view table.now))) }
+{
+    if !has_only(table, &["number", "path", "flags", "rights", "fcntls"]) {
+        return Err(TaskFault::Field);
+    }
+    match text_at(table, "path") {
+        Some(path) => Ok(WrittenObject::Path {
+            path,
+            access: read_access(alloc, value_at(table, "flags"))?,
+        }),
+        None => Err(TaskFault::Field),
+    }
+}
+
+/// What a descriptor is of: an end, if its table has a pair, and else a node.
+fn object(alloc: Global, table: &Table) -> Result<WrittenObject<'_>, TaskFault>
+    ensures { ReadsTask object_seen result (or_mistake Wrong_field (object_in (table_view table.now))) }
+{
+    match value_at(table, "pair") {
+        Some(_) => pair(table).ok_or(TaskFault::Field),
+        None => path(alloc, table),
+    }
+}
+
+/// A first descriptor, with its object, rights and commands.
+fn descriptor(alloc: Global, table: &Table) -> Result<WrittenDescriptor<'_>, TaskFault>
+    ensures { ReadsTask descriptor_seen result (or_mistake Wrong_field (descriptor_in (table_view table.now))) }
+{
+    let Some(number) = integer_at(table, "number") else {
+        return Err(TaskFault::Field);
+    };
+    Ok(WrittenDescriptor {
+        number,
+        object: object(alloc, table)?,
+        rights: read_rights(alloc, value_at(table, "rights"))?,
+        fcntls: read_fcntls(alloc, value_at(table, "fcntls"))?,
+    })
+}
+
+/// The first descriptor that a value is.
+pub(crate) fn written_descriptor<'a>(
+    alloc: Global,
+    value: &'a Value,
+) -> Result<WrittenDescriptor<'a>, TaskFault>
+    ensures { ReadsTask descriptor_seen result (or_mistake Wrong_field (written_descriptor (view value.now))) }
+{
+    match value.as_table() {
+        Some(table) => descriptor(alloc, table),
+        None => Err(TaskFault::Field),
+    }
+}
