@@ -1,2 +1,5 @@
 pub mod Smaller
+pub mod Joining
+pub mod Ranges
 pub mod Rows
+pub mod JoinRows

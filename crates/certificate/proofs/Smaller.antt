@@ -3,15 +3,14 @@ use Rattle.std.proofs.Common.{◌≡◌, ℕ, ◌≤◌, ◌+◌, Bool, true, Li
 use Rattle.std.specs.Prelude.{◌==◌, ◌&&◌, nat_le, Option, Some, None}
 use Rattle.std.specs.Cmp.Derive.{both_true}
 use Rattle.std.proofs.lemmas.Bool.{eqb-true, leb-true, le-leb}
-use Rattle.std.specs.Str.{bytes_eq}
 use Rattle.rights.specs.Sets.{is_within}
-use Rattle.rights.specs.Classes.{Class, Initial, Made_at}
 use Rattle.rights.proofs.Subsets.{is_within-trans}
 use Rattle.rights.proofs.Tests.{both_left, both_right}
 use Rattle.rights.proofs.Words.{same_bytes}
 use Rattle.certificate.specs.Bounds.{ModeBound, Off, On, Either, Interval, Target, In_grant, Any_node, Socket, Unknown, Held, Slot, Closed, Open, Maybe, Bound}
-use Rattle.certificate.specs.Order.{mode_within, interval_within, same_class, target_within, held_within, slot_within, each_within, bound_within}
-use Rattle.certificate.specs.Describes.{Subject, Node_at, End_of, Seen, Holds, target_describes, held_describes, slot_describes, mode_describes, interval_describes, registers_describe, slots_describe, describes}
+use Rattle.certificate.specs.Order.{mode_within, interval_within, same_class, target_within, held_within, slot_within, each_within, bound_within, sends_within}
+use Rattle.certificate.specs.OrderLaws.{class_is}
+use Rattle.certificate.specs.Describes.{Subject, Node_at, End_of, Seen, Holds, target_describes, held_describes, slot_describes, mode_describes, interval_describes, registers_describe, slots_describe, describes, sends_describes}
 
 mode_smaller : (a b : ModeBound) (on : Bool) → mode_within a b ≡ true → mode_describes a on ≡ true → mode_describes b on ≡ true
 mode_smaller Off Off on within is = is
@@ -24,22 +23,13 @@ mode_smaller Either Off on within is = absurd cc
 mode_smaller Either On on within is = absurd cc
 mode_smaller Either Either on within is = refl
 
-interval_smaller : (a b : Interval) (value : ℕ) → interval_within a b ≡ true → interval_describes a value ≡ true → interval_describes b value ≡ true
+pub interval_smaller : (a b : Interval) (value : ℕ) → interval_within a b ≡ true → interval_describes a value ≡ true → interval_describes b value ≡ true
 interval_smaller a b value within is =
     let low : b.low ≤ a.low = leb-true _ _ (both_left _ (nat_le a.high b.high) within) in
     let high : a.high ≤ b.high = leb-true _ _ (both_right (nat_le b.low a.low) _ within) in
     let above : a.low ≤ value = leb-true _ _ (both_left _ (nat_le value a.high) is) in
     let below : value ≤ a.high = leb-true _ _ (both_right (nat_le a.low value) _ is) in
     both_true (le-leb b.low value (omega arith)) (le-leb value b.high (omega arith))
-
-pub class_is : (c d : Class) → same_class c d ≡ true → c ≡ d
-class_is (Initial m) (Initial n) is = let same : m ≡ n = eqb-true m n is in cc
-class_is (Initial m) (Made_at program point) is = absurd cc
-class_is (Made_at p m) (Initial n) is = absurd cc
-class_is (Made_at p m) (Made_at q n) is =
-    let program : p ≡ q = same_bytes p q (both_left _ (m == n) is) in
-    let point : m ≡ n = eqb-true m n (both_right (bytes_eq p q) _ is) in
-    cc
 
 target_smaller : (holds : Holds) (a b : Target) (s : Subject) → target_within a b ≡ true → target_describes holds a s ≡ true → target_describes holds b s ≡ true
 target_smaller holds (In_grant g) (In_grant h) (Node_at place) within is =
@@ -105,7 +95,7 @@ held_smaller holds a b d within is =
       greatest_fcntls = is_within-trans d.fcntls a.greatest_fcntls b.greatest_fcntls facts.greatest_fcntls (both_right (target_within a.target b.target && is_within b.least a.least && is_within a.greatest b.greatest && is_within b.least_fcntls a.least_fcntls) _ within);
     })
 
-slot_smaller : (holds : Holds) (a b : Slot) (o : Option Seen) → slot_within a b ≡ true → slot_describes holds a o ≡ true → slot_describes holds b o ≡ true
+pub slot_smaller : (holds : Holds) (a b : Slot) (o : Option Seen) → slot_within a b ≡ true → slot_describes holds a o ≡ true → slot_describes holds b o ≡ true
 slot_smaller holds Closed Closed o within is = is
 slot_smaller holds Closed (Open b) o within is = absurd cc
 slot_smaller holds Closed (Maybe b) None within is = refl
@@ -149,3 +139,8 @@ describes_smaller holds a b on values table within is =
     (mode_smaller a.mode b.mode on (both_left _ (each_within interval_within a.registers b.registers) first) (both_left _ (registers_describe a.registers values) here))
     (registers_smaller a.registers b.registers values (both_right (mode_within a.mode b.mode) _ first) (both_right (mode_describes a.mode on) _ here)))
     (slots_smaller holds 0 a.slots b.slots table (both_right (mode_within a.mode b.mode && each_within interval_within a.registers b.registers) _ within) (both_right (mode_describes a.mode on && registers_describe a.registers values) _ is))
+
+pub sends_smaller : (holds : Holds) (a b : Option Held) (d : Seen) → sends_within a b ≡ true → sends_describes holds a d ≡ true → sends_describes holds b d ≡ true
+sends_smaller holds None b d within is = absurd cc
+sends_smaller holds (Some a) None d within is = absurd cc
+sends_smaller holds (Some a) (Some b) d within is = held_smaller holds a b d within is

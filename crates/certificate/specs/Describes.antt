@@ -68,3 +68,8 @@ slots_describe holds n (s ∷ slots) table = slot_describes holds s (table n) &&
 abbrev pub describes : Holds → Bound → Bool → List ℕ → (ℕ → Option Seen) → Bool
 describes holds b on registers table =
     mode_describes b.mode on && registers_describe b.registers registers && slots_describe holds 0 b.slots table
+
+-- A channel's bound describes a descriptor that is sent.
+abbrev pub sends_describes : Holds → Option Held → Seen → Bool
+sends_describes holds None d = false
+sends_describes holds (Some h) d = held_describes holds h d

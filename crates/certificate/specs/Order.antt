@@ -1,5 +1,5 @@
 -- When one bound is within another. (own)
-use Rattle.std.specs.Prelude.{◌==◌, ◌&&◌, Bool, true, false, nat_le, List, [], ◌∷◌}
+use Rattle.std.specs.Prelude.{◌==◌, ◌&&◌, Bool, true, false, nat_le, List, [], ◌∷◌, Option, Some, None}
 use Rattle.std.specs.Str.{bytes_eq}
 use Rattle.rights.specs.Sets.{is_within}
 use Rattle.rights.specs.Classes.{Class, Initial, Made_at}
@@ -69,3 +69,9 @@ abbrev pub bound_within : Bound → Bound → Bool
 bound_within a b =
     mode_within a.mode b.mode && each_within interval_within a.registers b.registers
     && each_within slot_within a.slots b.slots
+
+-- what a channel sends: messages without descriptors are within any
+abbrev pub sends_within : Option Held → Option Held → Bool
+sends_within None b = true
+sends_within (Some a) None = false
+sends_within (Some a) (Some b) = held_within a b

@@ -15,7 +15,7 @@ use Rattle.certificate.specs.declared.bounds.Slot.{Slot as SlotCode}
 use Rattle.certificate.specs.declared.bounds.Slot.TheVariants as slots
 use Rattle.certificate.specs.declared.bounds.Bound.{Bound as BoundCode}
 use Rattle.certificate.specs.declared.bounds.Point.{Point as PointCode}
-use Rattle.certificate.specs.declared.bounds.Cert.{Cert as CertCode}
+use Rattle.certificate.specs.declared.certs.Cert.{Cert as CertCode}
 use Rattle.rights.specs.Classes.{Class, Initial, Made_at}
 use Rattle.certificate.specs.Bounds.{ModeBound, Off, On, Either, Interval, Target, In_grant, Any_node, Socket, Unknown, Held, Slot, Closed, Open, Maybe, Bound, PointBound, Certificate}
 
@@ -23,7 +23,7 @@ abbrev pub name_of : NameCode → List ℕ
 name_of n = take n.length n.bytes
 
 abbrev pub class_of : ClassCode → Class
-class_of (class.Initial pair) = Initial pair
+class_of (class.Initial pair) = Initial pair.number
 class_of (class.MadeAt program point) = Made_at (name_of program) point
 
 -- a is 0 and b is 1

@@ -1,8 +1,7 @@
 //! What a certificate says.
 
-ghost use Rattle.std.specs.Prelude.{◌≡◌, option_map};
-ghost use Rattle.certificate.specs.Bounds.{bound_at, bound_in, held_in, interval, slot, with_interval};
-ghost use Rattle.certificate.specs.Views.{bound_of, certificate_of, held_of, interval_of, points_of, slot_of};
+ghost use Rattle.std.specs.Prelude.{◌≡◌, ◌≤◌, true, option_map};
+ghost use Rattle.rights.specs.Sets.{all_commands, all_rights, is_within};
 
 use crate::classes::{Class, Side};
 use crate::names::Name;
@@ -18,11 +17,12 @@ pub enum ModeBound {
     Either,
 }
 
-/// The numbers from `low` to `high`, both of them too.
+/// The numbers from `low` to `high`, both of them too; there is one.
 #[derive(Clone, Copy, PartialEq, Eq)]
 pub struct Interval {
     pub low: u32,
     pub high: u32,
+    pub ghost ordered: { low ≤ high },
 }
 
 /// What a descriptor is of.
@@ -38,18 +38,22 @@ pub enum Target {
     Unknown,
 }
 
-/// The sets of rights that have at least those of `least` and at most those of `greatest`.
+/// The sets of rights that have at least those of `least` and at most those of `greatest`; there is one.
 #[derive(Clone, Copy)]
 pub struct RightsRange {
     pub least: Rights,
     pub greatest: Rights,
+    pub ghost nested: { is_within least.0 greatest.0 ≡ true },
+    pub ghost known: { is_within greatest.0 all_rights ≡ true },
 }
 
-/// The sets of fcntl commands that have at least those of `least` and at most those of `greatest`.
+/// The sets of fcntl commands that have at least those of `least` and at most those of `greatest`; there is one.
 #[derive(Clone, Copy)]
 pub struct FcntlsRange {
     pub least: Fcntls,
     pub greatest: Fcntls,
+    pub ghost nested: { is_within least.0 greatest.0 ≡ true },
+    pub ghost known: { is_within greatest.0 all_commands ≡ true },
 }
 
 /// A descriptor's bound.
@@ -87,13 +91,6 @@ pub struct Point {
     pub bound: Bound,
 }
 
-/// A certificate. A point that is not listed is claimed not to be reached; of a point that is listed
-/// twice the first bound counts.
-#[derive(Drop)]
-pub struct Cert {
-    pub points: Vec<Point>,
-}
-
 impl Interval {
     /// All values of a register.
     pub const FULL: Interval = Interval {
@@ -103,6 +100,9 @@ impl Interval {
 }
 
 impl Slot {
+    ghost use Rattle.certificate.specs.Bounds.{held_in};
+    ghost use Rattle.certificate.specs.Views.{held_of, slot_of};
+
     /// What it holds where it may be open.
     pub fn held(&self) -> Option<Held>
         ensures { option_map held_of result ≡ held_in (slot_of self.now) }
@@ -115,6 +115,9 @@ impl Slot {
 }
 
 impl Bound {
+    ghost use Rattle.certificate.specs.Bounds.{interval, slot, with_interval};
+    ghost use Rattle.certificate.specs.Views.{bound_of, interval_of, slot_of};
+
     /// The interval of a register; all values of one that isn't there.
     pub fn interval(&self, register: u8) -> Interval
         ensures { interval_of result ≡ interval (bound_of self.now).registers register }
@@ -146,30 +149,5 @@ impl Bound {
             next.registers[register] = interval;
         }
         next
-    }
-}
-
-/// The bound of a point among some.
-#[tactic(auto, unfolding(crate::specs::Bounds::bound_in))]
-fn bound_in<'a>(points: &'a [Point], program: &[u8], point: usize) -> Option<&'a Bound>
-    ensures { option_map (λ b. bound_of b.now) result ≡ bound_in (points_of points.now) program.now point }
-{
-    match points {
-        [] => None,
-        [first, rest @ ..] => {
-            if first.program.as_bytes() == program && first.point as usize == point {
-                return Some(&first.bound);
-            }
-            bound_in(rest, program, point)
-        }
-    }
-}
-
-impl Cert {
-    /// The bound of a point of the program of this name, if it has one.
-    pub fn bound_at(&self, program: &[u8], point: usize) -> Option<&Bound>
-        ensures { option_map (λ b. bound_of b.now) result ≡ bound_at (certificate_of self.now) program.now point }
-    {
-        bound_in(&self.points, program, point)
     }
 }

@@ -3,13 +3,15 @@
 #![tactic(auto)]
 
 pub mod bounds;
+pub mod certs;
 pub mod classes;
+pub mod domain;
 pub mod laws;
 pub mod names;
 pub mod order;
 
-pub use bounds::{
-    Bound, Cert, FcntlsRange, Held, Interval, ModeBound, Point, RightsRange, Slot, Target,
-};
-pub use classes::{Class, Side};
+pub use bounds::{Bound, FcntlsRange, Held, Interval, ModeBound, Point, RightsRange, Slot, Target};
+pub use certs::Cert;
+pub use classes::{Class, Pair, Side};
+pub use domain::Domain;
 pub use names::Name;

@@ -1,21 +1,27 @@
 //! Names of programs and grants, kept without memory of their own.
 
-ghost use Rattle.std.specs.Prelude.{◌≡◌, ◌≤◌, length};
-ghost use Rattle.certificate.specs.Views.{name_of};
+ghost use Rattle.std.specs.Prelude.{◌≡◌, ◌≤◌, take, true};
+ghost use Rattle.texts.specs.Names.{is_name};
 
 use rights::limits::MAX_WORD;
+use texts::is_name;
 
-/// A name of at most 16 bytes. (own)
+/// A name of a program or a grant: a letter from a to z, and up to 15 of a to z, 0 to 9 and `_`. (own)
 #[derive(Clone, Copy)]
 pub struct Name {
     length: usize,
     bytes: [u8; MAX_WORD],
+    pub ghost few: { length ≤ 16 },
+    pub ghost word: { is_name (take length bytes) ≡ true },
 }
 
 impl Name {
-    /// The name of these bytes, of which there are at most 16.
+    ghost use Rattle.std.specs.Prelude.{IfSome, None, ◌↔◌, false, length};
+    ghost use Rattle.certificate.specs.Views.{name_of};
+
+    /// The name of these bytes.
     pub fn new(text: &[u8]) -> Name
-        requires { length text.now ≤ 16 }
+        requires { is_name text.now ≡ true }
         ensures { name_of result ≡ text.now }
     {
         let mut bytes = [0; MAX_WORD];
@@ -26,11 +32,22 @@ impl Name {
         }
     }
 
+    /// The name of these bytes, if they are one.
+    pub fn read(text: &[u8]) -> Option<Name>
+        ensures some { IfSome result (λ name. name_of name ≡ text.now) }
+        ensures none { (result ≡ None) ↔ (is_name text.now ≡ false) }
+    {
+        if !is_name(text) {
+            return None;
+        }
+        Some(Name::new(text))
+    }
+
     /// Its bytes.
     pub fn as_bytes(&self) -> &[u8]
-        ensures { result.now ≡ name_of self.now }
+        ensures bytes { result.now ≡ name_of self.now }
+        ensures word { is_name result.now ≡ true }
     {
-        let length = self.length.min(MAX_WORD);
-        &self.bytes[..length]
+        &self.bytes[..self.length]
     }
 }

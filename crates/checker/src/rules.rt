@@ -11,7 +11,7 @@ ghost use Rattle.rights.specs.Views.{operation_of};
 use crate::outcomes::{NextPoints, Outcome, failure, is_covered, successes};
 use crate::points::instruction_at;
 use crate::starts::{is_started, starts_within};
-use certificate::{Bound, Cert, Held, ModeBound, Target};
+use certificate::{Bound, Cert, Domain, Held, ModeBound, Target};
 use prog_asm::{Instruction, Operand, Syscall};
 use rights::{Op, Rights};
 use task::{Task, grant_lists};

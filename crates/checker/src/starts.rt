@@ -58,7 +58,7 @@ fn is_side(class: &Class, side: certificate::Side, pair: u8, its: fd_table::Side
     ensures { result ≡ (same_class (Initial pair) (class_of class.now) && (side_seen its == side_of side)) }
 {
     let is_pair = match class {
-        Class::Initial(own) => *own == pair,
+        Class::Initial(own) => own.number == pair,
         Class::MadeAt(..) => false,
     };
     is_pair

@@ -1,7 +1,8 @@
 //! The certificates that the program knows by name, for a program `main` with the file as descriptor 2.
 
-ghost use Rattle.std.specs.Prelude.{◌≡◌, ◌+◌, ◌≤◌, ◌++◌, codes, length, map, option_map, IfOk, OnOk};
+ghost use Rattle.std.specs.Prelude.{◌≡◌, ◌+◌, ◌≤◌, ◌++◌, codes, length, map, true, option_map, IfOk, OnOk};
 ghost use Rattle.service.specs.NamedCertificates.{bound_with, certificate_named, certificate_with, file_held, points_with};
+ghost use Rattle.rights.specs.Sets.{all_rights, is_within};
 ghost use Rattle.certificate.specs.Views.{bound_of, certificate_of, held_of, mode_of, name_of, points_of, target_of};
 
 use certificate::{
@@ -12,6 +13,7 @@ use std::alloc::{AllocError, Global};
 
 /// The file, with at least these rights.
 fn file_held(target: Target, least: Rights) -> Held
+    requires { is_within least.0 all_rights ≡ true }
     ensures { held_of result ≡ file_held (target_of target) least.0 }
 {
     Held {
