@@ -2,3 +2,4 @@ pub mod LineSteps
 pub mod NumberOrders
 pub mod LineLaws
 pub mod PartLaws
+pub mod WordLaws

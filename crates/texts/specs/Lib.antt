@@ -4,3 +4,4 @@ pub mod Numbers
 pub mod Names
 pub mod Lines
 pub mod LineViews
+pub mod Words

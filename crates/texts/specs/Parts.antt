@@ -1,5 +1,6 @@
 -- The parts of a text between the bytes that separate them. (own)
-use Rattle.std.specs.Prelude.{◌≡◌, ◌==◌, ℕ, List, [], ◌∷◌, ◌++◌, Option, Some, None, if◌then◌else◌}
+use Rattle.std.specs.Prelude.{◌≡◌, ◌==◌, ℕ, Bool, not, List, [], ◌∷◌, ◌++◌, Option, Some, None, if◌then◌else◌}
+use Rattle.std.specs.List.{list_all}
 
 -- the parts, behind what has begun already
 abbrev pub parts_from : ℕ → List ℕ → List ℕ → List (List ℕ)
@@ -14,3 +15,13 @@ parts separator text = parts_from separator text []
 abbrev pub Begins : List (List ℕ) → ℕ → List ℕ → Option (List ℕ) → Type 0
 Begins all separator first None = all ≡ first ∷ []
 Begins all separator first (Some rest) = all ≡ first ∷ parts separator rest
+
+-- the parts with the byte that separates them between each two
+abbrev pub joined : ℕ → List (List ℕ) → List ℕ
+joined separator [] = []
+joined separator (part ∷ []) = part
+joined separator (part ∷ next ∷ others) = part ++ separator ∷ joined separator (next ∷ others)
+
+-- whether the byte that separates isn't in a part
+abbrev pub lacks : ℕ → List ℕ → Bool
+lacks separator part = list_all (λ byte. not (byte == separator)) part

@@ -5,8 +5,10 @@ pub mod lines;
 pub mod names;
 pub mod numbers;
 pub mod parts;
+pub mod words;
 
 pub use lines::{Line, Lines};
 pub use names::is_name;
 pub use numbers::{NumberFault, compare_numbers, is_number, number_up_to};
 pub use parts::first_part;
+pub use words::Words;
