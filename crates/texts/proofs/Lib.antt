@@ -3,3 +3,7 @@ pub mod NumberOrders
 pub mod LineLaws
 pub mod PartLaws
 pub mod WordLaws
+pub mod DecimalSteps
+pub mod NumberTexts
+pub mod HexTexts
+pub mod TextRows

@@ -3,7 +3,7 @@ use Rattle.std.proofs.Common.{◌≡◌, ℕ, Bool, true, false, not, List, [], 
 use Rattle.std.specs.Prelude.{◌==◌, ◌&&◌, cond, Option, Some, None, is_some, option_map}
 use Rattle.std.specs.List.{list_all}
 use Rattle.std.proofs.Common.{Bor}
-use Rattle.std.proofs.lemmas.Bool.{and_parts}
+use Rattle.std.proofs.lemmas.Bool.{and_from, and_parts}
 use Rattle.texts.specs.Parts.{joined, lacks, parts, parts_from}
 use Rattle.texts.specs.Words.{is_used_up, words_left}
 
@@ -103,3 +103,14 @@ parts-lack-from separator (b ∷ text) begun lack =
 
 pub parts-lack : (separator : ℕ) (text : List ℕ) → list_all (lacks separator) (parts separator text) ≡ true
 parts-lack separator text = parts-lack-from separator text [] refl
+
+-- Bytes that pass a test lack each byte that doesn't.
+pub lacks-by : (test : ℕ → Bool) (separator : ℕ) (word : List ℕ) → test separator ≡ false → list_all test word ≡ true → lacks separator word ≡ true
+lacks-by test separator [] other is = refl
+lacks-by test separator (b ∷ word) other is =
+    let each = and_parts (test b) (list_all test word) is in
+    and_from _ _ (go (b == separator) refl each.0) (lacks-by test separator word other each.1)
+  where
+    go : (same : Bool) → (b == separator) ≡ same → test b ≡ true → not same ≡ true
+    go true same passes = sym other ∙ ap test (sym (eqb-true b separator same)) ∙ passes
+    go false same passes = refl

@@ -5,3 +5,4 @@ pub mod Names
 pub mod Lines
 pub mod LineViews
 pub mod Words
+pub mod Hex

@@ -1,12 +1,16 @@
 //! Texts: their parts and lines, and the numbers and names in them.
 #![tactic(auto)]
 
+pub mod digits;
+pub mod hex;
 pub mod lines;
 pub mod names;
 pub mod numbers;
 pub mod parts;
 pub mod words;
 
+pub use digits::Decimal;
+pub use hex::{four_digits, one_digit, read_hex};
 pub use lines::{Line, Lines};
 pub use names::is_name;
 pub use numbers::{NumberFault, compare_numbers, is_number, number_up_to};
