@@ -3,3 +3,11 @@ pub mod Joining
 pub mod Ranges
 pub mod Rows
 pub mod JoinRows
+pub mod Last
+pub mod Distinct
+pub mod ClassLaws
+pub mod Listed
+pub mod Growing
+pub mod Made
+pub mod Rising
+pub mod Halves

@@ -74,6 +74,10 @@ slot slots n = slice_index_or slots n Closed
 abbrev pub with_interval : Bound → ℕ → Interval → Bound
 with_interval b r i = record b { registers = slice_set b.registers r i }
 
+-- the bound with a number of the table being otherwise
+abbrev pub with_slot : Bound → ℕ → Slot → Bound
+with_slot b n s = record b { slots = slice_set b.slots n s }
+
 -- what a slot that may be open holds
 abbrev pub held_in : Slot → Option Held
 held_in Closed = None

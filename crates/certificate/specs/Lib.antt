@@ -4,4 +4,10 @@ pub mod Joins
 pub mod OrderLaws
 pub mod JoinLaws
 pub mod Describes
+pub mod Lines
+pub mod Growth
+pub mod Rising
+pub mod Room
 pub mod Views
+pub mod GrowthViews
+pub mod CountViews

@@ -1,5 +1,5 @@
 -- What the values of the code stand for.
-use Rattle.std.specs.Prelude.{ℕ, List, [], map, take}
+use Rattle.std.specs.Prelude.{ℕ, List, map, option_map, take}
 use Rattle.certificate.specs.declared.names.Name.{Name as NameCode}
 use Rattle.certificate.specs.declared.classes.Class.{Class as ClassCode}
 use Rattle.certificate.specs.declared.classes.Class.TheVariants as class
@@ -15,9 +15,12 @@ use Rattle.certificate.specs.declared.bounds.Slot.{Slot as SlotCode}
 use Rattle.certificate.specs.declared.bounds.Slot.TheVariants as slots
 use Rattle.certificate.specs.declared.bounds.Bound.{Bound as BoundCode}
 use Rattle.certificate.specs.declared.bounds.Point.{Point as PointCode}
-use Rattle.certificate.specs.declared.certs.Cert.{Cert as CertCode}
+use Rattle.certificate.specs.declared.lines.Channel.{Channel as ChannelCode}
+use Rattle.certificate.specs.declared.lines.Line.{Line as LineCode}
+use Rattle.certificate.specs.declared.lines.Line.TheVariants as line
 use Rattle.rights.specs.Classes.{Class, Initial, Made_at}
-use Rattle.certificate.specs.Bounds.{ModeBound, Off, On, Either, Interval, Target, In_grant, Any_node, Socket, Unknown, Held, Slot, Closed, Open, Maybe, Bound, PointBound, Certificate}
+use Rattle.certificate.specs.Bounds.{ModeBound, Off, On, Either, Interval, Target, In_grant, Any_node, Socket, Unknown, Held, Slot, Closed, Open, Maybe, Bound, PointBound, ChannelBound, Certificate}
+use Rattle.certificate.specs.Lines.{Line, Begins_block, Bounds_register, Bounds_slot, Bounds_channel}
 
 abbrev pub name_of : NameCode → List ℕ
 name_of n = take n.length n.bytes
@@ -68,5 +71,17 @@ point_of p = record { program = name_of p.program; point = p.point; bound = boun
 abbrev pub points_of : List PointCode → List PointBound
 points_of points = map point_of points
 
-abbrev pub certificate_of : CertCode → Certificate
-certificate_of c = record { points = points_of c.points.items; channels = [] }
+abbrev pub channel_of : ChannelCode → ChannelBound
+channel_of c = record { class = class_of c.class; side = side_of c.side; sends = option_map held_of c.sends }
+
+abbrev pub channels_of : List ChannelCode → List ChannelBound
+channels_of channels = map channel_of channels
+
+abbrev pub certificate_with : List PointCode → List ChannelCode → Certificate
+certificate_with points channels = record { points = points_of points; channels = channels_of channels }
+
+abbrev pub line_of : LineCode → Line
+line_of (line.Block name number m) = Begins_block (name_of name) number (mode_of m)
+line_of (line.Register number values) = Bounds_register number (interval_of values)
+line_of (line.Slot number s) = Bounds_slot number (slot_of s)
+line_of (line.Channel channel) = Bounds_channel (channel_of channel)

@@ -20,8 +20,8 @@ pub enum ModeBound {
 /// The numbers from `low` to `high`, both of them too; there is one.
 #[derive(Clone, Copy, PartialEq, Eq)]
 pub struct Interval {
-    pub low: u32,
-    pub high: u32,
+    pub(crate) low: u32,
+    pub(crate) high: u32,
     pub ghost ordered: { low ≤ high },
 }
 
@@ -41,8 +41,8 @@ pub enum Target {
 /// The sets of rights that have at least those of `least` and at most those of `greatest`; there is one.
 #[derive(Clone, Copy)]
 pub struct RightsRange {
-    pub least: Rights,
-    pub greatest: Rights,
+    pub(crate) least: Rights,
+    pub(crate) greatest: Rights,
     pub ghost nested: { is_within least.0 greatest.0 ≡ true },
     pub ghost known: { is_within greatest.0 all_rights ≡ true },
 }
@@ -50,8 +50,8 @@ pub struct RightsRange {
 /// The sets of fcntl commands that have at least those of `least` and at most those of `greatest`; there is one.
 #[derive(Clone, Copy)]
 pub struct FcntlsRange {
-    pub least: Fcntls,
-    pub greatest: Fcntls,
+    pub(crate) least: Fcntls,
+    pub(crate) greatest: Fcntls,
     pub ghost nested: { is_within least.0 greatest.0 ≡ true },
     pub ghost known: { is_within greatest.0 all_commands ≡ true },
 }
@@ -59,9 +59,9 @@ pub struct FcntlsRange {
 /// A descriptor's bound.
 #[derive(Clone, Copy)]
 pub struct Held {
-    pub target: Target,
-    pub rights: RightsRange,
-    pub fcntls: FcntlsRange,
+    pub(crate) target: Target,
+    pub(crate) rights: RightsRange,
+    pub(crate) fcntls: FcntlsRange,
 }
 
 /// What a number of a process's table may be.
@@ -78,17 +78,17 @@ pub enum Slot {
 /// A bound on a process at a point: its mode, its registers, and its table.
 #[derive(Clone, Copy)]
 pub struct Bound {
-    pub mode: ModeBound,
-    pub registers: [Interval; REGISTERS],
-    pub slots: [Slot; MAX_DESCRIPTORS],
+    pub(crate) mode: ModeBound,
+    pub(crate) registers: [Interval; REGISTERS],
+    pub(crate) slots: [Slot; MAX_DESCRIPTORS],
 }
 
 /// The bound of a point of the program of a name.
 #[derive(Clone, Copy)]
 pub struct Point {
-    pub program: Name,
-    pub point: u8,
-    pub bound: Bound,
+    pub(crate) program: Name,
+    pub(crate) point: u8,
+    pub(crate) bound: Bound,
 }
 
 impl Interval {
@@ -97,11 +97,148 @@ impl Interval {
         low: 0,
         high: 4_294_967_295,
     };
+
+    ghost use Rattle.certificate.specs.Lines.{is_full};
+    ghost use Rattle.certificate.specs.Views.{interval_of};
+
+    /// The interval between these numbers.
+    pub fn new(low: u32, high: u32) -> Interval
+        requires { low ≤ high }
+        ensures { interval_of result ≡ record { low = low; high = high } }
+    {
+        Interval { low, high }
+    }
+
+    /// Its lowest number.
+    pub fn low(&self) -> u32
+        ensures { result ≡ (interval_of self.now).low }
+    {
+        self.low
+    }
+
+    /// Its highest number.
+    pub fn high(&self) -> u32
+        ensures { result ≡ (interval_of self.now).high }
+    {
+        self.high
+    }
+
+    /// Whether it is of all values of a register.
+    pub fn is_full(&self) -> bool
+        ensures { result ≡ is_full (interval_of self.now) }
+    {
+        self.low == Interval::FULL.low && self.high == Interval::FULL.high
+    }
+}
+
+impl RightsRange {
+    /// The sets between these.
+    pub fn new(least: Rights, greatest: Rights) -> RightsRange
+        requires nested { is_within least.0 greatest.0 ≡ true }
+        requires known { is_within greatest.0 all_rights ≡ true }
+        ensures least { result.least ≡ least }
+        ensures greatest { result.greatest ≡ greatest }
+    {
+        RightsRange { least, greatest }
+    }
+
+    /// The rights that each of its sets has.
+    pub fn least(&self) -> Rights
+        ensures { result ≡ self.now.least }
+    {
+        self.least
+    }
+
+    /// The rights that some set of it has.
+    pub fn greatest(&self) -> Rights
+        ensures { result ≡ self.now.greatest }
+    {
+        self.greatest
+    }
+}
+
+impl FcntlsRange {
+    /// The sets between these.
+    pub fn new(least: Fcntls, greatest: Fcntls) -> FcntlsRange
+        requires nested { is_within least.0 greatest.0 ≡ true }
+        requires known { is_within greatest.0 all_commands ≡ true }
+        ensures least { result.least ≡ least }
+        ensures greatest { result.greatest ≡ greatest }
+    {
+        FcntlsRange { least, greatest }
+    }
+
+    /// The commands that each of its sets has.
+    pub fn least(&self) -> Fcntls
+        ensures { result ≡ self.now.least }
+    {
+        self.least
+    }
+
+    /// The commands that some set of it has.
+    pub fn greatest(&self) -> Fcntls
+        ensures { result ≡ self.now.greatest }
+    {
+        self.greatest
+    }
+}
+
+impl Held {
+    ghost use Rattle.certificate.specs.Views.{held_of, target_of};
+
+    /// The bound of a descriptor of this, with rights and fcntl commands in these ranges.
+    pub fn new(target: Target, rights: RightsRange, fcntls: FcntlsRange) -> Held
+        ensures { held_of result ≡ record {
+          target = target_of target;
+          least = rights.least.0;
+          greatest = rights.greatest.0;
+          least_fcntls = fcntls.least.0;
+          greatest_fcntls = fcntls.greatest.0;
+        } }
+    {
+        Held {
+            target,
+            rights,
+            fcntls,
+        }
+    }
+
+    /// What the descriptor is of.
+    pub fn target(&self) -> Target
+        ensures { target_of result ≡ (held_of self.now).target }
+    {
+        self.target
+    }
+
+    /// The rights that it may have.
+    pub fn rights(&self) -> RightsRange
+        ensures { result ≡ self.now.rights }
+    {
+        self.rights
+    }
+
+    /// The fcntl commands that it may have.
+    pub fn fcntls(&self) -> FcntlsRange
+        ensures { result ≡ self.now.fcntls }
+    {
+        self.fcntls
+    }
 }
 
 impl Slot {
     ghost use Rattle.certificate.specs.Bounds.{held_in};
+    ghost use Rattle.certificate.specs.Lines.{is_closed};
     ghost use Rattle.certificate.specs.Views.{held_of, slot_of};
+
+    /// Whether no descriptor has it.
+    pub fn is_closed(&self) -> bool
+        ensures { result ≡ is_closed (slot_of self.now) }
+    {
+        match self {
+            Slot::Closed => true,
+            Slot::Open(_) | Slot::Maybe(_) => false,
+        }
+    }
 
     /// What it holds where it may be open.
     pub fn held(&self) -> Option<Held>
@@ -115,8 +252,63 @@ impl Slot {
 }
 
 impl Bound {
-    ghost use Rattle.certificate.specs.Bounds.{interval, slot, with_interval};
-    ghost use Rattle.certificate.specs.Views.{bound_of, interval_of, slot_of};
+    ghost use Rattle.std.specs.Prelude.{length, map};
+    ghost use Rattle.certificate.specs.Bounds.{interval, slot, with_interval, with_slot};
+    ghost use Rattle.certificate.specs.Growth.{open_bound};
+    ghost use Rattle.certificate.specs.Views.{bound_of, interval_of, mode_of, slot_of};
+
+    /// The bound with this mode, these registers and these slots.
+    pub fn new(
+        mode: ModeBound,
+        registers: [Interval; REGISTERS],
+        slots: [Slot; MAX_DESCRIPTORS],
+    ) -> Bound
+        ensures { bound_of result ≡ record {
+          mode = mode_of mode;
+          registers = map interval_of registers;
+          slots = map slot_of slots;
+        } }
+    {
+        Bound {
+            mode,
+            registers,
+            slots,
+        }
+    }
+
+    /// The bound of a block that begins: full registers and closed slots.
+    pub fn begins(mode: ModeBound) -> Bound
+        ensures { bound_of result ≡ open_bound (mode_of mode) }
+    {
+        Bound {
+            mode,
+            registers: [Interval::FULL; REGISTERS],
+            slots: [Slot::Closed; MAX_DESCRIPTORS],
+        }
+    }
+
+    /// The process's mode.
+    pub fn mode(&self) -> ModeBound
+        ensures { mode_of result ≡ (bound_of self.now).mode }
+    {
+        self.mode
+    }
+
+    /// The intervals of its registers.
+    pub fn registers(&self) -> &[Interval]
+        ensures registers { map interval_of result.now ≡ (bound_of self.now).registers }
+        ensures eight { length result.now ≡ 8 }
+    {
+        &self.registers
+    }
+
+    /// What the numbers of its table may be.
+    pub fn slots(&self) -> &[Slot]
+        ensures slots { map slot_of result.now ≡ (bound_of self.now).slots }
+        ensures sixteen { length result.now ≡ 16 }
+    {
+        &self.slots
+    }
 
     /// The interval of a register; all values of one that isn't there.
     pub fn interval(&self, register: u8) -> Interval
@@ -138,6 +330,13 @@ impl Bound {
         }
     }
 
+    /// The same bound with another mode.
+    pub fn with_mode(&self, mode: ModeBound) -> Bound
+        ensures { bound_of result ≡ record (bound_of self.now) { mode = mode_of mode } }
+    {
+        Bound { mode, ..*self }
+    }
+
     /// The same bound with a register in another interval.
     pub fn with_interval(&self, register: u8, interval: Interval) -> Bound
         ensures { bound_of result
@@ -149,5 +348,54 @@ impl Bound {
             next.registers[register] = interval;
         }
         next
+    }
+
+    /// The same bound with a number of the table being otherwise.
+    pub fn with_slot(&self, number: u8, slot: Slot) -> Bound
+        ensures { bound_of result ≡ with_slot (bound_of self.now) number (slot_of slot) }
+    {
+        let mut next = *self;
+        let number = number as usize;
+        if number < next.slots.len() {
+            next.slots[number] = slot;
+        }
+        next
+    }
+}
+
+impl Point {
+    ghost use Rattle.certificate.specs.Views.{bound_of, name_of, point_of};
+
+    /// The bound of this point of the program of this name.
+    pub fn new(program: Name, point: u8, bound: Bound) -> Point
+        ensures { point_of result
+            ≡ record { program = name_of program; point = point; bound = bound_of bound } }
+    {
+        Point {
+            program,
+            point,
+            bound,
+        }
+    }
+
+    /// The name of its program.
+    pub fn program(&self) -> &Name
+        ensures { name_of result.now ≡ (point_of self.now).program }
+    {
+        &self.program
+    }
+
+    /// Its number in the program.
+    pub fn point(&self) -> u8
+        ensures { result ≡ (point_of self.now).point }
+    {
+        self.point
+    }
+
+    /// The bound on the process there.
+    pub fn bound(&self) -> &Bound
+        ensures { bound_of result.now ≡ (point_of self.now).bound }
+    {
+        &self.bound
     }
 }

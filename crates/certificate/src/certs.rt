@@ -1,39 +1,124 @@
 //! Certificates.
 
-ghost use Rattle.std.specs.Prelude.{◌≡◌, option_map};
-ghost use Rattle.certificate.specs.Bounds.{bound_at, bound_in};
-ghost use Rattle.certificate.specs.Views.{bound_of, certificate_of, points_of};
+ghost use Rattle.std.specs.Prelude.{◌≡◌, option_map, true};
+ghost use Rattle.certificate.specs.Bounds.{bound_in};
+ghost use Rattle.certificate.specs.Rising.{places_of, rises};
+ghost use Rattle.certificate.specs.Views.{bound_of, points_of};
 
 use crate::bounds::{Bound, Point};
+use crate::growth::{classes_with, extend, programs_with, stands};
+use crate::lines::{Channel, Line, Refusal};
+use crate::program_names::ProgramNames;
+use std::alloc::Global;
+use std::cmp::Ordering;
+use std::marker::Model;
 
-/// A certificate. A point that is not listed is claimed not to be reached; of a point that is listed
-/// twice the first bound counts.
+/// A certificate, valid by construction: it is what lines make of nothing, each taken in its place and within the limits. A
+/// point that is not listed is claimed not to be reached. (own)
 #[derive(Drop)]
 pub struct Cert {
-    pub points: Vec<Point>,
+    points: Vec<Point>,
+    channels: Vec<Channel>,
+    programs: ProgramNames,
+    classes: usize,
 }
 
-/// The bound of a point among some.
-#[tactic(auto, unfolding(crate::specs::Bounds::bound_in))]
-fn bound_in<'a>(points: &'a [Point], program: &[u8], point: usize) -> Option<&'a Bound>
+impl Model for Cert {
+    ghost use Rattle.certificate.specs.Bounds.{Certificate};
+
+    ghost Value = { Certificate };
+
+    ghost use Rattle.std.specs.Prelude.{◌≡◌, length};
+    ghost use Rattle.std.specs.Str.{bytes_eq};
+    ghost use Rattle.certificate.specs.Order.{same_class};
+    ghost use Rattle.certificate.specs.Growth.{IsCertificate, classes_of, distinct, programs_of};
+    ghost use Rattle.certificate.specs.Views.{certificate_with};
+    ghost use Rattle.certificate.specs.CountViews.{programs_listed};
+
+    ghost view = { λ c. certificate_with c.points.items c.channels.items };
+
+    ghost invariant = { λ c. IsCertificate (certificate_with c.points.items c.channels.items)
+        × (programs_listed c.programs ≡ distinct bytes_eq (programs_of (certificate_with c.points.items c.channels.items)))
+        × (c.classes ≡ length (distinct same_class (classes_of (certificate_with c.points.items c.channels.items)))) };
+}
+
+/// The bound of a point among some that rise, by halving them.
+fn bound_among<'a>(points: &'a [Point], program: &[u8], point: usize) -> Option<&'a Bound>
+    requires { rises (places_of (points_of points.now)) ≡ true }
     ensures { option_map (λ b. bound_of b.now) result ≡ bound_in (points_of points.now) program.now point }
 {
-    match points {
-        [] => None,
-        [first, rest @ ..] => {
-            if first.program.as_bytes() == program && first.point as usize == point {
-                return Some(&first.bound);
-            }
-            bound_in(rest, program, point)
-        }
+    if points.is_empty() {
+        return None;
+    }
+    let middle = points.len() / 2;
+    let found = &points[middle];
+    match found.program.compare_point(found.point, program, point) {
+        Ordering::Less => bound_among(&points[middle + 1..], program, point),
+        Ordering::Equal => Some(&found.bound),
+        Ordering::Greater => bound_among(&points[..middle], program, point),
     }
 }
 
 impl Cert {
+    ghost use Rattle.std.specs.Prelude.{◌≡◌, option_map, true};
+    ghost use Rattle.certificate.specs.Bounds.{bound_at};
+    ghost use Rattle.certificate.specs.Lines.{is_line};
+    ghost use Rattle.certificate.specs.Growth.{IsCertificate, nothing, taken};
+    ghost use Rattle.certificate.specs.GrowthViews.{Takes};
+    ghost use Rattle.certificate.specs.Views.{bound_of, channels_of, line_of, points_of};
+
+    /// The certificate without lines. Takes no memory.
+    pub fn new(alloc: Global) -> Cert
+        ensures { result ≡ nothing }
+    {
+        Cert {
+            points: Vec::new(alloc),
+            channels: Vec::new(alloc),
+            programs: ProgramNames::new(),
+            classes: 0,
+        }
+    }
+
+    /// Takes a line. Where it is refused the certificate stays as it was: `Limit` comes before `Order`, and `Memory` last.
+    pub fn push(&mut self, line: &Line) -> Result<(), Refusal>
+        requires { is_line (line_of line.now) ≡ true }
+        ensures { Takes result self.old self.new (taken self.old (line_of line.now)) }
+    {
+        let Some(programs) = programs_with(self.programs, line) else {
+            return Err(Refusal::Limit);
+        };
+        let Some(classes) = classes_with(self.classes, &self.channels, line) else {
+            return Err(Refusal::Limit);
+        };
+        if !stands(&self.points, &self.channels, line) {
+            return Err(Refusal::Order);
+        }
+        extend(&mut self.points, &mut self.channels, line)?;
+        self.programs = programs;
+        self.classes = classes;
+        Ok(())
+    }
+
+    /// Its points, rising. Who asks for them learns that it is a certificate.
+    pub fn points(&self) -> &[Point]
+        ensures points { points_of result.now ≡ self.now.points }
+        ensures valid { IsCertificate self.now }
+    {
+        &self.points
+    }
+
+    /// Its channels, rising. Who asks for them learns that it is a certificate.
+    pub fn channels(&self) -> &[Channel]
+        ensures channels { channels_of result.now ≡ self.now.channels }
+        ensures valid { IsCertificate self.now }
+    {
+        &self.channels
+    }
+
     /// The bound of a point of the program of this name, if it has one.
     pub fn bound_at(&self, program: &[u8], point: usize) -> Option<&Bound>
-        ensures { option_map (λ b. bound_of b.now) result ≡ bound_at (certificate_of self.now) program.now point }
+        ensures { option_map (λ b. bound_of b.now) result ≡ bound_at self.now program.now point }
     {
-        bound_in(&self.points, program, point)
+        bound_among(&self.points, program, point)
     }
 }

@@ -6,12 +6,16 @@ pub mod bounds;
 pub mod certs;
 pub mod classes;
 pub mod domain;
+mod growth;
 pub mod laws;
+pub mod lines;
 pub mod names;
 pub mod order;
+mod program_names;
 
 pub use bounds::{Bound, FcntlsRange, Held, Interval, ModeBound, Point, RightsRange, Slot, Target};
 pub use certs::Cert;
 pub use classes::{Class, Pair, Side};
 pub use domain::Domain;
+pub use lines::{Channel, Line, Refusal};
 pub use names::Name;

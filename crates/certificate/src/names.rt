@@ -4,6 +4,7 @@ ghost use Rattle.std.specs.Prelude.{◌≡◌, ◌≤◌, take, true};
 ghost use Rattle.texts.specs.Names.{is_name};
 
 use rights::limits::MAX_WORD;
+use std::cmp::Ordering;
 use texts::is_name;
 
 /// A name of a program or a grant: a letter from a to z, and up to 15 of a to z, 0 to 9 and `_`. (own)
@@ -17,6 +18,7 @@ pub struct Name {
 
 impl Name {
     ghost use Rattle.std.specs.Prelude.{IfSome, None, ◌↔◌, false, length};
+    ghost use Rattle.certificate.specs.Growth.{point_order};
     ghost use Rattle.certificate.specs.Views.{name_of};
 
     /// The name of these bytes.
@@ -49,5 +51,12 @@ impl Name {
         ensures word { is_name result.now ≡ true }
     {
         &self.bytes[..self.length]
+    }
+
+    /// How a point of the program of this name stands to a point of another: by name and then by point.
+    pub(crate) fn compare_point(&self, point: u8, than: &[u8], at: usize) -> Ordering
+        ensures { result ≡ point_order (name_of self.now) point than.now at }
+    {
+        self.as_bytes().cmp(than).then((point as usize).cmp(&at))
     }
 }

@@ -10,10 +10,7 @@ use certificate::Interval;
 pub(crate) fn only(value: u32) -> Interval
     ensures { interval_of result ≡ only value }
 {
-    Interval {
-        low: value,
-        high: value,
-    }
+    Interval::new(value, value)
 }
 
 /// The sums of two values; all values, if a register can't hold the ends.
@@ -21,10 +18,10 @@ pub(crate) fn sums(left: Interval, right: Interval) -> Interval
     ensures { interval_of result ≡ sums (interval_of left) (interval_of right) }
 {
     match (
-        left.low.checked_add(right.low),
-        left.high.checked_add(right.high),
+        left.low().checked_add(right.low()),
+        left.high().checked_add(right.high()),
     ) {
-        (Some(low), Some(high)) => Interval { low, high },
+        (Some(low), Some(high)) => Interval::new(low, high),
         _ => Interval::FULL,
     }
 }
@@ -33,7 +30,7 @@ pub(crate) fn sums(left: Interval, right: Interval) -> Interval
 pub(crate) fn equal_part(interval: Interval, value: u32) -> Option<Interval>
     ensures { option_map interval_of result ≡ equal_part (interval_of interval) value }
 {
-    if interval.low <= value && value <= interval.high {
+    if interval.low() <= value && value <= interval.high() {
         return Some(only(value));
     }
     None
@@ -43,18 +40,13 @@ pub(crate) fn equal_part(interval: Interval, value: u32) -> Option<Interval>
 pub(crate) fn other_part(interval: Interval, value: u32) -> Option<Interval>
     ensures { option_map interval_of result ≡ other_part (interval_of interval) value }
 {
-    if interval.low < value || value < interval.high {
-        if interval.low == value {
-            return Some(Interval {
-                low: interval.low + 1,
-                high: interval.high,
-            });
+    let (low, high) = (interval.low(), interval.high());
+    if low < value || value < high {
+        if low == value {
+            return Some(Interval::new(low + 1, high));
         }
-        if interval.high == value {
-            return Some(Interval {
-                low: interval.low,
-                high: interval.high - 1,
-            });
+        if high == value {
+            return Some(Interval::new(low, high - 1));
         }
         return Some(interval);
     }
@@ -65,11 +57,8 @@ pub(crate) fn other_part(interval: Interval, value: u32) -> Option<Interval>
 pub(crate) fn lower_part(interval: Interval, value: u32) -> Option<Interval>
     ensures { option_map interval_of result ≡ lower_part (interval_of interval) value }
 {
-    if interval.low < value {
-        return Some(Interval {
-            low: interval.low,
-            high: interval.high.min(value - 1),
-        });
+    if interval.low() < value {
+        return Some(Interval::new(interval.low(), interval.high().min(value - 1)));
     }
     None
 }
@@ -78,11 +67,8 @@ pub(crate) fn lower_part(interval: Interval, value: u32) -> Option<Interval>
 pub(crate) fn upper_part(interval: Interval, value: u32) -> Option<Interval>
     ensures { option_map interval_of result ≡ upper_part (interval_of interval) value }
 {
-    if value <= interval.high {
-        return Some(Interval {
-            low: interval.low.max(value),
-            high: interval.high,
-        });
+    if value <= interval.high() {
+        return Some(Interval::new(interval.low().max(value), interval.high()));
     }
     None
 }

@@ -3,7 +3,7 @@
 ghost use Rattle.std.specs.Prelude.{◌≡◌, ◌++◌, ◌+◌, option_map};
 ghost use Rattle.certificate.specs.Bounds.{with_interval};
 ghost use Rattle.certificate.specs.Views.{bound_of, held_of, interval_of};
-ghost use Rattle.checker.specs.Outcomes.{call_error_outcomes, equal_outcomes, error_outcomes, is_covered, is_covered_call, less_outcomes, outcome_to, outcomes, outcomes_in, read_outcomes, success_outcomes};
+ghost use Rattle.checker.specs.Outcomes.{byte_interval, call_error_outcomes, equal_outcomes, error_interval, error_outcomes, is_covered, is_covered_call, less_outcomes, outcome_to, outcomes, outcomes_in, read_interval, read_outcomes, success_outcomes};
 ghost use Rattle.checker.specs.Views.{listed, successes_of};
 ghost use Rattle.prog_asm.specs.Views.{instruction_of, syscall_of};
 
@@ -26,13 +26,25 @@ pub(crate) struct NextPoints {
 }
 
 /// What `in` gives.
-const BYTE: Interval = Interval { low: 0, high: 255 };
+fn byte_interval() -> Interval
+    ensures { interval_of result ≡ byte_interval }
+{
+    Interval::new(0, 255)
+}
 
 /// What `read` gives: a byte, or 256 at the end.
-const READ: Interval = Interval { low: 0, high: 256 };
+fn read_interval() -> Interval
+    ensures { interval_of result ≡ read_interval }
+{
+    Interval::new(0, 256)
+}
 
 /// The numbers of errors.
-const ERRORS: Interval = Interval { low: 1, high: 94 };
+fn error_interval() -> Interval
+    ensures { interval_of result ≡ error_interval }
+{
+    Interval::new(1, 94)
+}
 
 /// Whether the rules cover the call.
 fn is_covered_call(call: &Syscall) -> bool
@@ -132,7 +144,7 @@ fn read(point: u8, bound: &Bound, held: Option<Held>) -> Option<Outcome>
         None => None,
         Some(_) => Some(Outcome {
             point: point as usize + 1,
-            bound: bound.with_interval(0, READ),
+            bound: bound.with_interval(0, read_interval()),
         }),
     }
 }
@@ -143,10 +155,7 @@ fn success(point: u8, bound: &Bound, call: &Syscall) -> Option<Outcome>
 {
     match call {
         Syscall::CapEnter => {
-            let on = Bound {
-                mode: ModeBound::On,
-                ..*bound
-            };
+            let on = bound.with_mode(ModeBound::On);
             Some(Outcome {
                 point: point as usize + 1,
                 bound: on.with_interval(0, only(0)),
@@ -176,7 +185,7 @@ pub(crate) fn successes(point: u8, bound: &Bound, instruction: &Instruction) -> 
             let sums = sums(interval, bound.interval(addend.number()));
             set(point, bound, *register, sums)
         }
-        Instruction::In { register } => set(point, bound, *register, BYTE),
+        Instruction::In { register } => set(point, bound, *register, byte_interval()),
         Instruction::Jmp { target } => jump(bound, *target),
         Instruction::Jeq {
             register,
@@ -207,7 +216,7 @@ fn call_failure(bound: &Bound, call: &Syscall, otherwise: u8) -> Option<Outcome>
         Syscall::Read { descriptor } => match descriptor {
             Operand::Number(_) => Some(Outcome {
                 point: otherwise as usize,
-                bound: bound.with_interval(7, ERRORS),
+                bound: bound.with_interval(7, error_interval()),
             }),
             Operand::Register(_) => None,
         },

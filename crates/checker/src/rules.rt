@@ -1,7 +1,7 @@
 //! The rules at a point of a program.
 
 ghost use Rattle.std.specs.Prelude.{◌≡◌, Some, option_map};
-ghost use Rattle.certificate.specs.Views.{bound_of, certificate_of, held_of, mode_of, target_of};
+ghost use Rattle.certificate.specs.Views.{bound_of, held_of, mode_of, target_of};
 ghost use Rattle.checker.specs.Points.{instruction_at};
 ghost use Rattle.checker.specs.Rules.{all_there, all_within, found_at, found_with, is_known, keeps_known, keeps_policy, keeps_rights, least_broken, may_be_on, read_through, target_lists, tests};
 ghost use Rattle.checker.specs.Views.{finding_of, listed, successes_of};
@@ -27,7 +27,7 @@ pub(crate) enum Finding {
 
 /// Whether an outcome, if there is one, is within the bound of the point that it goes to, if that has one.
 fn is_within(cert: &Cert, name: &[u8], outcome: Option<Outcome>) -> bool
-    ensures { result ≡ all_within (certificate_of cert.now) name.now (listed outcome) }
+    ensures { result ≡ all_within cert.now name.now (listed outcome) }
 {
     match outcome {
         None => true,
@@ -40,7 +40,7 @@ fn is_within(cert: &Cert, name: &[u8], outcome: Option<Outcome>) -> bool
 
 /// Whether the point that an outcome goes to, if there is one, has a bound.
 fn is_there(cert: &Cert, name: &[u8], outcome: Option<Outcome>) -> bool
-    ensures { result ≡ all_there (certificate_of cert.now) name.now (listed outcome) }
+    ensures { result ≡ all_there cert.now name.now (listed outcome) }
 {
     match outcome {
         None => true,
@@ -100,7 +100,7 @@ fn keeps_rights(bound: &Bound, instruction: &Instruction) -> bool
 {
     match read_through(bound, instruction) {
         None => true,
-        Some(held) => held.rights.least.contains(Rights::READ),
+        Some(held) => held.rights().least().contains(Rights::READ),
     }
 }
 
@@ -108,10 +108,10 @@ fn keeps_rights(bound: &Bound, instruction: &Instruction) -> bool
 fn keeps_known(bound: &Bound, instruction: &Instruction) -> bool
     ensures { result ≡ keeps_known (bound_of bound.now) (instruction_of instruction.now) }
 {
-    !may_be_on(bound.mode)
+    !may_be_on(bound.mode())
         || match read_through(bound, instruction) {
             None => true,
-            Some(held) => is_known(&held.target),
+            Some(held) => is_known(&held.target()),
         }
 }
 
@@ -119,10 +119,10 @@ fn keeps_known(bound: &Bound, instruction: &Instruction) -> bool
 fn keeps_policy(task: &Task, bound: &Bound, instruction: &Instruction) -> bool
     ensures { result ≡ keeps_policy task.now (bound_of bound.now) (instruction_of instruction.now) }
 {
-    !may_be_on(bound.mode)
+    !may_be_on(bound.mode())
         || match read_through(bound, instruction) {
             None => true,
-            Some(held) => target_lists(task, Op::Read, &held.target),
+            Some(held) => target_lists(task, Op::Read, &held.target()),
         }
 }
 
@@ -136,7 +136,7 @@ fn broken_with(
     instruction: &Instruction,
     bound: &Bound,
 ) -> Option<u8>
-    ensures { result ≡ least_broken (tests task.now (certificate_of cert.now) program point
+    ensures { result ≡ least_broken (tests task.now cert.now program point
         (instruction_of instruction.now) (bound_of bound.now)) }
 {
     let name = task.program_name(program);
@@ -168,14 +168,14 @@ fn broken_with(
 
 /// Whether all of them are within the bounds of their points.
 fn are_within(cert: &Cert, name: &[u8], successes: NextPoints) -> bool
-    ensures { result ≡ all_within (certificate_of cert.now) name.now (successes_of successes) }
+    ensures { result ≡ all_within cert.now name.now (successes_of successes) }
 {
     is_within(cert, name, successes.first) && is_within(cert, name, successes.second)
 }
 
 /// Whether the points of all of them have bounds.
 fn are_there(cert: &Cert, name: &[u8], successes: NextPoints) -> bool
-    ensures { result ≡ all_there (certificate_of cert.now) name.now (successes_of successes) }
+    ensures { result ≡ all_there cert.now name.now (successes_of successes) }
 {
     is_there(cert, name, successes.first) && is_there(cert, name, successes.second)
 }
@@ -190,7 +190,7 @@ fn found_with(
     instruction: &Instruction,
     bound: &Bound,
 ) -> Option<Finding>
-    ensures { option_map finding_of result ≡ found_with task.now (certificate_of cert.now) program point
+    ensures { option_map finding_of result ≡ found_with task.now cert.now program point
         (Some (instruction_of instruction.now)) (Some (bound_of bound.now)) }
 {
     if !is_covered(instruction) {
@@ -203,7 +203,7 @@ fn found_with(
 /// What is found at a point of a program, if anything is. At a point that isn't one there is nothing to find.
 #[tactic(auto, unfolding(crate::specs::Rules::found_at, crate::specs::Rules::found_with, crate::specs::Rules::tests_without))]
 pub(crate) fn found_at(task: &Task, cert: &Cert, program: u8, point: u8) -> Option<Finding>
-    ensures { option_map finding_of result ≡ found_at task.now (certificate_of cert.now) program point }
+    ensures { option_map finding_of result ≡ found_at task.now cert.now program point }
 {
     let instruction = instruction_at(task, program, point)?;
     match cert.bound_at(task.program_name(program), point as usize) {

@@ -37,7 +37,7 @@ fn registers_describe(intervals: &[Interval], values: &[u32]) -> bool
         [first, rest @ ..] => match values {
             [] => false,
             [value, others @ ..] => {
-                first.low <= *value && *value <= first.high && registers_describe(rest, others)
+                first.low() <= *value && *value <= first.high() && registers_describe(rest, others)
             }
         },
     }
@@ -58,7 +58,7 @@ fn is_side(class: &Class, side: certificate::Side, pair: u8, its: fd_table::Side
     ensures { result ≡ (same_class (Initial pair) (class_of class.now) && (side_seen its == side_of side)) }
 {
     let is_pair = match class {
-        Class::Initial(own) => own.number == pair,
+        Class::Initial(own) => own.number() == pair,
         Class::MadeAt(..) => false,
     };
     is_pair
@@ -101,11 +101,11 @@ fn held_describes(
     ensures { result ≡ held_describes (grant_holds (grants_of grants.now)) (held_of held.now)
         (first_seen (nodes_of nodes.now) (first_descriptor_of descriptor)) }
 {
-    target_describes(grants, nodes, &held.target, descriptor.object)
-        && descriptor.rights.contains(held.rights.least)
-        && held.rights.greatest.contains(descriptor.rights)
-        && descriptor.fcntls.contains(held.fcntls.least)
-        && held.fcntls.greatest.contains(descriptor.fcntls)
+    target_describes(grants, nodes, &held.target(), descriptor.object)
+        && descriptor.rights.contains(held.rights().least())
+        && held.rights().greatest().contains(descriptor.rights)
+        && descriptor.fcntls.contains(held.fcntls().least())
+        && held.fcntls().greatest().contains(descriptor.fcntls)
 }
 
 /// The descriptor of this number, if there is one.
@@ -176,9 +176,9 @@ fn slots_describe(
 fn start_within(task: &Task, bound: &Bound, start: &Start) -> bool
     ensures { result ≡ start_within task.now (bound_of bound.now) (start_of start.now) }
 {
-    mode_describes(bound.mode, start.mode)
-        && registers_describe(&bound.registers, &[0; 8])
-        && slots_describe(task.grants(), task.nodes(), 0, &bound.slots, start)
+    mode_describes(bound.mode(), start.mode)
+        && registers_describe(bound.registers(), &[0; 8])
+        && slots_describe(task.grants(), task.nodes(), 0, bound.slots(), start)
 }
 
 /// Whether it does each of these that starts the program.

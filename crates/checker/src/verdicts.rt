@@ -1,7 +1,6 @@
 //! The verdict.
 
 ghost use Rattle.std.specs.Prelude.{◌≡◌, ◌<◌, ◌≤◌, ℕ, None, Some, MatchOption};
-ghost use Rattle.certificate.specs.Views.{certificate_of};
 ghost use Rattle.checker.specs.Rules.{found_at};
 ghost use Rattle.checker.specs.Verdicts.{IsVerdict, MeetsRules, Yes};
 ghost use Rattle.checker.specs.Views.{finding_of, verdict_of};
@@ -44,9 +43,9 @@ struct Found {
 fn first_found(task: &Task, cert: &Cert, program: u8, points: usize) -> Option<Found>
     requires { points ≤ 256 }
     ensures { MatchOption result
-        ((point : ℕ) → point < points → found_at task.now (certificate_of cert.now) program point ≡ None)
-        (λ found. (found_at task.now (certificate_of cert.now) program found.point ≡ Some (finding_of found.finding))
-        × ((point : ℕ) → point < found.point → found_at task.now (certificate_of cert.now) program point ≡ None)) }
+        ((point : ℕ) → point < points → found_at task.now cert.now program point ≡ None)
+        (λ found. (found_at task.now cert.now program found.point ≡ Some (finding_of found.finding))
+        × ((point : ℕ) → point < found.point → found_at task.now cert.now program point ≡ None)) }
 {
     for point in 0..points {
         let point = point as u8;
@@ -66,7 +65,7 @@ fn first_found(task: &Task, cert: &Cert, program: u8, points: usize) -> Option<F
 /// refused for a missing right or by capability mode, and no descriptor has more rights or commands than
 /// its source. It takes no memory and always answers. (own)
 pub fn check(task: &Task, cert: &Cert) -> Verdict
-    ensures exact { IsVerdict task.now (certificate_of cert.now) (verdict_of result) }
+    ensures exact { IsVerdict task.now cert.now (verdict_of result) }
     ensures sound { verdict_of result ≡ Yes → IsSandboxed task.now }
 {
     for (number, program) in task.programs().iter().enumerate() {

@@ -7,3 +7,4 @@ pub mod Judged
 pub mod Named
 pub mod NamedCertificates
 pub mod Served
+pub mod CertificateViews

@@ -1,10 +1,12 @@
 -- The certificates that the program knows by name. Each bounds points of the program `main`, from 0 on,
 -- with the file as descriptor 2, open.
-use Rattle.std.specs.Prelude.{◌+◌, ℕ, List, [], ◌∷◌, codes, replicate, Option, Some, None, if◌then◌else◌}
+use Rattle.std.specs.Prelude.{◌+◌, ℕ, List, [], ◌∷◌, codes, replicate, Option, Some, None, Result, Ok, Err, if◌then◌else◌}
 use Rattle.std.specs.Str.{bytes_eq}
 use Rattle.rights.specs.Limits.{register_count}
 use Rattle.rights.specs.Sets.{all_rights, all_commands, seek_right}
 use Rattle.certificate.specs.Bounds.{ModeBound, Off, On, Target, In_grant, Any_node, Held, Closed, Open, Bound, PointBound, Certificate, full_interval}
+use Rattle.certificate.specs.Lines.{Line, Begins_block, Bounds_slot}
+use Rattle.certificate.specs.Growth.{Refused, taken}
 
 -- the file, with at least these rights
 abbrev pub file_held : Target → ℕ → Held
@@ -32,6 +34,16 @@ points_with point (mode ∷ modes) held =
 
 abbrev pub certificate_with : List ModeBound → Held → Certificate
 certificate_with modes held = record { points = points_with 0 modes held; channels = [] }
+
+-- its lines, and what lines make of a certificate, each taken by what the lines before it made
+abbrev pub lines_with : ℕ → List ModeBound → Held → List Line
+lines_with point [] held = []
+lines_with point (mode ∷ modes) held = Begins_block (codes "main") point mode ∷ Bounds_slot 2 (Open held) ∷ lines_with (point + 1) modes held
+
+abbrev pub all_taken : Result Certificate Refused → List Line → Result Certificate Refused
+all_taken (Err refused) lines = Err refused
+all_taken (Ok certificate) [] = Ok certificate
+all_taken (Ok certificate) (line ∷ lines) = all_taken (taken certificate line) lines
 
 abbrev pub in_work : Target
 in_work = In_grant (codes "work")

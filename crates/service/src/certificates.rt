@@ -1,12 +1,16 @@
 //! The certificates that the program knows by name, for a program `main` with the file as descriptor 2.
 
-ghost use Rattle.std.specs.Prelude.{◌≡◌, ◌+◌, ◌≤◌, ◌++◌, codes, length, map, true, option_map, IfOk, OnOk};
-ghost use Rattle.service.specs.NamedCertificates.{bound_with, certificate_named, certificate_with, file_held, points_with};
+ghost use Rattle.std.specs.Prelude.{◌≡◌, ◌+◌, ◌≤◌, codes, length, map, true, IfErr, IfOk, Ok, OnOk};
+ghost use Rattle.service.specs.NamedCertificates.{all_taken, certificate_named, certificate_with, file_held, lines_with};
+ghost use Rattle.service.specs.CertificateViews.{Refuses};
 ghost use Rattle.rights.specs.Sets.{all_rights, is_within};
-ghost use Rattle.certificate.specs.Views.{bound_of, certificate_of, held_of, mode_of, name_of, points_of, target_of};
+ghost use Rattle.certificate.specs.Views.{held_of, mode_of, name_of, target_of};
+ghost use Rattle.certificate.specs.Bounds.{Open};
+ghost use Rattle.certificate.specs.Growth.{nothing};
+ghost use Rattle.certificate.specs.Lines.{Bounds_slot, is_line};
 
 use certificate::{
-    Bound, Cert, FcntlsRange, Held, Interval, ModeBound, Name, Point, RightsRange, Slot, Target,
+    Cert, FcntlsRange, Held, Line, ModeBound, Name, Refusal, RightsRange, Slot, Target,
 };
 use rights::{Fcntls, Rights};
 use std::alloc::{AllocError, Global};
@@ -16,66 +20,62 @@ fn file_held(target: Target, least: Rights) -> Held
     requires { is_within least.0 all_rights ≡ true }
     ensures { held_of result ≡ file_held (target_of target) least.0 }
 {
-    Held {
+    Held::new(
         target,
-        rights: RightsRange {
-            least,
-            greatest: Rights::all(),
-        },
-        fcntls: FcntlsRange {
-            least: Fcntls::all(),
-            greatest: Fcntls::all(),
-        },
-    }
+        RightsRange::new(least, Rights::all()),
+        FcntlsRange::new(Fcntls::all(), Fcntls::all()),
+    )
 }
 
-/// A process with this descriptor alone, and any registers.
-fn bound_with(mode: ModeBound, held: Held) -> Bound
-    ensures { bound_of result ≡ bound_with (mode_of mode) (held_of held) }
-{
-    let mut slots = [Slot::Closed; 16];
-    slots[2] = Slot::Open(held);
-    Bound {
-        mode,
-        registers: [Interval::FULL; 8],
-        slots,
-    }
-}
-
-/// Appends the points from one on, in these modes.
+/// Adds the blocks of the points from one on, in these modes, with this descriptor alone and any registers.
 fn push_points(
-    points: &mut Vec<Point>,
+    cert: &mut Cert,
     program: Name,
     point: u8,
     modes: &[ModeBound],
     held: Held,
-) -> Result<(), AllocError>
+) -> Result<(), Refusal>
     requires main { name_of program ≡ codes "main" }
     requires few { point + length modes.now ≤ 255 }
-    ensures { OnOk result (points_of points.new.items
-        ≡ points_of points.old.items ++ points_with point (map mode_of modes.now) (held_of held)) }
+    requires held { is_line (Bounds_slot 2 (Open (held_of held))) ≡ true }
+    ensures ok { OnOk result (all_taken (Ok cert.old) (lines_with point (map mode_of modes.now) (held_of held)) ≡ Ok cert.new) }
+    ensures refused { IfErr result (λ refusal.
+        Refuses refusal (all_taken (Ok cert.old) (lines_with point (map mode_of modes.now) (held_of held)))) }
 {
     match modes {
         [] => Ok(()),
         [mode, rest @ ..] => {
-            points.push(Point {
+            cert.push(&Line::Block {
                 program,
                 point,
-                bound: bound_with(*mode, held),
+                mode: *mode,
             })?;
-            push_points(points, program, point + 1, rest, held)
+            cert.push(&Line::Slot {
+                number: 2,
+                slot: Slot::Open(held),
+            })?;
+            push_points(cert, program, point + 1, rest, held)
         }
     }
 }
 
-/// The certificate with these modes at the points from 0 on.
+/// The certificate with these modes at the points from 0 on. Its lines are in order and within the limits, so that only
+/// memory may be missing.
 fn certificate_with(alloc: Global, modes: &[ModeBound], held: Held) -> Result<Cert, AllocError>
-    requires { length modes.now ≤ 255 }
-    ensures { IfOk result (λ cert. certificate_of cert ≡ certificate_with (map mode_of modes.now) (held_of held)) }
+    requires few { length modes.now ≤ 255 }
+    requires held { is_line (Bounds_slot 2 (Open (held_of held))) ≡ true }
+    requires taken { all_taken (Ok nothing) (lines_with 0 (map mode_of modes.now) (held_of held))
+        ≡ Ok (certificate_with (map mode_of modes.now) (held_of held)) }
+    ensures { IfOk result (λ cert. cert ≡ certificate_with (map mode_of modes.now) (held_of held)) }
 {
-    let mut points = Vec::new(alloc);
-    push_points(&mut points, Name::new(b"main"), 0, modes, held)?;
-    Ok(Cert { points })
+    let mut cert = Cert::new(alloc);
+    match push_points(&mut cert, Name::new(b"main"), 0, modes, held) {
+        Ok(()) => Ok(cert),
+        Err(refusal) => {
+            prove!(matches!(refusal, Refusal::Memory));
+            Err(AllocError)
+        }
+    }
 }
 
 /// Off at first, and on at the two points after it.
@@ -85,7 +85,7 @@ const ENTERED: [ModeBound; 3] = [ModeBound::Off, ModeBound::On, ModeBound::On];
 /// the grant `work`; `thin` has no right to read; `anyw` has any file in place of one of the grant; `wrong`
 /// has the mode off at point 1; and `short` has no bound at point 2.
 pub fn certificate_named(alloc: Global, name: &str) -> Result<Option<Cert>, AllocError>
-    ensures { IfOk result (λ found. option_map certificate_of found ≡ certificate_named name.now) }
+    ensures { IfOk result (λ found. found ≡ certificate_named name.now) }
 {
     let work = Target::InGrant(Name::new(b"work"));
     match name {

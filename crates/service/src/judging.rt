@@ -4,7 +4,6 @@ ghost use Rattle.std.specs.Prelude.{◌≡◌, ◌<◌, ◌⊎◌, ◌-◌, ◌^
 ghost use Rattle.service.specs.Judged.{ChecksNamed, Judges, no_at, verdict_status, verdict_text};
 ghost use Rattle.service.specs.Named.{plan_named};
 ghost use Rattle.service.specs.NamedCertificates.{certificate_named};
-ghost use Rattle.certificate.specs.Views.{certificate_of};
 ghost use Rattle.service.specs.Fails.{Fails};
 ghost use Rattle.service.specs.Faults.{No_file, No_memory, Refused};
 ghost use Rattle.service.specs.FaultViews.{fault_of};
@@ -72,7 +71,7 @@ fn text_of_verdict(alloc: Global, task: &Task, verdict: Verdict) -> Result<Vec<u
 /// `Device`, after a failure of the writer, and `Memory`. (own)
 pub fn judge<W: Out>(alloc: Global, task: &Task, cert: &Cert, out: &mut W) -> Result<u8, Stop>
     requires { W.faults out.old < 2 ^ 64 - 1 }
-    ensures judged { IfOk result (λ status. Judges task.now (certificate_of cert.now) status (W.taken out.old) (W.taken out.new)) }
+    ensures judged { IfOk result (λ status. Judges task.now cert.now status (W.taken out.old) (W.taken out.new)) }
     ensures device { IsErrOf result Stop.Device → W.faults out.old < W.faults out.new }
     ensures not_spent { IsErrOf result Stop.Spent → ⊥ }
 {
@@ -95,7 +94,7 @@ pub(crate) fn named(alloc: Global, name: &str) -> Result<Task, Fault<'_>>
 
 /// The certificate of this name, likewise.
 fn certificate(alloc: Global, name: &str) -> Result<Cert, Fault<'_>>
-    ensures found { IfOk result (λ cert. certificate_named name.now ≡ Some (certificate_of cert)) }
+    ensures found { IfOk result (λ cert. certificate_named name.now ≡ Some cert) }
     ensures missing { IfErr result (λ fault. (fault_of fault ≡ No_memory) ⊎ ((fault_of fault ≡ Refused (No_file name.now)) × (certificate_named name.now ≡ None))) }
 {
     match certificate_named(alloc, name)? {

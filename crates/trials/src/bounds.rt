@@ -15,7 +15,7 @@ fn names_are_words(rt: HostRuntime) {
 fn modes_and_intervals(rt: HostRuntime) {
     assert!(rt; ModeBound::On.within(&ModeBound::Either));
     assert!(rt; !ModeBound::Either.within(&ModeBound::On));
-    let byte = Interval { low: 0, high: 255 };
+    let byte = Interval::new(0, 255);
     assert!(rt; byte.within(&Interval::FULL));
     assert!(rt; !Interval::FULL.within(&byte));
 }

@@ -1,7 +1,6 @@
 use Rattle.std.proofs.Common.{◌≡◌, ℕ, ◌+◌, ◌<◌, ◌≤◌, ◌⊎◌, inl, inr, arith, ap, sym, ◌∙◌, subst, length}
 use Rattle.std.specs.Prelude.{None}
 use Rattle.std.proofs.Math.ListN.{length-map}
-use Rattle.certificate.specs.Views.{certificate_of}
 use Rattle.prog_asm.specs.Views.{instruction_of}
 use Rattle.kernel.proofs.Fresh.{lt_or_le}
 use Rattle.task.specs.Views.{program_of}
@@ -23,19 +22,19 @@ loop-number-preserved c = λ p k below. at p k below (lt_or_le p c.loop-number.n
     many : length c.code.result.now ≡ length c.program-item.result.program
     many = sym (length-map c.code.result.now instruction_of) ∙ ap length c.code.ensures.value
 
-    here : (k : ℕ) → (k < length c.code.result.now) ⊎ (length c.code.result.now ≤ k) → found_at c.args.task.now (certificate_of c.args.cert.now) c.loop-number.number k ≡ None
+    here : (k : ℕ) → (k < length c.code.result.now) ⊎ (length c.code.result.now ≤ k) → found_at c.args.task.now c.args.cert.now c.loop-number.number k ≡ None
     here k (inl within) = c.in_default.ensures k within
     here k (inr past) =
-        past_points c.args.task.now (certificate_of c.args.cert.now) c.programs-program-items.result.now c.loop-number.number k c.program-item.result
+        past_points c.args.task.now c.args.cert.now c.programs-program-items.result.now c.loop-number.number k c.program-item.result
         c.programs-program-items.ensures.programs c.loop-number-test.true c.program-item.is (omega (arith, past, many))
 
-    at : (p k : ℕ) → p < c.loop-number.number + 1 → (p < c.loop-number.number) ⊎ (c.loop-number.number ≤ p) → found_at c.args.task.now (certificate_of c.args.cert.now) p k ≡ None
+    at : (p k : ℕ) → p < c.loop-number.number + 1 → (p < c.loop-number.number) ⊎ (c.loop-number.number ≤ p) → found_at c.args.task.now c.args.cert.now p k ≡ None
     at p k below (inl before) = c.loop-number.invariant p k before
     at p k below (inr from) =
         let same : c.loop-number.number ≡ p = omega (arith, below, from) in
-        subst (λ n. found_at c.args.task.now (certificate_of c.args.cert.now) n k ≡ None) same (here k (lt_or_le k (length c.code.result.now)))
+        subst (λ n. found_at c.args.task.now c.args.cert.now n k ≡ None) same (here k (lt_or_le k (length c.code.result.now)))
 
-meets : (c : goal.After-loop-number) → MeetsRules c.args.task.now (certificate_of c.args.cert.now)
+meets : (c : goal.After-loop-number) → MeetsRules c.args.task.now c.args.cert.now
 meets c = λ program point. at program point (lt_or_le program c.loop-number.number)
   where
     many : length c.args.task.now.programs ≤ c.loop-number.number
@@ -43,13 +42,13 @@ meets c = λ program point. at program point (lt_or_le program c.loop-number.num
         let same : length c.programs-program-items.result.now ≡ length c.args.task.now.programs = sym (length-map c.programs-program-items.result.now program_of) ∙ ap length c.programs-program-items.ensures.programs in
         omega (arith, same, c.loop-number-test.false)
 
-    at : (program point : ℕ) → (program < c.loop-number.number) ⊎ (c.loop-number.number ≤ program) → found_at c.args.task.now (certificate_of c.args.cert.now) program point ≡ None
+    at : (program point : ℕ) → (program < c.loop-number.number) ⊎ (c.loop-number.number ≤ program) → found_at c.args.task.now c.args.cert.now program point ≡ None
     at program point (inl before) = c.loop-number.invariant program point before
-    at program point (inr from) = past_programs c.args.task.now (certificate_of c.args.cert.now) program point (omega (arith, from, many))
+    at program point (inr from) = past_programs c.args.task.now c.args.cert.now program point (omega (arith, from, many))
 
 pub returns-clause-exact : goal.returns-clause-exact
 returns-clause-exact c = meets c
 
 pub returns-clause-sound : goal.returns-clause-sound
 returns-clause-sound c = λ yes.
-    sound c.args.task.now (certificate_of c.args.cert.now) c.programs-program-items.ensures.valid (meets c)
+    sound c.args.task.now c.args.cert.now c.programs-program-items.ensures.valid (meets c)

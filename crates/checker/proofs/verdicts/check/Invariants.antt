@@ -1,9 +1,8 @@
 use Rattle.std.proofs.Common.{◌≡◌, ◌<◌, ℕ}
 use Rattle.std.specs.Prelude.{None}
-use Rattle.certificate.specs.Views.{certificate_of}
 use Rattle.checker.specs.Rules.{found_at}
 use Rattle.checker.proofs.verdicts.check.Given as goal
 
 -- nothing is found at any point of the programs so far
 abbrev pub invariant-loop-number : goal.invariant-loop-number
-invariant-loop-number l = (p k : ℕ) → p < l.number → found_at l.task (certificate_of l.cert) p k ≡ None
+invariant-loop-number l = (p k : ℕ) → p < l.number → found_at l.task l.cert p k ≡ None

@@ -1,9 +1,8 @@
 use Rattle.std.proofs.Common.{◌≡◌, ◌<◌, ℕ}
 use Rattle.std.specs.Prelude.{None}
-use Rattle.certificate.specs.Views.{certificate_of}
 use Rattle.checker.specs.Rules.{found_at}
 use Rattle.checker.proofs.verdicts.first_found.Given as goal
 
 -- nothing is found at the points so far
 abbrev pub invariant-loop-point : goal.invariant-loop-point
-invariant-loop-point l = (k : ℕ) → k < l.point → found_at l.task (certificate_of l.cert) l.program k ≡ None
+invariant-loop-point l = (k : ℕ) → k < l.point → found_at l.task l.cert l.program k ≡ None

@@ -1,0 +1,62 @@
+use Rattle.std.proofs.Common.{◌≡◌, ◌≤◌, ◌∙◌, ap, sym, refl, subst, length, ℕ, List}
+use Rattle.std.specs.Prelude.{Option, Some, None, Ok, option_map}
+use Rattle.certificate.specs.declared.bounds.Point.{Point}
+use Rattle.certificate.specs.declared.lines.Channel.{Channel}
+use Rattle.certificate.specs.Bounds.{ChannelBound}
+use Rattle.certificate.specs.Lines.{Line}
+use Rattle.certificate.specs.Order.{same_class}
+use Rattle.certificate.specs.Growth.{classes_in, classes_in_line, distinct, most_classes, stands, taken}
+use Rattle.certificate.specs.Room.{listed_with}
+use Rattle.certificate.specs.Views.{certificate_with, channels_of, line_of}
+use Rattle.certificate.proofs.Growing.{classes_few, room_no_class, room_no_program, room_yes, taken_no_room, taken_ok, taken_out_of_order}
+use Rattle.certificate.proofs.Made.{grown}
+use Rattle.certificate.proofs.certs.Cert.push.Goals as goal
+
+abbrev counted : Line → List ChannelBound → Option ℕ
+counted line channels = option_map length (listed_with same_class most_classes (distinct same_class (classes_in channels)) (classes_in_line line))
+
+pub returns-in_default : goal.returns-in_default
+returns-in_default c =
+    let line = line_of c.args.line.now in
+    let old = certificate_with c.self.inside.points.items c.self.inside.channels.items in
+    (ap (λ v. taken v line) (sym c.self.view_is) ∙ taken_no_room old line (room_no_program old line _ c.self.invariant.1 c.in_default.ensures), refl)
+
+pub classes_with-requires-clause-few : goal.classes_with-requires-clause-few
+classes_with-requires-clause-few c = subst (λ n. n ≤ 32) (sym c.self.invariant.2) (classes_few _ c.self.invariant.0)
+
+pub returns-in_default-classes_with : goal.returns-in_default-classes_with
+returns-in_default-classes_with c =
+    let line = line_of c.args.line.now in
+    let old = certificate_with c.self.inside.points.items c.self.inside.channels.items in
+    let asked = subst (λ channels. None ≡ counted line (channels_of channels)) c.deref.ensures.value c.in_default-classes_with.ensures in
+    (ap (λ v. taken v line) (sym c.self.view_is) ∙ taken_no_room old line (room_no_class old line asked), refl)
+
+pub returns-then-not-stands : goal.returns-then-not-stands
+returns-then-not-stands c =
+    let line = line_of c.args.line.now in
+    let old = certificate_with c.self.inside.points.items c.self.inside.channels.items in
+    let asked = subst (λ channels. Some c.in-Some-classes_with.classes ≡ counted line (channels_of channels)) c.deref.ensures.value c.in-Some-classes_with.ensures in
+    let has = room_yes old line _ _ _ c.self.invariant.1 c.in-Some.ensures asked in
+    let here = ap (λ (lists : List Point × List Channel). stands (certificate_with lists.0 lists.1) line) (λ i. (c.deref-2.ensures.value i, c.deref-3.ensures.value i)) in
+    let astray = sym here ∙ sym c.stands.ensures ∙ c.if-not-stands.true in
+    (ap (λ v. taken v line) (sym c.self.view_is) ∙ taken_out_of_order old line has.room astray, refl)
+
+pub invariant_of-self-2 : goal.invariant_of-self-2
+invariant_of-self-2 c =
+    let line = line_of c.args.line.now in
+    let old = certificate_with c.self.inside.points.items c.self.inside.channels.items in
+    let asked = subst (λ channels. Some c.in-Some-classes_with.classes ≡ counted line (channels_of channels)) c.deref.ensures.value c.in-Some-classes_with.ensures in
+    let has = room_yes old line _ _ _ c.self.invariant.1 c.in-Some.ensures asked in
+    let here = ap (λ (lists : List Point × List Channel). stands (certificate_with lists.0 lists.1) line) (λ i. (c.deref-2.ensures.value i, c.deref-3.ensures.value i)) in
+    let place = sym here ∙ sym c.stands.ensures ∙ c.if-not-stands.false in
+    grown old _ line _ _ c.self.invariant.0 c.requires has place c.in_ok-extend.ensures.ok
+
+pub returns : goal.returns
+returns c =
+    let line = line_of c.args.line.now in
+    let old = certificate_with c.self.inside.points.items c.self.inside.channels.items in
+    let asked = subst (λ channels. Some c.in-Some-classes_with.classes ≡ counted line (channels_of channels)) c.deref.ensures.value c.in-Some-classes_with.ensures in
+    let has = room_yes old line _ _ _ c.self.invariant.1 c.in-Some.ensures asked in
+    let here = ap (λ (lists : List Point × List Channel). stands (certificate_with lists.0 lists.1) line) (λ i. (c.deref-2.ensures.value i, c.deref-3.ensures.value i)) in
+    let place = sym here ∙ sym c.stands.ensures ∙ c.if-not-stands.false in
+    ap (λ v. taken v line) (sym c.self.view_is) ∙ taken_ok old line has.room place ∙ ap Ok (sym c.in_ok-extend.ensures.ok)

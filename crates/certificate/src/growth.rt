@@ -1,0 +1,233 @@
+//! How a certificate grows by a line: whether there is room for it, whether it stands in its place, and what it adds.
+
+ghost use Rattle.std.specs.Prelude.{◌≡◌, ◌≤◌, length, map, option_map, IfErr, OnErr, OnOk};
+ghost use Rattle.std.specs.List.{list_any};
+ghost use Rattle.std.specs.Str.{bytes_eq};
+ghost use Rattle.rights.specs.Limits.{most_programs};
+ghost use Rattle.certificate.specs.Order.{same_class};
+ghost use Rattle.certificate.specs.Bounds.{with_interval, with_slot};
+ghost use Rattle.certificate.specs.Lines.{is_closed, is_full};
+ghost use Rattle.certificate.specs.Growth.{above_blocks, above_channels, all_from, classes_in, classes_in_line, distinct, may_bound_register, may_bound_slot, most_classes, on_last, programs_in_line, programs_of_class, programs_of_held, stands, with_line};
+ghost use Rattle.certificate.specs.Room.{listed_with};
+ghost use Rattle.certificate.specs.CountViews.{programs_listed};
+ghost use Rattle.certificate.specs.Views.{certificate_with, channel_of, channels_of, class_of, held_of, interval_of, line_of, name_of, points_of, slot_of};
+ghost use Rattle.certificate.specs.declared.lines.Refusal.TheVariants as refusal;
+
+use crate::bounds::{Bound, Held, Interval, Point, Slot, Target};
+use crate::classes::Class;
+use crate::lines::{Channel, Line, Refusal};
+use crate::names::Name;
+use crate::program_names::ProgramNames;
+
+/// The classes that a certificate's channels may be of.
+const MAX_CLASSES: usize = 32;
+
+/// The names with that of a class's program, if it has one.
+fn with_class(programs: ProgramNames, class: Class) -> Option<ProgramNames>
+    ensures { option_map programs_listed result
+        ≡ listed_with bytes_eq most_programs (programs_listed programs) (programs_of_class (class_of class)) }
+{
+    match class {
+        Class::Initial(_) => Some(programs),
+        Class::MadeAt(program, _) => programs.with(&program),
+    }
+}
+
+/// The names with that of the program that made the pairs of which a descriptor is an end.
+fn with_held(programs: ProgramNames, held: Option<Held>) -> Option<ProgramNames>
+    ensures { option_map programs_listed result
+        ≡ listed_with bytes_eq most_programs (programs_listed programs) (programs_of_held (option_map held_of held)) }
+{
+    let Some(held) = held else {
+        return Some(programs);
+    };
+    if let Target::Socket(class, _) = held.target {
+        return with_class(programs, class);
+    }
+    Some(programs)
+}
+
+/// The programs that are named once the line is taken, if there is room for their names.
+pub(crate) fn programs_with(programs: ProgramNames, line: &Line) -> Option<ProgramNames>
+    ensures { option_map programs_listed result
+        ≡ listed_with bytes_eq most_programs (programs_listed programs) (programs_in_line (line_of line.now)) }
+{
+    match line {
+        Line::Block { program, .. } => programs.with(program),
+        Line::Register { .. } => Some(programs),
+        Line::Slot { slot, .. } => with_held(programs, slot.held()),
+        Line::Channel(channel) => with_held(with_class(programs, channel.class)?, channel.sends),
+    }
+}
+
+/// Whether a channel is of this class.
+fn has_class(channels: &[Channel], class: Class) -> bool
+    ensures { result ≡ list_any (λ y. same_class y (class_of class)) (classes_in (channels_of channels.now)) }
+{
+    for channel in channels {
+        if channel.class.is(&class) {
+            return true;
+        }
+    }
+    false
+}
+
+/// How many classes the channels are of once the line is taken, if they are no more than 32.
+pub(crate) fn classes_with(classes: usize, channels: &[Channel], line: &Line) -> Option<usize>
+    requires counted { classes ≡ length (distinct same_class (classes_in (channels_of channels.now))) }
+    requires few { classes ≤ 32 }
+    ensures { result ≡ option_map length (listed_with same_class most_classes
+        (distinct same_class (classes_in (channels_of channels.now))) (classes_in_line (line_of line.now))) }
+{
+    let Line::Channel(channel) = line else {
+        return Some(classes);
+    };
+    if has_class(channels, channel.class) {
+        return Some(classes);
+    }
+    if classes == MAX_CLASSES {
+        return None;
+    }
+    Some(classes + 1)
+}
+
+/// Whether the block of a point may stand behind these.
+fn is_above_blocks(points: &[Point], program: &Name, point: u8) -> bool
+    ensures { result ≡ above_blocks (points_of points.now) (name_of program.now) point }
+{
+    match points.split_last() {
+        None => true,
+        Some((last, _)) => last
+            .program
+            .compare_point(last.point, program.as_bytes(), point as usize)
+            .is_lt(),
+    }
+}
+
+/// Whether a channel may stand behind these.
+fn is_above_channels(channels: &[Channel], channel: &Channel) -> bool
+    ensures { result ≡ above_channels (channels_of channels.now) (channel_of channel.now) }
+{
+    match channels.split_last() {
+        None => true,
+        Some((last, _)) => last.compare(channel).is_lt(),
+    }
+}
+
+/// Whether all intervals from this one on are full.
+fn are_full(registers: &[Interval], from: usize) -> bool
+    ensures { result ≡ all_from is_full from (map interval_of registers.now) }
+{
+    let mut at = from;
+    while at < registers.len() {
+        if !registers[at].is_full() {
+            return false;
+        }
+        at += 1;
+    }
+    true
+}
+
+/// Whether all slots from this one on are closed.
+fn are_closed(slots: &[Slot], from: usize) -> bool
+    ensures { result ≡ all_from is_closed from (map slot_of slots.now) }
+{
+    let mut at = from;
+    while at < slots.len() {
+        if !slots[at].is_closed() {
+            return false;
+        }
+        at += 1;
+    }
+    true
+}
+
+/// Whether a register of the last block may be bounded.
+fn may_bound_register(points: &[Point], register: u8) -> bool
+    ensures { result ≡ may_bound_register (points_of points.now) register }
+{
+    match points.split_last() {
+        None => false,
+        Some((last, _)) => {
+            are_full(&last.bound.registers, register as usize) && are_closed(&last.bound.slots, 0)
+        }
+    }
+}
+
+/// Whether a slot of the last block may be bounded.
+fn may_bound_slot(points: &[Point], number: u8) -> bool
+    ensures { result ≡ may_bound_slot (points_of points.now) number }
+{
+    match points.split_last() {
+        None => false,
+        Some((last, _)) => are_closed(&last.bound.slots, number as usize),
+    }
+}
+
+/// Whether the line stands in its place behind those that made these points and channels.
+pub(crate) fn stands(points: &[Point], channels: &[Channel], line: &Line) -> bool
+    ensures { result ≡ stands (certificate_with points.now channels.now) (line_of line.now) }
+{
+    match line {
+        Line::Block { program, point, .. } => {
+            channels.is_empty() && is_above_blocks(points, program, *point)
+        }
+        Line::Register { register, .. } => {
+            channels.is_empty() && may_bound_register(points, *register)
+        }
+        Line::Slot { number, .. } => channels.is_empty() && may_bound_slot(points, *number),
+        Line::Channel(channel) => is_above_channels(channels, channel),
+    }
+}
+
+/// Bounds a register of the last block.
+fn bound_register(points: &mut [Point], register: u8, interval: Interval)
+    ensures { points_of points.new
+        ≡ on_last (λ b. with_interval b register (interval_of interval)) (points_of points.old) }
+{
+    let count = points.len();
+    if count > 0 {
+        points[count - 1].bound = points[count - 1].bound.with_interval(register, interval);
+    }
+}
+
+/// Bounds a slot of the last block.
+fn bound_slot(points: &mut [Point], number: u8, slot: Slot)
+    ensures { points_of points.new ≡ on_last (λ b. with_slot b number (slot_of slot)) (points_of points.old) }
+{
+    let count = points.len();
+    if count > 0 {
+        points[count - 1].bound = points[count - 1].bound.with_slot(number, slot);
+    }
+}
+
+/// Adds what the line says. A refused growth changes nothing.
+pub(crate) fn extend(
+    points: &mut Vec<Point>,
+    channels: &mut Vec<Channel>,
+    line: &Line,
+) -> Result<(), Refusal>
+    ensures ok { OnOk result (certificate_with points.new.items channels.new.items
+        ≡ with_line (certificate_with points.old.items channels.old.items) (line_of line.now)) }
+    ensures err { OnErr result (certificate_with points.new.items channels.new.items
+        ≡ certificate_with points.old.items channels.old.items) }
+    ensures memory { IfErr result (λ reason. reason ≡ refusal.Memory) }
+{
+    match line {
+        Line::Block {
+            program,
+            point,
+            mode,
+        } => points.push(Point {
+            program: *program,
+            point: *point,
+            bound: Bound::begins(*mode),
+        })?,
+        Line::Register { register, interval } => {
+            bound_register(points.as_mut_slice(), *register, *interval);
+        }
+        Line::Slot { number, slot } => bound_slot(points.as_mut_slice(), *number, *slot),
+        Line::Channel(channel) => channels.push(*channel)?,
+    }
+    Ok(())
+}
