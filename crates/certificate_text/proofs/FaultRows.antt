@@ -1,0 +1,106 @@
+-- Faulty bytes, the fault of each, and where its line begins, by computation.
+use Rattle.std.proofs.Common.{◌≡◌, refl}
+use Rattle.std.specs.Prelude.{ℕ, List, [], ◌∷◌, ◌++◌, codes, length, take, Ok}
+use Rattle.certificate_text.specs.Faults.{Fault, Syntax, Limit, Order}
+use Rattle.certificate.specs.Growth.{taken, distinct_behind, above_blocks, above_channels, may_bound_register, may_bound_slot, all_from, on_last}
+use Rattle.certificate_text.specs.Readings.{Reading, certificate_of_text, fails, line_of_text, read_behind}
+use Rattle.certificate_text.proofs.Samples.{block_0, block_1, block_2, text, three_blocks}
+
+without_its_last_byte : certificate_of_text (take 260 three_blocks) ≡ fails Syntax 257
+unfolding certificate_of_text read_behind line_of_text taken distinct_behind above_blocks above_channels may_bound_register may_bound_slot all_from on_last
+without_its_last_byte = refl
+
+a_byte_more : certificate_of_text (three_blocks ++ codes "x") ≡ fails Syntax 261
+unfolding certificate_of_text read_behind line_of_text taken distinct_behind above_blocks above_channels may_bound_register may_bound_slot all_from on_last
+a_byte_more = refl
+
+a_line_feed_more : certificate_of_text (three_blocks ++ 10 ∷ []) ≡ fails Syntax 261
+unfolding certificate_of_text read_behind line_of_text taken distinct_behind above_blocks above_channels may_bound_register may_bound_slot all_from on_last
+a_line_feed_more = refl
+
+blocks_exchanged : certificate_of_text (text (codes "capcert 1" ∷ (block_1 ++ block_0 ++ block_2 ++ codes "end" ∷ []))) ≡ fails Order 92
+unfolding certificate_of_text read_behind line_of_text taken distinct_behind above_blocks above_channels may_bound_register may_bound_slot all_from on_last
+blocks_exchanged = refl
+
+nothing_at_all : certificate_of_text [] ≡ fails Syntax 0
+unfolding certificate_of_text read_behind line_of_text taken distinct_behind above_blocks above_channels may_bound_register may_bound_slot all_from on_last
+nothing_at_all = refl
+
+end_missing : certificate_of_text (codes "capcert 1" ++ 10 ∷ []) ≡ fails Syntax 10
+unfolding certificate_of_text read_behind line_of_text taken distinct_behind above_blocks above_channels may_bound_register may_bound_slot all_from on_last
+end_missing = refl
+
+another_version : certificate_of_text (text (codes "capcert 2" ∷ codes "end" ∷ [])) ≡ fails Syntax 0
+unfolding certificate_of_text read_behind line_of_text taken distinct_behind above_blocks above_channels may_bound_register may_bound_slot all_from on_last
+another_version = refl
+
+-- the lines behind the first one
+abbrev of_lines : List (List ℕ) → Reading
+of_lines lines = certificate_of_text (text (codes "capcert 1" ∷ (lines ++ codes "end" ∷ [])))
+
+first_line_again : of_lines (codes "capcert 1" ∷ []) ≡ fails Syntax 10
+unfolding certificate_of_text read_behind line_of_text taken distinct_behind above_blocks above_channels may_bound_register may_bound_slot all_from on_last
+first_line_again = refl
+
+-- a line of a block that begins at 10; the line's offset is 24
+abbrev in_block : List ℕ → Reading
+in_block line = of_lines (codes "at main 0 off" ∷ line ∷ [])
+
+-- form
+forms :
+    (of_lines (codes "at main 0 of" ∷ []) ≡ fails Syntax 10) × (of_lines (codes "at Main 0 off" ∷ []) ≡ fails Syntax 10)
+    × (of_lines (codes "at main 00 off" ∷ []) ≡ fails Syntax 10) × (of_lines (codes "at main 0  off" ∷ []) ≡ fails Syntax 10)
+    × (of_lines (codes "at main 0" ∷ []) ≡ fails Syntax 10) × (of_lines (codes "at main 0 off " ∷ []) ≡ fails Syntax 10)
+    × (in_block (codes "r0 1") ≡ fails Syntax 24) × (in_block (codes "r 0 1") ≡ fails Syntax 24) × (in_block (codes "r00 0 1") ≡ fails Syntax 24)
+    × (in_block (codes "r0 0 4294967295") ≡ fails Syntax 24) × (in_block (codes "r0 2 1") ≡ fails Syntax 24)
+    × (in_block (codes "fd 2 any 0000 3fff 0 3") ≡ fails Syntax 24) × (in_block (codes "fd 2 open any 0000 3fff 0") ≡ fails Syntax 24)
+    × (in_block (codes "fd 2 open any 000 3fff 0 3") ≡ fails Syntax 24) × (in_block (codes "fd 2 open any 0000 3FFF 0 3") ≡ fails Syntax 24)
+    × (in_block (codes "fd 2 open any 0002 0001 3 3") ≡ fails Syntax 24) × (in_block (codes "fd 2 open any 0000 4000 0 3") ≡ fails Syntax 24)
+    × (in_block (codes "fd 2 open any 0000 3fff 0 4") ≡ fails Syntax 24) × (in_block (codes "fd 2 open any 0000 3fff 3 0") ≡ fails Syntax 24)
+    × (in_block (codes "fd 2 open sock 0 a 0000 3fff 0 3") ≡ fails Syntax 24) × (in_block (codes "fd 2 open sock @0 c 0000 3fff 0 3") ≡ fails Syntax 24)
+    × (in_block (codes "fd 2 open none") ≡ fails Syntax 24) × (in_block (codes "chan @0 a") ≡ fails Syntax 24)
+    × (in_block (codes "chan @0 a none none") ≡ fails Syntax 24) × (in_block (codes "chan main:0:0 a none") ≡ fails Syntax 24)
+    × (in_block []  ≡ fails Syntax 24) × (in_block (codes "auth main") ≡ fails Syntax 24)
+unfolding certificate_of_text read_behind line_of_text taken distinct_behind above_blocks above_channels may_bound_register may_bound_slot all_from on_last
+forms = (refl, refl, refl, refl, refl, refl, refl, refl, refl, refl, refl, refl, refl, refl, refl, refl, refl, refl, refl, refl, refl, refl, refl, refl, refl, refl, refl)
+
+-- limits, told behind what has no form
+limits :
+    (of_lines (codes "at main 256 off" ∷ []) ≡ fails Limit 10) × (of_lines (codes "at main 256 of" ∷ []) ≡ fails Syntax 10)
+    × (in_block (codes "r8 0 1") ≡ fails Limit 24) × (in_block (codes "r9 0 4294967295") ≡ fails Syntax 24)
+    × (in_block (codes "r0 0 4294967296") ≡ fails Limit 24) × (in_block (codes "r0 5000000000 4999999999") ≡ fails Syntax 24)
+    × (in_block (codes "r0 99999999999999999999 100000000000000000000") ≡ fails Limit 24)
+    × (in_block (codes "fd 16 open any 0000 3fff 0 3") ≡ fails Limit 24) × (in_block (codes "fd 16 open any 0000 3fff 0 9") ≡ fails Syntax 24)
+    × (in_block (codes "fd 2 open sock @32 a 0000 3fff 0 3") ≡ fails Limit 24) × (in_block (codes "fd 2 open sock main:256 a 0000 3fff 0 3") ≡ fails Limit 24)
+    × (in_block (codes "chan @32 a none") ≡ fails Limit 24) × (in_block (codes "chan main:256 a none") ≡ fails Limit 24)
+    × (in_block (codes "chan @32 c none") ≡ fails Syntax 24)
+unfolding certificate_of_text read_behind line_of_text taken distinct_behind above_blocks above_channels may_bound_register may_bound_slot all_from on_last
+limits = (refl, refl, refl, refl, refl, refl, refl, refl, refl, refl, refl, refl, refl, refl)
+
+-- places
+places :
+    (of_lines (codes "r0 0 1" ∷ []) ≡ fails Order 10) × (of_lines (codes "fd 0 open any 0000 3fff 0 3" ∷ []) ≡ fails Order 10)
+    × (in_block (codes "at main 0 off") ≡ fails Order 24) × (in_block (codes "at main 0 on") ≡ fails Order 24) × (in_block (codes "at lain 9 on") ≡ fails Order 24)
+    × (of_lines (codes "at main 0 off" ∷ codes "r1 0 1" ∷ codes "r1 0 1" ∷ []) ≡ fails Order 31)
+    × (of_lines (codes "at main 0 off" ∷ codes "r1 0 1" ∷ codes "r0 0 1" ∷ []) ≡ fails Order 31)
+    × (of_lines (codes "at main 0 off" ∷ codes "fd 1 open any 0000 3fff 0 3" ∷ codes "r1 0 1" ∷ []) ≡ fails Order 52)
+    × (of_lines (codes "at main 0 off" ∷ codes "fd 1 open any 0000 3fff 0 3" ∷ codes "fd 1 open any 0000 3fff 0 3" ∷ []) ≡ fails Order 52)
+    × (of_lines (codes "chan @0 a none" ∷ codes "at main 0 off" ∷ []) ≡ fails Order 25) × (of_lines (codes "chan @0 a none" ∷ codes "r0 0 1" ∷ []) ≡ fails Order 25)
+    × (of_lines (codes "chan @0 a none" ∷ codes "chan @0 a none" ∷ []) ≡ fails Order 25) × (of_lines (codes "chan @0 b none" ∷ codes "chan @0 a none" ∷ []) ≡ fails Order 25)
+    × (of_lines (codes "chan @10 b none" ∷ codes "chan @9 a none" ∷ []) ≡ fails Order 26)
+    × (of_lines (codes "chan main:0 a none" ∷ codes "chan @0 a none" ∷ []) ≡ fails Order 29)
+unfolding certificate_of_text read_behind line_of_text taken distinct_behind above_blocks above_channels may_bound_register may_bound_slot all_from on_last
+places = (refl, refl, refl, refl, refl, refl, refl, refl, refl, refl, refl, refl, refl, refl, refl)
+
+-- a ninth program, wherever it stands, which is told before a wrong place
+abbrev eight : List (List ℕ)
+eight =
+    codes "at a 0 on" ∷ codes "at b 0 on" ∷ codes "at c 0 on" ∷ codes "at d 0 on" ∷ codes "at e 0 on" ∷ codes "at f 0 on" ∷ codes "at g 0 on"
+    ∷ codes "fd 0 open sock h:0 a 0000 3fff 0 3" ∷ []
+
+nine :
+    (of_lines (eight ++ codes "at i 0 on" ∷ []) ≡ fails Limit 115) × (of_lines (eight ++ codes "fd 0 open sock i:0 a 0000 3fff 0 3" ∷ []) ≡ fails Limit 115)
+    × (of_lines (eight ++ codes "fd 0 open sock h:0 a 0000 3fff 0 3" ∷ []) ≡ fails Order 115) × (of_lines (eight ++ codes "chan i:0 a none" ∷ []) ≡ fails Limit 115)
+    × (of_lines (eight ++ codes "chan @0 a sock i:0 a 0000 3fff 0 3" ∷ []) ≡ fails Limit 115)
+unfolding certificate_of_text read_behind line_of_text taken distinct_behind above_blocks above_channels may_bound_register may_bound_slot all_from on_last
+nine = (refl, refl, refl, refl, refl)

@@ -1,0 +1,15 @@
+pub mod Samples
+pub mod TextRows
+pub mod FaultRows
+pub mod PointWords
+pub mod Parted
+pub mod Growing
+pub mod LineBack
+pub mod CommandDigits
+pub mod Written
+pub mod LineText
+pub mod OneSpelling
+pub mod WordsJoined
+pub mod InOrder
+pub mod Loops
+pub mod Pieces

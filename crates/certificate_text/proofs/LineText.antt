@@ -1,0 +1,439 @@
+-- Bytes that are read as a line are that line's text.
+use Rattle.std.proofs.Common.{◌≡◌, ℕ, ◌^◌, ◌<◌, ◌≤◌, Bool, true, false, cond, List, [], ◌∷◌, ◌++◌, decimal, refl, ap, sym, ◌∙◌, subst, arith, eqb-true, leb-true, lt-ltb}
+use Rattle.std.specs.Prelude.{◌==◌, nat_le, nat_lt, codes, Option, Some, None, Result, Ok, Err}
+use Rattle.std.specs.Str.{bytes_eq}
+use Rattle.std.proofs.lemmas.Bool.{and_from, and_parts}
+use Rattle.rights.specs.Classes.{Class, Initial, Made_at}
+use Rattle.rights.specs.Sets.{all_commands, all_rights}
+use Rattle.rights.proofs.Words.{same_bytes}
+use Rattle.texts.specs.Hex.{hex_of, hex_text}
+use Rattle.texts.specs.Names.{is_name}
+use Rattle.texts.specs.Numbers.{number_of}
+use Rattle.texts.specs.Parts.{joined, parts}
+use Rattle.texts.proofs.HexTexts.{hex-text}
+use Rattle.texts.proofs.NumberTexts.{decimal-number}
+use Rattle.texts.proofs.WordLaws.{joined-parts}
+use Rattle.certificate.specs.Bounds.{ModeBound, Off, On, Either, Interval, Target, In_grant, Any_node, Socket, Unknown, Held, Slot, Open, Maybe, full_interval, held_in}
+use Rattle.certificate.specs.Lines.{Line, Bounds_register, Bounds_slot, are_held, are_named, are_numbered, is_bound_slot, is_held, is_interval, is_line}
+use Rattle.certificate.specs.Lines.{is_named_class, is_named_target, is_numbered_class, is_numbered_target, is_range}
+use Rattle.certificate_text.specs.Faults.{Fault, Syntax, Limit, both, formed, with_part}
+use Rattle.certificate_text.specs.Readings.{line_of_text}
+use Rattle.certificate_text.specs.Texts.{class_word, held_words, line_text, line_words, mode_word, sends_words, side_word, slot_words, target_words}
+use Rattle.certificate_text.specs.Words.{block_of_words, block_with, channel_of_words, channel_with, class_of_word, descriptor_of_words, fcntls_of_words, grant_behind, held_behind}
+use Rattle.certificate_text.specs.Words.{held_of_words, held_with, interval_from, line_of_words, mode_of_word, name_of_word, other_line, point_of_program, range_from, register_of_words}
+use Rattle.certificate_text.specs.Words.{rights_of_words, sends_of_words, side_of_word, slot_of_words, socket_behind, up_to}
+
+-- PARTS
+
+-- what two parts are of which a whole is made
+record Both {A B C : Type 0} (f : A → B → C) (a : Result A Fault) (b : Result B Fault) (c : C) : Type 0 where
+  left : A
+  right : B
+  left_is : a ≡ Ok left
+  right_is : b ≡ Ok right
+  whole : f left right ≡ c
+
+both-is : {A B C : Type 0} (f : A → B → C) (a : Result A Fault) (b : Result B Fault) (c : C) → both f a b ≡ Ok c → Both f a b c
+both-is f (Ok a) (Ok b) c is = record { left = a; right = b; left_is = refl; right_is = refl; whole = cc }
+both-is f (Ok a) (Err e) c is = absurd cc
+both-is f (Err d) (Ok b) c is = absurd cc
+both-is f (Err d) (Err e) c is = absurd cc
+
+with-is : {A B : Type 0} (f : A → B) (a : Result A Fault) (b : B) → with_part f a ≡ Ok b → (x : A) × (a ≡ Ok x) × (f x ≡ b)
+with-is f (Ok a) b is = (a, refl, cc)
+with-is f (Err e) b is = absurd cc
+
+formed-is : {A : Type 0} (o : Option A) (a : A) → formed o ≡ Ok a → o ≡ Some a
+formed-is None a is = absurd cc
+formed-is (Some x) a is = cc
+
+-- WORDS
+
+up-to-is : (limit n : ℕ) (word : List ℕ) → limit < 2 ^ 64 → up_to limit (number_of word) ≡ Ok n → (decimal n ≡ word) × (n ≤ limit)
+up-to-is limit n word below is = go (number_of word) refl is
+  where
+    within : (m : ℕ) (small : Bool) → number_of word ≡ Some m → nat_le m limit ≡ small → cond small (Ok m) (Err Limit) ≡ Ok n → (decimal n ≡ word) × (n ≤ limit)
+    within m false read small is = absurd cc
+    within m true read small is =
+        let same : m ≡ n = cc in
+        let low = leb-true m limit small in
+        (sym (decimal-number word n (omega (arith, same, low, below)) (read ∙ ap Some same)), omega (arith, same, low))
+
+    go : (o : Option ℕ) → number_of word ≡ o → up_to limit o ≡ Ok n → (decimal n ≡ word) × (n ≤ limit)
+    go None read is = absurd cc
+    go (Some m) read is = within m (nat_le m limit) read refl is
+
+name-is : (word name : List ℕ) → name_of_word word ≡ Ok name → (name ≡ word) × (is_name name ≡ true)
+name-is word name is = go (is_name word) refl is
+  where
+    go : (named : Bool) → is_name word ≡ named → cond named (Ok word) (Err Syntax) ≡ Ok name → (name ≡ word) × (is_name name ≡ true)
+    go false named is = absurd cc
+    go true named is = let same : name ≡ word = cc in (same, ap is_name same ∙ named)
+
+mode-is : (word : List ℕ) (mode : ModeBound) → mode_of_word word ≡ Some mode → mode_word mode ≡ word
+mode-is word mode is = go (bytes_eq word (codes "off")) (bytes_eq word (codes "on")) (bytes_eq word (codes "maybe")) refl refl refl is
+  where
+    of-mode : (m : ModeBound) → Some m ≡ Some mode → bytes_eq word (mode_word m) ≡ true → mode_word mode ≡ word
+    of-mode m is same = let mode_is : mode ≡ m = cc in ap mode_word mode_is ∙ sym (same_bytes word (mode_word m) same)
+
+    go : (off on either : Bool) → bytes_eq word (codes "off") ≡ off → bytes_eq word (codes "on") ≡ on → bytes_eq word (codes "maybe") ≡ either
+        → cond off (Some Off) (cond on (Some On) (cond either (Some Either) None)) ≡ Some mode → mode_word mode ≡ word
+    go true on either a b c is = of-mode Off is a
+    go false true either a b c is = of-mode On is b
+    go false false true a b c is = of-mode Either is c
+    go false false false a b c is = absurd cc
+
+side-is : (word : List ℕ) (side : ℕ) → side_of_word word ≡ Some side → (side_word side ≡ word) × (nat_lt side 2 ≡ true)
+side-is word side is = go (bytes_eq word (codes "a")) (bytes_eq word (codes "b")) refl refl is
+  where
+    of-side : (n : ℕ) → Some n ≡ Some side → bytes_eq word (side_word n) ≡ true → n < 2 → (side_word side ≡ word) × (nat_lt side 2 ≡ true)
+    of-side n is same below =
+        let side_is : side ≡ n = cc in (ap side_word side_is ∙ sym (same_bytes word (side_word n) same), lt-ltb side 2 (omega (arith, side_is, below)))
+
+    go : (first second : Bool) → bytes_eq word (codes "a") ≡ first → bytes_eq word (codes "b") ≡ second
+        → cond first (Some 0) (cond second (Some 1) None) ≡ Some side → (side_word side ≡ word) × (nat_lt side 2 ≡ true)
+    go true second a b is = of-side 0 is a (omega arith)
+    go false true a b is = of-side 1 is b (omega arith)
+    go false false a b is = absurd cc
+
+-- CLASSES
+
+record ClassIs (word : List ℕ) (class : Class) : Type 0 where
+  word_is : class_word class ≡ word
+  named : is_named_class class ≡ true
+  numbered : is_numbered_class class ≡ true
+
+point-is : (words : List (List ℕ)) (class : Class) → point_of_program words ≡ Ok class → ClassIs (joined 58 words) class
+point-is [] class is = absurd cc
+point-is (program ∷ []) class is = absurd cc
+point-is (program ∷ point ∷ []) class is =
+    let parts_are = both-is Made_at (name_of_word program) (up_to 255 (number_of point)) class is in
+    let name = name-is program parts_are.left parts_are.left_is in
+    let number = up-to-is 255 parts_are.right point (omega arith) parts_are.right_is in
+    let low = number.1 in
+    subst (ClassIs (program ++ 58 ∷ point)) parts_are.whole (record {
+      word_is = λ i. name.0 i ++ 58 ∷ number.0 i;
+      named = name.1;
+      numbered = lt-ltb parts_are.right 256 (omega (arith, low));
+    })
+point-is (program ∷ point ∷ more ∷ words) class is = absurd cc
+
+class-is : (word : List ℕ) (class : Class) → class_of_word word ≡ Ok class → ClassIs word class
+class-is [] class is = absurd cc
+class-is (b ∷ word) class is = go (b == 64) refl is
+  where
+    go : (at : Bool) → (b == 64) ≡ at → cond at (with_part Initial (up_to 31 (number_of word))) (point_of_program (parts 58 (b ∷ word))) ≡ Ok class → ClassIs (b ∷ word) class
+    go true at is =
+        let part = with-is Initial (up_to 31 (number_of word)) class is in
+        let number = up-to-is 31 part.0 word (omega arith) part.1 in
+        let low = number.1 in
+        subst (ClassIs (b ∷ word)) part.2 (record {
+          word_is = λ i. sym (eqb-true b 64 at) i ∷ number.0 i;
+          named = refl;
+          numbered = lt-ltb part.0 32 (omega (arith, low));
+        })
+    go false at is = subst (λ w. ClassIs w class) (joined-parts 58 (b ∷ word)) (point-is (parts 58 (b ∷ word)) class is)
+
+-- INTERVALS AND SETS
+
+record IntervalIs (low high : List ℕ) (i : Interval) : Type 0 where
+  low_is : decimal i.low ≡ low
+  high_is : decimal i.high ≡ high
+  proper : is_interval i ≡ true
+  numbered : nat_le i.high full_interval.high ≡ true
+
+interval-is : (low high : List ℕ) (i : Interval) → interval_from (number_of low) (number_of high) ≡ Ok i → IntervalIs low high i
+interval-is low high i is = go (number_of low) (number_of high) refl refl is
+  where
+    within : (a b : ℕ) (proper numbered : Bool) → number_of low ≡ Some a → number_of high ≡ Some b
+        → is_interval (record { low = a; high = b }) ≡ proper → nat_le b full_interval.high ≡ numbered
+        → cond proper (cond numbered (Ok (record { low = a; high = b })) (Err Limit)) (Err Syntax) ≡ Ok i → IntervalIs low high i
+    within a b false numbered low_is high_is p n is = absurd cc
+    within a b true false low_is high_is p n is = absurd cc
+    within a b true true low_is high_is p n is =
+        let same : record { low = a; high = b } ≡ i = cc in
+        let most = leb-true b full_interval.high n in
+        let least = leb-true a b (and_parts (nat_le a b) _ p).0 in
+        subst (IntervalIs low high) same (record {
+          low_is = sym (decimal-number low a (omega (arith, most, least)) low_is);
+          high_is = sym (decimal-number high b (omega (arith, most)) high_is);
+          proper = p;
+          numbered = n;
+        })
+
+    go : (a b : Option ℕ) → number_of low ≡ a → number_of high ≡ b → interval_from a b ≡ Ok i → IntervalIs low high i
+    go None b low_is high_is is = absurd cc
+    go (Some a) None low_is high_is is = absurd cc
+    go (Some a) (Some b) low_is high_is is = within a b (is_interval (record { low = a; high = b })) (nat_le b full_interval.high) low_is high_is refl refl is
+
+record RangeIs (count all : ℕ) (least greatest : List ℕ) (range : ℕ × ℕ) : Type 0 where
+  least_is : hex_text count range.0 ≡ least
+  greatest_is : hex_text count range.1 ≡ greatest
+  proper : is_range all range.0 range.1 ≡ true
+
+range-is : (count all : ℕ) (least greatest : List ℕ) (range : ℕ × ℕ) → range_from all (hex_of count least) (hex_of count greatest) ≡ Ok range → RangeIs count all least greatest range
+range-is count all least greatest range is = go (hex_of count least) (hex_of count greatest) refl refl is
+  where
+    within : (a b : ℕ) (proper : Bool) → hex_of count least ≡ Some a → hex_of count greatest ≡ Some b → is_range all a b ≡ proper
+        → cond proper (Ok (a, b)) (Err Syntax) ≡ Ok range → RangeIs count all least greatest range
+    within a b false least_is greatest_is p is = absurd cc
+    within a b true least_is greatest_is p is =
+        let pair : ℕ × ℕ = (a, b) in
+        let same : pair ≡ range = cc in
+        subst (RangeIs count all least greatest) same (record {
+          least_is = sym (hex-text count least a least_is).0;
+          greatest_is = sym (hex-text count greatest b greatest_is).0;
+          proper = p;
+        })
+
+    go : (a b : Option ℕ) → hex_of count least ≡ a → hex_of count greatest ≡ b → range_from all a b ≡ Ok range → RangeIs count all least greatest range
+    go None b least_is greatest_is is = absurd cc
+    go (Some a) None least_is greatest_is is = absurd cc
+    go (Some a) (Some b) least_is greatest_is is = within a b (is_range all a b) least_is greatest_is refl is
+
+-- DESCRIPTORS
+
+-- the words behind what a descriptor is of
+abbrev set_words : Held → List (List ℕ)
+set_words h = hex_text 4 h.least ∷ hex_text 4 h.greatest ∷ hex_text 1 h.least_fcntls ∷ hex_text 1 h.greatest_fcntls ∷ []
+
+record SetsAre (target : Result Target Fault) (words : List (List ℕ)) (h : Held) : Type 0 where
+  target_is : target ≡ Ok h.target
+  words_are : set_words h ≡ words
+  proper : is_held h ≡ true
+
+sets-are : (target : Result Target Fault) (words : List (List ℕ)) (h : Held) → held_behind target words ≡ Ok h → SetsAre target words h
+sets-are target [] h is = absurd cc
+sets-are target (a ∷ []) h is = absurd cc
+sets-are target (a ∷ b ∷ []) h is = absurd cc
+sets-are target (a ∷ b ∷ c ∷ []) h is = absurd cc
+sets-are target (a ∷ b ∷ c ∷ d ∷ []) h is =
+    let outer = both-is (λ (given : ℕ × ℕ → Held) fcntls. given fcntls) (both held_with target (rights_of_words a b)) (fcntls_of_words c d) h is in
+    let inner = both-is held_with target (rights_of_words a b) outer.left outer.left_is in
+    let rights = range-is 4 all_rights a b inner.right inner.right_is in
+    let fcntls = range-is 1 all_commands c d outer.right outer.right_is in
+    subst (SetsAre target (a ∷ b ∷ c ∷ d ∷ [])) (ap (λ (given : ℕ × ℕ → Held). given outer.right) inner.whole ∙ outer.whole) (record {
+      target_is = inner.left_is;
+      words_are = λ i. rights.least_is i ∷ rights.greatest_is i ∷ fcntls.least_is i ∷ fcntls.greatest_is i ∷ [];
+      proper = and_from _ _ rights.proper fcntls.proper;
+    })
+sets-are target (a ∷ b ∷ c ∷ d ∷ e ∷ words) h is = absurd cc
+
+record HeldIs (words : List (List ℕ)) (h : Held) : Type 0 where
+  words_are : held_words h ≡ words
+  named : is_named_target h.target ≡ true
+  numbered : is_numbered_target h.target ≡ true
+  proper : is_held h ≡ true
+
+-- a descriptor of which it is known what it is of
+held-of : (target : Target) (words : List (List ℕ)) (h : Held) → h.target ≡ target → is_named_target target ≡ true → is_numbered_target target ≡ true
+    → set_words h ≡ words → is_held h ≡ true → HeldIs (target_words target ++ words) h
+held-of target words h is named numbered words_are proper = record {
+  words_are = λ i. target_words (is i) ++ words_are i;
+  named = ap is_named_target is ∙ named;
+  numbered = ap is_numbered_target is ∙ numbered;
+  proper = proper;
+}
+
+-- the same part of two readings
+same-part : {A : Type 0} (read : Result A Fault) (a b : A) → read ≡ Ok a → read ≡ Ok b → a ≡ b
+same-part read a b left right = cc
+
+grant-is : (words : List (List ℕ)) (h : Held) → grant_behind words ≡ Ok h → HeldIs (codes "grant" ∷ words) h
+grant-is [] h is = absurd cc
+grant-is (name ∷ words) h is =
+    let sets = sets-are (with_part In_grant (name_of_word name)) words h is in
+    let part = with-is In_grant (name_of_word name) h.target sets.target_is in
+    let named = name-is name part.0 part.1 in
+    subst (λ word. HeldIs (codes "grant" ∷ word ∷ words) h) named.0
+    (held-of (In_grant part.0) words h (sym part.2) named.1 refl sets.words_are sets.proper)
+
+socket-is : (words : List (List ℕ)) (h : Held) → socket_behind words ≡ Ok h → HeldIs (codes "sock" ∷ words) h
+socket-is [] h is = absurd cc
+socket-is (class ∷ []) h is = absurd cc
+socket-is (class ∷ side ∷ words) h is =
+    let sets = sets-are (both Socket (class_of_word class) (formed (side_of_word side))) words h is in
+    let parts_are = both-is Socket (class_of_word class) (formed (side_of_word side)) h.target sets.target_is in
+    let first = class-is class parts_are.left parts_are.left_is in
+    let second = side-is side parts_are.right (formed-is (side_of_word side) parts_are.right parts_are.right_is) in
+    let held = held-of (Socket parts_are.left parts_are.right) words h (sym parts_are.whole) (and_from _ _ first.named second.1) first.numbered sets.words_are sets.proper in
+    record {
+      words_are = held.words_are ∙ (λ i. codes "sock" ∷ first.word_is i ∷ second.0 i ∷ words);
+      named = held.named;
+      numbered = held.numbered;
+      proper = held.proper;
+    }
+
+plain-is : (target : Target) (words : List (List ℕ)) (h : Held) → is_named_target target ≡ true → is_numbered_target target ≡ true
+    → held_behind (Ok target) words ≡ Ok h → HeldIs (target_words target ++ words) h
+plain-is target words h named numbered is =
+    let sets = sets-are (Ok target) words h is in
+    let same : h.target ≡ target = same-part (Ok target) h.target target sets.target_is refl in
+    held-of target words h same named numbered sets.words_are sets.proper
+
+held-is : (words : List (List ℕ)) (h : Held) → held_of_words words ≡ Ok h → HeldIs words h
+held-is [] h is = absurd cc
+held-is (what ∷ words) h is =
+    go (bytes_eq what (codes "grant")) (bytes_eq what (codes "any")) (bytes_eq what (codes "sock")) (bytes_eq what (codes "unknown")) refl refl refl refl is
+  where
+    behind : (word : List ℕ) → bytes_eq what word ≡ true → HeldIs (word ∷ words) h → HeldIs (what ∷ words) h
+    behind word same held = subst (λ w. HeldIs (w ∷ words) h) (sym (same_bytes what word same)) held
+
+    go : (grant any sock unknown : Bool) → bytes_eq what (codes "grant") ≡ grant → bytes_eq what (codes "any") ≡ any → bytes_eq what (codes "sock") ≡ sock
+        → bytes_eq what (codes "unknown") ≡ unknown
+        → cond grant (grant_behind words) (cond any (held_behind (Ok Any_node) words) (cond sock (socket_behind words) (cond unknown (held_behind (Ok Unknown) words) (Err Syntax)))) ≡ Ok h
+        → HeldIs (what ∷ words) h
+    go true any sock unknown a b c d is = behind (codes "grant") a (grant-is words h is)
+    go false true sock unknown a b c d is = behind (codes "any") b (plain-is Any_node words h refl refl is)
+    go false false true unknown a b c d is = behind (codes "sock") c (socket-is words h is)
+    go false false false true a b c d is = behind (codes "unknown") d (plain-is Unknown words h refl refl is)
+    go false false false false a b c d is = absurd cc
+
+record SlotIs (words : List (List ℕ)) (slot : Slot) : Type 0 where
+  words_are : slot_words slot ≡ words
+  named : are_named (held_in slot) ≡ true
+  numbered : are_numbered (held_in slot) ≡ true
+  proper : is_bound_slot slot ≡ true
+
+slot-is : (words : List (List ℕ)) (slot : Slot) → slot_of_words words ≡ Ok slot → SlotIs words slot
+slot-is [] slot is = absurd cc
+slot-is (presence ∷ words) slot is = go (bytes_eq presence (codes "open")) (bytes_eq presence (codes "maybe")) refl refl is
+  where
+    go : (opens maybe : Bool) → bytes_eq presence (codes "open") ≡ opens → bytes_eq presence (codes "maybe") ≡ maybe
+        → cond opens (with_part Open (held_of_words words)) (cond maybe (with_part Maybe (held_of_words words)) (Err Syntax)) ≡ Ok slot → SlotIs (presence ∷ words) slot
+    go true maybe a b is =
+        let part = with-is Open (held_of_words words) slot is in
+        let held = held-is words part.0 part.1 in
+        subst (SlotIs (presence ∷ words)) part.2 (record {
+          words_are = λ i. sym (same_bytes presence (codes "open") a) i ∷ held.words_are i;
+          named = held.named;
+          numbered = held.numbered;
+          proper = held.proper;
+        })
+    go false true a b is =
+        let part = with-is Maybe (held_of_words words) slot is in
+        let held = held-is words part.0 part.1 in
+        subst (SlotIs (presence ∷ words)) part.2 (record {
+          words_are = λ i. sym (same_bytes presence (codes "maybe") b) i ∷ held.words_are i;
+          named = held.named;
+          numbered = held.numbered;
+          proper = held.proper;
+        })
+    go false false a b is = absurd cc
+
+record SendsAre (words : List (List ℕ)) (sends : Option Held) : Type 0 where
+  words_are : sends_words sends ≡ words
+  named : are_named sends ≡ true
+  numbered : are_numbered sends ≡ true
+  proper : are_held sends ≡ true
+
+some-sends : (words : List (List ℕ)) (sends : Option Held) → with_part Some (held_of_words words) ≡ Ok sends → SendsAre words sends
+some-sends words sends is =
+    let part = with-is Some (held_of_words words) sends is in
+    let held = held-is words part.0 part.1 in
+    subst (SendsAre words) part.2 (record { words_are = held.words_are; named = held.named; numbered = held.numbered; proper = held.proper })
+
+sends-are : (words : List (List ℕ)) (sends : Option Held) → sends_of_words words ≡ Ok sends → SendsAre words sends
+sends-are [] sends is = absurd cc
+sends-are (what ∷ []) sends is = go (bytes_eq what (codes "none")) refl is
+  where
+    go : (none : Bool) → bytes_eq what (codes "none") ≡ none → cond none (Ok None) (with_part Some (held_of_words (what ∷ []))) ≡ Ok sends → SendsAre (what ∷ []) sends
+    go true none is =
+        let same : None ≡ sends = cc in
+        subst (SendsAre (what ∷ [])) same
+        (record { words_are = ap (λ w. w ∷ []) (sym (same_bytes what (codes "none") none)); named = refl; numbered = refl; proper = refl })
+    go false none is = some-sends (what ∷ []) sends is
+sends-are (what ∷ next ∷ words) sends is = some-sends (what ∷ next ∷ words) sends is
+
+-- LINES
+
+record LineIs (words : List (List ℕ)) (line : Line) : Type 0 where
+  words_are : line_words line ≡ words
+  proper : is_line line ≡ true
+
+block-is : (words : List (List ℕ)) (line : Line) → block_of_words words ≡ Ok line → LineIs (codes "at" ∷ words) line
+block-is [] line is = absurd cc
+block-is (program ∷ []) line is = absurd cc
+block-is (program ∷ point ∷ []) line is = absurd cc
+block-is (program ∷ point ∷ mode ∷ []) line is =
+    let outer = both-is (λ (given : ModeBound → Line) mode. given mode) (both block_with (name_of_word program) (up_to 255 (number_of point))) (formed (mode_of_word mode)) line is in
+    let inner = both-is block_with (name_of_word program) (up_to 255 (number_of point)) outer.left outer.left_is in
+    let name = name-is program inner.left inner.left_is in
+    let number = up-to-is 255 inner.right point (omega arith) inner.right_is in
+    let last = mode-is mode outer.right (formed-is (mode_of_word mode) outer.right outer.right_is) in
+    let low = number.1 in
+    subst (LineIs (codes "at" ∷ program ∷ point ∷ mode ∷ [])) (ap (λ (given : ModeBound → Line). given outer.right) inner.whole ∙ outer.whole) (record {
+      words_are = λ i. codes "at" ∷ name.0 i ∷ number.0 i ∷ last i ∷ [];
+      proper = and_from _ _ (and_from _ _ name.1 refl) (lt-ltb inner.right 256 (omega (arith, low)));
+    })
+block-is (program ∷ point ∷ mode ∷ more ∷ words) line is = absurd cc
+
+register-is : (register : List ℕ) (words : List (List ℕ)) (line : Line) → register_of_words register words ≡ Ok line → LineIs ((114 ∷ register) ∷ words) line
+register-is register [] line is = absurd cc
+register-is register (low ∷ []) line is = absurd cc
+register-is register (low ∷ high ∷ []) line is =
+    let parts_are = both-is Bounds_register (up_to 7 (number_of register)) (interval_from (number_of low) (number_of high)) line is in
+    let number = up-to-is 7 parts_are.left register (omega arith) parts_are.left_is in
+    let interval = interval-is low high parts_are.right parts_are.right_is in
+    let few = number.1 in
+    subst (LineIs ((114 ∷ register) ∷ low ∷ high ∷ [])) parts_are.whole (record {
+      words_are = λ i. (114 ∷ number.0 i) ∷ interval.low_is i ∷ interval.high_is i ∷ [];
+      proper = and_from _ _ interval.proper (and_from _ _ (lt-ltb parts_are.left 8 (omega (arith, few))) interval.numbered);
+    })
+register-is register (low ∷ high ∷ more ∷ words) line is = absurd cc
+
+descriptor-is : (words : List (List ℕ)) (line : Line) → descriptor_of_words words ≡ Ok line → LineIs (codes "fd" ∷ words) line
+descriptor-is [] line is = absurd cc
+descriptor-is (number ∷ words) line is =
+    let parts_are = both-is Bounds_slot (up_to 15 (number_of number)) (slot_of_words words) line is in
+    let first = up-to-is 15 parts_are.left number (omega arith) parts_are.left_is in
+    let slot = slot-is words parts_are.right parts_are.right_is in
+    let few = first.1 in
+    subst (LineIs (codes "fd" ∷ number ∷ words)) parts_are.whole (record {
+      words_are = λ i. codes "fd" ∷ first.0 i ∷ slot.words_are i;
+      proper = and_from _ _ (and_from _ _ slot.named slot.proper) (and_from _ _ (lt-ltb parts_are.left 16 (omega (arith, few))) slot.numbered);
+    })
+
+channel-is : (words : List (List ℕ)) (line : Line) → channel_of_words words ≡ Ok line → LineIs (codes "chan" ∷ words) line
+channel-is [] line is = absurd cc
+channel-is (class ∷ []) line is = absurd cc
+channel-is (class ∷ side ∷ words) line is =
+    let ends = both channel_with (class_of_word class) (formed (side_of_word side)) in
+    let outer = both-is (λ (given : Option Held → Line) sends. given sends) ends (sends_of_words words) line is in
+    let inner = both-is channel_with (class_of_word class) (formed (side_of_word side)) outer.left outer.left_is in
+    let first = class-is class inner.left inner.left_is in
+    let second = side-is side inner.right (formed-is (side_of_word side) inner.right inner.right_is) in
+    let sends = sends-are words outer.right outer.right_is in
+    subst (LineIs (codes "chan" ∷ class ∷ side ∷ words)) (ap (λ (given : Option Held → Line). given outer.right) inner.whole ∙ outer.whole) (record {
+      words_are = λ i. codes "chan" ∷ first.word_is i ∷ second.0 i ∷ sends.words_are i;
+      proper = and_from _ _ (and_from _ _ (and_from _ _ (and_from _ _ first.named second.1) sends.named) sends.proper) (and_from _ _ first.numbered sends.numbered);
+    })
+
+other-is : (first : List ℕ) (words : List (List ℕ)) (line : Line) → other_line first words ≡ Ok line → LineIs (first ∷ words) line
+other-is [] words line is = absurd cc
+other-is (b ∷ register) words line is = go (b == 114) refl is
+  where
+    go : (letter : Bool) → (b == 114) ≡ letter → cond letter (register_of_words register words) (Err Syntax) ≡ Ok line → LineIs ((b ∷ register) ∷ words) line
+    go true letter is = subst (λ c. LineIs ((c ∷ register) ∷ words) line) (sym (eqb-true b 114 letter)) (register-is register words line is)
+    go false letter is = absurd cc
+
+words-are : (words : List (List ℕ)) (line : Line) → line_of_words words ≡ Ok line → LineIs words line
+words-are [] line is = absurd cc
+words-are (first ∷ words) line is = go (bytes_eq first (codes "at")) (bytes_eq first (codes "fd")) (bytes_eq first (codes "chan")) refl refl refl is
+  where
+    behind : (word : List ℕ) → bytes_eq first word ≡ true → LineIs (word ∷ words) line → LineIs (first ∷ words) line
+    behind word same read = subst (λ w. LineIs (w ∷ words) line) (sym (same_bytes first word same)) read
+
+    go : (at fd chan : Bool) → bytes_eq first (codes "at") ≡ at → bytes_eq first (codes "fd") ≡ fd → bytes_eq first (codes "chan") ≡ chan
+        → cond at (block_of_words words) (cond fd (descriptor_of_words words) (cond chan (channel_of_words words) (other_line first words))) ≡ Ok line → LineIs (first ∷ words) line
+    go true fd chan a b c is = behind (codes "at") a (block-is words line is)
+    go false true chan a b c is = behind (codes "fd") b (descriptor-is words line is)
+    go false false true a b c is = behind (codes "chan") c (channel-is words line is)
+    go false false false a b c is = other-is first words line is
+
+-- Bytes that are read as a line are its text, and the line may stand in a certificate.
+pub line-text : (text : List ℕ) (line : Line) → line_of_text text ≡ Ok line → (line_text line ≡ text) × (is_line line ≡ true)
+unfolding line_of_text line_text
+line-text text line is =
+    let read = words-are (parts 32 text) line is in
+    (ap (joined 32) read.words_are ∙ joined-parts 32 text, read.proper)

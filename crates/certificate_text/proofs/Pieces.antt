@@ -1,0 +1,54 @@
+-- The text of a certificate is that of its pieces.
+use Rattle.std.proofs.Common.{◌≡◌, ℕ, ◌+◌, Bool, true, false, cond, List, [], ◌∷◌, ◌++◌, map, refl, ap, sym, ◌∙◌, append_assoc}
+use Rattle.std.specs.List.{flat_map}
+use Rattle.certificate.specs.Bounds.{Interval, Slot, PointBound, ChannelBound, Certificate}
+use Rattle.certificate.specs.Lines.{Line, Begins_block, Bounds_channel, Bounds_register, Bounds_slot, block_lines, is_closed, is_full, lines_of, register_lines, slot_lines}
+use Rattle.certificate_text.specs.Pieces.{block_text, channel_text, in_order, line_ended, register_text, slot_text}
+use Rattle.certificate_text.specs.Texts.{certificate_text, ended, first_line, last_line}
+
+pub flat-more : {A : Type 0} (f : A → List ℕ) (xs ys : List A) → flat_map f (xs ++ ys) ≡ flat_map f xs ++ flat_map f ys
+flat-more f [] ys = refl
+flat-more f (x ∷ xs) ys = ap (λ rest. f x ++ rest) (flat-more f xs ys) ∙ sym (append_assoc (f x) (flat_map f xs) (flat_map f ys))
+
+pub registers-text : (n : ℕ) (intervals : List Interval) → in_order register_text n intervals ≡ flat_map line_ended (register_lines n intervals)
+unfolding in_order register_lines
+registers-text n [] = refl
+registers-text n (i ∷ intervals) = go (is_full i) (registers-text (n + 1) intervals)
+  where
+    go : (full : Bool) → in_order register_text (n + 1) intervals ≡ flat_map line_ended (register_lines (n + 1) intervals) → cond full [] (line_ended (Bounds_register n i)) ++ in_order register_text (n + 1) intervals ≡ flat_map line_ended (cond full (register_lines (n + 1) intervals) (Bounds_register n i ∷ register_lines (n + 1) intervals))
+    go true rest = rest
+    go false rest = ap (λ text. line_ended (Bounds_register n i) ++ text) rest
+
+pub slots-text : (n : ℕ) (slots : List Slot) → in_order slot_text n slots ≡ flat_map line_ended (slot_lines n slots)
+unfolding in_order slot_lines
+slots-text n [] = refl
+slots-text n (s ∷ slots) = go (is_closed s) (slots-text (n + 1) slots)
+  where
+    go : (closed : Bool) → in_order slot_text (n + 1) slots ≡ flat_map line_ended (slot_lines (n + 1) slots) → cond closed [] (line_ended (Bounds_slot n s)) ++ in_order slot_text (n + 1) slots ≡ flat_map line_ended (cond closed (slot_lines (n + 1) slots) (Bounds_slot n s ∷ slot_lines (n + 1) slots))
+    go true rest = rest
+    go false rest = ap (λ text. line_ended (Bounds_slot n s) ++ text) rest
+
+pub block-text : (b : PointBound) → line_ended (Begins_block b.program b.point b.bound.mode) ++ (in_order register_text 0 b.bound.registers ++ in_order slot_text 0 b.bound.slots) ≡ block_text b
+block-text b =
+    ap (λ rest. line_ended (Begins_block b.program b.point b.bound.mode) ++ rest)
+    (ap (λ text. text ++ in_order slot_text 0 b.bound.slots) (registers-text 0 b.bound.registers)
+    ∙ ap (λ text. flat_map line_ended (register_lines 0 b.bound.registers) ++ text) (slots-text 0 b.bound.slots)
+    ∙ sym (flat-more line_ended (register_lines 0 b.bound.registers) (slot_lines 0 b.bound.slots)))
+
+pub blocks-text : (n : ℕ) (points : List PointBound) → in_order (λ n. block_text) n points ≡ flat_map line_ended (flat_map block_lines points)
+unfolding in_order
+blocks-text n [] = refl
+blocks-text n (b ∷ points) = ap (λ rest. block_text b ++ rest) (blocks-text (n + 1) points) ∙ sym (flat-more line_ended (block_lines b) (flat_map block_lines points))
+
+pub channels-text : (n : ℕ) (channels : List ChannelBound) → in_order (λ n. channel_text) n channels ≡ flat_map line_ended (map Bounds_channel channels)
+unfolding in_order
+channels-text n [] = refl
+channels-text n (channel ∷ channels) = ap (λ rest. channel_text channel ++ rest) (channels-text (n + 1) channels)
+
+pub whole-text : (c : Certificate) → ended first_line ++ (in_order (λ n. block_text) 0 c.points ++ (in_order (λ n. channel_text) 0 c.channels ++ ended last_line)) ≡ certificate_text c
+whole-text c =
+    ap (λ rest. ended first_line ++ rest)
+    (ap (λ text. text ++ (in_order (λ n. channel_text) 0 c.channels ++ ended last_line)) (blocks-text 0 c.points)
+    ∙ ap (λ text. flat_map line_ended (flat_map block_lines c.points) ++ (text ++ ended last_line)) (channels-text 0 c.channels)
+    ∙ sym (append_assoc (flat_map line_ended (flat_map block_lines c.points)) (flat_map line_ended (map Bounds_channel c.channels)) (ended last_line))
+    ∙ ap (λ text. text ++ ended last_line) (sym (flat-more line_ended (flat_map block_lines c.points) (map Bounds_channel c.channels))))

@@ -1,0 +1,68 @@
+-- Certificates and their lines, for rows.
+use Rattle.std.specs.Prelude.{◌^◌, ◌-◌, ℕ, List, [], ◌∷◌, ◌++◌, codes, Option, Some, None}
+use Rattle.std.specs.List.{flat_map}
+use Rattle.rights.specs.Classes.{Class, Initial, Made_at}
+use Rattle.certificate.specs.Bounds.{ModeBound, Off, On, Either, Interval, Target, In_grant, Any_node, Socket, Unknown, Held, Slot, Closed, Open, Maybe, Bound, PointBound, ChannelBound, Certificate, with_interval, with_slot}
+use Rattle.certificate.specs.Growth.{open_bound}
+use Rattle.certificate_text.specs.Texts.{ended}
+
+abbrev pub text : List (List ℕ) → List ℕ
+text lines = flat_map ended lines
+
+-- all rights and commands, of what is at or beneath a grant
+abbrev pub all_in : List ℕ → Held
+all_in grant = record { target = In_grant grant; least = 0x3fff; greatest = 0x3fff; least_fcntls = 3; greatest_fcntls = 3 }
+
+abbrev pub two_grants : ModeBound → Bound
+two_grants mode = with_slot (with_slot (open_bound mode) 0 (Open (all_in (codes "work")))) 1 (Open (all_in (codes "log")))
+
+abbrev pub at_main : ℕ → Bound → PointBound
+at_main point bound = record { program = codes "main"; point = point; bound = bound }
+
+-- three points of one program, with two directories open
+abbrev pub three_points : Certificate
+three_points = record { points = at_main 0 (two_grants Off) ∷ at_main 1 (two_grants On) ∷ at_main 2 (two_grants On) ∷ []; channels = [] }
+
+abbrev pub work_line : List ℕ
+work_line = codes "fd 0 open grant work 3fff 3fff 3 3"
+
+abbrev pub log_line : List ℕ
+log_line = codes "fd 1 open grant log 3fff 3fff 3 3"
+
+abbrev pub block_0 : List (List ℕ)
+block_0 = codes "at main 0 off" ∷ work_line ∷ log_line ∷ []
+
+abbrev pub block_1 : List (List ℕ)
+block_1 = codes "at main 1 on" ∷ work_line ∷ log_line ∷ []
+
+abbrev pub block_2 : List (List ℕ)
+block_2 = codes "at main 2 on" ∷ work_line ∷ log_line ∷ []
+
+abbrev pub three_blocks : List ℕ
+three_blocks = text (codes "capcert 1" ∷ (block_0 ++ block_1 ++ block_2 ++ codes "end" ∷ []))
+
+-- a point with a register, an end of an initial pair, a descriptor that is perhaps there, and two channels
+abbrev pub one_end : Held
+one_end = record { target = Socket (Initial 0) 1; least = 1; greatest = 3; least_fcntls = 0; greatest_fcntls = 2 }
+
+abbrev pub made_end : Held
+made_end = record { target = Socket (Made_at (codes "main") 7) 0; least = 0; greatest = 0x3fff; least_fcntls = 0; greatest_fcntls = 3 }
+
+abbrev pub anything : Held
+anything = record { target = Unknown; least = 0; greatest = 0x3fff; least_fcntls = 0; greatest_fcntls = 3 }
+
+abbrev pub with_channels : Certificate
+with_channels = record {
+  points =
+      at_main 255
+      (with_slot (with_slot (with_slot (with_interval (open_bound Either) 7 (record { low = 1; high = 4294967295 })) 0 (Maybe one_end)) 3 (Open made_end)) 15 (Maybe anything))
+      ∷ [];
+  channels =
+      (record { class = Initial 31; side = 0; sends = None }) ∷ (record { class = Made_at (codes "main") 7; side = 1; sends = Some anything }) ∷ [];
+}
+
+abbrev pub channel_lines : List (List ℕ)
+channel_lines =
+    codes "capcert 1" ∷ codes "at main 255 maybe" ∷ codes "r7 1 4294967295" ∷ codes "fd 0 maybe sock @0 b 0001 0003 0 2"
+    ∷ codes "fd 3 open sock main:7 a 0000 3fff 0 3" ∷ codes "fd 15 maybe unknown 0000 3fff 0 3" ∷ codes "chan @31 a none"
+    ∷ codes "chan main:7 b unknown 0000 3fff 0 3" ∷ codes "end" ∷ []

@@ -1,0 +1,45 @@
+-- Certificates have their texts, and these are read as them, by computation.
+use Rattle.std.proofs.Common.{◌≡◌, refl}
+use Rattle.std.specs.Prelude.{[], ◌∷◌, codes, length, Ok}
+use Rattle.certificate.specs.Bounds.{Off, On, Certificate}
+use Rattle.certificate.specs.Growth.{nothing, open_bound, taken, distinct_behind, above_blocks, above_channels, may_bound_register, may_bound_slot, all_from, on_last}
+use Rattle.certificate.specs.Lines.{register_lines, slot_lines}
+use Rattle.std.specs.Fmt.{digits}
+use Rattle.certificate_text.specs.Texts.{certificate_text, line_text}
+use Rattle.certificate_text.specs.Readings.{certificate_of_text, line_of_text, read_behind}
+use Rattle.certificate_text.proofs.Samples.{at_main, channel_lines, text, three_blocks, three_points, with_channels}
+
+three_points_text : certificate_text three_points ≡ three_blocks
+unfolding digits line_text register_lines slot_lines
+three_points_text = refl
+
+of_261_bytes : length three_blocks ≡ 261
+of_261_bytes = refl
+
+three_points_read : certificate_of_text three_blocks ≡ Ok three_points
+unfolding certificate_of_text read_behind line_of_text taken distinct_behind above_blocks above_channels may_bound_register may_bound_slot all_from on_last
+three_points_read = refl
+
+with_channels_text : certificate_text with_channels ≡ text channel_lines
+unfolding digits line_text register_lines slot_lines
+with_channels_text = refl
+
+with_channels_read : certificate_of_text (text channel_lines) ≡ Ok with_channels
+unfolding certificate_of_text read_behind line_of_text taken distinct_behind above_blocks above_channels may_bound_register may_bound_slot all_from on_last
+with_channels_read = refl
+
+nothing_read : certificate_of_text (text (codes "capcert 1" ∷ codes "end" ∷ [])) ≡ Ok nothing
+unfolding certificate_of_text read_behind line_of_text taken distinct_behind above_blocks above_channels may_bound_register may_bound_slot all_from on_last
+nothing_read = refl
+
+-- a block without lines is another certificate than none
+abbrev empty_block : Certificate
+empty_block = record { points = at_main 0 (open_bound Off) ∷ []; channels = [] }
+
+empty_block_text : certificate_text empty_block ≡ text (codes "capcert 1" ∷ codes "at main 0 off" ∷ codes "end" ∷ [])
+unfolding digits line_text register_lines slot_lines
+empty_block_text = refl
+
+empty_block_read : certificate_of_text (text (codes "capcert 1" ∷ codes "at main 0 off" ∷ codes "end" ∷ [])) ≡ Ok empty_block
+unfolding certificate_of_text read_behind line_of_text taken distinct_behind above_blocks above_channels may_bound_register may_bound_slot all_from on_last
+empty_block_read = refl

@@ -1,0 +1,33 @@
+use Rattle.std.proofs.Common.{ap, sym, ◌∙◌, ◌++◌}
+use Rattle.certificate.specs.Views.{channels_of}
+use Rattle.certificate_text.specs.Pieces.{block_text, channel_text, in_order}
+use Rattle.certificate_text.specs.Texts.{ended, first_line, last_line}
+use Rattle.certificate_text.proofs.OneSpelling.{text-back, text-read}
+use Rattle.certificate_text.proofs.Pieces.{whole-text}
+use Rattle.certificate_text.proofs.Written.{passed_on, written-as, written-both, written-front}
+use Rattle.certificate_text.proofs.writing.write_cert.Goals as goal
+
+pub returns-in_err-write_bytes-clause-written : goal.returns-in_err-write_bytes-clause-written
+returns-in_err-write_bytes-clause-written g c =
+    written-as _ _ _ _ _ _ _ (whole-text c.args.cert.now)
+    (written-front _ _ _ _ _ _ c.in_err-write_bytes.field-0.0 _ (passed_on _ _ c.from_residual.ensures) c.in_err-write_bytes.ensures)
+
+pub returns-in_err-write_bytes-clause-reads_back : goal.returns-in_err-write_bytes-clause-reads_back
+returns-in_err-write_bytes-clause-reads_back g c = text-back c.args.cert.now c.points-points.ensures.valid
+
+pub returns-in_err-write_bytes-clause-alone : goal.returns-in_err-write_bytes-clause-alone
+returns-in_err-write_bytes-clause-alone g c text read = sym (text-read text c.args.cert.now read).0
+
+pub returns-clause-written : goal.returns-clause-written
+returns-clause-written g c =
+    written-as _ _ _ _ _ _ _
+    (ap (λ points. ended first_line ++ (in_order (λ n. block_text) 0 points ++ (in_order (λ n. channel_text) 0 (channels_of c.channels-channels.result.now) ++ ended last_line))) c.points-points.ensures.points
+    ∙ ap (λ channels. ended first_line ++ (in_order (λ n. block_text) 0 c.args.cert.now.points ++ (in_order (λ n. channel_text) 0 channels ++ ended last_line))) c.channels-channels.ensures.channels
+    ∙ whole-text c.args.cert.now)
+    (written-both _ _ _ _ _ _ _ _ _ _ c.in_ok-write_bytes.ensures c.write_body.ensures)
+
+pub returns-clause-reads_back : goal.returns-clause-reads_back
+returns-clause-reads_back g c = text-back c.args.cert.now c.points-points.ensures.valid
+
+pub returns-clause-alone : goal.returns-clause-alone
+returns-clause-alone g c text read = sym (text-read text c.args.cert.now read).0

@@ -1,0 +1,123 @@
+//! What the words of a line say of a descriptor.
+
+ghost use Rattle.std.specs.Prelude.{◌≡◌, ◌∷◌, option_map};
+ghost use Rattle.std.specs.Result.{result_map_both};
+ghost use Rattle.certificate.specs.Views.{held_of, slot_of, target_of};
+ghost use Rattle.certificate_text.specs.Views.{IsNextWord, fault_of};
+ghost use Rattle.certificate_text.specs.Words.{class_of_word, grant_behind, held_behind, held_of_words, sends_of_words, side_of_word, slot_of_words, socket_behind};
+ghost use Rattle.certificate.specs.Bounds.{Socket};
+ghost use Rattle.certificate_text.specs.Faults.{both, formed};
+
+use crate::faults::LineFault;
+use crate::words::{read_class, read_fcntls, read_name, read_rights, read_side};
+use certificate::{Held, Slot, Target};
+use texts::Words;
+
+/// The next word, which has to be there.
+pub(crate) fn next_word<'t>(words: &mut Words<'t>) -> Result<&'t [u8], LineFault>
+    ensures { IsNextWord result words.old words.new }
+{
+    match words.take() {
+        Some(word) => Ok(word),
+        None => Err(LineFault::Syntax),
+    }
+}
+
+/// The four sets behind what a descriptor is of, and nothing more.
+fn read_sets(target: Result<Target, LineFault>, mut words: Words<'_>) -> Result<Held, LineFault>
+    ensures { result_map_both held_of fault_of result ≡ held_behind (result_map_both target_of fault_of target) words.entry }
+{
+    let least = next_word(&mut words)?;
+    let greatest = next_word(&mut words)?;
+    let least_fcntls = next_word(&mut words)?;
+    let greatest_fcntls = next_word(&mut words)?;
+    if !words.is_done() {
+        return Err(LineFault::Syntax);
+    }
+    let rights = read_rights(least, greatest)?;
+    let fcntls = read_fcntls(least_fcntls, greatest_fcntls)?;
+    Ok(Held::new(target?, rights, fcntls))
+}
+
+/// What is said of a descriptor of a grant's node.
+fn read_grant(mut words: Words<'_>) -> Result<Held, LineFault>
+    ensures { result_map_both held_of fault_of result ≡ grant_behind words.entry }
+{
+    let name = next_word(&mut words)?;
+    let target = match read_name(name) {
+        Ok(name) => Ok(Target::InGrant(name)),
+        Err(fault) => Err(fault),
+    };
+    read_sets(target, words)
+}
+
+/// The end of a pair that two words name.
+fn read_end(class: &[u8], side: &[u8]) -> Result<Target, LineFault>
+    ensures { result_map_both target_of fault_of result
+        ≡ both Socket (class_of_word class.now) (formed (side_of_word side.now)) }
+{
+    let Some(side) = read_side(side) else {
+        return Err(LineFault::Syntax);
+    };
+    let class = read_class(class)?;
+    Ok(Target::Socket(class, side))
+}
+
+/// What is said of a descriptor of a socket.
+fn read_socket(mut words: Words<'_>) -> Result<Held, LineFault>
+    ensures { result_map_both held_of fault_of result ≡ socket_behind words.entry }
+{
+    let class = next_word(&mut words)?;
+    let side = next_word(&mut words)?;
+    read_sets(read_end(class, side), words)
+}
+
+/// What is said of a descriptor: what it is of, and behind that word its rights and its fcntl commands.
+fn read_held_of(what: &[u8], words: Words<'_>) -> Result<Held, LineFault>
+    ensures { result_map_both held_of fault_of result ≡ held_of_words (what.now ∷ words.entry) }
+{
+    if what == b"grant".as_slice() {
+        read_grant(words)
+    } else if what == b"any".as_slice() {
+        read_sets(Ok(Target::AnyNode), words)
+    } else if what == b"sock".as_slice() {
+        read_socket(words)
+    } else if what == b"unknown".as_slice() {
+        read_sets(Ok(Target::Unknown), words)
+    } else {
+        Err(LineFault::Syntax)
+    }
+}
+
+/// What is said of a descriptor.
+fn read_held(mut words: Words<'_>) -> Result<Held, LineFault>
+    ensures { result_map_both held_of fault_of result ≡ held_of_words words.entry }
+{
+    let what = next_word(&mut words)?;
+    read_held_of(what, words)
+}
+
+/// What a number of the table may be, which isn't closed.
+pub(crate) fn read_slot(mut words: Words<'_>) -> Result<Slot, LineFault>
+    ensures { result_map_both slot_of fault_of result ≡ slot_of_words words.entry }
+{
+    let presence = next_word(&mut words)?;
+    if presence == b"open".as_slice() {
+        Ok(Slot::Open(read_held(words)?))
+    } else if presence == b"maybe".as_slice() {
+        Ok(Slot::Maybe(read_held(words)?))
+    } else {
+        Err(LineFault::Syntax)
+    }
+}
+
+/// What a channel sends: `none` alone, or descriptors.
+pub(crate) fn read_sends(mut words: Words<'_>) -> Result<Option<Held>, LineFault>
+    ensures { result_map_both (option_map held_of) fault_of result ≡ sends_of_words words.entry }
+{
+    let what = next_word(&mut words)?;
+    if what == b"none".as_slice() && words.is_done() {
+        return Ok(None);
+    }
+    Ok(Some(read_held_of(what, words)?))
+}

@@ -1,0 +1,15 @@
+//! The text of certificates, version 1: read and written, one spelling for each.
+#![tactic(auto)]
+
+mod descriptors;
+pub mod faults;
+mod keywords;
+mod line_words;
+mod lines;
+pub mod reading;
+mod words;
+pub mod writing;
+
+pub use faults::CertFault;
+pub use reading::read_cert;
+pub use writing::write_cert;

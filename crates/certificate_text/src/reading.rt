@@ -1,0 +1,74 @@
+//! How a certificate is read.
+
+ghost use Rattle.std.specs.Prelude.{◌≡◌};
+ghost use Rattle.certificate_text.specs.Readings.{certificate_of_text, closed, grown, line_of_text, read_behind};
+ghost use Rattle.certificate_text.specs.Views.{ReadsCert, TakesLine};
+
+use crate::faults::CertFault;
+use crate::lines::read_line;
+use certificate::{Cert, Refusal};
+use std::alloc::Global;
+use texts::Lines;
+
+/// Adds a line of the body, which begins at this offset.
+fn take_line(cert: &mut Cert, text: &[u8], offset: usize) -> Result<(), CertFault>
+    ensures { TakesLine result cert.new offset (grown cert.old (line_of_text text.now)) }
+{
+    let line = match read_line(text) {
+        Ok(line) => line,
+        Err(fault) => return Err(fault.at(offset)),
+    };
+    match cert.push(&line) {
+        Ok(()) => Ok(()),
+        Err(Refusal::Limit) => Err(CertFault::Limit(offset)),
+        Err(Refusal::Order) => Err(CertFault::Order(offset)),
+        Err(Refusal::Memory) => Err(CertFault::Memory),
+    }
+}
+
+/// The certificate, if nothing stands behind its last line.
+fn close(cert: Cert, mut lines: Lines<'_>) -> Result<Cert, CertFault>
+    ensures { ReadsCert result (closed cert lines.entry) }
+{
+    let Some(line) = lines.next() else {
+        return Err(CertFault::Syntax(0));
+    };
+    if line.text.is_empty() && lines.next().is_none() {
+        return Ok(cert);
+    }
+    Err(CertFault::Syntax(line.offset))
+}
+
+/// Reads the lines behind the first one.
+#[tactic(auto, unfolding(crate::specs::Readings::read_behind))]
+fn read_body(mut cert: Cert, mut lines: Lines<'_>) -> Result<Cert, CertFault>
+    ensures { ReadsCert result (read_behind cert lines.entry) }
+{
+    while let Some(line) = lines.next() {
+        if !line.is_ended {
+            return Err(CertFault::Syntax(line.offset));
+        }
+        if line.text == b"end".as_slice() {
+            return close(cert, lines);
+        }
+        take_line(&mut cert, line.text, line.offset)?;
+    }
+    Err(CertFault::Syntax(0))
+}
+
+/// Reads a certificate, version 1: the one whose text the bytes are, or the fault of their first faulty line, and of that
+/// line's faults the first of `Syntax`, `Limit` and `Order`, with where the line begins. Only want of memory may come
+/// instead. (own)
+#[tactic(auto, unfolding(crate::specs::Readings::certificate_of_text))]
+pub fn read_cert(alloc: Global, bytes: &[u8]) -> Result<Cert, CertFault>
+    ensures { ReadsCert result (certificate_of_text bytes.now) }
+{
+    let mut lines = Lines::new(bytes);
+    let Some(first) = lines.next() else {
+        return Err(CertFault::Syntax(0));
+    };
+    if !first.is_ended || first.text != b"capcert 1".as_slice() {
+        return Err(CertFault::Syntax(first.offset));
+    }
+    read_body(Cert::new(alloc), lines)
+}

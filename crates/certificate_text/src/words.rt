@@ -1,0 +1,146 @@
+//! The words of a line.
+
+ghost use Rattle.std.specs.Prelude.{◌≡◌, ◌≤◌, IfOk, option_map};
+ghost use Rattle.std.specs.Result.{result_map_both};
+ghost use Rattle.texts.specs.Numbers.{number_of};
+ghost use Rattle.certificate.specs.Views.{class_of, interval_of, mode_of, name_of, side_of};
+ghost use Rattle.certificate_text.specs.Views.{fault_of, fcntls_in, rights_in};
+ghost use Rattle.certificate_text.specs.Words.{class_of_word, fcntls_of_words, interval_from, mode_of_word, name_of_word, point_of_program, rights_of_words, side_of_word, up_to};
+ghost use Rattle.texts.specs.Parts.{parts};
+
+use crate::faults::LineFault;
+use bitflags::Flags;
+use certificate::{Class, FcntlsRange, Interval, ModeBound, Name, Pair, RightsRange, Side};
+use rights::limits::{MAX_INSTRUCTIONS, MAX_PAIRS};
+use rights::{Fcntls, Rights};
+use std::cmp::Ordering;
+use texts::{NumberFault, compare_numbers, first_part, number_up_to, read_hex};
+
+/// A number up to a limit.
+pub(crate) fn read_number(word: &[u8], limit: u32) -> Result<u32, LineFault>
+    ensures value { result_map_both (λ n. n) fault_of result ≡ up_to limit (number_of word.now) }
+    ensures within { IfOk result (λ n. n ≤ limit) }
+{
+    match number_up_to(word, limit) {
+        Ok(number) => Ok(number),
+        Err(NumberFault::Form) => Err(LineFault::Syntax),
+        Err(NumberFault::Limit) => Err(LineFault::Limit),
+    }
+}
+
+/// The name of a program or a grant.
+pub(crate) fn read_name(word: &[u8]) -> Result<Name, LineFault>
+    ensures { result_map_both name_of fault_of result ≡ name_of_word word.now }
+{
+    match Name::read(word) {
+        Some(name) => Ok(name),
+        None => Err(LineFault::Syntax),
+    }
+}
+
+/// A mode: `off`, `on`, or `maybe`.
+pub(crate) fn read_mode(word: &[u8]) -> Option<ModeBound>
+    ensures { option_map mode_of result ≡ mode_of_word word.now }
+{
+    if word == b"off".as_slice() {
+        Some(ModeBound::Off)
+    } else if word == b"on".as_slice() {
+        Some(ModeBound::On)
+    } else if word == b"maybe".as_slice() {
+        Some(ModeBound::Either)
+    } else {
+        None
+    }
+}
+
+/// A side: `a` or `b`.
+pub(crate) fn read_side(word: &[u8]) -> Option<Side>
+    ensures { option_map side_of result ≡ side_of_word word.now }
+{
+    if word == b"a".as_slice() {
+        Some(Side::A)
+    } else if word == b"b".as_slice() {
+        Some(Side::B)
+    } else {
+        None
+    }
+}
+
+/// A point of a program: `program:point`.
+fn read_point(word: &[u8]) -> Result<Class, LineFault>
+    ensures { result_map_both class_of fault_of result ≡ point_of_program (parts 58 word.now) }
+{
+    let (program, rest) = first_part(word, b':');
+    let Some(rest) = rest else {
+        return Err(LineFault::Syntax);
+    };
+    let (point, more) = first_part(rest, b':');
+    if more.is_some() {
+        return Err(LineFault::Syntax);
+    }
+    let program = read_name(program)?;
+    let point = read_number(point, MAX_INSTRUCTIONS as u32 - 1)?;
+    Ok(Class::MadeAt(program, point as u8))
+}
+
+/// A class of socket pairs: `@N`, or `program:point`.
+pub(crate) fn read_class(word: &[u8]) -> Result<Class, LineFault>
+    ensures { result_map_both class_of fault_of result ≡ class_of_word word.now }
+{
+    match word {
+        [] => Err(LineFault::Syntax),
+        [first, digits @ ..] => {
+            if *first != b'@' {
+                return read_point(word);
+            }
+            let number = read_number(digits, u32::from(MAX_PAIRS) - 1)?;
+            Ok(Class::Initial(Pair::new(number as u8)))
+        }
+    }
+}
+
+/// An interval that isn't full, of its two ends. They are compared first, of whatever length their numbers are.
+pub(crate) fn read_interval(low: &[u8], high: &[u8]) -> Result<Interval, LineFault>
+    ensures { result_map_both interval_of fault_of result ≡ interval_from (number_of low.now) (number_of high.now) }
+{
+    match compare_numbers(low, high) {
+        None | Some(Ordering::Greater) => return Err(LineFault::Syntax),
+        Some(Ordering::Less | Ordering::Equal) => {}
+    }
+    let high = read_number(high, u32::MAX)?;
+    let low = read_number(low, u32::MAX)?;
+    if low == 0 && high == u32::MAX {
+        return Err(LineFault::Syntax);
+    }
+    Ok(Interval::new(low, high))
+}
+
+/// The least and the greatest set of rights, in four digits each.
+pub(crate) fn read_rights(least: &[u8], greatest: &[u8]) -> Result<RightsRange, LineFault>
+    ensures { result_map_both rights_in fault_of result ≡ rights_of_words least.now greatest.now }
+{
+    let (Some(least), Some(greatest)) = (read_hex(least, 4), read_hex(greatest, 4)) else {
+        return Err(LineFault::Syntax);
+    };
+    let least = Rights::from_bits_retain(least as u16);
+    let greatest = Rights::from_bits_retain(greatest as u16);
+    if !greatest.contains(least) || !Rights::all().contains(greatest) {
+        return Err(LineFault::Syntax);
+    }
+    Ok(RightsRange::new(least, greatest))
+}
+
+/// The least and the greatest set of fcntl commands, in one digit each.
+pub(crate) fn read_fcntls(least: &[u8], greatest: &[u8]) -> Result<FcntlsRange, LineFault>
+    ensures { result_map_both fcntls_in fault_of result ≡ fcntls_of_words least.now greatest.now }
+{
+    let (Some(least), Some(greatest)) = (read_hex(least, 1), read_hex(greatest, 1)) else {
+        return Err(LineFault::Syntax);
+    };
+    let least = Fcntls::from_bits_retain(least as u8);
+    let greatest = Fcntls::from_bits_retain(greatest as u8);
+    if !greatest.contains(least) || !Fcntls::all().contains(greatest) {
+        return Err(LineFault::Syntax);
+    }
+    Ok(FcntlsRange::new(least, greatest))
+}

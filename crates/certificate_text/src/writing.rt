@@ -1,0 +1,283 @@
+//! How the text of a certificate is written.
+
+ghost use Rattle.std.specs.Prelude.{◌≡◌, ◌++◌, ◌∷◌, ◌<◌, ◌≤◌, ◌-◌, ◌^◌, ℕ, List, [], Ok, length, map};
+ghost use Rattle.std.specs.Fmt.{decimal};
+ghost use Rattle.texts.specs.Bytes.{colon, space};
+ghost use Rattle.texts.specs.Parts.{joined};
+ghost use Rattle.certificate.specs.Lines.{Begins_block};
+ghost use Rattle.certificate.specs.Views.{bound_of, channel_of, channels_of, class_of, interval_of, line_of, point_of, points_of, slot_of};
+ghost use Rattle.certificate_text.specs.Texts.{certificate_text, class_word, ended, last_line, line_text};
+ghost use Rattle.certificate_text.specs.Readings.{certificate_of_text};
+ghost use Rattle.certificate_text.specs.Pieces.{block_text, channel_text, in_order, register_text, slot_text};
+ghost use Rattle.certificate_text.specs.WordViews.{word_text};
+ghost use Rattle.certificate_text.specs.Writings.{Writes};
+
+use crate::line_words::{Word, words_of_line};
+use bitflags::Flags;
+use certificate::{Bound, Cert, Channel, Class, Interval, Line, Point, Slot};
+use rights::{Out, Stop, write_all};
+use texts::{Decimal, four_digits};
+
+/// Writes some bytes.
+fn write_bytes<W: Out>(out: &mut W, bytes: &[u8]) -> Result<(), Stop>
+    requires { W.faults out.old < 2 ^ 64 - 1 }
+    ensures { Writes result (W.taken out.old) (W.taken out.new) (W.faults out.old) (W.faults out.new) bytes.now }
+{
+    write_all(out, bytes)
+}
+
+/// Writes a number in decimal digits.
+fn write_number<W: Out>(out: &mut W, number: u32) -> Result<(), Stop>
+    requires { W.faults out.old < 2 ^ 64 - 1 }
+    ensures { Writes result (W.taken out.old) (W.taken out.new) (W.faults out.old) (W.faults out.new) (decimal number) }
+{
+    write_bytes(out, Decimal::new(number).as_bytes())
+}
+
+/// Writes a mark, and a number behind it.
+fn write_marked<W: Out>(out: &mut W, mark: &[u8], number: u32) -> Result<(), Stop>
+    requires { W.faults out.old < 2 ^ 64 - 1 }
+    ensures { Writes result (W.taken out.old) (W.taken out.new) (W.faults out.old) (W.faults out.new)
+        (mark.now ++ decimal number) }
+{
+    write_bytes(out, mark)?;
+    write_number(out, number)
+}
+
+/// Writes a point of a program.
+fn write_point<W: Out>(out: &mut W, program: &[u8], point: u32) -> Result<(), Stop>
+    requires { W.faults out.old < 2 ^ 64 - 1 }
+    ensures { Writes result (W.taken out.old) (W.taken out.new) (W.faults out.old) (W.faults out.new)
+        (program.now ++ colon ∷ decimal point) }
+{
+    write_bytes(out, program)?;
+    write_marked(out, b":", point)
+}
+
+/// Writes a class of socket pairs.
+fn write_class<W: Out>(out: &mut W, class: &Class) -> Result<(), Stop>
+    requires { W.faults out.old < 2 ^ 64 - 1 }
+    ensures { Writes result (W.taken out.old) (W.taken out.new) (W.faults out.old) (W.faults out.new)
+        (class_word (class_of class.now)) }
+{
+    match class {
+        Class::Initial(pair) => write_marked(out, b"@", u32::from(pair.number())),
+        Class::MadeAt(program, point) => write_point(out, program.as_bytes(), u32::from(*point)),
+    }
+}
+
+/// Writes a word.
+fn write_word<W: Out>(out: &mut W, word: &Word) -> Result<(), Stop>
+    requires { W.faults out.old < 2 ^ 64 - 1 }
+    ensures { Writes result (W.taken out.old) (W.taken out.new) (W.faults out.old) (W.faults out.new) (word_text word.now) }
+{
+    match word {
+        Word::Keyword(keyword) => write_bytes(out, keyword.as_bytes()),
+        Word::Name(name) => write_bytes(out, name.as_bytes()),
+        Word::Number(number) => write_number(out, *number),
+        Word::Register(register) => write_marked(out, b"r", u32::from(*register)),
+        Word::Class(class) => write_class(out, class),
+        Word::Rights(rights) => write_bytes(out, &four_digits(rights.bits())),
+        Word::Digit(digit) => write_bytes(out, &[*digit]),
+    }
+}
+
+/// Writes a word and a space behind it.
+fn write_separated<W: Out>(out: &mut W, word: &Word) -> Result<(), Stop>
+    requires { W.faults out.old < 2 ^ 64 - 1 }
+    ensures { Writes result (W.taken out.old) (W.taken out.new) (W.faults out.old) (W.faults out.new)
+        (word_text word.now ++ space ∷ []) }
+{
+    write_word(out, word)?;
+    write_bytes(out, b" ")
+}
+
+/// Writes words with a space between each two.
+fn write_words<W: Out>(out: &mut W, words: &[Word]) -> Result<(), Stop>
+    requires { W.faults out.old < 2 ^ 64 - 1 }
+    ensures { Writes result (W.taken out.old) (W.taken out.new) (W.faults out.old) (W.faults out.new)
+        (joined space (map word_text words.now)) }
+{
+    match words {
+        [] => Ok(()),
+        [word] => write_word(out, word),
+        [word, rest @ ..] => {
+            write_separated(out, word)?;
+            write_words(out, rest)
+        }
+    }
+}
+
+/// Writes a line, with its line feed.
+#[tactic(auto, unfolding(crate::specs::Texts::line_text))]
+fn write_line<W: Out>(out: &mut W, line: &Line) -> Result<(), Stop>
+    requires { W.faults out.old < 2 ^ 64 - 1 }
+    ensures { Writes result (W.taken out.old) (W.taken out.new) (W.faults out.old) (W.faults out.new)
+        (ended (line_text (line_of line.now))) }
+{
+    let words = words_of_line(line);
+    write_words(out, words.as_slice())?;
+    write_bytes(out, b"\n")
+}
+
+/// Writes the line of a register that isn't full.
+fn write_register<W: Out>(out: &mut W, register: u8, interval: &Interval) -> Result<(), Stop>
+    requires { W.faults out.old < 2 ^ 64 - 1 }
+    ensures { Writes result (W.taken out.old) (W.taken out.new) (W.faults out.old) (W.faults out.new)
+        (register_text register (interval_of interval.now)) }
+{
+    if interval.is_full() {
+        return Ok(());
+    }
+    write_line(
+        out,
+        &Line::Register {
+            register,
+            interval: *interval,
+        },
+    )
+}
+
+/// Writes the lines of registers, the first of which has this number.
+fn write_registers<W: Out>(out: &mut W, registers: &[Interval]) -> Result<(), Stop>
+    requires few { length registers.now ≤ 255 }
+    requires faults { W.faults out.old < 2 ^ 64 - 1 }
+    ensures { Writes result (W.taken out.old) (W.taken out.new) (W.faults out.old) (W.faults out.new)
+        (in_order register_text 0 (map interval_of registers.now)) }
+{
+    for (register, interval) in registers.iter().enumerate() {
+        write_register(out, register as u8, interval)?;
+    }
+    Ok(())
+}
+
+/// Writes the line of a slot that isn't closed.
+fn write_slot<W: Out>(out: &mut W, number: u8, slot: &Slot) -> Result<(), Stop>
+    requires { W.faults out.old < 2 ^ 64 - 1 }
+    ensures { Writes result (W.taken out.old) (W.taken out.new) (W.faults out.old) (W.faults out.new)
+        (slot_text number (slot_of slot.now)) }
+{
+    if slot.is_closed() {
+        return Ok(());
+    }
+    write_line(
+        out,
+        &Line::Slot {
+            number,
+            slot: *slot,
+        },
+    )
+}
+
+/// Writes the lines of slots, by their numbers.
+fn write_slots<W: Out>(out: &mut W, slots: &[Slot]) -> Result<(), Stop>
+    requires few { length slots.now ≤ 255 }
+    requires faults { W.faults out.old < 2 ^ 64 - 1 }
+    ensures { Writes result (W.taken out.old) (W.taken out.new) (W.faults out.old) (W.faults out.new)
+        (in_order slot_text 0 (map slot_of slots.now)) }
+{
+    for (number, slot) in slots.iter().enumerate() {
+        write_slot(out, number as u8, slot)?;
+    }
+    Ok(())
+}
+
+/// Writes the registers and slots of a block.
+fn write_bound<W: Out>(out: &mut W, bound: &Bound) -> Result<(), Stop>
+    requires { W.faults out.old < 2 ^ 64 - 1 }
+    ensures { Writes result (W.taken out.old) (W.taken out.new) (W.faults out.old) (W.faults out.new)
+        (in_order register_text 0 (bound_of bound.now).registers ++ in_order slot_text 0 (bound_of bound.now).slots) }
+{
+    write_registers(out, bound.registers())?;
+    write_slots(out, bound.slots())
+}
+
+/// The first line of a point's block.
+fn first_line(point: &Point) -> Line
+    ensures { line_of result ≡ Begins_block (point_of point.now).program (point_of point.now).point (point_of point.now).bound.mode }
+{
+    Line::Block {
+        program: *point.program(),
+        point: point.point(),
+        mode: point.bound().mode(),
+    }
+}
+
+/// Writes the block of a point.
+fn write_block<W: Out>(out: &mut W, point: &Point) -> Result<(), Stop>
+    requires { W.faults out.old < 2 ^ 64 - 1 }
+    ensures { Writes result (W.taken out.old) (W.taken out.new) (W.faults out.old) (W.faults out.new)
+        (block_text (point_of point.now)) }
+{
+    write_line(out, &first_line(point))?;
+    write_bound(out, point.bound())
+}
+
+/// Writes the blocks of points, one after another.
+fn write_points<W: Out>(out: &mut W, points: &[Point]) -> Result<(), Stop>
+    requires { W.faults out.old < 2 ^ 64 - 1 }
+    ensures { Writes result (W.taken out.old) (W.taken out.new) (W.faults out.old) (W.faults out.new)
+        (in_order (λ n. block_text) 0 (points_of points.now)) }
+{
+    for point in points {
+        write_block(out, point)?;
+    }
+    Ok(())
+}
+
+/// Writes the line of a channel.
+fn write_channel<W: Out>(out: &mut W, channel: &Channel) -> Result<(), Stop>
+    requires { W.faults out.old < 2 ^ 64 - 1 }
+    ensures { Writes result (W.taken out.old) (W.taken out.new) (W.faults out.old) (W.faults out.new)
+        (channel_text (channel_of channel.now)) }
+{
+    write_line(out, &Line::Channel(*channel))
+}
+
+/// Writes the lines of channels, one after another.
+fn write_channels<W: Out>(out: &mut W, channels: &[Channel]) -> Result<(), Stop>
+    requires { W.faults out.old < 2 ^ 64 - 1 }
+    ensures { Writes result (W.taken out.old) (W.taken out.new) (W.faults out.old) (W.faults out.new)
+        (in_order (λ n. channel_text) 0 (channels_of channels.now)) }
+{
+    for channel in channels {
+        write_channel(out, channel)?;
+    }
+    Ok(())
+}
+
+/// Writes the channels, and the last line behind them.
+fn write_end<W: Out>(out: &mut W, channels: &[Channel]) -> Result<(), Stop>
+    requires { W.faults out.old < 2 ^ 64 - 1 }
+    ensures { Writes result (W.taken out.old) (W.taken out.new) (W.faults out.old) (W.faults out.new)
+        (in_order (λ n. channel_text) 0 (channels_of channels.now) ++ ended last_line) }
+{
+    write_channels(out, channels)?;
+    write_bytes(out, b"end\n")
+}
+
+/// Writes the blocks of points, the lines of channels, and the last line.
+fn write_body<W: Out>(out: &mut W, points: &[Point], channels: &[Channel]) -> Result<(), Stop>
+    requires { W.faults out.old < 2 ^ 64 - 1 }
+    ensures { Writes result (W.taken out.old) (W.taken out.new) (W.faults out.old) (W.faults out.new)
+        (in_order (λ n. block_text) 0 (points_of points.now)
+            ++ (in_order (λ n. channel_text) 0 (channels_of channels.now) ++ ended last_line)) }
+{
+    write_points(out, points)?;
+    write_end(out, channels)
+}
+
+/// Writes the text of a certificate. `Device` is answered only after a failure of the writer, and what it took then is a
+/// beginning of the text; nothing else is answered, since it takes no memory. That text is read as this certificate, and
+/// no other is. (own)
+pub fn write_cert<W: Out>(cert: &Cert, out: &mut W) -> Result<(), Stop>
+    requires { W.faults out.old < 2 ^ 64 - 1 }
+    ensures written { Writes result (W.taken out.old) (W.taken out.new) (W.faults out.old) (W.faults out.new)
+        (certificate_text cert.now) }
+    ensures reads_back { certificate_of_text (certificate_text cert.now) ≡ Ok cert.now }
+    ensures alone { (text : List ℕ) → certificate_of_text text ≡ Ok cert.now → text ≡ certificate_text cert.now }
+{
+    let (points, channels) = (cert.points(), cert.channels());
+    write_bytes(out, b"capcert 1\n")?;
+    write_body(out, points, channels)
+}
