@@ -1,5 +1,5 @@
 -- A set of commands has one digit.
-use Rattle.std.proofs.Common.{◌≡◌, ℕ, ◌<◌, ◌%◌, true, [], ◌∷◌, arith, ap, sym, eqb-true}
+use Rattle.std.proofs.Common.{◌≡◌, ℕ, ◌<◌, ◌%◌, true, [], ◌∷◌, arith, ap, eqb-true}
 use Rattle.std.specs.Prelude.{bit_and}
 use Rattle.std.proofs.lemmas.Nat.{and_le_l}
 use Rattle.rights.specs.Sets.{all_commands, is_within}

@@ -1,7 +1,7 @@
 -- Faulty bytes, the fault of each, and where its line begins, by computation.
 use Rattle.std.proofs.Common.{◌≡◌, refl}
-use Rattle.std.specs.Prelude.{ℕ, List, [], ◌∷◌, ◌++◌, codes, length, take, Ok}
-use Rattle.certificate_text.specs.Faults.{Fault, Syntax, Limit, Order}
+use Rattle.std.specs.Prelude.{ℕ, List, [], ◌∷◌, ◌++◌, codes, take}
+use Rattle.certificate_text.specs.Faults.{Syntax, Limit, Order}
 use Rattle.certificate.specs.Growth.{taken, distinct_behind, above_blocks, above_channels, may_bound_register, may_bound_slot, all_from, on_last}
 use Rattle.certificate_text.specs.Readings.{Reading, certificate_of_text, fails, line_of_text, read_behind}
 use Rattle.certificate_text.proofs.Samples.{block_0, block_1, block_2, text, three_blocks}
@@ -60,7 +60,7 @@ forms :
     × (in_block (codes "fd 2 open sock 0 a 0000 3fff 0 3") ≡ fails Syntax 24) × (in_block (codes "fd 2 open sock @0 c 0000 3fff 0 3") ≡ fails Syntax 24)
     × (in_block (codes "fd 2 open none") ≡ fails Syntax 24) × (in_block (codes "chan @0 a") ≡ fails Syntax 24)
     × (in_block (codes "chan @0 a none none") ≡ fails Syntax 24) × (in_block (codes "chan main:0:0 a none") ≡ fails Syntax 24)
-    × (in_block []  ≡ fails Syntax 24) × (in_block (codes "auth main") ≡ fails Syntax 24)
+    × (in_block [] ≡ fails Syntax 24) × (in_block (codes "auth main") ≡ fails Syntax 24)
 unfolding certificate_of_text read_behind line_of_text taken distinct_behind above_blocks above_channels may_bound_register may_bound_slot all_from on_last
 forms = (refl, refl, refl, refl, refl, refl, refl, refl, refl, refl, refl, refl, refl, refl, refl, refl, refl, refl, refl, refl, refl, refl, refl, refl, refl, refl, refl)
 

@@ -1,12 +1,12 @@
 -- Numbered things that are written one after another.
-use Rattle.std.proofs.Common.{◌≡◌, ℕ, ◌+◌, ◌<◌, ◌≤◌, List, [], ◌++◌, length, map, drop, ap, sym, ◌∙◌, subst}
+use Rattle.std.proofs.Common.{◌≡◌, ℕ, ◌+◌, ◌<◌, ◌≤◌, List, ◌++◌, length, map, drop, ap, sym, ◌∙◌, subst}
 use Rattle.std.specs.List.{slice_index_or}
 use Rattle.std.specs.Prelude.{Option, Result, Ok, Err}
 use Rattle.rights.specs.declared.stops.Stop.{Stop}
 use Rattle.certificate_text.specs.Pieces.{in_order}
 use Rattle.certificate_text.specs.Writings.{Writes}
 use Rattle.certificate_text.proofs.InOrder.{in-order-here, in-order-end}
-use Rattle.certificate_text.proofs.Written.{Written, written-start, written-next, written-failed, written-all}
+use Rattle.certificate_text.proofs.Written.{Written, written-next, written-failed, written-all}
 
 module _ {A B : Type 0} (view : A → B) (text : ℕ → B → List ℕ) (xs : List A) where
   abbrev pub left_from : ℕ → List ℕ

@@ -2,7 +2,7 @@
 use Rattle.std.proofs.Common.{◌≡◌, ℕ, ◌+◌, Bool, true, false, cond, List, [], ◌∷◌, ◌++◌, map, refl, ap, sym, ◌∙◌, append_assoc}
 use Rattle.std.specs.List.{flat_map}
 use Rattle.certificate.specs.Bounds.{Interval, Slot, PointBound, ChannelBound, Certificate}
-use Rattle.certificate.specs.Lines.{Line, Begins_block, Bounds_channel, Bounds_register, Bounds_slot, block_lines, is_closed, is_full, lines_of, register_lines, slot_lines}
+use Rattle.certificate.specs.Lines.{Begins_block, Bounds_channel, Bounds_register, Bounds_slot, block_lines, is_closed, is_full, register_lines, slot_lines}
 use Rattle.certificate_text.specs.Pieces.{block_text, channel_text, in_order, line_ended, register_text, slot_text}
 use Rattle.certificate_text.specs.Texts.{certificate_text, ended, first_line, last_line}
 

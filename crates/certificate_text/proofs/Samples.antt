@@ -1,8 +1,8 @@
 -- Certificates and their lines, for rows.
-use Rattle.std.specs.Prelude.{◌^◌, ◌-◌, ℕ, List, [], ◌∷◌, ◌++◌, codes, Option, Some, None}
+use Rattle.std.specs.Prelude.{ℕ, List, [], ◌∷◌, ◌++◌, codes, Some, None}
 use Rattle.std.specs.List.{flat_map}
-use Rattle.rights.specs.Classes.{Class, Initial, Made_at}
-use Rattle.certificate.specs.Bounds.{ModeBound, Off, On, Either, Interval, Target, In_grant, Any_node, Socket, Unknown, Held, Slot, Closed, Open, Maybe, Bound, PointBound, ChannelBound, Certificate, with_interval, with_slot}
+use Rattle.rights.specs.Classes.{Initial, Made_at}
+use Rattle.certificate.specs.Bounds.{ModeBound, Off, On, Either, In_grant, Socket, Unknown, Held, Open, Maybe, Bound, PointBound, Certificate, with_interval, with_slot}
 use Rattle.certificate.specs.Growth.{open_bound}
 use Rattle.certificate_text.specs.Texts.{ended}
 

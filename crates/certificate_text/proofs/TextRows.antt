@@ -1,7 +1,7 @@
 -- Certificates have their texts, and these are read as them, by computation.
 use Rattle.std.proofs.Common.{◌≡◌, refl}
 use Rattle.std.specs.Prelude.{[], ◌∷◌, codes, length, Ok}
-use Rattle.certificate.specs.Bounds.{Off, On, Certificate}
+use Rattle.certificate.specs.Bounds.{Off, Certificate}
 use Rattle.certificate.specs.Growth.{nothing, open_bound, taken, distinct_behind, above_blocks, above_channels, may_bound_register, may_bound_slot, all_from, on_last}
 use Rattle.certificate.specs.Lines.{register_lines, slot_lines}
 use Rattle.std.specs.Fmt.{digits}

@@ -34,7 +34,7 @@ module _ (before now after : Option (List ℕ)) (faults so failed : ℕ) (whole 
   pub written-failed : (stop : Stop) → Writes (Err stop) now after so failed piece → Writes (Err stop) before after faults failed whole
   written-failed Device wrote = (
     subst (TookFront before after) so_far.whole_is (front_after before now after so_far.front (piece ++ left) so_far.took
-    (record { front = wrote.0.front; rest = wrote.0.rest ++ left; whole = sym (append_assoc wrote.0.front wrote.0.rest left) ∙ ap (λ p. p ++ left) wrote.0.whole; took = wrote.0.took })),
+        (record { front = wrote.0.front; rest = wrote.0.rest ++ left; whole = sym (append_assoc wrote.0.front wrote.0.rest left) ∙ ap (λ p. p ++ left) wrote.0.whole; took = wrote.0.took })),
     subst (λ n. n < failed) so_far.steady wrote.1,
   )
   written-failed Memory wrote = wrote

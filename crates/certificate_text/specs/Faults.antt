@@ -1,5 +1,5 @@
 -- Why bytes are no certificate. (own)
-use Rattle.std.specs.Prelude.{ℕ, Result, Ok, Err, Option, Some, None, Bool, true, false}
+use Rattle.std.specs.Prelude.{ℕ, Result, Ok, Err, Option, Some, None}
 
 -- Of several faults of a line the first of these counts: it has no form that a line has; a number, the programs or the
 -- classes are past their limit; it is of good form, but out of its place or not above the line before it.

@@ -1,8 +1,8 @@
 -- The text of a certificate in pieces, one for each register, slot, block and channel. (own)
 use Rattle.std.specs.Prelude.{◌+◌, ℕ, List, [], ◌∷◌, ◌++◌, if◌then◌else◌}
 use Rattle.std.specs.List.{flat_map}
-use Rattle.certificate.specs.Bounds.{Interval, Slot, Bound, PointBound, ChannelBound}
-use Rattle.certificate.specs.Lines.{Line, Begins_block, Bounds_register, Bounds_slot, Bounds_channel, block_lines, is_closed, is_full}
+use Rattle.certificate.specs.Bounds.{Interval, Slot, PointBound, ChannelBound}
+use Rattle.certificate.specs.Lines.{Line, Bounds_register, Bounds_slot, Bounds_channel, block_lines, is_closed, is_full}
 use Rattle.certificate_text.specs.Texts.{ended, line_text}
 
 abbrev pub line_ended : Line → List ℕ

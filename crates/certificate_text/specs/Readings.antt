@@ -1,5 +1,5 @@
 -- The certificate that bytes stand for, or the fault of the first faulty line. (own)
-use Rattle.std.specs.Prelude.{◌&&◌, ℕ, Bool, List, [], ◌∷◌, Result, Ok, Err, if◌then◌else◌}
+use Rattle.std.specs.Prelude.{◌&&◌, ℕ, List, [], ◌∷◌, Result, Ok, Err, if◌then◌else◌}
 use Rattle.std.specs.Str.{bytes_eq}
 use Rattle.texts.specs.Bytes.{space}
 use Rattle.texts.specs.Lines.{Line as TextLine, lines_of}

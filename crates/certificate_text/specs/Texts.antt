@@ -6,7 +6,7 @@ use Rattle.rights.specs.Classes.{Class, Initial, Made_at}
 use Rattle.texts.specs.Bytes.{colon, line_feed, space}
 use Rattle.texts.specs.Hex.{hex_text}
 use Rattle.texts.specs.Parts.{joined}
-use Rattle.certificate.specs.Bounds.{ModeBound, Off, On, Either, Interval, Target, In_grant, Any_node, Socket, Unknown, Held, Slot, Closed, Open, Maybe, Certificate}
+use Rattle.certificate.specs.Bounds.{ModeBound, Off, On, Either, Target, In_grant, Any_node, Socket, Unknown, Held, Slot, Closed, Open, Maybe, Certificate}
 use Rattle.certificate.specs.Lines.{Line, Begins_block, Bounds_register, Bounds_slot, Bounds_channel, lines_of}
 
 -- the bytes `@` and `r`

@@ -9,7 +9,7 @@ use Rattle.texts.specs.Hex.{hex_of}
 use Rattle.texts.specs.Names.{is_name}
 use Rattle.texts.specs.Numbers.{number_of}
 use Rattle.texts.specs.Parts.{parts}
-use Rattle.certificate.specs.Bounds.{ModeBound, Off, On, Either, Interval, Target, In_grant, Any_node, Socket, Unknown, Held, Slot, Closed, Open, Maybe, ChannelBound, full_interval}
+use Rattle.certificate.specs.Bounds.{ModeBound, Off, On, Either, Interval, Target, In_grant, Any_node, Socket, Unknown, Held, Slot, Open, Maybe, full_interval}
 use Rattle.certificate.specs.Lines.{is_interval, is_range, Line, Begins_block, Bounds_register, Bounds_slot, Bounds_channel}
 use Rattle.certificate_text.specs.Faults.{Fault, Syntax, Limit, both, formed, with_part}
 use Rattle.certificate_text.specs.Texts.{at_sign, register_letter}

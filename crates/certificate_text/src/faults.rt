@@ -4,7 +4,6 @@ ghost use Rattle.std.specs.Prelude.{◌≡◌};
 ghost use Rattle.certificate_text.specs.Views.{fault_number, faulty_at};
 ghost use Rattle.certificate_text.specs.declared.faults.CertFault.TheVariants as faults;
 
-
 use thiserror::Error;
 
 /// Why a line is none of a certificate's. Of the two the first counts.

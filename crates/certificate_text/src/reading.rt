@@ -1,7 +1,8 @@
 //! How a certificate is read.
 
-ghost use Rattle.std.specs.Prelude.{◌≡◌};
-ghost use Rattle.certificate_text.specs.Readings.{certificate_of_text, closed, grown, line_of_text, read_behind};
+ghost use Rattle.std.specs.Prelude.{◌≡◌, IfOk};
+ghost use Rattle.certificate_text.specs.Readings.{certificate_of_text, closed, grown, line_of_text, read_behind, read_lines};
+ghost use Rattle.certificate_text.specs.Texts.{certificate_text};
 ghost use Rattle.certificate_text.specs.Views.{ReadsCert, TakesLine};
 
 use crate::faults::CertFault;
@@ -56,14 +57,10 @@ fn read_body(mut cert: Cert, mut lines: Lines<'_>) -> Result<Cert, CertFault>
     Err(CertFault::Syntax(0))
 }
 
-/// Reads a certificate, version 1: the one whose text the bytes are, or the fault of their first faulty line, and of that
-/// line's faults the first of `Syntax`, `Limit` and `Order`, with where the line begins. Only want of memory may come
-/// instead. (own)
-#[tactic(auto, unfolding(crate::specs::Readings::certificate_of_text))]
-pub fn read_cert(alloc: Global, bytes: &[u8]) -> Result<Cert, CertFault>
-    ensures { ReadsCert result (certificate_of_text bytes.now) }
+/// Reads all lines.
+fn read_lines(alloc: Global, mut lines: Lines<'_>) -> Result<Cert, CertFault>
+    ensures { ReadsCert result (read_lines lines.entry) }
 {
-    let mut lines = Lines::new(bytes);
     let Some(first) = lines.next() else {
         return Err(CertFault::Syntax(0));
     };
@@ -71,4 +68,15 @@ pub fn read_cert(alloc: Global, bytes: &[u8]) -> Result<Cert, CertFault>
         return Err(CertFault::Syntax(first.offset));
     }
     read_body(Cert::new(alloc), lines)
+}
+
+/// Reads a certificate, version 1: the one whose text the bytes are, or the fault of their first faulty line, and of that
+/// line's faults the first of `Syntax`, `Limit` and `Order`, with where the line begins. Only want of memory may come
+/// instead. No other bytes are read as that certificate. (own)
+#[tactic(auto, unfolding(crate::specs::Readings::certificate_of_text))]
+pub fn read_cert(alloc: Global, bytes: &[u8]) -> Result<Cert, CertFault>
+    ensures reads { ReadsCert result (certificate_of_text bytes.now) }
+    ensures one_spelling { IfOk result (λ cert. certificate_text cert ≡ bytes.now) }
+{
+    read_lines(alloc, Lines::new(bytes))
 }

@@ -261,7 +261,7 @@ fn write_body<W: Out>(out: &mut W, points: &[Point], channels: &[Channel]) -> Re
     requires { W.faults out.old < 2 ^ 64 - 1 }
     ensures { Writes result (W.taken out.old) (W.taken out.new) (W.faults out.old) (W.faults out.new)
         (in_order (λ n. block_text) 0 (points_of points.now)
-            ++ (in_order (λ n. channel_text) 0 (channels_of channels.now) ++ ended last_line)) }
+        ++ (in_order (λ n. channel_text) 0 (channels_of channels.now) ++ ended last_line)) }
 {
     write_points(out, points)?;
     write_end(out, channels)

@@ -1,4 +1,4 @@
-use Rattle.std.proofs.Common.{◌≡◌, ◌<◌, ◌∷◌, [], ap, sym, ◌∙◌, subst}
+use Rattle.std.proofs.Common.{◌<◌, ◌∷◌, [], ap, sym, ◌∙◌, subst}
 use Rattle.texts.specs.Hex.{hex_digit}
 use Rattle.certificate_text.proofs.CommandDigits.{few-commands, one-digit}
 use Rattle.certificate_text.proofs.line_words.commands_digit.Goals as goal

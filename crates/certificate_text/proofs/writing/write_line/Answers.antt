@@ -1,6 +1,5 @@
-use Rattle.std.proofs.Common.{◌≡◌, ap, ◌∙◌, subst, [], ◌∷◌, ◌++◌}
+use Rattle.std.proofs.Common.{ap, ◌∙◌, subst}
 use Rattle.texts.specs.Parts.{joined}
-use Rattle.certificate.specs.Views.{line_of}
 use Rattle.certificate_text.specs.Texts.{ended, line_text}
 use Rattle.certificate_text.specs.Writings.{Writes}
 use Rattle.certificate_text.proofs.Written.{passed_on, written-both, written-front}
