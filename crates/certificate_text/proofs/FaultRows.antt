@@ -1,6 +1,7 @@
 -- Faulty bytes, the fault of each, and where its line begins, by computation.
 use Rattle.std.proofs.Common.{◌≡◌, refl}
-use Rattle.std.specs.Prelude.{ℕ, List, [], ◌∷◌, ◌++◌, codes, take}
+use Rattle.std.specs.Fmt.{decimal, digits}
+use Rattle.std.specs.Prelude.{◌+◌, ℕ, zero, suc, List, [], ◌∷◌, ◌++◌, codes, take}
 use Rattle.certificate_text.specs.Faults.{Syntax, Limit, Order}
 use Rattle.certificate.specs.Growth.{taken, distinct_behind, above_blocks, above_channels, may_bound_register, may_bound_slot, all_from, on_last}
 use Rattle.certificate_text.specs.Readings.{Reading, certificate_of_text, fails, line_of_text, read_behind}
@@ -104,3 +105,14 @@ nine :
     × (of_lines (eight ++ codes "chan @0 a sock i:0 a 0000 3fff 0 3" ∷ []) ≡ fails Limit 115)
 unfolding certificate_of_text read_behind line_of_text taken distinct_behind above_blocks above_channels may_bound_register may_bound_slot all_from on_last
 nine = (refl, refl, refl, refl, refl)
+
+-- a 33rd class among the channels, and a line of one of the 32
+abbrev channels_from : ℕ → ℕ → List (List ℕ)
+channels_from zero n = []
+channels_from (suc more) n = (codes "chan @" ++ decimal n ++ codes " a none") ∷ channels_from more (n + 1)
+
+classes :
+    (of_lines (channels_from 32 0 ++ codes "chan main:0 a none" ∷ []) ≡ fails Limit 512)
+    × (of_lines (channels_from 32 0 ++ codes "chan @31 a none" ∷ []) ≡ fails Order 512)
+unfolding digits certificate_of_text read_behind line_of_text taken distinct_behind above_blocks above_channels may_bound_register may_bound_slot all_from on_last
+classes = (refl, refl)
