@@ -1,0 +1,49 @@
+//! The verdict on two texts.
+
+ghost use Rattle.std.specs.Prelude.{◌≡◌, Ok};
+ghost use Rattle.certificate_text.specs.Readings.{certificate_of_text};
+ghost use Rattle.checker.specs.Verdicts.{Yes};
+ghost use Rattle.task.specs.Plans.{Plan};
+ghost use Rattle.task.specs.Sandboxed.{IsSandboxed};
+ghost use Rattle.task_reader.specs.Reading.{task_of};
+ghost use Rattle.text_checker.specs.Checks.{ChecksTexts, SaysYes};
+
+use certificate_text::{CertFault, read_cert};
+use checker::{Verdict, check};
+use std::alloc::Global;
+use task_reader::{TaskFault, read_task};
+use thiserror::Error;
+
+/// Why two texts have no verdict: the task's text is none, or, where it is one, the certificate's.
+#[derive(Debug, Drop, Error)]
+pub enum Fault {
+    #[error("the task: {0}")]
+    Task(TaskFault),
+    #[error("the certificate: {0}")]
+    Cert(CertFault),
+}
+
+/// The verdict of `check` on the task and the certificate that two texts stand for.
+///
+/// A yes means that the first text stands for a task, every run of which is sandboxed: whatever list of events, inputs,
+/// schedules and refusals, no process in capability mode does to the tree what the policy doesn't allow, no call is refused
+/// for a missing right or by capability mode, and no descriptor has more rights or commands than its source. (own)
+///
+/// # Errors
+///
+/// The task's fault, or, where the first text stands for a task, the certificate's. Want of memory may come in place of any
+/// answer.
+pub fn check_text(alloc: Global, task: &[u8], cert: &[u8]) -> Result<Verdict, Fault>
+    ensures exact { ChecksTexts result (task_of task.now) (certificate_of_text cert.now) }
+    ensures sound { SaysYes result → (plan : Plan) × (task_of task.now ≡ Ok plan) × IsSandboxed plan }
+{
+    let task = match read_task(alloc, task) {
+        Ok(task) => task,
+        Err(fault) => return Err(Fault::Task(fault)),
+    };
+    let cert = match read_cert(alloc, cert) {
+        Ok(cert) => cert,
+        Err(fault) => return Err(Fault::Cert(fault)),
+    };
+    Ok(check(&task, &cert))
+}

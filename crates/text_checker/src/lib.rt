@@ -1,0 +1,6 @@
+//! The verdict on a task and a certificate, from their texts.
+#![tactic(auto)]
+
+pub mod checking;
+
+pub use checking::{Fault, check_text};
