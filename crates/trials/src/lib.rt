@@ -7,6 +7,8 @@ mod base;
 #[cfg(test)]
 mod bounds;
 #[cfg(test)]
+mod certificates;
+#[cfg(test)]
 mod consoles;
 #[cfg(test)]
 mod instructions;
