@@ -17,6 +17,18 @@ struct Comparison<'a> {
     failures: u64,
 }
 
+impl<'a> Comparison<'a> {
+    /// The whole text is left.
+    fn new(text: &'a [u8]) -> Comparison<'a>
+        ensures { result.failures ≡ 0 }
+    {
+        Comparison {
+            left: text,
+            failures: 0,
+        }
+    }
+}
+
 impl<'a> Out for Comparison<'a> {
     ghost taken = { λ _. None };
 
@@ -33,22 +45,13 @@ impl<'a> Out for Comparison<'a> {
     }
 }
 
-/// A comparison with a text.
-fn comparison(text: &[u8]) -> Comparison<'_>
-    ensures { result.failures ≡ 0 }
-{
-    Comparison {
-        left: text,
-        failures: 0,
-    }
-}
-
 /// The processor time since then.
 fn since(rt: &HostRuntime, start: Duration) -> anyhow::Result<Duration> {
-    Ok(rt
-        .thread_cpu_time()?
-        .checked_sub(start)
-        .unwrap_or(Duration::ZERO))
+    Ok(
+        rt.thread_cpu_time()?
+            .checked_sub(start)
+            .unwrap_or(Duration::ZERO),
+    )
 }
 
 /// Reads the certificate in the file and writes it, once, and prints the bytes and the nanoseconds of each.
@@ -57,7 +60,7 @@ fn measure(rt: &HostRuntime, path: &str) -> anyhow::Result<()> {
     let start = rt.thread_cpu_time()?;
     let cert = read_cert(rt.alloc(), &text)?;
     let read = since(rt, start)?.as_nanos();
-    let mut out = comparison(&text);
+    let mut out = Comparison::new(&text);
     let start = rt.thread_cpu_time()?;
     write_cert(&cert, &mut out)?;
     let written = since(rt, start)?.as_nanos();
