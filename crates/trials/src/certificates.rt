@@ -21,7 +21,7 @@ fd 1 open grant log 3fff 3fff 3 3
 end
 ";
 
-/// Its parts begin there: each line, and what would stand behind the last one.
+/// Where each of its lines begins.
 const LINE_STARTS: [usize; 11] = [0, 10, 24, 59, 93, 106, 141, 175, 188, 223, 257];
 
 /// Six points of a program, with a descriptor that is open at some and perhaps at one.
