@@ -8,7 +8,7 @@ use std::alloc::{AllocError, Global};
 use std::test::Fail;
 
 /// Three points of a program, each with two directories open.
-const THREE_POINTS: &str = "capcert 1
+pub(super) const THREE_POINTS: &str = "capcert 1
 at main 0 off
 fd 0 open grant work 3fff 3fff 3 3
 fd 1 open grant log 3fff 3fff 3 3

@@ -39,6 +39,8 @@ mod tables;
 #[cfg(test)]
 mod tasks;
 #[cfg(test)]
+mod text_checks;
+#[cfg(test)]
 mod text_parts;
 #[cfg(test)]
 mod told_faults;
