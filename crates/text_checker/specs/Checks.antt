@@ -1,6 +1,5 @@
 -- What the verdict on two texts is of. (own)
 use Rattle.std.specs.Prelude.{◌≡◌, Result, Ok, Err}
-use Rattle.certificate.specs.Bounds.{Certificate}
 use Rattle.certificate_text.specs.Readings.{Reading}
 use Rattle.certificate_text.specs.Views.{ReadsCert}
 use Rattle.checker.specs.Verdicts.{IsVerdict, Yes}

@@ -45,7 +45,10 @@ fn texts_have_verdicts(rt: HostRuntime) {
 fn the_fault_of_the_task_comes_first(rt: HostRuntime) {
     for cert in ["", THREE_POINTS] {
         let told = check_text(rt.alloc(), b"node", cert.as_bytes());
-        assert!(rt; matches!(told, Err(Fault::Task(TaskFault::NotToml))), "{cert}");
+        assert!(rt;
+            matches!(told, Err(Fault::Task(TaskFault::NotToml))),
+            "{cert}"
+        );
     }
     let told = check_text(rt.alloc(), ENTERS.as_bytes(), b"capcert 1\n");
     assert!(rt; matches!(told, Err(Fault::Cert(CertFault::Syntax(10)))));
