@@ -1,0 +1,5 @@
+use Rattle.rules.proofs.Probed.{least_is_told}
+use Rattle.rules.proofs.laws.the_least_is_told.Goals as goal
+
+pub returns : goal.returns
+returns c = least_is_told

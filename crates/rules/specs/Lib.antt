@@ -1,0 +1,11 @@
+pub mod Intervals
+pub mod Points
+pub mod Slots
+pub mod Uses
+pub mod Demands
+pub mod Channels
+pub mod Outcomes
+pub mod Rules
+pub mod Verdicts
+pub mod Probes
+pub mod Refusals

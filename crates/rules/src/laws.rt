@@ -1,0 +1,25 @@
+//! Laws of the rules. Each is the contract of a function that does nothing.
+
+ghost use Rattle.rules.specs.Refusals.{EachRuleIsBroken, EachRuleIsKept, LeastIsTold};
+ghost use Rattle.rules.specs.Verdicts.{FirstIsFound};
+
+/// Where going through all points in order finds none that breaks a rule, the certificate meets the rules at every point;
+/// and what it finds is the first program, the first point there, and the least rule that is broken there. (own)
+pub fn the_first_is_found()
+    ensures { FirstIsFound }
+{}
+
+/// Each of the rules K1 to K16 refuses a certificate, where no rule before it does. (own)
+pub fn each_rule_is_broken()
+    ensures { EachRuleIsBroken }
+{}
+
+/// And each lets the same call through where what it asks is there. (own)
+pub fn each_rule_is_kept()
+    ensures { EachRuleIsKept }
+{}
+
+/// Where two rules are broken at one point, the lesser is told: of each two neighbours that one instruction can break. (own)
+pub fn the_least_is_told()
+    ensures { LeastIsTold }
+{}
