@@ -119,7 +119,8 @@ module _ (plan : Plan) (w : World) (p : ℕ) (s : ProcessState) (choice : Choice
   pub named_end : (d : Descriptor) (pair side : ℕ) (class : Class) → IsNamed w choice inv.classes d
       → w.files.objects d.description ≡ At_end pair side class → (pair ≢ choice.pair) × (inv.classes pair ≡ class)
   named_end d pair side class named is = (
-    (λ same. both_ways (is_end choice.pair side (At_end pair side class)) (ap (is_end choice.pair side) (sym is) ∙ named.apart.ends side) (rw (eq-eqb pair choice.pair same, eq-eqb side side refl) refl)),
+    (λ same. both_ways (is_end choice.pair side (At_end pair side class)) (ap (is_end choice.pair side) (sym is) ∙ named.apart.ends side)
+        (rw (eq-eqb pair choice.pair same, eq-eqb side side refl) refl)),
     subst (IsOfClass inv.classes) is named.class,
   )
 

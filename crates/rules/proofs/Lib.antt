@@ -32,3 +32,8 @@ pub mod GrantPlaces
 pub mod OwnRows
 pub mod Bounded
 pub mod OwnTables
+pub mod Owing
+pub mod OwedCalls
+pub mod QuietCalls
+pub mod FoundIn
+pub mod OpenedPaths
