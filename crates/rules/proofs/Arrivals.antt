@@ -51,7 +51,7 @@ module _ (plan : Plan) (w : World) (p : ℕ) (s : ProcessState) (choice : Choice
   none_added P t q none =
       subst (λ (xs : List ProcessState). IfAlive P (slice_get xs q)) (sym (append-nil (slice_set w.processes p t))) (none_made P t q none)
 
-  child_owed : (P : ℕ → ProcessState → Type 0) (t : ProcessState) (table : TableChange)
+  pub child_owed : (P : ℕ → ProcessState → Type 0) (t : ProcessState) (table : TableChange)
       → IfChild table ((forked t).alive ≡ true → P (length w.processes) (forked t)) → (q : ℕ) → slice_get w.processes q ≡ None
       → IfAlive (P q) (slice_get (processes_after w.processes p t table) q)
   child_owed P t Same_table owed q none = none_added (P q) t q none
@@ -64,7 +64,7 @@ module _ (plan : Plan) (w : World) (p : ℕ) (s : ProcessState) (choice : Choice
       (λ same. subst (λ k. (forked t).alive ≡ true → P k (forked t)) (sym (same ∙ length-set w.processes p t)) owed)
       (λ _. none_made (P q) t q none)
 
-  own_owed : (P : ProcessState → Type 0) (t : ProcessState) (more : List ProcessState) → (t.alive ≡ true → P t) → IfAlive P (slice_get (slice_set w.processes p t ++ more) p)
+  pub own_owed : (P : ProcessState → Type 0) (t : ProcessState) (more : List ProcessState) → (t.alive ≡ true → P t) → IfAlive P (slice_get (slice_set w.processes p t ++ more) p)
   own_owed P t more owed =
       subst (IfAlive P) (sym (get_front (slice_set w.processes p t) more p t (slice_get-set_same w.processes p s t acts.made))) owed
 

@@ -37,3 +37,6 @@ pub mod OwedCalls
 pub mod QuietCalls
 pub mod FoundIn
 pub mod OpenedPaths
+pub mod OwedChanges
+pub mod TableCalls
+pub mod OpenCalls

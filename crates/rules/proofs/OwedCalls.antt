@@ -41,7 +41,7 @@ plain_owed plan certificate w e s choice i byte known moves =
 abbrev pub quiet : TreeChange → QueueChange → StateChange → Bool → Change
 quiet tree queue state enters = record { tree = tree; table = Same_table; queue = queue; state = state; enters = enters }
 
-off_stays : (a : Bool) → (a || false) ≡ a
+pub off_stays : (a : Bool) → (a || false) ≡ a
 off_stays true = refl
 off_stays false = refl
 
