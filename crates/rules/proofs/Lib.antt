@@ -40,3 +40,4 @@ pub mod OpenedPaths
 pub mod OwedChanges
 pub mod TableCalls
 pub mod OpenCalls
+pub mod PassingCalls

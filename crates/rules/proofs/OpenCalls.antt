@@ -1,12 +1,10 @@
 -- `open` and `openat` owe what they should.
 use Rattle.std.proofs.Common.{◌≡◌, ℕ, ◌<◌, Bool, true, false, List, [], ◌∷◌, ◌++◌, length, inl, inr, refl, ap, sym, ◌∙◌, subst}
-use Rattle.std.specs.Prelude.{Option, Some, not}
+use Rattle.std.specs.Prelude.{Some, not}
 use Rattle.std.specs.Option.{option_map}
-use Rattle.rights.specs.Errors.{ENOTDIR}
-use Rattle.rights.specs.Errors as errors
 use Rattle.rights.specs.Opens.{OpenRequest}
 use Rattle.rights.specs.Sets.{all_rights, all_commands}
-use Rattle.rights.specs.Operations.{Operation, Write as Writes, Create as Creates}
+use Rattle.rights.specs.Operations.{Write as Writes, Create as Creates}
 use Rattle.file_tree.specs.Nodes.{Kind, File, Dir, Link, Node, node, is_dir, is_link}
 use Rattle.file_tree.specs.Places.{at_name}
 use Rattle.file_tree.specs.WellFormed.{IsTree}
@@ -20,7 +18,7 @@ use Rattle.lookup.specs.Promises.{IsThere, IsFollowed}
 use Rattle.lookup.proofs.LookLaws.{find_looks}
 use Rattle.lookup.proofs.PlaceLaws.{looks_there, followed_good}
 use Rattle.process.specs.State.{ProcessState}
-use Rattle.fd_table.specs.Descriptions.{Access, Object, Descriptor}
+use Rattle.fd_table.specs.Descriptions.{Access}
 use Rattle.fd_table.specs.OpenFiles.{lowest_free}
 use Rattle.prog_asm.specs.Programs.{Operand, Syscall, Open, Openat, Invoke}
 use Rattle.certificate.specs.Bounds.{Held, with_slot, Bound, Certificate}
@@ -29,7 +27,7 @@ use Rattle.certificate.specs.Describes.{Seen, Node_at, held_describes, target_de
 use Rattle.kernel.specs.World.{World, Choice}
 use Rattle.kernel.specs.Answers.{Event, Effect, TreeChange, Same_tree, Make, New_file, Same_queue, Same_state, Change, Gives, does, lookup_fails, value_of}
 use Rattle.kernel.specs.Calls.{answer, looks, last_if, opened, opened_as, truncated, truncates, access_for}
-use Rattle.kernel.specs.Changes.{tree_after, given, changed}
+use Rattle.kernel.specs.Changes.{tree_after, given}
 use Rattle.task.specs.Plans.{Grant, Plan}
 use Rattle.task.specs.Policies.{grant_holds}
 use Rattle.task.specs.Sandboxed.{Allowed, AreAllowed}
@@ -47,10 +45,10 @@ use Rattle.rules.proofs.FoundIn.{IsFoundIn, found_in}
 use Rattle.rules.proofs.OpenedPaths.{IsTargeted, opened_in}
 use Rattle.rules.proofs.Known.{allowed_where}
 use Rattle.rules.proofs.Failing.{outside_mode}
-use Rattle.rules.proofs.Outcomes.{GoesOn, Takes}
+use Rattle.rules.proofs.Outcomes.{Takes}
 use Rattle.rules.proofs.TakenOutcomes.{leads_open, leads_openat}
 use Rattle.rules.proofs.Taken.{number_taken}
-use Rattle.rules.proofs.Uses.{Used, Through, first_use, said, through}
+use Rattle.rules.proofs.Uses.{Through, first_use, said, through}
 use Rattle.rules.proofs.Owing.{Standing}
 use Rattle.rules.proofs.OwedCalls.{OwedBy, owed_fails, owed_passed, owed_unless, owed_held, owed_object, owed_number}
 use Rattle.rules.proofs.OwedChanges.{owed_change, own_described}
@@ -119,7 +117,7 @@ module _ (plan : Plan) (certificate : Certificate) (w : World) (e : Event) (s : 
   -- What is found is opened with these rights and commands.
   module _ (may : (demands call).never_fails ≡ false) (rights fcntls : ℕ) (Reaches : List (List ℕ) → Type 0)
       (takes : (place : List (List ℕ)) (number : ℕ) → Reaches place → lowest_free (w.files.table e.process) ≡ Some number
-          → Takes plan certificate s known.stands.bound number (at_node place rights fcntls))
+      → Takes plan certificate s known.stands.bound number (at_node place rights fcntls))
       (f : OpenRequest)
       (creates : s.mode ≡ true → f.create ≡ true → (place : List (List ℕ)) → Reaches place → Allowed plan.grants Creates place)
       (writes : s.mode ≡ true → f.trunc ≡ true → (place : List (List ℕ)) → Reaches place → Allowed plan.grants Writes place) where

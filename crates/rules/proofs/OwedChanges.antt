@@ -1,26 +1,24 @@
 -- What is owed of a success that changes a table.
-use Rattle.std.proofs.Common.{◌≡◌, ℕ, Bool, true, false, List, refl, sym, subst}
+use Rattle.std.proofs.Common.{◌≡◌, ℕ, true, false, List, sym, subst}
 use Rattle.std.specs.Prelude.{◌||◌, slice_set, Some}
-use Rattle.process.specs.State.{ProcessState, forked}
+use Rattle.process.specs.State.{ProcessState}
 use Rattle.fd_table.specs.Descriptions.{Descriptor, IfHeld}
 use Rattle.prog_asm.specs.Programs.{Syscall, Invoke}
 use Rattle.certificate.specs.Bounds.{Interval, with_interval, Bound, Certificate}
 use Rattle.certificate.specs.Describes.{interval_describes}
 use Rattle.kernel.specs.World.{World, Choice}
-use Rattle.kernel.specs.Answers.{Effect, QueueChange, Change, Gives}
+use Rattle.kernel.specs.Answers.{Effect, Change, Gives}
 use Rattle.kernel.specs.Changes.{second_number, given, changed}
 use Rattle.kernel.specs.Steps.{answered}
 use Rattle.task.specs.Plans.{Plan}
 use Rattle.task.specs.Policies.{grant_holds}
 use Rattle.task.specs.Sandboxed.{AreAllowed}
 use Rattle.rules.proofs.Seen.{table_of}
-use Rattle.rules.proofs.Invariant.{IsCarried, IsDescribed, bounds}
-use Rattle.rules.proofs.KeptTrees.{IsDeepChange}
-use Rattle.rules.proofs.Frames.{IfPushed}
+use Rattle.rules.proofs.Invariant.{IsDescribed, bounds}
 use Rattle.rules.proofs.ChangeKinds.{frame_changed}
-use Rattle.rules.proofs.PairClasses.{classes_after, IsNamed, BringsNamed, entry_named, classes_changed}
+use Rattle.rules.proofs.PairClasses.{classes_after, IsNamed, entry_named, classes_changed}
 use Rattle.rules.proofs.Describing.{Described, register_changed}
-use Rattle.rules.proofs.Arrivals.{IfChild, OwesChange, own_owed, child_owed}
+use Rattle.rules.proofs.Arrivals.{OwesChange, own_owed, child_owed}
 use Rattle.rules.proofs.Outcomes.{GoesOn}
 use Rattle.rules.proofs.Plain.{arrives}
 use Rattle.rules.proofs.Owing.{Standing, described_there}

@@ -1,12 +1,12 @@
 -- Calls that change neither places nor tables owe what they should.
-use Rattle.std.proofs.Common.{◌≡◌, ℕ, Bool, true, false, [], refl, arith, ap, subst}
-use Rattle.std.specs.Prelude.{◌||◌, Some, nat_le, not}
+use Rattle.std.proofs.Common.{◌≡◌, ℕ, Bool, true, false, [], refl, ap}
+use Rattle.std.specs.Prelude.{◌||◌}
 use Rattle.std.specs.Option.{option_map}
 use Rattle.process.specs.State.{ProcessState}
-use Rattle.fd_table.specs.Descriptions.{Descriptor, State, status_number, bit_of}
+use Rattle.fd_table.specs.Descriptions.{State, status_number, bit_of}
 use Rattle.prog_asm.specs.Programs.{Operand, Fsync, Fcntl_getfl, Cap_enter, Cap_getmode, Invoke}
 use Rattle.certificate.specs.Bounds.{ModeBound, Off, On, Either, Certificate}
-use Rattle.certificate.specs.Describes.{Seen, interval_describes, mode_describes}
+use Rattle.certificate.specs.Describes.{interval_describes, mode_describes}
 use Rattle.kernel.specs.World.{World, Choice}
 use Rattle.kernel.specs.Answers.{Event, Same_tree, Same_queue, Same_state, value_of}
 use Rattle.kernel.specs.Calls.{answer}
@@ -19,7 +19,7 @@ use Rattle.rules.proofs.IntervalLaws.{only_fits}
 use Rattle.rules.proofs.Uses.{through}
 use Rattle.rules.proofs.CallOutcomes.{leads_cap_enter, leads_cap_getmode, leads_fsync, leads_getfl}
 use Rattle.rules.proofs.Owing.{Standing}
-use Rattle.rules.proofs.OwedCalls.{OwedBy, quiet, owed_passed, owed_held, owed_object, owed_unless, owed_fails, owed_quiet, owed_value, inside_later}
+use Rattle.rules.proofs.OwedCalls.{OwedBy, quiet, owed_passed, owed_held, owed_object, owed_fails, owed_quiet, owed_value, inside_later}
 
 turned_on : (a : Bool) → (a || true) ≡ true
 turned_on true = refl

@@ -1,6 +1,5 @@
 -- Calls that change one number of a table owe what they should.
-use Rattle.std.proofs.Common.{◌≡◌, ℕ, true, false, [], ◌∷◌, refl, ap}
-use Rattle.std.specs.Prelude.{Option, Some, slice_set}
+use Rattle.std.proofs.Common.{◌≡◌, ℕ, true, false, [], refl, ap}
 use Rattle.std.specs.Option.{option_map}
 use Rattle.process.specs.State.{ProcessState}
 use Rattle.fd_table.specs.Descriptions.{Descriptor}
@@ -8,9 +7,9 @@ use Rattle.fd_table.specs.OpenFiles.{lowest_free}
 use Rattle.prog_asm.specs.Programs.{Operand, Syscall, Dup, Close, Cap_rights_limit, Cap_fcntls_limit, Invoke}
 use Rattle.certificate.specs.Bounds.{Interval, Held, Closed, with_slot, Bound, Certificate}
 use Rattle.certificate.specs.Bounds as slots
-use Rattle.certificate.specs.Describes.{Seen, interval_describes, held_describes}
+use Rattle.certificate.specs.Describes.{interval_describes, held_describes}
 use Rattle.kernel.specs.World.{World, Choice}
-use Rattle.kernel.specs.Answers.{Event, Same_tree, Set_entry, Clear_entry, TableChange, Same_queue, Pop, QueueChange, Same_state, Change, Gives, value_of}
+use Rattle.kernel.specs.Answers.{Event, Same_tree, Set_entry, Clear_entry, TableChange, Same_queue, QueueChange, Same_state, Change, Gives, value_of}
 use Rattle.kernel.specs.Calls.{answer}
 use Rattle.kernel.specs.Changes.{given, changed}
 use Rattle.task.specs.Plans.{Plan}
