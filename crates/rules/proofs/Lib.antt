@@ -41,3 +41,5 @@ pub mod OwedChanges
 pub mod TableCalls
 pub mod OpenCalls
 pub mod PassingCalls
+pub mod OwedTests
+pub mod FileCalls
