@@ -43,3 +43,5 @@ pub mod OpenCalls
 pub mod PassingCalls
 pub mod OwedTests
 pub mod FileCalls
+pub mod LookCalls
+pub mod NameCalls
