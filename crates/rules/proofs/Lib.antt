@@ -45,3 +45,4 @@ pub mod OwedTests
 pub mod FileCalls
 pub mod LookCalls
 pub mod NameCalls
+pub mod MoveCalls
