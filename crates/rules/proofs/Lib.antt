@@ -46,3 +46,5 @@ pub mod FileCalls
 pub mod LookCalls
 pub mod NameCalls
 pub mod MoveCalls
+pub mod Step
+pub mod Sound
