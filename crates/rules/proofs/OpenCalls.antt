@@ -25,7 +25,7 @@ use Rattle.certificate.specs.Bounds.{Held, with_slot, Bound, Certificate}
 use Rattle.certificate.specs.Bounds as slots
 use Rattle.certificate.specs.Describes.{Seen, Node_at, held_describes, target_describes}
 use Rattle.kernel.specs.World.{World, Choice}
-use Rattle.kernel.specs.Answers.{Event, Effect, TreeChange, Same_tree, Make, New_file, Same_queue, Same_state, Change, Gives, does, lookup_fails, value_of}
+use Rattle.kernel.specs.Answers.{Event, Effect, TreeChange, Same_tree, Make, New_file, Same_queue, Same_state, Change, Gives, does, value_of}
 use Rattle.kernel.specs.Calls.{answer, looks, last_if, opened, opened_as, truncated, truncates, access_for}
 use Rattle.kernel.specs.Changes.{tree_after, given}
 use Rattle.task.specs.Plans.{Grant, Plan}
@@ -51,6 +51,7 @@ use Rattle.rules.proofs.Taken.{number_taken}
 use Rattle.rules.proofs.Uses.{Through, first_use, said, through}
 use Rattle.rules.proofs.Owing.{Standing}
 use Rattle.rules.proofs.OwedCalls.{OwedBy, owed_fails, owed_passed, owed_unless, owed_held, owed_object, owed_number}
+use Rattle.rules.proofs.OwedTests.{owed_lost}
 use Rattle.rules.proofs.OwedChanges.{owed_change, own_described}
 
 abbrev opening : TreeChange → ℕ → ℕ → Access → Bool → ℕ → ℕ → Change
@@ -143,17 +144,9 @@ module _ (plan : Plan) (certificate : Certificate) (w : World) (e : Event) (s : 
         (deep_truncated plan w.tree f.trunc n) (truncating f.trunc refl (node w.tree n).place reaches) (truncated_place w.tree f.trunc n there)
         (takes (node w.tree n).place number reaches free)))
 
-    owed_lookup_fails : (fault : Fault) → OwedBy plan certificate w e.process s choice call otherwise known (lookup_fails fault)
-    owed_lookup_fails Escape = owed_fails plan certificate w e.process s choice call otherwise known may _ _ tt
-    owed_lookup_fails No_entry = owed_fails plan certificate w e.process s choice call otherwise known may _ _ tt
-    owed_lookup_fails Not_dir = owed_fails plan certificate w e.process s choice call otherwise known may _ _ tt
-    owed_lookup_fails Loop = owed_fails plan certificate w e.process s choice call otherwise known may _ _ tt
-    owed_lookup_fails Too_long = owed_fails plan certificate w e.process s choice call otherwise known may _ _ tt
-    owed_lookup_fails Bad_last = owed_fails plan certificate w e.process s choice call otherwise known may _ _ tt
-
     pub owed_opened : (path : List ℕ) (a : lookups.Answer) → IsReached w.tree path f.create Reaches a
         → OwedBy plan certificate w e.process s choice call otherwise known (opened w e.process s e f rights fcntls path a)
-    owed_opened path (Not_found fault) reached = owed_lookup_fails fault
+    owed_opened path (Not_found fault) reached = owed_lost plan certificate w e s choice call otherwise known may fault
     owed_opened path (Found_node n) reached = owed_opened_as n (node w.tree n).kind reached.0 reached.1
     owed_opened path (Found_free d) reached =
         let p = e.process in

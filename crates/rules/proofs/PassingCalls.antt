@@ -15,12 +15,11 @@ use Rattle.certificate.specs.Bounds as slots
 use Rattle.certificate.specs.Describes.{Seen, Holds, interval_describes}
 use Rattle.kernel.specs.World.{World, Choice}
 use Rattle.kernel.specs.Answers.{Event, Answer, Same_tree, New_pair, New_process, Push, Pop, Same_queue, Same_state, Change, value_of}
-use Rattle.kernel.specs.Calls.{answer, blocked, receive_end, received, pair_at}
+use Rattle.kernel.specs.Calls.{answer, receive_end, received, pair_at}
 use Rattle.kernel.specs.Changes.{second_number, given, changed}
 use Rattle.kernel.specs.WellFormed.{IsDescriptor, EachMessage}
 use Rattle.task.specs.Plans.{Plan, program_name}
 use Rattle.task.specs.Policies.{grant_holds}
-use Rattle.rules.specs.Demands.{demands}
 use Rattle.rules.specs.Intervals.{only}
 use Rattle.rules.specs.Channels.{channel_at}
 use Rattle.rules.specs.Outcomes.{from_to, all_held, with_pair}
@@ -42,7 +41,8 @@ use Rattle.rules.proofs.Taken.{number_taken, pair_taken}
 use Rattle.rules.proofs.Uses.{through}
 use Rattle.rules.proofs.Plain.{arrives}
 use Rattle.rules.proofs.Owing.{Standing, described_there}
-use Rattle.rules.proofs.OwedCalls.{OwedBy, off_stays, quiet, owed_fails, owed_wait, owed_passed, owed_unless, owed_held, owed_object, owed_number, owed_value}
+use Rattle.rules.proofs.OwedCalls.{OwedBy, off_stays, quiet, owed_fails, owed_passed, owed_unless, owed_held, owed_object, owed_number, owed_value}
+use Rattle.rules.proofs.OwedTests.{owed_blocked}
 use Rattle.rules.proofs.OwedChanges.{owed_change, own_described, held_named}
 use Rattle.rules.proofs.TableCalls.{entries, owed_set_queued}
 
@@ -65,12 +65,6 @@ module _ (plan : Plan) (certificate : Certificate) (w : World) (p : ℕ) (s : Pr
   owed_if false a b one other = other
 
 module _ (plan : Plan) (certificate : Certificate) (w : World) (e : Event) (s : ProcessState) (choice : Choice) where
-  owed_blocked : (call : Syscall) (otherwise : ℕ) (known : Standing plan certificate w e.process s choice (Invoke call otherwise))
-      → (demands call).never_fails ≡ false → (nonblock : Bool)
-      → OwedBy plan certificate w e.process s choice call otherwise known (blocked w e.process s e nonblock)
-  owed_blocked call otherwise known may true = owed_fails plan certificate w e.process s choice call otherwise known may _ _ tt
-  owed_blocked call otherwise known may false = owed_wait plan certificate w e.process s choice call otherwise known
-
   -- ## recvfd
   -- what the front message carries
   owed_received : (x : Operand) (otherwise : ℕ) (known : Standing plan certificate w e.process s choice (Invoke (Recvfd x) otherwise))
@@ -104,7 +98,7 @@ module _ (plan : Plan) (certificate : Certificate) (w : World) (e : Event) (s : 
       → OwedBy plan certificate w e.process s choice (Recvfd x) otherwise known (receive_end w e.process s e d.description pair side number messages)
   owed_receive_end x otherwise known pair side number class d here end free [] is =
       owed_unless plan certificate w e.process s choice (Recvfd x) otherwise known refl _ _ _ _ tt (λ opened.
-      owed_blocked (Recvfd x) otherwise known refl (w.files.states d.description).nonblock)
+      owed_blocked plan certificate w e s choice (Recvfd x) otherwise known refl (w.files.states d.description).nonblock)
   owed_receive_end x otherwise known pair side number class d here end free (m ∷ messages) is =
       let formed : EachMessage (IsDescriptor w.tree known.acts.formed.numbering w.files.objects w.files.states) (m ∷ messages) =
       subst (EachMessage (IsDescriptor w.tree known.acts.formed.numbering w.files.objects w.files.states)) is
@@ -165,7 +159,7 @@ module _ (plan : Plan) (certificate : Certificate) (w : World) (e : Event) (s : 
       pair side through_end.0 passed named carries)
       (leads_sendfd plan certificate s (table_of plan w p) x y v otherwise known.stands (seen_of plan w d) (seen_of plan w passed) (class_of plan class) side there beside end)
       (only_fits 1))
-      (owed_blocked call otherwise known refl (w.files.states d.description).nonblock))))))
+      (owed_blocked plan certificate w e s choice call otherwise known refl (w.files.states d.description).nonblock))))))
 
   -- ## socketpair
   at_second : (otherwise : ℕ) (known : Standing plan certificate w e.process s choice (Invoke Socketpair otherwise)) (first : ℕ)

@@ -28,7 +28,7 @@ use Rattle.rules.proofs.Invariant.{IfAlive, Invariant, IsDescribed, bounds}
 use Rattle.rules.proofs.FirstStates.{first_invariant}
 use Rattle.rules.proofs.Stands.{stands}
 use Rattle.rules.proofs.Owing.{Standing, Owed, invariant_after}
-use Rattle.rules.proofs.Step.{OwesTables, owed_executed}
+use Rattle.rules.proofs.Step.{owed_executed}
 
 -- a step that is safe, and after which the invariant holds
 abbrev Fine : Plan → Certificate → World → Event → Stepped → Type 0
@@ -40,8 +40,7 @@ record Lawful (plan : Plan) (w : World) (e : Event) (v : World) : Type 0 where
   gained : GainsNothing w e.process (caller_of (programs_of_plan plan) w e) v
   formed : IsWellFormed (programs_of_plan plan) v
 
-module _ (plan : Plan) (certificate : Certificate) (grants : KeepsGrants plan) (meets : MeetsRules plan certificate)
-    (tables : (w : World) (e : Event) (s : ProcessState) (choice : Choice) → OwesTables plan certificate w e s choice) where
+module _ (plan : Plan) (certificate : Certificate) (grants : KeepsGrants plan) (meets : MeetsRules plan certificate) where
   module _ (w : World) (e : Event) (byte : IsEvent e) (choice : Choice) (fresh : IsFresh w.files choice) (inv : Invariant plan (bounds plan certificate) w) where
     -- what is known of a living process at a point with an instruction
     standing :
@@ -79,7 +78,7 @@ module _ (plan : Plan) (certificate : Certificate) (grants : KeepsGrants plan) (
     at_fine s made alive None here lawful = (record { allowed = λ on. tt; unrefused = tt; gains = lawful.gained }, inv)
     at_fine s made alive (Some i) here lawful =
         let known = standing s i made alive here in
-        acts_fine s i known (executed w e choice s i) (owed_executed plan certificate w e s choice (tables w e s choice) i byte known) lawful
+        acts_fine s i known (executed w e choice s i) (owed_executed plan certificate w e s choice i byte known) lawful
 
     by_fine : (s : ProcessState) → slice_get w.processes e.process ≡ Some s → (alive : Bool) → s.alive ≡ alive
         → Lawful plan w e (stepped_by (programs_of_plan plan) w e choice s alive).world
@@ -113,9 +112,7 @@ module _ (plan : Plan) (certificate : Certificate) (grants : KeepsGrants plan) (
       (here.0, runs valid (step (programs_of_plan plan) w e choice).world events here.1 are.1)
 
 -- Soundness.
-pub sound : (plan : Plan) (certificate : Certificate)
-    → ((w : World) (e : Event) (s : ProcessState) (choice : Choice) → OwesTables plan certificate w e s choice)
-    → is_plan plan ≡ true → MeetsRules plan certificate → IsSandboxed plan
-sound plan certificate tables valid meets events are =
-    runs plan certificate (plans_keep_limits plan valid).grants meets tables (first_well_formed plan valid).0 (first_world plan) events
+pub sound : (plan : Plan) (certificate : Certificate) → is_plan plan ≡ true → MeetsRules plan certificate → IsSandboxed plan
+sound plan certificate valid meets events are =
+    runs plan certificate (plans_keep_limits plan valid).grants meets (first_well_formed plan valid).0 (first_world plan) events
     (first_invariant plan certificate valid meets) are

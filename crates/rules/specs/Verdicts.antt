@@ -1,8 +1,10 @@
 -- Whether a certificate meets the rules, and else where it breaks one first. (own)
-use Rattle.std.specs.Prelude.{◌≡◌, ◌<◌, ◌+◌, ℕ, List, [], ◌∷◌, Option, Some, None}
+use Rattle.std.specs.Prelude.{◌≡◌, ◌<◌, ◌+◌, ℕ, true, List, [], ◌∷◌, Option, Some, None}
 use Rattle.certificate.specs.Bounds.{Bound, Certificate, bound_at}
 use Rattle.prog_asm.specs.Programs.{Instruction}
 use Rattle.task.specs.Plans.{NamedProgram, Plan, program_name}
+use Rattle.task.specs.Limits.{is_plan}
+use Rattle.task.specs.Sandboxed.{IsSandboxed}
 use Rattle.rules.specs.Points.{instruction_at}
 use Rattle.rules.specs.Rules.{tests, tests_without, least_broken}
 
@@ -52,3 +54,9 @@ IsFirst plan certificate (Some (program, point, rule)) = IsFirstFound plan certi
 
 abbrev pub FirstIsFound : Type 0
 FirstIsFound = (plan : Plan) (certificate : Certificate) → IsFirst plan certificate (first_found plan certificate)
+
+-- ## What it means
+-- Where a certificate meets the rules, every run of the task is sandboxed: whatever list of events, inputs, schedules and
+-- refusals, and whatever fresh numbers are chosen at each step.
+abbrev pub IsSound : Type 0
+IsSound = (plan : Plan) (certificate : Certificate) → is_plan plan ≡ true → MeetsRules plan certificate → IsSandboxed plan

@@ -1,7 +1,7 @@
 //! Laws of the rules. Each is the contract of a function that does nothing.
 
 ghost use Rattle.rules.specs.Refusals.{EachRuleIsBroken, EachRuleIsKept, LeastIsTold};
-ghost use Rattle.rules.specs.Verdicts.{FirstIsFound};
+ghost use Rattle.rules.specs.Verdicts.{FirstIsFound, IsSound};
 
 /// Where going through all points in order finds none that breaks a rule, the certificate meets the rules at every point;
 /// and what it finds is the first program, the first point there, and the least rule that is broken there. (own)
@@ -22,4 +22,11 @@ pub fn each_rule_is_kept()
 /// Where two rules are broken at one point, the lesser is told: of each two neighbours that one instruction can break. (own)
 pub fn the_least_is_told()
     ensures { LeastIsTold }
+{}
+
+/// Soundness: where a certificate meets the rules, no run of the task, whatever its events, inputs, schedule and refusals, does
+/// in capability mode what the policy doesn't allow, has a call refused for a missing right or by the mode, or gives a
+/// descriptor more than its source has. (own)
+pub fn what_meets_the_rules_is_sandboxed()
+    ensures { IsSound }
 {}
