@@ -1,5 +1,5 @@
 -- What the code's reading of a certificate comes to.
-use Rattle.std.specs.Prelude.{◌≡◌, ℕ, List, [], ◌∷◌, Result, Ok, Err}
+use Rattle.std.specs.Prelude.{◌≡◌, ℕ, List, [], ◌∷◌, codes, Result, Ok, Err}
 use Rattle.std.specs.Borrow.{Bor}
 use Rattle.certificate_text.specs.declared.faults.LineFault.{LineFault}
 use Rattle.certificate_text.specs.declared.faults.LineFault.TheVariants as line
@@ -24,6 +24,12 @@ fault_number (faults.Syntax offset) = 1
 fault_number (faults.Limit offset) = 2
 fault_number (faults.Order offset) = 3
 fault_number faults.Memory = 4
+
+abbrev pub fault_name : CertFault → List ℕ
+fault_name (faults.Syntax offset) = codes "Syntax"
+fault_name (faults.Limit offset) = codes "Limit"
+fault_name (faults.Order offset) = codes "Order"
+fault_name faults.Memory = codes "Memory"
 
 -- the least and the greatest set
 abbrev pub rights_in : RightsRange → ℕ × ℕ

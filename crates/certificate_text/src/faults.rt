@@ -1,7 +1,7 @@
 //! Why bytes are no certificate.
 
 ghost use Rattle.std.specs.Prelude.{◌≡◌};
-ghost use Rattle.certificate_text.specs.Views.{fault_number, faulty_at};
+ghost use Rattle.certificate_text.specs.Views.{fault_name, fault_number, faulty_at};
 ghost use Rattle.certificate_text.specs.declared.faults.CertFault.TheVariants as faults;
 
 use thiserror::Error;
@@ -43,6 +43,18 @@ impl CertFault {
             CertFault::Limit(_) => 2,
             CertFault::Order(_) => 3,
             CertFault::Memory => 4,
+        }
+    }
+
+    /// The fault's name.
+    pub fn name(self) -> &'static str
+        ensures { result.now ≡ fault_name self }
+    {
+        match self {
+            CertFault::Syntax(_) => "Syntax",
+            CertFault::Limit(_) => "Limit",
+            CertFault::Order(_) => "Order",
+            CertFault::Memory => "Memory",
         }
     }
 }

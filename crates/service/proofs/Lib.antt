@@ -1,3 +1,2 @@
 pub mod Rows
-pub mod Verdicts
-pub mod Building
+pub mod Accepted

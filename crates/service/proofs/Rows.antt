@@ -13,8 +13,7 @@ use Rattle.task.specs.Begins.{first_files, first_world}
 use Rattle.task.specs.Plans.{Plan, programs_of_plan}
 use Rattle.simulator.specs.Lines.{line_at}
 use Rattle.simulator.specs.Traces.{line_text, trace_text}
-use Rattle.service.specs.Named.{first_plan, bare_plan, loop_plan}
-use Rattle.service.specs.Examples.{AlwaysShows, absent_event, events_of_first, example_events}
+use Rattle.service.specs.Examples.{AlwaysShows, first_plan, bare_plan, loop_plan, absent_event, events_of_first, example_events}
 
 -- The trace of these events, under the numbers that are chosen at each step.
 abbrev trace : Plan → World → List Event → (ℕ → Choice) → List ℕ
@@ -44,7 +43,7 @@ run_shows plan w (e ∷ events) (line ∷ lines) (choice, fresh, here, rest) =
     )
 
 -- None of the rows depends on the numbers that are chosen.
-always : (plan : Plan) (events : List Event) (text : List ℕ) → ((choose : ℕ → Choice) → trace plan (first_world plan) events choose ≡ text) → AlwaysShows plan events text
+pub always : (plan : Plan) (events : List Event) (text : List ℕ) → ((choose : ℕ → Choice) → trace plan (first_world plan) events choose ≡ text) → AlwaysShows plan events text
 always plan events text is lines run =
     let shown = run_shows plan (first_world plan) events lines run in
     shown.1 ∙ is shown.0

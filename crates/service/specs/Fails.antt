@@ -4,11 +4,11 @@ use Rattle.rights.specs.Output.{Took, TookFront}
 use Rattle.words.specs.Orders.{Order, Example, Run, Check, AsksFor}
 use Rattle.task.specs.Plans.{Plan}
 use Rattle.task_reader.specs.Reading.{Mistake, task_of}
+use Rattle.certificate_text.specs.Faults.{Faulty}
+use Rattle.certificate_text.specs.Readings.{certificate_of_text}
 use Rattle.simulator.specs.Schedules as schedules
-use Rattle.service.specs.Faults.{Fault, Refusal, Wrong_words, No_file, No_task, No_schedule, Refused, No_memory, No_output, fault_status, fault_text}
+use Rattle.service.specs.Faults.{Fault, Refusal, Wrong_words, No_file, No_task, No_schedule, No_certificate, Refused, No_memory, No_output, fault_status, fault_text}
 use Rattle.service.specs.Files.{Files, IsFile, IsMissing}
-use Rattle.service.specs.Named.{plan_named}
-use Rattle.service.specs.NamedCertificates.{certificate_named}
 
 -- Both files are read before either text is: the first is there and the second isn't.
 pub record LacksSecond (files : Files) (first second : List ℕ) : Type 0 where
@@ -17,11 +17,11 @@ pub record LacksSecond (files : Files) (first second : List ℕ) : Type 0 where
   pub missing : IsMissing files second
 
 -- Both are there, and the first is no task.
-pub record HasNoTask (files : Files) (task schedule : List ℕ) (mistake : Mistake) : Type 0 where
+pub record HasNoTask (files : Files) (task second : List ℕ) (mistake : Mistake) : Type 0 where
   pub task_text : List ℕ
   pub task_file : IsFile files task task_text
-  pub schedule_text : List ℕ
-  pub schedule_file : IsFile files schedule schedule_text
+  pub second_text : List ℕ
+  pub second_file : IsFile files second second_text
   pub mistaken : task_of task_text ≡ Err mistake
 
 -- The first is a task, and the second is no schedule.
@@ -41,25 +41,31 @@ IsRunRefused files task schedule (No_file name) =
     ((name ≡ task) × IsMissing files task) ⊎ ((name ≡ schedule) × LacksSecond files task schedule)
 IsRunRefused files task schedule (No_task mistake) = HasNoTask files task schedule mistake
 IsRunRefused files task schedule (No_schedule fault) = HasNoSchedule files task schedule fault
+IsRunRefused files task schedule (No_certificate why) = ⊥
 
--- The task of this name is known, and no certificate of that.
-pub record LacksCertificate (task certificate : List ℕ) : Type 0 where
+-- The first is a task, and the second is no certificate.
+pub record HasNoCertificate (files : Files) (task certificate : List ℕ) (why : Faulty) : Type 0 where
+  pub task_text : List ℕ
+  pub task_file : IsFile files task task_text
+  pub certificate_text : List ℕ
+  pub certificate_file : IsFile files certificate certificate_text
   pub plan : Plan
-  pub known : plan_named task ≡ Some plan
-  pub unknown : certificate_named certificate ≡ None
+  pub is_task : task_of task_text ≡ Ok plan
+  pub faulty : certificate_of_text certificate_text ≡ Err why
 
--- A check of what has these names is refused so.
-abbrev pub IsCheckRefused : List ℕ → List ℕ → Refusal → Type 0
-IsCheckRefused task certificate Wrong_words = ⊥
-IsCheckRefused task certificate (No_file name) =
-    ((name ≡ task) × (plan_named task ≡ None)) ⊎ ((name ≡ certificate) × LacksCertificate task certificate)
-IsCheckRefused task certificate (No_task mistake) = ⊥
-IsCheckRefused task certificate (No_schedule fault) = ⊥
+-- A check of these files is refused so.
+abbrev pub IsCheckRefused : Files → List ℕ → List ℕ → Refusal → Type 0
+IsCheckRefused files task certificate Wrong_words = ⊥
+IsCheckRefused files task certificate (No_file name) =
+    ((name ≡ task) × IsMissing files task) ⊎ ((name ≡ certificate) × LacksSecond files task certificate)
+IsCheckRefused files task certificate (No_task mistake) = HasNoTask files task certificate mistake
+IsCheckRefused files task certificate (No_schedule fault) = ⊥
+IsCheckRefused files task certificate (No_certificate why) = HasNoCertificate files task certificate why
 
 abbrev pub IsRefused : Files → Order → Refusal → Type 0
 IsRefused files Example refusal = ⊥
 IsRefused files (Run task schedule) refusal = IsRunRefused files task schedule refusal
-IsRefused files (Check task certificate) refusal = IsCheckRefused task certificate refusal
+IsRefused files (Check task certificate) refusal = IsCheckRefused files task certificate refusal
 
 -- What is asked for isn't done, for that fault: where it is refused nothing was written, and the output fails only where the
 -- writer did. `before` and `after` are what the output had taken, `failures` and `failed` how often it had failed.

@@ -2,16 +2,18 @@
 use Rattle.std.specs.Prelude.{◌++◌, ℕ, List, codes}
 use Rattle.std.specs.Fmt.{decimal}
 use Rattle.prog_asm.specs.Assembly as assembly
+use Rattle.certificate_text.specs.Faults as certificates
 use Rattle.simulator.specs.Schedules as schedules
 use Rattle.task_reader.specs.Reading as tasks
 
--- words or files are at fault: the words are no line of the program, a file isn't there, a text is no task, or one is no
--- schedule
+-- words or files are at fault: the words are no line of the program, a file isn't there, or a text is no task, no
+-- schedule or no certificate
 pub data Refusal : Type 0 where
   Wrong_words : Refusal
   No_file : (name : List ℕ) → Refusal
   No_task : tasks.Mistake → Refusal
   No_schedule : schedules.Fault → Refusal
+  No_certificate : certificates.Faulty → Refusal
 
 -- that; or there is no memory; or the output failed
 pub data Fault : Type 0 where
@@ -47,11 +49,21 @@ abbrev pub schedule_words : schedules.Fault → List ℕ
 schedule_words (schedules.Faulty line) = codes "1 Line " ++ decimal line
 schedule_words schedules.Too_many = codes "2 Limit"
 
+abbrev pub certificate_fault_words : certificates.Fault → List ℕ
+certificate_fault_words certificates.Syntax = numbered 1 (codes "Syntax")
+certificate_fault_words certificates.Limit = numbered 2 (codes "Limit")
+certificate_fault_words certificates.Order = numbered 3 (codes "Order")
+
+-- `1 Syntax at 257`, with the offset of the faulty line
+abbrev pub certificate_words : certificates.Faulty → List ℕ
+certificate_words why = certificate_fault_words why.fault ++ codes " at " ++ decimal why.offset
+
 abbrev pub refusal_words : Refusal → List ℕ
 refusal_words Wrong_words = codes "words"
 refusal_words (No_file name) = codes "file " ++ name
 refusal_words (No_task mistake) = codes "task " ++ task_words mistake
 refusal_words (No_schedule fault) = codes "schedule " ++ schedule_words fault
+refusal_words (No_certificate why) = codes "cert " ++ certificate_words why
 
 abbrev pub fault_words : Fault → List ℕ
 fault_words (Refused refusal) = refusal_words refusal

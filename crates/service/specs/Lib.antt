@@ -1,10 +1,8 @@
+pub mod Accepted
 pub mod Examples
 pub mod Fails
 pub mod FaultViews
 pub mod Faults
 pub mod Files
 pub mod Judged
-pub mod Named
-pub mod NamedCertificates
 pub mod Served
-pub mod CertificateViews

@@ -6,10 +6,9 @@ use Rattle.task.specs.Plans.{Plan}
 use Rattle.task_reader.specs.Reading.{task_of}
 use Rattle.simulator.specs.Schedules.{schedule_of}
 use Rattle.simulator.specs.Simulations.{WritesTrace}
-use Rattle.service.specs.Examples.{example_events}
+use Rattle.service.specs.Examples.{example_events, first_plan}
 use Rattle.service.specs.Files.{Files, IsFile}
-use Rattle.service.specs.Judged.{ChecksNamed}
-use Rattle.service.specs.Named.{first_plan}
+use Rattle.service.specs.Judged.{ChecksFiles}
 
 -- Of the files of these names the first is a task and the second a schedule, and what was written is the trace
 -- of that task over those events.
@@ -28,7 +27,7 @@ pub record RunsFiles (files : Files) (task schedule : List ℕ) (before after : 
 abbrev pub Does : Files → Order → ℕ → Option (List ℕ) → Option (List ℕ) → Type 0
 Does files Example status before after = (status ≡ 0) × WritesTrace first_plan example_events before after
 Does files (Run task schedule) status before after = (status ≡ 0) × RunsFiles files task schedule before after
-Does files (Check task certificate) status before after = ChecksNamed task certificate status before after
+Does files (Check task certificate) status before after = ChecksFiles files task certificate status before after
 
 -- The words ask for something, and it is done.
 pub record Serves (files : Files) (words : List (List ℕ)) (status : ℕ) (before after : Option (List ℕ)) : Type 0 where

@@ -5,10 +5,12 @@ ghost use Rattle.std.specs.Fmt.{decimal};
 ghost use Rattle.task_reader.specs.Faults.{text_fault};
 ghost use Rattle.service.specs.Fails.{IsTold};
 ghost use Rattle.service.specs.Faults.{fault_status, fault_text, fault_words};
-ghost use Rattle.service.specs.FaultViews.{fault_of, program_fault, schedule_fault, stop_fault, task_fault};
+ghost use Rattle.certificate_text.specs.Views.{fault_name, fault_number};
+ghost use Rattle.service.specs.FaultViews.{certificate_fault, fault_of, program_fault, schedule_fault, stop_fault, task_fault, text_fault_code};
 ghost use Rattle.service.specs.declared.faults.Fault.TheVariants as fault;
 
 use crate::statuses::{REFUSED, STOPPED};
+use certificate_text::CertFault;
 use prog_asm::AsmFault;
 use rights::{Out, Stop, write_all};
 use simulator::ScheduleFault;
@@ -26,6 +28,8 @@ pub(crate) enum Fault<'a> {
     Task(TaskFault),
     /// The text isn't a schedule's.
     Schedule(ScheduleFault),
+    /// The text isn't a certificate's.
+    Cert(CertFault),
     Memory,
     /// The output failed.
     Output,
@@ -66,6 +70,17 @@ impl<'a> From<ScheduleFault> for Fault<'a> {
     }
 }
 
+impl<'a> From<text_checker::Fault> for Fault<'a> {
+    ghost from_gives = { λ error given. given ≡ text_fault_code error };
+
+    fn from(fault: text_checker::Fault) -> Fault<'a> {
+        match fault {
+            text_checker::Fault::Task(fault) => Fault::Task(fault),
+            text_checker::Fault::Cert(fault) => Fault::Cert(fault),
+        }
+    }
+}
+
 /// The status of a fault.
 fn status_of(fault: &Fault<'_>) -> u8
     ensures { result ≡ fault_status (fault_of fault.now) }
@@ -80,8 +95,10 @@ fn status_of(fault: &Fault<'_>) -> u8
                 ..
             },
         )
-        | Fault::Schedule(ScheduleFault::Memory) => STOPPED,
-        Fault::Words | Fault::File(_) | Fault::Task(_) | Fault::Schedule(_) => REFUSED,
+        | Fault::Schedule(ScheduleFault::Memory)
+        | Fault::Cert(CertFault::Memory) => STOPPED,
+        Fault::Words | Fault::File(_) | Fault::Task(_) | Fault::Schedule(_) | Fault::Cert(_) =>
+            REFUSED,
     }
 }
 
@@ -142,6 +159,29 @@ fn words_of_schedule(alloc: Global, fault: ScheduleFault) -> Result<Vec<u8>, All
     }
 }
 
+/// The words for the fault of a certificate, whose faulty line begins there.
+fn words_of_line(alloc: Global, fault: CertFault, offset: usize) -> Result<Vec<u8>, AllocError>
+    ensures { IfOk result (λ words. words.items
+        ≡ codes "cert " ++ decimal (fault_number fault) ++ codes " " ++ fault_name fault ++ codes " at " ++ decimal offset) }
+{
+    let mut words = numbered(alloc, "cert ", fault.number(), fault.name())?;
+    words.extend_from_slice(b" at ")?;
+    words.extend_from_slice(offset.to_string(alloc)?.as_bytes())?;
+    Ok(words)
+}
+
+/// The words for the fault of a certificate.
+fn words_of_certificate(alloc: Global, fault: CertFault) -> Result<Vec<u8>, AllocError>
+    ensures { IfOk result (λ words. words.items ≡ fault_words (certificate_fault fault)) }
+{
+    match fault {
+        CertFault::Syntax(offset) | CertFault::Limit(offset) | CertFault::Order(offset) => {
+            words_of_line(alloc, fault, offset)
+        }
+        CertFault::Memory => Vec::from_slice(alloc, b"memory"),
+    }
+}
+
 /// The words for a fault.
 fn words_of(alloc: Global, fault: &Fault<'_>) -> Result<Vec<u8>, AllocError>
     ensures { IfOk result (λ words. words.items ≡ fault_words (fault_of fault.now)) }
@@ -155,6 +195,7 @@ fn words_of(alloc: Global, fault: &Fault<'_>) -> Result<Vec<u8>, AllocError>
         }
         Fault::Task(fault) => words_of_task(alloc, fault),
         Fault::Schedule(fault) => words_of_schedule(alloc, *fault),
+        Fault::Cert(fault) => words_of_certificate(alloc, *fault),
         Fault::Memory => Vec::from_slice(alloc, b"memory"),
         Fault::Output => Vec::from_slice(alloc, b"output"),
     }

@@ -1,18 +1,9 @@
 //! Verdicts on tasks and certificates, and how they are told.
 
-ghost use Rattle.std.specs.Prelude.{◌≡◌, ◌<◌, ◌⊎◌, ◌-◌, ◌^◌, IfErr, IfOk, IsErrOf, None, Some};
-ghost use Rattle.service.specs.Judged.{ChecksNamed, Judges, no_at, verdict_status, verdict_text};
-ghost use Rattle.service.specs.Named.{plan_named};
-ghost use Rattle.service.specs.NamedCertificates.{certificate_named};
-ghost use Rattle.service.specs.Fails.{Fails};
-ghost use Rattle.service.specs.Faults.{No_file, No_memory, Refused};
-ghost use Rattle.service.specs.FaultViews.{fault_of};
-ghost use Rattle.words.specs.Orders.{Check};
+ghost use Rattle.std.specs.Prelude.{◌≡◌, ◌<◌, ◌-◌, ◌^◌, IfOk, IsErrOf};
+ghost use Rattle.service.specs.Judged.{Judges, no_at, verdict_status, verdict_text};
 ghost use Rattle.checker.specs.Views.{verdict_of};
 
-use crate::certificates::certificate_named;
-use crate::faults::Fault;
-use crate::named::task_named;
 use crate::statuses::{BROKEN, DONE};
 use certificate::Cert;
 use checker::{Verdict, check};
@@ -79,43 +70,4 @@ pub fn judge<W: Out>(alloc: Global, task: &Task, cert: &Cert, out: &mut W) -> Re
     let text = text_of_verdict(alloc, task, verdict)?;
     write_all(out, &text)?;
     Ok(status_of_verdict(verdict))
-}
-
-/// The task of this name, which the program knows or not.
-pub(crate) fn named(alloc: Global, name: &str) -> Result<Task, Fault<'_>>
-    ensures found { IfOk result (λ task. plan_named name.now ≡ Some task) }
-    ensures missing { IfErr result (λ fault. (fault_of fault ≡ No_memory) ⊎ ((fault_of fault ≡ Refused (No_file name.now)) × (plan_named name.now ≡ None))) }
-{
-    match task_named(alloc, name)? {
-        Some(task) => Ok(task),
-        None => Err(Fault::File(name)),
-    }
-}
-
-/// The certificate of this name, likewise.
-fn certificate(alloc: Global, name: &str) -> Result<Cert, Fault<'_>>
-    ensures found { IfOk result (λ cert. certificate_named name.now ≡ Some cert) }
-    ensures missing { IfErr result (λ fault. (fault_of fault ≡ No_memory) ⊎ ((fault_of fault ≡ Refused (No_file name.now)) × (certificate_named name.now ≡ None))) }
-{
-    match certificate_named(alloc, name)? {
-        Some(cert) => Ok(cert),
-        None => Err(Fault::File(name)),
-    }
-}
-
-/// Checks and tells so with the task and the certificate of these names.
-pub(crate) fn judge_named<'a, W: Out>(
-    alloc: Global,
-    task: &'a str,
-    cert: &'a str,
-    out: &mut W,
-) -> Result<u8, Fault<'a>>
-    requires { W.faults out.old < 2 ^ 64 - 1 }
-    ensures done { IfOk result (λ status. ChecksNamed task.now cert.now status (W.taken out.old) (W.taken out.new)) }
-    ensures fails { IfErr result (λ fault. Fails None (Check task.now cert.now)
-        (W.taken out.old) (W.taken out.new) (W.faults out.old) (W.faults out.new) (fault_of fault)) }
-{
-    let task = named(alloc, task)?;
-    let cert = certificate(alloc, cert)?;
-    Ok(judge(alloc, &task, &cert, out)?)
 }

@@ -1,19 +1,20 @@
 //! What the program does with its words, and with the files that they name.
 
 ghost use Rattle.std.specs.Prelude.{◌≡◌, ◌<◌, ◌⊎◌, ◌-◌, ◌^◌, IfErr, IfOk, IsTrue, None, OnOk, map, string_bytes};
-ghost use Rattle.service.specs.Examples.{example_events};
+ghost use Rattle.service.specs.Examples.{example_events, first_plan};
 ghost use Rattle.service.specs.Fails.{Fails, Refuses, WordsFail};
 ghost use Rattle.service.specs.Faults.{No_file, No_memory, Refused};
 ghost use Rattle.service.specs.FaultViews.{fault_of};
 ghost use Rattle.service.specs.Files.{IsFile, IsMissing};
-ghost use Rattle.service.specs.Named.{first_plan};
+ghost use Rattle.service.specs.Judged.{ChecksFiles};
 ghost use Rattle.service.specs.Served.{Does, RunsFiles, Serves, is_done_status, is_fault_status, is_status};
 ghost use Rattle.simulator.specs.Simulations.{WritesTrace};
-ghost use Rattle.words.specs.Orders.{Example, Run};
+ghost use Rattle.words.specs.Orders.{Check, Example, Run};
 ghost use Rattle.words.specs.OrderViews.{order_of};
 
+use crate::example::example_task;
 use crate::faults::{Fault, tell};
-use crate::judging::{judge_named, named};
+use crate::judging::judge;
 use crate::sources::{Source, Unread};
 use crate::statuses::DONE;
 use rights::Out;
@@ -21,6 +22,7 @@ use simulator::{read_schedule, simulate};
 use std::alloc::Global;
 use syscalls::Event;
 use task_reader::read_task;
+use text_checker::read_texts;
 use words::{Order, WordsFault, read_order};
 
 /// Two events of the first process.
@@ -37,7 +39,7 @@ const EXAMPLE: [Event; 2] = [
     },
 ];
 
-/// The trace of the task `first` on two events.
+/// The trace of the example's task on two events.
 fn example<'a, W: Out>(alloc: Global, out: &mut W) -> Result<(), Fault<'a>>
     requires { W.faults out.old < 2 ^ 64 - 1 }
     ensures done { OnOk result
@@ -45,7 +47,7 @@ fn example<'a, W: Out>(alloc: Global, out: &mut W) -> Result<(), Fault<'a>>
     ensures fails { IfErr result (λ fault. Fails None Example
         (W.taken out.old) (W.taken out.new) (W.faults out.old) (W.faults out.new) (fault_of fault)) }
 {
-    let task = named(alloc, "first")?;
+    let task = example_task(alloc)?;
     simulate(alloc, &task, &EXAMPLE, out)?;
     Ok(())
 }
@@ -84,6 +86,26 @@ fn run<'a, S: Source, W: Out>(
     Ok(())
 }
 
+/// Checks the certificate of a file against the task of another, writes the verdict and gives its status. Both files are
+/// fetched before either is read.
+fn check_files<'a, S: Source, W: Out>(
+    alloc: Global,
+    task: &'a str,
+    cert: &'a str,
+    files: &mut S,
+    out: &mut W,
+) -> Result<u8, Fault<'a>>
+    requires { W.faults out.old < 2 ^ 64 - 1 }
+    ensures done { IfOk result (λ status. ChecksFiles (S.files files.old) task.now cert.now status (W.taken out.old) (W.taken out.new)) }
+    ensures fails { IfErr result (λ fault. Fails (S.files files.old) (Check task.now cert.now)
+        (W.taken out.old) (W.taken out.new) (W.faults out.old) (W.faults out.new) (fault_of fault)) }
+{
+    let task_bytes = fetch(files, task)?;
+    let cert_bytes = fetch(files, cert)?;
+    let claim = read_texts(alloc, &task_bytes, &cert_bytes)?;
+    Ok(judge(alloc, &claim.task, &claim.cert, out)?)
+}
+
 /// Does what is asked for, and gives the status.
 fn perform<'a, S: Source, W: Out>(
     alloc: Global,
@@ -105,7 +127,7 @@ fn perform<'a, S: Source, W: Out>(
             run(alloc, task, schedule, files, out)?;
             Ok(DONE)
         }
-        Order::Check { task, cert } => judge_named(alloc, task, cert, out),
+        Order::Check { task, cert } => check_files(alloc, task, cert, files, out),
     }
 }
 

@@ -8,6 +8,7 @@ use Rattle.checker.specs.declared.verdicts.Verdict.{Verdict}
 use Rattle.task.specs.Plans.{Plan}
 use Rattle.task_reader.specs.Faults.{FaultIs}
 use Rattle.task_reader.specs.Reading.{Mistake}
+use Rattle.text_checker.specs.declared.checking.Claim.{Claim}
 use Rattle.text_checker.specs.declared.checking.Fault.{Fault}
 use Rattle.text_checker.specs.declared.checking.Fault.TheVariants.{Task, Cert}
 
@@ -18,10 +19,19 @@ IsVerdictOn verdict (Ok plan) (Ok certificate) = IsVerdict plan certificate (ver
 IsVerdictOn verdict (Ok plan) (Err faulty) = ⊥
 IsVerdictOn verdict (Err mistake) certificate = ⊥
 
+-- Why two texts have no verdict.
+abbrev pub HasFault : Fault → Result Plan Mistake → Reading → Type 0
+HasFault (Task fault) task certificate = FaultIs fault task
+HasFault (Cert fault) task certificate = (plan : Plan) × (task ≡ Ok plan) × ReadsCert (Err fault) certificate
+
+-- the task and the certificate that two texts stand for
+abbrev pub ReadsTexts : Result Claim Fault → Result Plan Mistake → Reading → Type 0
+ReadsTexts (Ok claim) task certificate = (task ≡ Ok claim.task) × (certificate ≡ Ok claim.cert)
+ReadsTexts (Err fault) task certificate = HasFault fault task certificate
+
 abbrev pub ChecksTexts : Result Verdict Fault → Result Plan Mistake → Reading → Type 0
 ChecksTexts (Ok verdict) task certificate = IsVerdictOn verdict task certificate
-ChecksTexts (Err (Task fault)) task certificate = FaultIs fault task
-ChecksTexts (Err (Cert fault)) task certificate = (plan : Plan) × (task ≡ Ok plan) × ReadsCert (Err fault) certificate
+ChecksTexts (Err fault) task certificate = HasFault fault task certificate
 
 abbrev pub SaysYes : Result Verdict Fault → Type 0
 SaysYes (Ok verdict) = verdict_of verdict ≡ Yes

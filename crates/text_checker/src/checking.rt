@@ -6,11 +6,13 @@ ghost use Rattle.checker.specs.Verdicts.{Yes};
 ghost use Rattle.task.specs.Plans.{Plan};
 ghost use Rattle.task.specs.Sandboxed.{IsSandboxed};
 ghost use Rattle.task_reader.specs.Reading.{task_of};
-ghost use Rattle.text_checker.specs.Checks.{ChecksTexts, SaysYes};
+ghost use Rattle.text_checker.specs.Checks.{ChecksTexts, ReadsTexts, SaysYes};
 
+use certificate::Cert;
 use certificate_text::{CertFault, read_cert};
 use checker::{Verdict, check};
 use std::alloc::Global;
+use task::Task;
 use task_reader::{TaskFault, read_task};
 use thiserror::Error;
 
@@ -23,6 +25,32 @@ pub enum Fault {
     Cert(CertFault),
 }
 
+/// A task, and a certificate that is to bound it.
+#[derive(Drop)]
+pub struct Claim {
+    pub task: Task,
+    pub cert: Cert,
+}
+
+/// The task and the certificate that two texts stand for. (own)
+///
+/// # Errors
+///
+/// The task's fault, or, where the first text stands for a task, the certificate's. Want of memory may come in place of any
+/// answer.
+pub fn read_texts(alloc: Global, task: &[u8], cert: &[u8]) -> Result<Claim, Fault>
+    ensures { ReadsTexts result (task_of task.now) (certificate_of_text cert.now) }
+{
+    let task = match read_task(alloc, task) {
+        Ok(task) => task,
+        Err(fault) => return Err(Fault::Task(fault)),
+    };
+    match read_cert(alloc, cert) {
+        Ok(cert) => Ok(Claim { task, cert }),
+        Err(fault) => Err(Fault::Cert(fault)),
+    }
+}
+
 /// The verdict of `check` on the task and the certificate that two texts stand for.
 ///
 /// A yes means that the first text stands for a task, every run of which is sandboxed: whatever list of events, inputs,
@@ -31,19 +59,11 @@ pub enum Fault {
 ///
 /// # Errors
 ///
-/// The task's fault, or, where the first text stands for a task, the certificate's. Want of memory may come in place of any
-/// answer.
+/// Those of [`read_texts`].
 pub fn check_text(alloc: Global, task: &[u8], cert: &[u8]) -> Result<Verdict, Fault>
     ensures exact { ChecksTexts result (task_of task.now) (certificate_of_text cert.now) }
     ensures sound { SaysYes result → (plan : Plan) × (task_of task.now ≡ Ok plan) × IsSandboxed plan }
 {
-    let task = match read_task(alloc, task) {
-        Ok(task) => task,
-        Err(fault) => return Err(Fault::Task(fault)),
-    };
-    let cert = match read_cert(alloc, cert) {
-        Ok(cert) => cert,
-        Err(fault) => return Err(Fault::Cert(fault)),
-    };
-    Ok(check(&task, &cert))
+    let claim = read_texts(alloc, task, cert)?;
+    Ok(check(&claim.task, &claim.cert))
 }

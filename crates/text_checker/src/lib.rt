@@ -3,4 +3,4 @@
 
 pub mod checking;
 
-pub use checking::{Fault, check_text};
+pub use checking::{Claim, Fault, check_text, read_texts};

@@ -1,5 +1,0 @@
-use Rattle.std.proofs.Common.{length}
-use Rattle.service.proofs.certificates.+push_points.Given as goal
-
-abbrev pub decreases-push_points : goal.decreases-push_points
-decreases-push_points l = length l.modes.now
