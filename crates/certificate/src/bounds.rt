@@ -252,7 +252,7 @@ impl Slot {
 }
 
 impl Bound {
-    ghost use Rattle.std.specs.Prelude.{length, map};
+    ghost use Rattle.std.specs.Prelude.{length, map, slice_set};
     ghost use Rattle.certificate.specs.Bounds.{interval, slot, with_interval, with_slot};
     ghost use Rattle.certificate.specs.Growth.{open_bound};
     ghost use Rattle.certificate.specs.Views.{bound_of, interval_of, mode_of, slot_of};
@@ -342,12 +342,23 @@ impl Bound {
         ensures { bound_of result
             ≡ with_interval (bound_of self.now) register (interval_of interval) }
     {
-        let mut next = *self;
-        let register = register as usize;
-        if register < next.registers.len() {
-            next.registers[register] = interval;
+        Bound {
+            registers: self.registers_with(register, interval),
+            ..*self
         }
-        next
+    }
+
+    /// Its registers, one of them in another interval.
+    pub(crate) fn registers_with(&self, register: u8, interval: Interval) -> [Interval; REGISTERS]
+        ensures { map interval_of result
+            ≡ slice_set (bound_of self.now).registers register (interval_of interval) }
+    {
+        let mut registers = self.registers;
+        let register = register as usize;
+        if register < registers.len() {
+            registers[register] = interval;
+        }
+        registers
     }
 
     /// The same bound with a number of the table being otherwise.

@@ -446,3 +446,19 @@ impl Domain for Bound {
         }
     }
 }
+
+impl Bound {
+    ghost use Rattle.certificate.specs.Bounds.{with_interval};
+
+    /// Whether the bound with a register in another interval is within the other. Copies no slot.
+    pub fn within_with_interval(&self, register: u8, interval: Interval, other: &Bound) -> bool
+        ensures { result ≡ bound_within
+            (with_interval (bound_of self.now) register (interval_of interval)) (bound_of other.now) }
+    {
+        self.mode.within(&other.mode)
+            && self
+                .registers_with(register, interval)
+                .within(&other.registers)
+            && self.slots.within(&other.slots)
+    }
+}

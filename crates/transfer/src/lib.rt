@@ -1,0 +1,7 @@
+//! What a call needs of the slots that it may go through, and where an instruction may lead from a point with a bound.
+#![tactic(auto)]
+
+pub mod intervals;
+pub mod slots;
+
+pub use slots::{FreeNumbers, Takes, free_numbers, is_single, may_be_on, operand_interval};
