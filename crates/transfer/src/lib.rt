@@ -1,7 +1,11 @@
 //! What a call needs of the slots that it may go through, and where an instruction may lead from a point with a bound.
 #![tactic(auto)]
 
+pub mod channels;
+pub mod demands;
 pub mod intervals;
 pub mod slots;
+pub mod tests;
+pub mod uses;
 
 pub use slots::{FreeNumbers, Takes, free_numbers, is_single, may_be_on, operand_interval};
