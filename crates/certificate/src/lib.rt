@@ -19,3 +19,4 @@ pub use classes::{Class, Pair, Side};
 pub use domain::Domain;
 pub use lines::{Channel, Line, Refusal};
 pub use names::Name;
+pub use order::slots_within;

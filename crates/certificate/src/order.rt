@@ -317,7 +317,7 @@ fn intervals_within(left: &[Interval], right: &[Interval]) -> bool
 }
 
 /// Whether each slot is within the one at its place.
-fn slots_within(left: &[Slot], right: &[Slot]) -> bool
+pub fn slots_within(left: &[Slot], right: &[Slot]) -> bool
     ensures { result ≡ each_within slot_within (map slot_of left.now) (map slot_of right.now) }
 {
     match left {
@@ -456,9 +456,16 @@ impl Bound {
             (with_interval (bound_of self.now) register (interval_of interval)) (bound_of other.now) }
     {
         self.mode.within(&other.mode)
-            && self
-                .registers_with(register, interval)
-                .within(&other.registers)
+            && self.registers_within(register, interval, other)
             && self.slots.within(&other.slots)
+    }
+
+    /// Whether each register is within the other's, one of them in another interval.
+    pub fn registers_within(&self, register: u8, interval: Interval, other: &Bound) -> bool
+        ensures { result ≡ each_within interval_within
+            (with_interval (bound_of self.now) register (interval_of interval)).registers (bound_of other.now).registers }
+    {
+        self.registers_with(register, interval)
+            .within(&other.registers)
     }
 }
