@@ -1,3 +1,4 @@
 pub mod Needs
+pub mod OutcomeViews
 pub mod Tested
 pub mod Views

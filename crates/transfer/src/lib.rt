@@ -4,6 +4,7 @@
 pub mod channels;
 pub mod demands;
 pub mod intervals;
+pub mod outcomes;
 pub mod slots;
 pub mod tests;
 pub mod uses;

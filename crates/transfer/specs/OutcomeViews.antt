@@ -1,0 +1,29 @@
+-- What the outcomes of the code stand for.
+use Rattle.certificate.specs.Bounds.{Held, Slot, Bound, with_interval, with_slot}
+use Rattle.certificate.specs.Bounds as bounds
+use Rattle.certificate.specs.Views.{bound_of, held_of, interval_of}
+use Rattle.rules.specs.Outcomes.{Outcome, with_rights, with_commands}
+use Rattle.transfer.specs.declared.outcomes.Limit.{Limit}
+use Rattle.transfer.specs.declared.outcomes.Limit.TheVariants as limits
+use Rattle.transfer.specs.declared.outcomes.Content.{Content}
+use Rattle.transfer.specs.declared.outcomes.Content.TheVariants as content
+use Rattle.transfer.specs.declared.outcomes.Change.{Change}
+use Rattle.transfer.specs.declared.outcomes.Change.TheVariants as change
+use Rattle.transfer.specs.declared.outcomes.Outcome.{Outcome as OutcomeCode}
+
+abbrev pub limited : Held → Limit → Held
+limited h (limits.Rights rights) = with_rights h rights.0
+limited h (limits.Commands commands) = with_commands h commands.0
+
+abbrev pub content_of : Content → Slot
+content_of content.Closed = bounds.Closed
+content_of (content.Open held) = bounds.Open (held_of held)
+content_of (content.Limited held limit) = bounds.Open (limited (held_of held) limit)
+
+abbrev pub changed : Bound → Change → Bound
+changed b change.Nothing = b
+changed b (change.Register register i) = with_interval b register (interval_of i)
+changed b (change.Slot number s given) = with_interval (with_slot b number (content_of s)) 0 (interval_of given)
+
+abbrev pub outcome_of : OutcomeCode → Outcome
+outcome_of o = record { point = o.point; bound = changed (bound_of o.bound.now) o.change }
