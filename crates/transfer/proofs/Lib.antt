@@ -1,1 +1,2 @@
 pub mod UseRows
+pub mod Named

@@ -1,4 +1,5 @@
 pub mod Needs
 pub mod OutcomeViews
+pub mod Sites
 pub mod Tested
 pub mod Views

@@ -6,6 +6,8 @@ pub mod demands;
 pub mod intervals;
 pub mod outcomes;
 pub mod slots;
+pub mod successes;
+pub mod targets;
 pub mod tests;
 pub mod uses;
 

@@ -1,0 +1,217 @@
+//! Where an instruction may lead from a point with a bound, but for errors: each outcome is asked about, and none is kept.
+
+ghost use Rattle.std.specs.Prelude.{◌≡◌, ◌+◌, ◌≤◌, Bool, length, map, option_map};
+ghost use Rattle.std.specs.List.{flat_map, list_all};
+ghost use Rattle.certificate.specs.Bounds.{with_interval, with_slot};
+ghost use Rattle.certificate.specs.Views.{bound_of, held_of, interval_of, slot_of, target_of};
+ghost use Rattle.prog_asm.specs.Views.{instruction_of, operand_of, syscall_of};
+ghost use Rattle.rules.specs.Outcomes.{Outcome as OutcomeSeen, outcome_to};
+ghost use Rattle.rules.specs.Intervals.{only};
+ghost use Rattle.rules.specs.Slots.{slots_from, slots_in};
+ghost use Rattle.transfer.specs.OutcomeViews.{changed, content_of, outcome_of};
+ghost use Rattle.transfer.specs.Sites.{acted, received_at, taken_at};
+ghost use Rattle.transfer.specs.Tested.{slot_at};
+
+use crate::channels::{channel_at, other};
+use crate::intervals::only;
+use crate::outcomes::{Change, Content, Limit, Outcome};
+use crate::slots::{FreeNumbers, Takes, free_numbers, holds_number, operand_interval};
+use crate::targets::{beneath_target, unknown_held, with_target};
+use certificate::{Bound, Cert, Held, Interval, Name, Slot, Target};
+use prog_asm::Operand;
+use task::Task;
+
+/// A test of outcomes. It may keep what it learns of each, but what passes stays the same.
+pub trait OutcomeTest {
+    /// Which outcomes pass it.
+    ghost passes: { Self → OutcomeSeen → Bool };
+
+    /// Whether the outcome passes.
+    fn asks(&mut self, outcome: &Outcome<'_>) -> bool
+        ensures value { result ≡ passes self.old (outcome_of outcome.now) }
+        ensures same { passes self.new ≡ passes self.old };
+}
+
+/// A point of a program, and its bound in a certificate.
+#[derive(Clone, Copy)]
+pub struct Site<'a> {
+    pub task: &'a Task,
+    pub cert: &'a Cert,
+    /// The program's name.
+    pub name: &'a Name,
+    pub point: u8,
+    pub bound: &'a Bound,
+}
+
+/// What a call does with a slot that it goes through.
+#[derive(Clone, Copy)]
+pub(crate) enum Act {
+    /// It opens a node beneath it.
+    Opens,
+    /// It closes it.
+    Closes,
+    /// It receives from it.
+    Receives,
+    /// It copies it.
+    Copies,
+    /// It limits it.
+    Limits(Limit),
+}
+
+/// Whether the next point passes with a bound where this changes.
+fn next_passes<T: OutcomeTest>(
+    site: &Site<'_>,
+    bound: &Bound,
+    change: Change,
+    test: &mut T,
+) -> bool
+    ensures value { result ≡ list_all (T.passes test.old)
+        (outcome_to (site.now.point + 1) (changed (bound_of bound.now) change)) }
+    ensures same { T.passes test.new ≡ T.passes test.old }
+{
+    let point = site.point as usize + 1;
+    test.asks(&Outcome {
+        point,
+        bound,
+        change,
+    })
+}
+
+/// Whether the outcome passes where the lowest free number is taken for what is held, if one is free.
+fn taken_passes<T: OutcomeTest>(site: &Site<'_>, held: &Held, test: &mut T) -> bool
+    ensures value { result ≡ list_all (T.passes test.old) (taken_at site.now (held_of held.now)) }
+    ensures same { T.passes test.new ≡ T.passes test.old }
+{
+    match free_numbers(Takes::One, site.bound) {
+        None | Some(FreeNumbers::None) => true,
+        Some(FreeNumbers::One(number) | FreeNumbers::Two(number, _)) => {
+            let change = Change::Slot {
+                number,
+                content: Content::Open(*held),
+                given: only(number as u32),
+            };
+            next_passes(site, site.bound, change, test)
+        }
+    }
+}
+
+/// Whether the outcome passes where a slot is otherwise and register 0 is 0.
+fn slot_passes<T: OutcomeTest>(
+    site: &Site<'_>,
+    number: u8,
+    content: Content,
+    test: &mut T,
+) -> bool
+    ensures value { result ≡ list_all (T.passes test.old) (outcome_to (site.now.point + 1)
+        (with_interval (with_slot (bound_of site.now.bound.now) number (content_of content)) 0 (only 0))) }
+    ensures same { T.passes test.new ≡ T.passes test.old }
+{
+    let change = Change::Slot {
+        number,
+        content,
+        given: only(0),
+    };
+    next_passes(site, site.bound, change, test)
+}
+
+/// Whether the outcome passes of what comes from a channel, or from an end of unknown kind.
+fn received_passes<T: OutcomeTest>(site: &Site<'_>, target: &Target, test: &mut T) -> bool
+    ensures value { result ≡ list_all (T.passes test.old) (received_at site.now (target_of target.now)) }
+    ensures same { T.passes test.new ≡ T.passes test.old }
+{
+    match target {
+        Target::InGrant(_) | Target::AnyNode => true,
+        Target::Socket(class, side) => match channel_at(site.cert, class, other(*side)) {
+            None => true,
+            Some(channel) => match channel.sends() {
+                None => true,
+                Some(held) => taken_passes(site, &held, test),
+            },
+        },
+        Target::Unknown => taken_passes(site, &unknown_held(), test),
+    }
+}
+
+/// Whether the outcome passes of what a call does with this slot.
+fn acted_passes<T: OutcomeTest>(
+    site: &Site<'_>,
+    act: Act,
+    number: u8,
+    held: &Held,
+    test: &mut T,
+) -> bool
+    ensures value { result ≡ list_all (T.passes test.old)
+        (acted site.now act (record { number = number; held = held_of held.now })) }
+    ensures same { T.passes test.new ≡ T.passes test.old }
+{
+    match act {
+        Act::Opens => match beneath_target(&held.target()) {
+            None => true,
+            Some(target) => taken_passes(site, &with_target(held, target), test),
+        },
+        Act::Receives => received_passes(site, &held.target(), test),
+        Act::Copies => taken_passes(site, held, test),
+        Act::Closes => slot_passes(site, number, Content::Closed, test),
+        Act::Limits(limit) => slot_passes(site, number, Content::Limited(*held, limit), test),
+    }
+}
+
+/// Whether the outcome passes of what a call does with a slot, if it may be open and its number is in the interval.
+fn one_passes<T: OutcomeTest>(
+    site: &Site<'_>,
+    act: Act,
+    slot: &Slot,
+    number: u8,
+    interval: Interval,
+    test: &mut T,
+) -> bool
+    ensures value { result ≡ list_all (T.passes test.old)
+        (flat_map (acted site.now act) (slot_at number (interval_of interval) (slot_of slot.now))) }
+    ensures same { T.passes test.new ≡ T.passes test.old }
+{
+    match slot {
+        Slot::Closed => true,
+        Slot::Open(held) | Slot::Maybe(held) => {
+            !holds_number(interval, number) || acted_passes(site, act, number, held, test)
+        }
+    }
+}
+
+/// Whether the outcomes pass of what a call does with each slot from this number on.
+fn rest_pass<T: OutcomeTest>(
+    site: &Site<'_>,
+    act: Act,
+    slots: &[Slot],
+    number: u8,
+    interval: Interval,
+    test: &mut T,
+) -> bool
+    requires { number + length slots.now ≤ 16 }
+    ensures value { result ≡ list_all (T.passes test.old)
+        (flat_map (acted site.now act) (slots_from number (interval_of interval) (map slot_of slots.now))) }
+    ensures same { T.passes test.new ≡ T.passes test.old }
+{
+    match slots {
+        [] => true,
+        [slot, rest @ ..] => {
+            one_passes(site, act, slot, number, interval, test)
+                && rest_pass(site, act, rest, number + 1, interval, test)
+        }
+    }
+}
+
+/// Whether the outcomes pass of what a call does with each slot that an operand may name.
+#[tactic(auto, unfolding(rules::specs::Slots::slots_in))]
+pub(crate) fn all_pass<T: OutcomeTest>(
+    site: &Site<'_>,
+    act: Act,
+    operand: Operand,
+    test: &mut T,
+) -> bool
+    ensures value { result ≡ list_all (T.passes test.old)
+        (flat_map (acted site.now act) (slots_in (bound_of site.now.bound.now) (operand_of operand))) }
+    ensures same { T.passes test.new ≡ T.passes test.old }
+{
+    let interval = operand_interval(site.bound, operand);
+    rest_pass(site, act, site.bound.slots(), 0, interval, test)
+}
