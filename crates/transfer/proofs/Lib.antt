@@ -1,2 +1,3 @@
 pub mod UseRows
 pub mod Named
+pub mod Repeated

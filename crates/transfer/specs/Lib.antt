@@ -1,3 +1,5 @@
+pub mod Calls
+pub mod Given
 pub mod Needs
 pub mod OutcomeViews
 pub mod Sites

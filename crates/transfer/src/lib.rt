@@ -1,8 +1,10 @@
 //! What a call needs of the slots that it may go through, and where an instruction may lead from a point with a bound.
 #![tactic(auto)]
 
+mod calls;
 pub mod channels;
 pub mod demands;
+mod given;
 pub mod intervals;
 pub mod outcomes;
 pub mod slots;

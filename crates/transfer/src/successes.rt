@@ -59,7 +59,7 @@ pub(crate) enum Act {
 }
 
 /// Whether the next point passes with a bound where this changes.
-fn next_passes<T: OutcomeTest>(
+pub(crate) fn next_passes<T: OutcomeTest>(
     site: &Site<'_>,
     bound: &Bound,
     change: Change,
@@ -78,7 +78,7 @@ fn next_passes<T: OutcomeTest>(
 }
 
 /// Whether the outcome passes where the lowest free number is taken for what is held, if one is free.
-fn taken_passes<T: OutcomeTest>(site: &Site<'_>, held: &Held, test: &mut T) -> bool
+pub(crate) fn taken_passes<T: OutcomeTest>(site: &Site<'_>, held: &Held, test: &mut T) -> bool
     ensures value { result ≡ list_all (T.passes test.old) (taken_at site.now (held_of held.now)) }
     ensures same { T.passes test.new ≡ T.passes test.old }
 {

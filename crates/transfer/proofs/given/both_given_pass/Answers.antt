@@ -1,0 +1,20 @@
+use Rattle.certificate.specs.Views.{bound_of, interval_of}
+use Rattle.prog_asm.specs.Views.{operand_of}
+use Rattle.rules.specs.Slots.{OpenSlot, slots_in}
+use Rattle.transfer.specs.Given.{may_be, given_at}
+use Rattle.transfer.proofs.Repeated.{none_passes, some_passes}
+use Rattle.transfer.proofs.given.both_given_pass.Goals as goal
+
+pub returns-then-none_is-clause-value : goal.returns-then-none_is-clause-value
+returns-then-none_is-clause-value g c =
+    none_passes (g.T.OutcomeTest.passes c.args.test.now)
+    (given_at c.args.site.now (operand_of c.args.second.0) c.args.second.1 (interval_of c.args.given))
+    (λ (slot : OpenSlot). may_be c.args.first.1 slot.held.target) (slots_in (bound_of c.args.site.now.bound.now) (operand_of c.args.first.0))
+    c.none_is.result c.none_is.ensures c.if-none_is.true
+
+pub returns-else-none_is-clause-value : goal.returns-else-none_is-clause-value
+returns-else-none_is-clause-value g c =
+    some_passes (g.T.OutcomeTest.passes c.args.test.now)
+    (given_at c.args.site.now (operand_of c.args.second.0) c.args.second.1 (interval_of c.args.given))
+    (λ (slot : OpenSlot). may_be c.args.first.1 slot.held.target) (slots_in (bound_of c.args.site.now.bound.now) (operand_of c.args.first.0))
+    c.none_is.result c.given_passes.result c.none_is.ensures c.if-none_is.false c.given_passes.ensures.value

@@ -1,0 +1,19 @@
+-- Where a call leads from a point of the code.
+use Rattle.std.specs.Prelude.{ℕ, List}
+use Rattle.certificate.specs.Bounds.{Held, Bound}
+use Rattle.certificate.specs.Views.{bound_of, name_of}
+use Rattle.prog_asm.specs.Programs.{Syscall, Instruction}
+use Rattle.rules.specs.Outcomes.{Outcome, new_end, with_pair, successes_of, successes}
+use Rattle.transfer.specs.declared.successes.Site.{Site}
+
+abbrev pub end_at : Site → ℕ → Held
+end_at s side = new_end s.task.now.grants s.cert.now (name_of s.name.now) s.point (bound_of s.bound.now) side
+
+abbrev pub paired : Site → ℕ → ℕ → Bound
+paired s first second = with_pair s.task.now.grants s.cert.now (name_of s.name.now) s.point (bound_of s.bound.now) first second
+
+abbrev pub call_at : Site → Syscall → List Outcome
+call_at s call = successes_of s.task.now.grants s.cert.now (name_of s.name.now) s.point (bound_of s.bound.now) call
+
+abbrev pub successes_at : Site → Instruction → List Outcome
+successes_at s i = successes s.task.now.grants s.cert.now (name_of s.name.now) s.point (bound_of s.bound.now) i

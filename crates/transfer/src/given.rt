@@ -1,0 +1,101 @@
+//! Where calls lead that leave all slots as they are: the outcome is the same whatever slot they go through, so it is asked
+//! about once.
+
+ghost use Rattle.std.specs.Prelude.{◌≡◌, not};
+ghost use Rattle.std.specs.List.{flat_map, list_all};
+ghost use Rattle.certificate.specs.Views.{bound_of, interval_of, target_of};
+ghost use Rattle.prog_asm.specs.Views.{operand_of};
+ghost use Rattle.rules.specs.Outcomes.{goes_on};
+ghost use Rattle.rules.specs.Slots.{slots_in};
+ghost use Rattle.transfer.specs.Given.{both_given, given_at, may_be, stays};
+
+use crate::outcomes::Change;
+use crate::successes::{OutcomeTest, Site, next_passes};
+use crate::targets::{may_be_end, may_be_node};
+use crate::tests::{SlotTest, all_slots_pass};
+use certificate::{Bound, Held, Interval, Target};
+use prog_asm::Operand;
+
+/// What a slot may have to be of.
+#[derive(Clone, Copy)]
+pub(crate) enum Kind {
+    Any,
+    Node,
+    End,
+}
+
+/// Whether it may be of this kind.
+fn may_be(kind: Kind, target: &Target) -> bool
+    ensures { result ≡ may_be kind (target_of target.now) }
+{
+    match kind {
+        Kind::Any => true,
+        Kind::Node => may_be_node(target),
+        Kind::End => may_be_end(target),
+    }
+}
+
+/// The test that a slot is surely not of a kind.
+#[derive(Clone, Copy)]
+struct IsNot {
+    kind: Kind,
+}
+
+impl SlotTest for IsNot {
+    ghost passes = { λ t slot. not (may_be t.kind slot.held.target) };
+
+    fn asks(&self, _number: u8, held: &Held) -> bool {
+        !may_be(self.kind, &held.target())
+    }
+}
+
+/// Whether no slot of an operand may be of the kind.
+fn none_is(bound: &Bound, operand: Operand, kind: Kind) -> bool
+    ensures { result ≡ list_all (λ slot. not (may_be kind slot.held.target))
+        (slots_in (bound_of bound.now) (operand_of operand)) }
+{
+    all_slots_pass(bound, operand, &IsNot { kind })
+}
+
+/// Whether the next point passes with register 0 in an interval.
+pub(crate) fn step_passes<T: OutcomeTest>(site: &Site<'_>, given: Interval, test: &mut T) -> bool
+    ensures value { result ≡ list_all (T.passes test.old) (stays site.now (interval_of given)) }
+    ensures same { T.passes test.new ≡ T.passes test.old }
+{
+    let change = Change::Register {
+        register: 0,
+        interval: given,
+    };
+    next_passes(site, site.bound, change, test)
+}
+
+/// Whether it does for each slot of an operand that may be of the kind.
+pub(crate) fn given_passes<T: OutcomeTest>(
+    site: &Site<'_>,
+    operand: Operand,
+    kind: Kind,
+    given: Interval,
+    test: &mut T,
+) -> bool
+    ensures value { result ≡ list_all (T.passes test.old) (given_at site.now (operand_of operand) kind (interval_of given)) }
+    ensures same { T.passes test.new ≡ T.passes test.old }
+{
+    none_is(site.bound, operand, kind) || step_passes(site, given, test)
+}
+
+/// Whether it does for each slot of an operand and each of another.
+pub(crate) fn both_given_pass<T: OutcomeTest>(
+    site: &Site<'_>,
+    first: (Operand, Kind),
+    second: (Operand, Kind),
+    given: Interval,
+    test: &mut T,
+) -> bool
+    ensures value { result ≡ list_all (T.passes test.old)
+        (both_given site.now (operand_of first.0) first.1 (operand_of second.0) second.1 (interval_of given)) }
+    ensures same { T.passes test.new ≡ T.passes test.old }
+{
+    let (operand, kind) = first;
+    let (other, its) = second;
+    none_is(site.bound, operand, kind) || given_passes(site, other, its, given, test)
+}
