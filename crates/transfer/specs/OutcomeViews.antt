@@ -1,4 +1,5 @@
 -- What the outcomes of the code stand for.
+use Rattle.std.specs.Prelude.{List, [], ◌∷◌, Option, Some, None}
 use Rattle.certificate.specs.Bounds.{Held, Slot, Bound, with_interval, with_slot}
 use Rattle.certificate.specs.Bounds as bounds
 use Rattle.certificate.specs.Views.{bound_of, held_of, interval_of}
@@ -27,3 +28,7 @@ changed b (change.Slot number s given) = with_interval (with_slot b number (cont
 
 abbrev pub outcome_of : OutcomeCode → Outcome
 outcome_of o = record { point = o.point; bound = changed (bound_of o.bound.now) o.change }
+
+abbrev pub outcomes_of : Option OutcomeCode → List Outcome
+outcomes_of None = []
+outcomes_of (Some o) = outcome_of o ∷ []

@@ -5,6 +5,7 @@ mod calls;
 pub mod channels;
 pub mod demands;
 mod given;
+pub mod instructions;
 pub mod intervals;
 pub mod outcomes;
 pub mod slots;

@@ -1,0 +1,163 @@
+//! Where an instruction may lead.
+
+ghost use Rattle.std.specs.Prelude.{◌≡◌, option_map};
+ghost use Rattle.std.specs.List.{list_all};
+ghost use Rattle.certificate.specs.Views.{bound_of, interval_of};
+ghost use Rattle.prog_asm.specs.Views.{instruction_of};
+ghost use Rattle.rules.specs.Outcomes.{equal_outcomes, error_interval, error_outcomes, less_outcomes, outcomes_in};
+ghost use Rattle.transfer.specs.Calls.{successes_at};
+ghost use Rattle.transfer.specs.OutcomeViews.{outcomes_of};
+
+use crate::calls::{call_passes, is_formed};
+use crate::demands::demanded;
+use crate::intervals::{equal_part, lower_part, only, other_part, sums, upper_part};
+use crate::outcomes::{Change, Outcome};
+use crate::successes::{OutcomeTest, Site, next_passes};
+use certificate::{Bound, Interval};
+use prog_asm::{Instruction, Register};
+
+/// Whether a point passes with a register in an interval, if there is one.
+fn part_passes<T: OutcomeTest>(
+    site: &Site<'_>,
+    point: usize,
+    register: Register,
+    part: Option<Interval>,
+    test: &mut T,
+) -> bool
+    ensures value { result ≡ list_all (T.passes test.old)
+        (outcomes_in point (bound_of site.now.bound.now) register (option_map interval_of part)) }
+    ensures same { T.passes test.new ≡ T.passes test.old }
+{
+    match part {
+        None => true,
+        Some(interval) => test.asks(&Outcome {
+            point,
+            bound: site.bound,
+            change: Change::Register {
+                register: register.number(),
+                interval,
+            },
+        }),
+    }
+}
+
+/// Whether the outcomes of `jeq` pass: at its target where the register may be the value, and next where it may be another.
+fn equal_pass<T: OutcomeTest>(
+    site: &Site<'_>,
+    register: Register,
+    value: u32,
+    target: u8,
+    test: &mut T,
+) -> bool
+    ensures value { result ≡ list_all (T.passes test.old)
+        (equal_outcomes site.now.point (bound_of site.now.bound.now) register value target) }
+    ensures same { T.passes test.new ≡ T.passes test.old }
+{
+    let interval = site.bound.interval(register.number());
+    let equal = equal_part(interval, value);
+    let other = other_part(interval, value);
+    let next = site.point as usize + 1;
+    part_passes(site, target as usize, register, equal, test)
+        && part_passes(site, next, register, other, test)
+}
+
+/// Whether the outcomes of `jlt` pass: at its target where the register may be less than the value, and next where it may not.
+fn less_pass<T: OutcomeTest>(
+    site: &Site<'_>,
+    register: Register,
+    value: u32,
+    target: u8,
+    test: &mut T,
+) -> bool
+    ensures value { result ≡ list_all (T.passes test.old)
+        (less_outcomes site.now.point (bound_of site.now.bound.now) register value target) }
+    ensures same { T.passes test.new ≡ T.passes test.old }
+{
+    let interval = site.bound.interval(register.number());
+    let lower = lower_part(interval, value);
+    let upper = upper_part(interval, value);
+    let next = site.point as usize + 1;
+    part_passes(site, target as usize, register, lower, test)
+        && part_passes(site, next, register, upper, test)
+}
+
+/// Whether each outcome of an instruction passes that is no error's: it is asked about each until one doesn't, and about
+/// those that are the same perhaps once. Takes no memory. (own; after the manual pages of the calls)
+#[tactic(auto, unfolding(rules::specs::Outcomes::successes))]
+pub fn successes_pass<T: OutcomeTest>(
+    site: &Site<'_>,
+    instruction: &Instruction,
+    test: &mut T,
+) -> bool
+    ensures value { result ≡ list_all (T.passes test.old) (successes_at site.now (instruction_of instruction.now)) }
+    ensures same { T.passes test.new ≡ T.passes test.old }
+{
+    let bound = site.bound;
+    let (register, interval) = match instruction {
+        Instruction::Set { register, value } => (register, only(*value)),
+        Instruction::Mov { register, source } => (register, bound.interval(source.number())),
+        Instruction::Add { register, addend } => {
+            let interval = bound.interval(register.number());
+            (register, sums(interval, bound.interval(addend.number())))
+        }
+        Instruction::In { register } => (register, Interval::new(0, 255)),
+        Instruction::Jmp { target } => {
+            let point = *target as usize;
+            let change = Change::Nothing;
+            return test.asks(&Outcome {
+                point,
+                bound,
+                change,
+            });
+        }
+        Instruction::Jeq {
+            register,
+            value,
+            target,
+        } => return equal_pass(site, *register, *value, *target, test),
+        Instruction::Jlt {
+            register,
+            value,
+            target,
+        } => return less_pass(site, *register, *value, *target, test),
+        Instruction::Halt => return true,
+        Instruction::Invoke { call, .. } => {
+            return !is_formed(site, call) || call_passes(site, call, test);
+        }
+    };
+    let change = Change::Register {
+        register: register.number(),
+        interval,
+    };
+    next_passes(site, bound, change, test)
+}
+
+/// The outcome of an instruction that fails, if it may: register 7 has an error's number, and all else stays. (own)
+#[tactic(auto, unfolding(rules::specs::Outcomes::error_outcomes))]
+pub fn failure<'a>(bound: &'a Bound, instruction: &Instruction) -> Option<Outcome<'a>>
+    ensures { outcomes_of result ≡ error_outcomes (bound_of bound.now) (instruction_of instruction.now) }
+{
+    match instruction {
+        Instruction::Invoke { call, otherwise } => {
+            if demanded(call).never_fails {
+                return None;
+            }
+            Some(Outcome {
+                point: *otherwise as usize,
+                bound,
+                change: Change::Register {
+                    register: 7,
+                    interval: Interval::new(1, 94),
+                },
+            })
+        }
+        Instruction::Set { .. }
+        | Instruction::Mov { .. }
+        | Instruction::Add { .. }
+        | Instruction::In { .. }
+        | Instruction::Jmp { .. }
+        | Instruction::Jeq { .. }
+        | Instruction::Jlt { .. }
+        | Instruction::Halt => None,
+    }
+}
