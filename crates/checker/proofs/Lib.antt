@@ -1,10 +1,2 @@
-pub mod Describing
-pub mod Asked
-pub mod IntervalLaws
-pub mod Invariant
-pub mod Changes
 pub mod PastEnds
-pub mod Stepping
-pub mod Calls
-pub mod FirstStates
-pub mod Sound
+pub mod Named

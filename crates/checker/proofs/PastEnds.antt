@@ -1,5 +1,7 @@
 -- Nothing is found past the ends of the list of programs and of a program.
-use Rattle.std.proofs.Common.{◌≡◌, ℕ, ◌<◌, ◌≤◌, true, List, ap, sym, ◌∙◌, length, refl}
+use Rattle.std.proofs.Common.{◌≡◌, ℕ, ◌<◌, ◌≤◌, ◌⊎◌, inl, inr, arith, true, List, ap, sym, ◌∙◌, length, refl}
+use Rattle.std.proofs.Math.ListN.{length-map}
+use Rattle.kernel.proofs.Fresh.{lt_or_le}
 use Rattle.std.specs.Prelude.{None}
 use Rattle.std.specs.Option.{option_map}
 use Rattle.std.specs.List.{slice_get, slice_index_or, list_all}
@@ -11,9 +13,9 @@ use Rattle.prog_asm.specs.Programs.{Instruction, is_program, is_instruction, end
 use Rattle.task.specs.declared.programs.NamedProgram.{NamedProgram as NamedProgramCode}
 use Rattle.task.specs.Plans.{Plan, code_in, programs_of_plan}
 use Rattle.task.specs.Views.{program_of, programs_of}
-use Rattle.checker.specs.Points.{instruction_at}
+use Rattle.rules.specs.Points.{instruction_at}
 use Rattle.task.specs.Plans.{program_name}
-use Rattle.checker.specs.Rules.{found_with, found_at}
+use Rattle.rules.specs.Verdicts.{MeetsRules, found_with, found_at}
 
 no_instruction : (plan : Plan) (certificate : Certificate) (program point : ℕ) → instruction_at plan program point ≡ None → found_at plan certificate program point ≡ None
 unfolding found_at found_with
@@ -40,3 +42,17 @@ past_points plan certificate items n point x same below is past =
 pub few_points : (code : List Instruction) → is_program code ≡ true → length code ≤ 256
 few_points code valid =
     leb-true _ _ (both_left _ (list_all (is_instruction (length code)) code) (both_left _ (ends_well code) valid))
+
+-- where nothing is found in any program of the list, the certificate meets the rules
+pub meets : (plan : Plan) (certificate : Certificate) (items : List NamedProgramCode) (n : ℕ) → programs_of items ≡ plan.programs → length items ≤ n
+    → ((p k : ℕ) → p < n → found_at plan certificate p k ≡ None) → MeetsRules plan certificate
+meets plan certificate items n same all none = λ program point. at program point (lt_or_le program n)
+  where
+    many : length plan.programs ≤ n
+    many =
+        let sized : length items ≡ length plan.programs = sym (length-map items program_of) ∙ ap length same in
+        omega (arith, sized, all)
+
+    at : (program point : ℕ) → (program < n) ⊎ (n ≤ program) → found_at plan certificate program point ≡ None
+    at program point (inl before) = none program point before
+    at program point (inr from) = past_programs plan certificate program point (omega (arith, from, many))

@@ -1,14 +1,12 @@
-//! The checker: whether a certificate meets the rules, and so whether every run of its task is sandboxed.
-//!
-//! `specs/Rules.antt` has the rules of a point as one list; `check` answers by it, and its contract says
-//! what a yes means.
+//! The checker: whether a certificate meets the rules K1 to K16 at every point of a task's programs. `check` answers, and
+//! names the first rule that is broken.
 #![tactic(auto)]
 
-mod intervals;
-mod outcomes;
+mod arrivals;
 mod points;
 mod rules;
 mod starts;
+mod uses;
 pub mod verdicts;
 
 pub use verdicts::{Verdict, check};

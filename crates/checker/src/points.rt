@@ -1,7 +1,7 @@
 //! The points of a task's programs.
 
 ghost use Rattle.std.specs.Prelude.{◌≡◌, option_map};
-ghost use Rattle.checker.specs.Points.{instruction_at};
+ghost use Rattle.rules.specs.Points.{instruction_at};
 ghost use Rattle.prog_asm.specs.Views.{instruction_of};
 
 use prog_asm::Instruction;

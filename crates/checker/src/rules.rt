@@ -1,216 +1,192 @@
-//! The rules at a point of a program.
+//! The rules at a point of a program, in the order of their numbers.
 
-ghost use Rattle.std.specs.Prelude.{◌≡◌, Some, option_map};
-ghost use Rattle.certificate.specs.Views.{bound_of, held_of, mode_of, target_of};
-ghost use Rattle.checker.specs.Points.{instruction_at};
-ghost use Rattle.checker.specs.Rules.{all_there, all_within, found_at, found_with, is_known, keeps_known, keeps_policy, keeps_rights, least_broken, may_be_on, read_through, target_lists, tests};
-ghost use Rattle.checker.specs.Views.{finding_of, listed, successes_of};
+ghost use Rattle.std.specs.Prelude.{◌≡◌, ℕ, IfSome, None, drop, not, take};
+ghost use Rattle.certificate.specs.Views.{bound_of, name_of};
 ghost use Rattle.prog_asm.specs.Views.{instruction_of};
-ghost use Rattle.rights.specs.Views.{operation_of};
+ghost use Rattle.rules.specs.Channels.{all_have_channels};
+ghost use Rattle.rules.specs.Demands.{demands, keeps_beneath, keeps_numbers, keeps_single};
+ghost use Rattle.rules.specs.Points.{instruction_at};
+ghost use Rattle.rules.specs.Rules.{least_broken, of_call, tests};
+ghost use Rattle.rules.specs.Uses.{uses};
+ghost use Rattle.rules.specs.Verdicts.{found_at, found_with};
+ghost use Rattle.task.specs.Plans.{program_name};
 
-use crate::outcomes::{NextPoints, Outcome, failure, is_covered, successes};
+use crate::arrivals::{failure_there, failure_within, successes_there, successes_within};
 use crate::points::instruction_at;
 use crate::starts::{is_started, starts_within};
-use certificate::{Bound, Cert, Domain, Held, ModeBound, Target};
-use prog_asm::{Instruction, Operand, Syscall};
-use rights::{Op, Rights};
-use task::{Task, grant_lists};
+use crate::uses::{
+    KeepsChannelBound, KeepsCommands, KeepsLimit, KeepsPolicy, KeepsRights, MovesWithin,
+    NamesKnown, WorksOnKnown, each_use, in_the_mode,
+};
+use certificate::{Bound, Cert, Name};
+use prog_asm::Instruction;
+use task::Task;
+use transfer::{Site, demanded};
 
-/// What is found at a point of a program.
-#[derive(Clone, Copy)]
-pub(crate) enum Finding {
-    /// This rule is the least that is broken.
-    Broken(u8),
-    /// The rules don't cover the instruction yet.
-    Uncovered,
-}
-
-/// Whether an outcome, if there is one, is within the bound of the point that it goes to, if that has one.
-fn is_within(cert: &Cert, name: &[u8], outcome: Option<Outcome>) -> bool
-    ensures { result ≡ all_within cert.now name.now (listed outcome) }
-{
-    match outcome {
-        None => true,
-        Some(outcome) => match cert.bound_at(name, outcome.point) {
-            None => true,
-            Some(there) => outcome.bound.within(there),
-        },
-    }
-}
-
-/// Whether the point that an outcome goes to, if there is one, has a bound.
-fn is_there(cert: &Cert, name: &[u8], outcome: Option<Outcome>) -> bool
-    ensures { result ≡ all_there cert.now name.now (listed outcome) }
-{
-    match outcome {
-        None => true,
-        Some(outcome) => cert.bound_at(name, outcome.point).is_some(),
-    }
-}
-
-/// Whether a process may be in capability mode.
-fn may_be_on(mode: ModeBound) -> bool
-    ensures { result ≡ may_be_on (mode_of mode) }
-{
-    match mode {
-        ModeBound::Off => false,
-        ModeBound::On | ModeBound::Either => true,
-    }
-}
-
-/// Whether what it is of is known: a node of a grant, or a socket.
-fn is_known(target: &Target) -> bool
-    ensures { result ≡ is_known (target_of target.now) }
-{
-    match target {
-        Target::InGrant(_) | Target::Socket(..) => true,
-        Target::AnyNode | Target::Unknown => false,
-    }
-}
-
-/// Whether the grant lists the operation, where the target is in one.
-fn target_lists(task: &Task, operation: Op, target: &Target) -> bool
-    ensures { result ≡ target_lists task.now (operation_of operation) (target_of target.now) }
-{
-    match target {
-        Target::InGrant(name) => grant_lists(task.grants(), name.as_bytes(), operation),
-        Target::AnyNode | Target::Socket(..) | Target::Unknown => true,
-    }
-}
-
-/// What `read` goes through, where the instruction is one and its slot may be open.
-fn read_through(bound: &Bound, instruction: &Instruction) -> Option<Held>
-    ensures { option_map held_of result ≡ read_through (bound_of bound.now) (instruction_of instruction.now) }
+/// Whether the operand of a call that changes its slot is a single number.
+fn keeps_single(bound: &Bound, instruction: &Instruction) -> bool
+    ensures { result ≡ of_call (keeps_single (bound_of bound.now)) (instruction_of instruction.now) }
 {
     match instruction {
-        Instruction::Invoke { call, .. } => match call {
-            Syscall::Read { descriptor } => match descriptor {
-                Operand::Number(number) => bound.slot(*number).held(),
-                Operand::Register(_) => None,
-            },
-            _ => None,
-        },
-        _ => None,
+        Instruction::Invoke { call, .. } => transfer::keeps_single(bound, call),
+        _ => true,
     }
 }
 
-/// Whether what a call goes through has the rights that it needs. (rights(4))
-fn keeps_rights(bound: &Bound, instruction: &Instruction) -> bool
-    ensures { result ≡ keeps_rights (bound_of bound.now) (instruction_of instruction.now) }
+/// Whether the free numbers that a call takes are determined.
+fn keeps_numbers(bound: &Bound, instruction: &Instruction) -> bool
+    ensures { result ≡ of_call (keeps_numbers (bound_of bound.now)) (instruction_of instruction.now) }
 {
-    match read_through(bound, instruction) {
-        None => true,
-        Some(held) => held.rights().least().contains(Rights::READ),
+    match instruction {
+        Instruction::Invoke { call, .. } => transfer::keeps_numbers(bound, call),
+        _ => true,
     }
 }
 
-/// Whether a call in the mode goes through a descriptor of which it is known what it is of.
-fn keeps_known(bound: &Bound, instruction: &Instruction) -> bool
-    ensures { result ≡ keeps_known (bound_of bound.now) (instruction_of instruction.now) }
+/// Whether a call keeps from global name spaces where the mode may be on. (capsicum(4))
+fn keeps_beneath(bound: &Bound, instruction: &Instruction) -> bool
+    ensures { result ≡ of_call (keeps_beneath (bound_of bound.now)) (instruction_of instruction.now) }
 {
-    !may_be_on(bound.mode())
-        || match read_through(bound, instruction) {
-            None => true,
-            Some(held) => is_known(&held.target()),
-        }
+    match instruction {
+        Instruction::Invoke { call, .. } => transfer::keeps_beneath(bound, call),
+        _ => true,
+    }
 }
 
-/// Whether the grant lists what a call in the mode does.
-fn keeps_policy(task: &Task, bound: &Bound, instruction: &Instruction) -> bool
-    ensures { result ≡ keeps_policy task.now (bound_of bound.now) (instruction_of instruction.now) }
+/// Whether a call changes no name of a global name space.
+fn keeps_global_names(instruction: &Instruction) -> bool
+    ensures { result ≡ of_call (λ call. not (demands call).changes_global_names) (instruction_of instruction.now) }
 {
-    !may_be_on(bound.mode())
-        || match read_through(bound, instruction) {
-            None => true,
-            Some(held) => target_lists(task, Op::Read, &held.target()),
-        }
+    match instruction {
+        Instruction::Invoke { call, .. } => !demanded(call).changes_global_names,
+        _ => true,
+    }
 }
 
-/// The least rule that is broken at a point with a bound.
-#[tactic(auto, unfolding(crate::specs::Rules::tests))]
-fn broken_with(
-    task: &Task,
-    cert: &Cert,
-    program: u8,
-    point: u8,
-    instruction: &Instruction,
-    bound: &Bound,
-) -> Option<u8>
-    ensures { result ≡ least_broken (tests task.now cert.now program point
-        (instruction_of instruction.now) (bound_of bound.now)) }
+/// Whether the channels are known that a call uses.
+fn all_have_channels(cert: &Cert, bound: &Bound, instruction: &Instruction) -> bool
+    ensures { result ≡ of_call (λ call. all_have_channels cert.now (uses (bound_of bound.now) call)) (instruction_of instruction.now) }
 {
-    let name = task.program_name(program);
-    let successes = successes(point, bound, instruction);
-    let failure = failure(bound, instruction);
-    if !starts_within(task, program, point, bound) {
+    match instruction {
+        Instruction::Invoke { call, .. } => transfer::all_have_channels(cert, bound, call),
+        _ => true,
+    }
+}
+
+/// The least of the rules 1 to 8 that is broken at a point with a bound.
+#[tactic(auto, unfolding(rules::specs::Rules::tests))]
+fn broken_first(site: &Site<'_>, program: u8, instruction: &Instruction) -> Option<u8>
+    requires { name_of site.now.name.now ≡ program_name site.now.task.now program }
+    ensures { result ≡ least_broken (take 8 (tests site.now.task.now site.now.cert.now program site.now.point
+        (instruction_of instruction.now) (bound_of site.now.bound.now))) }
+{
+    let bound = site.bound;
+    if !starts_within(site.task, program, site.point, bound) {
         return Some(1);
     }
-    if !are_within(cert, name, successes) {
+    if !successes_within(site, instruction) {
         return Some(2);
     }
-    if !is_within(cert, name, failure) {
+    if !failure_within(site, instruction) {
         return Some(3);
     }
-    if !keeps_rights(bound, instruction) {
+    if !keeps_single(bound, instruction) {
+        return Some(4);
+    }
+    if !keeps_numbers(bound, instruction) {
+        return Some(5);
+    }
+    if !keeps_beneath(bound, instruction) {
+        return Some(6);
+    }
+    if !each_use(bound, instruction, &KeepsRights) {
         return Some(7);
     }
-    if !keeps_known(bound, instruction) {
+    if !each_use(bound, instruction, &KeepsCommands) {
+        return Some(8);
+    }
+    None
+}
+
+/// The least of the rules 9 to 16.
+#[tactic(auto, unfolding(rules::specs::Rules::tests))]
+fn broken_last(site: &Site<'_>, program: u8, instruction: &Instruction) -> Option<u8>
+    requires { name_of site.now.name.now ≡ program_name site.now.task.now program }
+    ensures { result ≡ least_broken (drop 8 (tests site.now.task.now site.now.cert.now program site.now.point
+        (instruction_of instruction.now) (bound_of site.now.bound.now))) }
+{
+    let (task, cert, bound) = (site.task, site.cert, site.bound);
+    if !each_use(bound, instruction, &KeepsLimit) {
+        return Some(9);
+    }
+    if !in_the_mode(bound, instruction, &WorksOnKnown) {
         return Some(10);
     }
-    if !keeps_policy(task, bound, instruction) {
+    if !in_the_mode(bound, instruction, &KeepsPolicy { task }) {
         return Some(11);
     }
-    if !(are_there(cert, name, successes) && is_there(cert, name, failure)) {
+    if !(keeps_global_names(instruction) && each_use(bound, instruction, &NamesKnown)) {
+        return Some(12);
+    }
+    if !each_use(bound, instruction, &MovesWithin) {
+        return Some(13);
+    }
+    if !each_use(bound, instruction, &KeepsChannelBound { cert }) {
+        return Some(14);
+    }
+    if !all_have_channels(cert, bound, instruction) {
+        return Some(15);
+    }
+    if !(successes_there(site, instruction) && failure_there(site, instruction)) {
         return Some(16);
     }
     None
 }
 
-/// Whether all of them are within the bounds of their points.
-fn are_within(cert: &Cert, name: &[u8], successes: NextPoints) -> bool
-    ensures { result ≡ all_within cert.now name.now (successes_of successes) }
+/// The least rule that is broken at a point with a bound.
+fn broken_with(site: &Site<'_>, program: u8, instruction: &Instruction) -> Option<u8>
+    requires { name_of site.now.name.now ≡ program_name site.now.task.now program }
+    ensures { result ≡ least_broken (tests site.now.task.now site.now.cert.now program site.now.point
+        (instruction_of instruction.now) (bound_of site.now.bound.now)) }
 {
-    is_within(cert, name, successes.first) && is_within(cert, name, successes.second)
-}
-
-/// Whether the points of all of them have bounds.
-fn are_there(cert: &Cert, name: &[u8], successes: NextPoints) -> bool
-    ensures { result ≡ all_there cert.now name.now (successes_of successes) }
-{
-    is_there(cert, name, successes.first) && is_there(cert, name, successes.second)
-}
-
-/// What is found at a point with a bound.
-#[tactic(auto, unfolding(crate::specs::Rules::found_with))]
-fn found_with(
-    task: &Task,
-    cert: &Cert,
-    program: u8,
-    point: u8,
-    instruction: &Instruction,
-    bound: &Bound,
-) -> Option<Finding>
-    ensures { option_map finding_of result ≡ found_with task.now cert.now program point
-        (Some (instruction_of instruction.now)) (Some (bound_of bound.now)) }
-{
-    if !is_covered(instruction) {
-        return Some(Finding::Uncovered);
+    match broken_first(site, program, instruction) {
+        None => broken_last(site, program, instruction),
+        Some(rule) => Some(rule),
     }
-    let rule = broken_with(task, cert, program, point, instruction, bound)?;
-    Some(Finding::Broken(rule))
 }
 
-/// What is found at a point of a program, if anything is. At a point that isn't one there is nothing to find.
-#[tactic(auto, unfolding(crate::specs::Rules::found_at, crate::specs::Rules::found_with, crate::specs::Rules::tests_without))]
-pub(crate) fn found_at(task: &Task, cert: &Cert, program: u8, point: u8) -> Option<Finding>
-    ensures { option_map finding_of result ≡ found_at task.now cert.now program point }
+/// The name of a program of the task; where it has none, it has no instructions.
+fn name_at(task: &Task, program: u8) -> Option<Name>
+    ensures some { IfSome result (λ name. name_of name ≡ program_name task.now program) }
+    ensures none { result ≡ None → (point : ℕ) → instruction_at task.now program point ≡ None }
 {
+    let _programs = task.programs();
+    Name::read(task.program_name(program))
+}
+
+/// The least rule that is broken at a point of a program, if one is. At a point that isn't one there is nothing to find.
+#[tactic(auto, unfolding(rules::specs::Verdicts::found_at, rules::specs::Verdicts::found_with, rules::specs::Rules::tests_without))]
+pub(crate) fn found_at(task: &Task, cert: &Cert, program: u8, point: u8) -> Option<u8>
+    ensures { result ≡ found_at task.now cert.now program point }
+{
+    let Some(name) = &name_at(task, program) else {
+        return None;
+    };
     let instruction = instruction_at(task, program, point)?;
-    match cert.bound_at(task.program_name(program), point as usize) {
-        Some(bound) => found_with(task, cert, program, point, instruction, bound),
+    match cert.bound_at(name.as_bytes(), point as usize) {
+        Some(bound) => {
+            let site = Site {
+                task,
+                cert,
+                name,
+                point,
+                bound,
+            };
+            broken_with(&site, program, instruction)
+        }
         None => {
             if point == 0 && is_started(task, program) {
-                return Some(Finding::Broken(16));
+                return Some(16);
             }
             None
         }

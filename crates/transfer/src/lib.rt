@@ -1,4 +1,5 @@
-//! What a call needs of the slots that it may go through, and where an instruction may lead from a point with a bound.
+//! What a call needs of the slots that it may go through, and where an instruction may lead from a point with a bound. Each
+//! loop over slots or outcomes takes a test as a parameter, and takes no memory.
 #![tactic(auto)]
 
 mod calls;
@@ -14,4 +15,12 @@ pub mod targets;
 pub mod tests;
 pub mod uses;
 
+pub use channels::{all_have_channels, channel_at};
+pub use demands::{Demands, demanded, keeps_beneath, keeps_numbers, keeps_single};
+pub use instructions::{failure, successes_pass};
+pub use outcomes::{Change, Content, Limit, Outcome};
 pub use slots::{FreeNumbers, Takes, free_numbers, is_single, may_be_on, operand_interval};
+pub use successes::{OutcomeTest, Site};
+pub use targets::{may_be_end, may_be_node};
+pub use tests::{SlotTest, UseTest, all_slots_pass, all_uses_pass};
+pub use uses::{Need, Needs, Passed, Through, needed};

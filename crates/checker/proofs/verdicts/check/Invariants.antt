@@ -1,6 +1,6 @@
 use Rattle.std.proofs.Common.{◌≡◌, ◌<◌, ℕ}
 use Rattle.std.specs.Prelude.{None}
-use Rattle.checker.specs.Rules.{found_at}
+use Rattle.rules.specs.Verdicts.{found_at}
 use Rattle.checker.proofs.verdicts.check.Given as goal
 
 -- nothing is found at any point of the programs so far
