@@ -2,8 +2,9 @@
 
 ghost use Rattle.std.specs.Prelude.{◌≡◌, ◌<◌, ◌≤◌, ℕ, None, Some, MatchOption};
 ghost use Rattle.rules.specs.Verdicts.{found_at};
-ghost use Rattle.checker.specs.Verdicts.{IsVerdict};
+ghost use Rattle.checker.specs.Verdicts.{IsVerdict, Yes};
 ghost use Rattle.checker.specs.Views.{verdict_of};
+ghost use Rattle.task.specs.Sandboxed.{IsSandboxed};
 
 use crate::rules::found_at;
 use certificate::Cert;
@@ -12,7 +13,7 @@ use task::Task;
 /// What the checker answers.
 #[derive(Clone, Copy, PartialEq, Eq)]
 pub enum Verdict {
-    /// The certificate meets the rules.
+    /// The certificate meets the rules: every run of the task is sandboxed.
     Yes,
     /// The least rule that is broken at the first point of the first program where one is.
     No {
@@ -49,10 +50,15 @@ fn first_found(task: &Task, cert: &Cert, program: u8, points: usize) -> Option<F
 }
 
 /// Whether the certificate meets the rules at every point of every program of the task; else the first program, by
-/// its place in the task, and the first point there where it doesn't, with the least rule that is broken there. It takes no
-/// memory and always answers. (own)
+/// its place in the task, and the first point there where it doesn't, with the least rule that is broken there.
+///
+/// A yes means that every run of the task is sandboxed: whatever list of events, inputs, schedules and
+/// refusals, no process in capability mode does to the tree what the policy doesn't allow, no call is
+/// refused for a missing right or by capability mode, and no descriptor has more rights or commands than
+/// its source. It takes no memory and always answers. (own)
 pub fn check(task: &Task, cert: &Cert) -> Verdict
     ensures exact { IsVerdict task.now cert.now (verdict_of result) }
+    ensures sound { verdict_of result ≡ Yes → IsSandboxed task.now }
 {
     for (number, program) in task.programs().iter().enumerate() {
         let number = number as u8;

@@ -3,7 +3,8 @@ use Rattle.std.specs.Prelude.{None}
 use Rattle.std.proofs.Math.ListN.{length-map}
 use Rattle.prog_asm.specs.Views.{instruction_of}
 use Rattle.kernel.proofs.Fresh.{lt_or_le}
-use Rattle.rules.specs.Verdicts.{found_at}
+use Rattle.rules.specs.Verdicts.{MeetsRules, found_at}
+use Rattle.rules.proofs.Sound.{sound}
 use Rattle.checker.proofs.PastEnds.{few_points, past_points, meets}
 use Rattle.checker.proofs.verdicts.check.Goals as goal
 
@@ -31,9 +32,13 @@ loop-number-preserved c = λ p k below. at p k below (lt_or_le p c.loop-number.n
         let same : c.loop-number.number ≡ p = omega (arith, below, from) in
         subst (λ n. found_at c.args.task.now c.args.cert.now n k ≡ None) same (here k (lt_or_le k (length c.code.result.now)))
 
--- From that it meets the rules it will follow too that every run is sandboxed.
-pub returns : goal.returns
-returns c = record {
-  exact = meets c.args.task.now c.args.cert.now c.programs-program-items.result.now c.loop-number.number c.programs-program-items.ensures.programs
-      c.loop-number-test.false c.loop-number.invariant;
-}
+all_meet : (c : goal.After-loop-number) → MeetsRules c.args.task.now c.args.cert.now
+all_meet c =
+    meets c.args.task.now c.args.cert.now c.programs-program-items.result.now c.loop-number.number c.programs-program-items.ensures.programs
+    c.loop-number-test.false c.loop-number.invariant
+
+pub returns-clause-exact : goal.returns-clause-exact
+returns-clause-exact c = all_meet c
+
+pub returns-clause-sound : goal.returns-clause-sound
+returns-clause-sound c = λ yes. sound c.args.task.now c.args.cert.now c.programs-program-items.ensures.valid (all_meet c)
