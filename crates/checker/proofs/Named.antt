@@ -1,5 +1,5 @@
 -- The programs of a valid plan have names.
-use Rattle.std.proofs.Common.{◌≡◌, ℕ, Bool, true, false, refl, sym, ap, ◌∙◌}
+use Rattle.std.proofs.Common.{◌≡◌, ℕ, true, false, refl}
 use Rattle.std.specs.Prelude.{◌&&◌, length, nat_le, Option, Some, None}
 use Rattle.std.specs.List.{list_all, slice_get}
 use Rattle.rights.specs.Limits.{most_programs}
@@ -16,7 +16,7 @@ programs_named plan valid =
     let before = is_tree plan.nodes && are_grants plan.nodes plan.grants in
     let programs = are_programs plan.programs in
     let are : programs ≡ true =
-        both_right before programs (both_left (before && programs) (are_starts plan.nodes (length plan.programs) plan.starts) valid) in
+    both_right before programs (both_left (before && programs) (are_starts plan.nodes (length plan.programs) plan.starts) valid) in
     let few = nat_le (length plan.programs) most_programs in
     let each = list_all is_named plan.programs in
     both_right few each (both_left (few && each) (all_apart are_named_apart plan.programs) are)

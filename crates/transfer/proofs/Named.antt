@@ -24,9 +24,9 @@ grants_named plan valid =
     let tree = is_tree plan.nodes in
     let grants = are_grants plan.nodes plan.grants in
     let are : grants ≡ true =
-        both_right tree grants
-        (both_left (tree && grants) (are_programs plan.programs)
-        (both_left (tree && grants && are_programs plan.programs) (are_starts plan.nodes (length plan.programs) plan.starts) valid)) in
+    both_right tree grants
+    (both_left (tree && grants) (are_programs plan.programs)
+    (both_left (tree && grants && are_programs plan.programs) (are_starts plan.nodes (length plan.programs) plan.starts) valid)) in
     let few = nat_le (length plan.grants) most_grants in
     let each = list_all (is_grant plan.nodes) plan.grants in
     each_named plan.nodes plan.grants (both_right few each (both_left (few && each) (all_apart are_apart plan.grants) are))

@@ -56,10 +56,7 @@ pub(crate) fn is_formed(site: &Site<'_>, call: &Syscall) -> bool
 fn end_at(site: &Site<'_>, side: Side) -> Held
     ensures { held_of result ≡ end_at site.now (side_of side) }
 {
-    all_held(Target::Socket(
-        Class::MadeAt(*site.name, site.point),
-        side,
-    ))
+    all_held(Target::Socket(Class::MadeAt(*site.name, site.point), side))
 }
 
 /// The bound with both ends of a new pair, and the second number in register 1.
@@ -148,7 +145,9 @@ pub(crate) fn call_passes<T: OutcomeTest>(site: &Site<'_>, call: &Syscall, test:
             given_passes(site, *descriptor, Kind::Any, only(1), test)
         }
         Syscall::Sendfd {
-            descriptor, sent, ..
+            descriptor,
+            sent,
+            ..
         } => {
             let (socket, sent) = ((*descriptor, Kind::End), (*sent, Kind::Any));
             both_given_pass(site, socket, sent, only(1), test)
@@ -175,7 +174,9 @@ pub(crate) fn call_passes<T: OutcomeTest>(site: &Site<'_>, call: &Syscall, test:
             given_passes(site, *descriptor, Kind::Node, only(0), test)
         }
         Syscall::Renameat {
-            descriptor, target, ..
+            descriptor,
+            target,
+            ..
         } => {
             let (from, to) = ((*descriptor, Kind::Node), (*target, Kind::Node));
             both_given_pass(site, from, to, only(0), test)

@@ -29,7 +29,10 @@ pub enum Content {
 pub enum Change {
     Nothing,
     /// A register is in another interval.
-    Register { register: u8, interval: Interval },
+    Register {
+        register: u8,
+        interval: Interval,
+    },
     /// A slot is otherwise, and register 0 is in this interval.
     Slot {
         number: u8,

@@ -96,12 +96,7 @@ pub(crate) fn taken_passes<T: OutcomeTest>(site: &Site<'_>, held: &Held, test: &
 }
 
 /// Whether the outcome passes where a slot is otherwise and register 0 is 0.
-fn slot_passes<T: OutcomeTest>(
-    site: &Site<'_>,
-    number: u8,
-    content: Content,
-    test: &mut T,
-) -> bool
+fn slot_passes<T: OutcomeTest>(site: &Site<'_>, number: u8, content: Content, test: &mut T) -> bool
     ensures value { result ≡ list_all (T.passes test.old) (outcome_to (site.now.point + 1)
         (with_interval (with_slot (bound_of site.now.bound.now) number (content_of content)) 0 (only 0))) }
     ensures same { T.passes test.new ≡ T.passes test.old }

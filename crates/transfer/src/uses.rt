@@ -155,7 +155,11 @@ fn working(rights: Rights, operation: Option<Op>) -> Need
 /// A need of a call that makes or removes a name there.
 fn naming(rights: Rights, operation: Op) -> Need
     ensures { need_of result ≡ record nothing {
-      rights = rights.0; works = true; operations = operation_of operation ∷ []; changes_names = true } }
+      rights = rights.0;
+      works = true;
+      operations = operation_of operation ∷ [];
+      changes_names = true;
+    } }
 {
     Need {
         changes_names: true,
@@ -166,7 +170,11 @@ fn naming(rights: Rights, operation: Op) -> Need
 /// The need of an open through a directory.
 fn opening(rights: Rights, flags: OpenFlags) -> Need
     ensures { need_of result ≡ record nothing {
-      rights = rights.0; works = true; operations = open_operations flags; changes_names = flags.create } }
+      rights = rights.0;
+      works = true;
+      operations = open_operations flags;
+      changes_names = flags.create;
+    } }
 {
     Need {
         works: true,
@@ -200,14 +208,18 @@ pub fn needed(call: &Syscall) -> Needs
     let rights = first_rights(call);
     match call {
         Syscall::Openat {
-            descriptor, flags, ..
+            descriptor,
+            flags,
+            ..
         } => one(*descriptor, opening(rights, *flags)),
         Syscall::Read { descriptor } => one(*descriptor, working(rights, Some(Op::Read))),
         Syscall::Write { descriptor, .. } | Syscall::Ftruncate { descriptor, .. } => {
             one(*descriptor, working(rights, Some(Op::Write)))
         }
         Syscall::Sendfd {
-            descriptor, sent, ..
+            descriptor,
+            sent,
+            ..
         } => one(
             *descriptor,
             Need {
@@ -245,7 +257,9 @@ pub fn needed(call: &Syscall) -> Needs
         Syscall::Mkdirat { descriptor, .. } => one(*descriptor, naming(rights, Op::Create)),
         Syscall::Unlinkat { descriptor, .. } => one(*descriptor, naming(rights, Op::Remove)),
         Syscall::Renameat {
-            descriptor, target, ..
+            descriptor,
+            target,
+            ..
         } => Needs {
             first: Some(Through {
                 operand: *descriptor,
