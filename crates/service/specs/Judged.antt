@@ -3,7 +3,7 @@ use Rattle.std.specs.Prelude.{◌≡◌, ◌++◌, ℕ, List, codes, Option, Ok}
 use Rattle.std.specs.Fmt.{decimal}
 use Rattle.rights.specs.Output.{Took}
 use Rattle.certificate.specs.Bounds.{Certificate}
-use Rattle.checker.specs.Verdicts.{Verdict, Yes, No, Uncovered, IsVerdict}
+use Rattle.checker.specs.Verdicts.{Verdict, Yes, No, IsVerdict}
 use Rattle.task.specs.Plans.{Plan, program_name}
 use Rattle.task.specs.Sandboxed.{IsSandboxed}
 use Rattle.task_reader.specs.Reading.{task_of}
@@ -14,18 +14,14 @@ use Rattle.service.specs.Files.{Files, IsFile}
 abbrev pub no_at : Plan → ℕ → ℕ → List ℕ
 no_at plan program point = codes "no " ++ program_name plan program ++ codes ":" ++ decimal point
 
--- `yes`; or a no, with the rule that is broken, as `no main:4 K7`, or with word that the rules don't cover the
--- instruction yet, as `no main:4 uncovered`
+-- `yes`; or a no, with the rule that is broken, as `no main:4 K7`
 abbrev pub verdict_text : Plan → Verdict → List ℕ
 verdict_text plan Yes = codes "yes\n"
 verdict_text plan (No program point rule) = no_at plan program point ++ codes " K" ++ decimal rule ++ codes "\n"
-verdict_text plan (Uncovered program point) = no_at plan program point ++ codes " uncovered\n"
 
--- a certificate whose task isn't known to be sandboxed is not accepted
 abbrev pub verdict_status : Verdict → ℕ
 verdict_status Yes = 0
 verdict_status (No program point rule) = 1
-verdict_status (Uncovered program point) = 1
 
 -- the verdict on a task with a certificate
 pub record Judges (plan : Plan) (bounds : Certificate) (status : ℕ) (before after : Option (List ℕ)) : Type 0 where

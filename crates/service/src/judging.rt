@@ -17,7 +17,7 @@ fn status_of_verdict(verdict: Verdict) -> u8
 {
     match verdict {
         Verdict::Yes => DONE,
-        Verdict::No { .. } | Verdict::Uncovered { .. } => BROKEN,
+        Verdict::No { .. } => BROKEN,
     }
 }
 
@@ -32,8 +32,7 @@ fn no_at(alloc: Global, task: &Task, program: u8, point: u8) -> Result<Vec<u8>, 
     Ok(text)
 }
 
-/// The line of a verdict: `yes`; or the program's name and the point, with the rule that is broken, or with
-/// word that the rules don't cover the instruction yet.
+/// The line of a verdict: `yes`; or the program's name and the point, with the rule that is broken.
 fn text_of_verdict(alloc: Global, task: &Task, verdict: Verdict) -> Result<Vec<u8>, AllocError>
     ensures { IfOk result (λ text. text.items ≡ verdict_text task.now (verdict_of verdict)) }
 {
@@ -48,11 +47,6 @@ fn text_of_verdict(alloc: Global, task: &Task, verdict: Verdict) -> Result<Vec<u
             text.extend_from_slice(b" K")?;
             text.extend_from_slice(rule.to_string(alloc)?.as_bytes())?;
             text.extend_from_slice(b"\n")?;
-            Ok(text)
-        }
-        Verdict::Uncovered { program, point } => {
-            let mut text = no_at(alloc, task, program, point)?;
-            text.extend_from_slice(b" uncovered\n")?;
             Ok(text)
         }
     }

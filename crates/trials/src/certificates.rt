@@ -25,7 +25,7 @@ end
 const LINE_STARTS: [usize; 11] = [0, 10, 24, 59, 93, 106, 141, 175, 188, 223, 257];
 
 /// Six points of a program, with a descriptor that is open at some and perhaps at one.
-const SIX_POINTS: &str = "capcert 1
+pub(super) const SIX_POINTS: &str = "capcert 1
 at main 0 off
 fd 0 open grant work 3fff 3fff 3 3
 fd 1 open grant log 3fff 3fff 3 3
@@ -52,7 +52,7 @@ end
 ";
 
 /// Two programs at the ends of a pair, through which any descriptor comes.
-const SENDS_ANYTHING: &str = "capcert 1
+pub(super) const SENDS_ANYTHING: &str = "capcert 1
 at child 0 on
 fd 0 open sock @0 b 3fff 3fff 3 3
 at child 1 on
@@ -80,7 +80,7 @@ end
 ";
 
 /// Two programs at the ends of a pair, through which narrowed descriptors of one grant come.
-const SENDS_NARROWED: &str = "capcert 1
+pub(super) const SENDS_NARROWED: &str = "capcert 1
 at child 0 on
 fd 0 open sock @0 b 3fff 3fff 3 3
 at child 1 on
@@ -378,7 +378,7 @@ fn faulty_lines_are_told(rt: HostRuntime) -> Result<(), Fail> {
 }
 
 /// `THREE_POINTS` with its first two blocks exchanged.
-const EXCHANGED: &str = "capcert 1
+pub(super) const EXCHANGED: &str = "capcert 1
 at main 1 on
 fd 0 open grant work 3fff 3fff 3 3
 fd 1 open grant log 3fff 3fff 3 3

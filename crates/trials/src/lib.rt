@@ -15,7 +15,7 @@ mod instructions;
 #[cfg(test)]
 mod lookups;
 #[cfg(test)]
-mod named;
+mod machines;
 #[cfg(test)]
 mod open_files;
 #[cfg(test)]
@@ -46,5 +46,7 @@ mod text_parts;
 mod told_faults;
 #[cfg(test)]
 mod trees;
+#[cfg(test)]
+mod verdicts;
 #[cfg(test)]
 mod writers;

@@ -55,7 +55,14 @@ fn tells_a_failed_verdict(rt: HostRuntime) -> Result<(), Fail> {
     let alloc = rt.alloc();
     let out = empty_shelf(alloc, 1, 2, false);
     let err = empty_shelf(alloc, 1000, 0, true);
-    let said = serve_to(alloc, &["check", "first", "good"], None, None, out, err)?;
+    let said = serve_to(
+        alloc,
+        &["check", "task", "schedule"],
+        Some(BASE.as_bytes()),
+        Some(b"capcert 1\nat main 0 off\nfd 0 open any 0000 3fff 0 3\nfd 1 open any 0000 3fff 0 3\nend\n"),
+        out,
+        err,
+    )?;
     assert!(rt; said.is(3, b"y", b"capcheck: output\n"));
     Ok(())
 }

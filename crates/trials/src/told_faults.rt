@@ -14,8 +14,8 @@ fn other_words_are_told(rt: HostRuntime) -> Result<(), Fail> {
         &["run", "task", "schedule", "more"],
         &["run", "-", "schedule"],
         &["run", "task", "--"],
-        &["check", "first"],
-        &["check", "first", "good", "more"],
+        &["check", "task"],
+        &["check", "task", "cert", "more"],
         &["walk", "task", "schedule"],
         &["search", "task"],
         &["report", "task", "cert"],
@@ -32,7 +32,7 @@ fn other_words_are_told(rt: HostRuntime) -> Result<(), Fail> {
 
 #[test]
 fn missing_files_are_told_in_the_order_of_the_words(rt: HostRuntime) -> Result<(), Fail> {
-    let rows: [(&[&str], &[u8]); 9] = [
+    let rows: [(&[&str], &[u8]); 10] = [
         (&["run", "nope", "schedule"], b"capcheck: file nope\n"),
         (&["run", "nope", "none"], b"capcheck: file nope\n"),
         (&["run", "nope", "huge"], b"capcheck: file nope\n"),
@@ -41,7 +41,8 @@ fn missing_files_are_told_in_the_order_of_the_words(rt: HostRuntime) -> Result<(
         (&["run", "a=b", "schedule"], b"capcheck: file a=b\n"),
         (&["run", "task", "none"], b"capcheck: file none\n"),
         (&["check", "nope", "none"], b"capcheck: file nope\n"),
-        (&["check", "first", "none"], b"capcheck: file none\n"),
+        (&["check", "task", "none"], b"capcheck: file none\n"),
+        (&["check", "first", "schedule"], b"capcheck: file first\n"),
     ];
     for (words, line) in rows {
         let said = says(rt.alloc(), words, Some(b"no task"), Some(b"no schedule"))?;
@@ -52,7 +53,13 @@ fn missing_files_are_told_in_the_order_of_the_words(rt: HostRuntime) -> Result<(
 
 #[test]
 fn want_of_memory_is_told(rt: HostRuntime) -> Result<(), Fail> {
-    for words in [["run", "huge", "nope"], ["run", "task", "huge"]] {
+    let rows = [
+        ["run", "huge", "nope"],
+        ["run", "task", "huge"],
+        ["check", "huge", "nope"],
+        ["check", "task", "huge"],
+    ];
+    for words in rows {
         let said = says(rt.alloc(), &words, Some(b"no task"), None)?;
         assert!(rt; said.is(3, b"", b"capcheck: memory\n"), "{words:?}");
     }
