@@ -1,5 +1,6 @@
 -- What the outcomes of the code stand for.
-use Rattle.std.specs.Prelude.{List, [], ◌∷◌, Option, Some, None}
+use Rattle.std.specs.Prelude.{Bool, true, List, [], ◌∷◌, Option, Some, None}
+use Rattle.rights.specs.Sets.{is_within, all_rights, all_commands}
 use Rattle.certificate.specs.Bounds.{Held, Slot, Bound, with_interval, with_slot}
 use Rattle.certificate.specs.Bounds as bounds
 use Rattle.certificate.specs.Views.{bound_of, held_of, interval_of}
@@ -32,3 +33,19 @@ outcome_of o = record { point = o.point; bound = changed (bound_of o.bound.now) 
 abbrev pub outcomes_of : Option OutcomeCode → List Outcome
 outcomes_of None = []
 outcomes_of (Some o) = outcome_of o ∷ []
+
+-- ## Which outcomes are bounds of the code
+-- A limit may leave rights or commands beyond those that there are, which no bound of the code has.
+abbrev pub is_known : Limit → Bool
+is_known (limits.Rights rights) = is_within rights.0 all_rights
+is_known (limits.Commands commands) = is_within commands.0 all_commands
+
+abbrev pub is_known_content : Content → Bool
+is_known_content content.Closed = true
+is_known_content (content.Open held) = true
+is_known_content (content.Limited held limit) = is_known limit
+
+abbrev pub is_known_change : Change → Bool
+is_known_change change.Nothing = true
+is_known_change (change.Register register i) = true
+is_known_change (change.Slot number s given) = is_known_content s

@@ -7,7 +7,7 @@ ghost use Rattle.prog_asm.specs.Views.{syscall_of};
 ghost use Rattle.rules.specs.Channels.{all_have_channels, channel_at, has_channel, line_in, receives_known, sends_known};
 ghost use Rattle.rules.specs.Uses.{uses};
 
-use crate::tests::{UseTest, all_uses_pass};
+use crate::asks::{UseTest, all_uses_pass};
 use crate::uses::{Need, Passed};
 use certificate::{Bound, Cert, Channel, Class, Held, Side, Target};
 use prog_asm::Syscall;

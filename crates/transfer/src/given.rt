@@ -9,10 +9,10 @@ ghost use Rattle.rules.specs.Outcomes.{goes_on};
 ghost use Rattle.rules.specs.Slots.{slots_in};
 ghost use Rattle.transfer.specs.Given.{both_given, given_at, may_be, stays};
 
+use crate::asks::{SlotTest, all_slots_pass};
 use crate::outcomes::Change;
 use crate::successes::{OutcomeTest, Site, next_passes};
 use crate::targets::{may_be_end, may_be_node};
-use crate::tests::{SlotTest, all_slots_pass};
 use certificate::{Bound, Held, Interval, Target};
 use prog_asm::Operand;
 

@@ -2,6 +2,7 @@
 //! loop over slots or outcomes takes a test as a parameter, and takes no memory.
 #![tactic(auto)]
 
+pub mod asks;
 mod calls;
 pub mod channels;
 pub mod demands;
@@ -12,9 +13,9 @@ pub mod outcomes;
 pub mod slots;
 pub mod successes;
 pub mod targets;
-pub mod tests;
 pub mod uses;
 
+pub use asks::{SlotTest, UseTest, all_slots_pass, all_uses_pass};
 pub use channels::{all_have_channels, channel_at};
 pub use demands::{Demands, demanded, keeps_beneath, keeps_numbers, keeps_single};
 pub use instructions::{failure, successes_pass};
@@ -22,5 +23,4 @@ pub use outcomes::{Change, Content, Limit, Outcome};
 pub use slots::{FreeNumbers, Takes, free_numbers, is_single, may_be_on, operand_interval};
 pub use successes::{OutcomeTest, Site};
 pub use targets::{may_be_end, may_be_node};
-pub use tests::{SlotTest, UseTest, all_slots_pass, all_uses_pass};
 pub use uses::{Need, Needs, Passed, Through, needed};

@@ -1,11 +1,11 @@
 //! A point that an instruction leads to, and the bound there: told by what changes, so that no bound is copied.
 
-ghost use Rattle.std.specs.Prelude.{◌≡◌, length, map, slice_set};
+ghost use Rattle.std.specs.Prelude.{◌≡◌, ◌↔◌, IfSome, None, false, map, slice_set};
 ghost use Rattle.certificate.specs.Order.{bound_within, each_within, held_within, slot_within};
 ghost use Rattle.certificate.specs.Views.{bound_of, held_of, slot_of};
-ghost use Rattle.transfer.specs.OutcomeViews.{content_of, limited, outcome_of};
+ghost use Rattle.transfer.specs.OutcomeViews.{content_of, is_known, is_known_change, is_known_content, limited, outcome_of};
 
-use certificate::{Bound, Domain, Held, Interval, Slot, slots_within};
+use certificate::{Bound, Domain, FcntlsRange, Held, Interval, RightsRange, Slot, slots_within};
 use rights::{Fcntls, Rights};
 
 /// What a limit leaves alone, known or not.
@@ -69,7 +69,45 @@ fn limited_within(held: &Held, limit: Limit, most: &Held) -> bool
     }
 }
 
+/// The same held limited, if what is left is known.
+fn limited(held: &Held, limit: Limit) -> Option<Held>
+    ensures some { IfSome result (λ left. held_of left ≡ limited (held_of held.now) limit) }
+    ensures none { (result ≡ None) ↔ (is_known limit ≡ false) }
+{
+    match limit {
+        Limit::Rights(rights) => {
+            if !Rights::all().contains(rights) {
+                return None;
+            }
+            let left = RightsRange::new(rights, rights);
+            Some(Held::new(held.target(), left, held.fcntls()))
+        }
+        Limit::Commands(commands) => {
+            if !Fcntls::all().contains(commands) {
+                return None;
+            }
+            let left = FcntlsRange::new(commands, commands);
+            Some(Held::new(held.target(), held.rights(), left))
+        }
+    }
+}
+
 impl Content {
+    /// The slot with this content, if a limit leaves what is known.
+    fn slot(&self) -> Option<Slot>
+        ensures some { IfSome result (λ slot. slot_of slot ≡ content_of self.now) }
+        ensures none { (result ≡ None) ↔ (is_known_content self.now ≡ false) }
+    {
+        match self {
+            Content::Closed => Some(Slot::Closed),
+            Content::Open(held) => Some(Slot::Open(*held)),
+            Content::Limited(held, limit) => {
+                let left = limited(held, *limit)?;
+                Some(Slot::Open(left))
+            }
+        }
+    }
+
     /// Whether a slot with this content is within another.
     fn within(&self, there: &Slot) -> bool
         ensures { result ≡ slot_within (content_of self.now) (slot_of there.now) }
@@ -106,7 +144,29 @@ fn slots_within_with(slots: &[Slot], number: u8, content: &Content, there: &[Slo
 }
 
 impl<'a> Outcome<'a> {
-    /// Whether the bound there is within this one.
+    /// The bound there, as one of its own; `None` where a limit leaves rights or commands that no bound has. (own)
+    pub fn bound_there(&self) -> Option<Bound>
+        ensures some { IfSome result (λ bound. bound_of bound ≡ (outcome_of self.now).bound) }
+        ensures none { (result ≡ None) ↔ (is_known_change self.now.change ≡ false) }
+    {
+        match &self.change {
+            Change::Nothing => Some(*self.bound),
+            Change::Register { register, interval } => {
+                Some(self.bound.with_interval(*register, *interval))
+            }
+            Change::Slot {
+                number,
+                content,
+                given,
+            } => {
+                let slot = content.slot()?;
+                let bound = self.bound.with_slot(*number, slot);
+                Some(bound.with_interval(0, *given))
+            }
+        }
+    }
+
+    /// Whether the bound there is within this one. Copies no slot. (own)
     pub fn is_within(&self, there: &Bound) -> bool
         ensures { result ≡ bound_within (outcome_of self.now).bound (bound_of there.now) }
     {

@@ -1,5 +1,5 @@
 use Rattle.std.proofs.Common.{length}
-use Rattle.transfer.proofs.tests.+rest_pass.Given as goal
+use Rattle.transfer.proofs.asks.+rest_pass.Given as goal
 
 abbrev pub decreases-rest_pass : goal.decreases-rest_pass
 decreases-rest_pass g l = length l.slots.now

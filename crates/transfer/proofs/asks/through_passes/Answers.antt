@@ -5,7 +5,7 @@ use Rattle.prog_asm.specs.Views.{operand_of}
 use Rattle.rules.specs.Slots.{slots_in}
 use Rattle.transfer.specs.Needs.{use_of}
 use Rattle.transfer.specs.Views.{need_of}
-use Rattle.transfer.proofs.tests.through_passes.Goals as goal
+use Rattle.transfer.proofs.asks.through_passes.Goals as goal
 
 pub returns-in-Some : goal.returns-in-Some
 returns-in-Some g c =
