@@ -1,12 +1,13 @@
 //! Which slots a call goes through, and what it needs of each.
 
-ghost use Rattle.std.specs.Prelude.{◌≡◌, ◌∷◌, [], true, false};
+ghost use Rattle.std.specs.Prelude.{◌≡◌, ◌∷◌, [], Some, false, option_map, true};
+ghost use Rattle.rights.specs.Operations.{Remove};
 ghost use Rattle.rights.specs.Views.{operation_of};
 ghost use Rattle.prog_asm.specs.Views.{operand_of, syscall_of};
 ghost use Rattle.rights.specs.Opens.{open_request};
 ghost use Rattle.rules.specs.Uses.{open_operations, operation_if};
-ghost use Rattle.transfer.specs.Needs.{first_rights, flags_in, moving_to, needs, none, nothing, one};
-ghost use Rattle.transfer.specs.Views.{need_of, needs_in, operation_list};
+ghost use Rattle.transfer.specs.Needs.{Received, Sent, first_rights, flags_in, moving_to, needs, none, nothing, one};
+ghost use Rattle.transfer.specs.Views.{need_of, needs_in, operation_list, through_of};
 
 use prog_asm::{Operand, Syscall};
 use rights::{Call, Fcntls, Op, OpenFlags, Position, Rights};
@@ -199,6 +200,91 @@ fn moving_to() -> Need
     }
 }
 
+/// The need of a send of a slot of this operand.
+fn sending(rights: Rights, sent: Operand) -> Need
+    ensures { need_of result ≡ record nothing { rights = rights.0; works = true; passed = Sent (operand_of sent) } }
+{
+    Need {
+        passed: Passed::Sent(sent),
+        ..working(rights, None)
+    }
+}
+
+/// The need of a receive.
+fn receiving(rights: Rights) -> Need
+    ensures { need_of result ≡ record nothing { rights = rights.0; works = true; passed = Received } }
+{
+    Need {
+        passed: Passed::Received,
+        ..working(rights, None)
+    }
+}
+
+/// The need of a call that goes by an fcntl command. (cap_fcntls_limit(2))
+fn commanding(rights: Rights, commands: Fcntls) -> Need
+    ensures { need_of result ≡ record nothing { rights = rights.0; commands = commands.0 } }
+{
+    Need {
+        commands,
+        ..needing(rights)
+    }
+}
+
+/// The need of a limit that keeps these. (cap_rights_limit(2), cap_fcntls_limit(2))
+fn keeping(kept_rights: Rights, kept_commands: Fcntls) -> Need
+    ensures { need_of result ≡ record nothing { kept_rights = kept_rights.0; kept_commands = kept_commands.0 } }
+{
+    Need {
+        kept_rights,
+        kept_commands,
+        ..Need::nothing()
+    }
+}
+
+/// The need of a move of its first descriptor: names go to slots of the second.
+fn moving_from(rights: Rights, target: Operand) -> Need
+    ensures { need_of result ≡ record nothing {
+      rights = rights.0;
+      works = true;
+      operations = Remove ∷ [];
+      changes_names = true;
+      targets = Some (operand_of target);
+    } }
+{
+    Need {
+        targets: Some(target),
+        ..naming(rights, Op::Remove)
+    }
+}
+
+/// A move, from slots of one operand to slots of another.
+fn moving(rights: Rights, descriptor: &Operand, target: &Operand) -> Needs
+    ensures first { option_map through_of result.first
+        ≡ Some (record {
+          operand = operand_of descriptor.now;
+          need = record nothing {
+            rights = rights.0;
+            works = true;
+            operations = Remove ∷ [];
+            changes_names = true;
+            targets = Some (operand_of target.now);
+          };
+        }) }
+    ensures second { option_map through_of result.second
+        ≡ Some (record { operand = operand_of target.now; need = moving_to }) }
+{
+    Needs {
+        first: Some(Through {
+            operand: *descriptor,
+            need: moving_from(rights, *target),
+        }),
+        second: Some(Through {
+            operand: *target,
+            need: moving_to(),
+        }),
+    }
+}
+
 /// What a call needs of the slots that it may go through; a descriptor that is sent isn't gone through. (own; after
 /// capsicum(4), rights(4), cap_rights_limit(2) and cap_fcntls_limit(2))
 #[tactic(auto, unfolding(crate::specs::Needs::needs))]
@@ -220,79 +306,35 @@ pub fn needed(call: &Syscall) -> Needs
             descriptor,
             sent,
             ..
-        } => one(
-            *descriptor,
-            Need {
-                passed: Passed::Sent(*sent),
-                ..working(rights, None)
-            },
-        ),
-        Syscall::Recvfd { descriptor } => one(
-            *descriptor,
-            Need {
-                passed: Passed::Received,
-                ..working(rights, None)
-            },
-        ),
+        } => one(*descriptor, sending(rights, *sent)),
+        Syscall::Recvfd { descriptor } => one(*descriptor, receiving(rights)),
         Syscall::Lseek { descriptor, .. } | Syscall::Fsync { descriptor } => {
             one(*descriptor, needing(rights))
         }
         Syscall::Fstat { descriptor } | Syscall::Fstatat { descriptor, .. } => {
             one(*descriptor, working(rights, Some(Op::Look)))
         }
-        Syscall::FcntlGetfl { descriptor } => one(
-            *descriptor,
-            Need {
-                commands: Fcntls::GETFL,
-                ..needing(rights)
-            },
-        ),
-        Syscall::FcntlSetfl { descriptor, .. } => one(
-            *descriptor,
-            Need {
-                commands: Fcntls::SETFL,
-                ..needing(rights)
-            },
-        ),
+        Syscall::FcntlGetfl { descriptor } => one(*descriptor, commanding(rights, Fcntls::GETFL)),
+        Syscall::FcntlSetfl { descriptor, .. } => {
+            one(*descriptor, commanding(rights, Fcntls::SETFL))
+        }
         Syscall::Mkdirat { descriptor, .. } => one(*descriptor, naming(rights, Op::Create)),
         Syscall::Unlinkat { descriptor, .. } => one(*descriptor, naming(rights, Op::Remove)),
         Syscall::Renameat {
             descriptor,
             target,
             ..
-        } => Needs {
-            first: Some(Through {
-                operand: *descriptor,
-                need: Need {
-                    targets: Some(*target),
-                    ..naming(rights, Op::Remove)
-                },
-            }),
-            second: Some(Through {
-                operand: *target,
-                need: moving_to(),
-            }),
-        },
+        } => moving(rights, descriptor, target),
         Syscall::Dup { descriptor } | Syscall::Close { descriptor } => {
             one(*descriptor, Need::nothing())
         }
-        Syscall::CapRightsLimit { descriptor, rights } => one(
-            *descriptor,
-            Need {
-                kept_rights: *rights,
-                ..Need::nothing()
-            },
-        ),
+        Syscall::CapRightsLimit { descriptor, rights } => {
+            one(*descriptor, keeping(*rights, Fcntls::empty()))
+        }
         Syscall::CapFcntlsLimit {
             descriptor,
             commands,
-        } => one(
-            *descriptor,
-            Need {
-                kept_commands: *commands,
-                ..Need::nothing()
-            },
-        ),
+        } => one(*descriptor, keeping(Rights::empty(), *commands)),
         Syscall::Open { .. }
         | Syscall::Stat { .. }
         | Syscall::Mkdir { .. }
