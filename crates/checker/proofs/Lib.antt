@@ -1,2 +1,3 @@
 pub mod PastEnds
 pub mod Named
+pub mod Moves
