@@ -1,3 +1,2 @@
 pub mod PastEnds
 pub mod Named
-pub mod Moves

@@ -15,8 +15,8 @@ use crate::arrivals::{failure_there, failure_within, successes_there, successes_
 use crate::points::instruction_at;
 use crate::starts::{is_started, starts_within};
 use crate::uses::{
-    KeepsChannelBound, KeepsCommands, KeepsLimit, KeepsPolicy, KeepsRights, NamesKnown,
-    WorksOnKnown, each_use, in_the_mode, moves_within,
+    KeepsChannelBound, KeepsCommands, KeepsLimit, KeepsPolicy, KeepsRights, MovesWithin,
+    NamesKnown, WorksOnKnown, each_use, in_the_mode,
 };
 use certificate::{Bound, Cert, Name};
 use prog_asm::Instruction;
@@ -128,7 +128,7 @@ fn broken_last(site: &Site<'_>, program: u8, instruction: &Instruction) -> Optio
     if !(keeps_global_names(instruction) && each_use(bound, instruction, &NamesKnown)) {
         return Some(12);
     }
-    if !moves_within(bound, instruction) {
+    if !each_use(bound, instruction, &MovesWithin) {
         return Some(13);
     }
     if !each_use(bound, instruction, &KeepsChannelBound { cert }) {

@@ -1,6 +1,6 @@
 //! The rules on each slot that a call may go through.
 
-ghost use Rattle.std.specs.Prelude.{◌≡◌, ◌++◌, ℕ, List, true};
+ghost use Rattle.std.specs.Prelude.{◌≡◌, ◌++◌};
 ghost use Rattle.std.specs.List.{list_all};
 ghost use Rattle.rights.specs.Views.{operation_of};
 ghost use Rattle.certificate.specs.Order.{held_within};
@@ -9,17 +9,14 @@ ghost use Rattle.prog_asm.specs.Views.{instruction_of, operand_of};
 ghost use Rattle.rules.specs.Channels.{keeps_channel_bound, sends_into};
 ghost use Rattle.rules.specs.Rules.{each_use, in_the_mode, is_known, keeps_commands, keeps_limit, keeps_policy, keeps_rights, moves_within, names_known, same_grant, target_lists, works_on_known};
 ghost use Rattle.rules.specs.Slots.{slots_in};
-ghost use Rattle.rules.specs.Uses.{uses};
-ghost use Rattle.prog_asm.specs.Programs.{Renameat};
 ghost use Rattle.transfer.specs.Views.{operation_list};
 
-use certificate::{Bound, Cert, Domain, Held, Name, Target};
-use prog_asm::{Instruction, Operand, Syscall};
+use certificate::{Bound, Cert, Domain, Held, Target};
+use prog_asm::{Instruction, Operand};
 use rights::Op;
 use task::{Task, grant_lists};
 use transfer::{
     Need, Passed, SlotTest, UseTest, all_slots_pass, all_uses_pass, channel_at, may_be_on,
-    operand_interval,
 };
 
 /// Whether each slot passes that a call may go through; what is no call goes through none.
@@ -138,19 +135,6 @@ impl UseTest for NamesKnown {
     }
 }
 
-/// Whether the two aren't in different grants.
-fn is_same_grant(source: &Target, target: &Target) -> bool
-    ensures { result ≡ same_grant (target_of source.now) (target_of target.now) }
-{
-    match (source, target) {
-        (Target::InGrant(source), Target::InGrant(target)) => {
-            source.as_bytes() == target.as_bytes()
-        }
-        (Target::InGrant(_), Target::AnyNode | Target::Socket(..) | Target::Unknown)
-        | (Target::AnyNode | Target::Socket(..) | Target::Unknown, _) => true,
-    }
-}
-
 /// The test whether a slot is in no other grant than this target.
 #[derive(Clone, Copy)]
 struct SameGrant<'a> {
@@ -161,61 +145,19 @@ impl<'a> SlotTest for SameGrant<'a> {
     ghost passes = { λ t slot. same_grant (target_of t.source.now) slot.held.target };
 
     fn asks(&self, _number: u8, held: &Held) -> bool {
-        is_same_grant(self.source, &held.target())
-    }
-}
-
-/// The test whether a slot is in no other grant than this target, asked of the slots that names are moved from.
-#[derive(Clone, Copy)]
-struct FromGrant<'a> {
-    target: &'a Target,
-}
-
-impl<'a> SlotTest for FromGrant<'a> {
-    ghost passes = { λ t slot. same_grant slot.held.target (target_of t.target.now) };
-
-    fn asks(&self, _number: u8, held: &Held) -> bool {
-        is_same_grant(&held.target(), self.target)
-    }
-}
-
-/// Whether all slots of two operands that are in a grant are in this one. Then nothing moves between grants.
-fn are_in_grant(bound: &Bound, from: Operand, to: Operand, grant: &Name) -> bool
-    ensures { result ≡ true → (path new_path : List ℕ) → list_all moves_within
-        (uses (bound_of bound.now) (Renameat (operand_of from) path (operand_of to) new_path)) ≡ true }
-{
-    let target = &Target::InGrant(*grant);
-    all_slots_pass(bound, from, &FromGrant { target })
-        && all_slots_pass(bound, to, &SameGrant { source: target })
-}
-
-/// Whether nothing is moved from one grant into another. Where all slots are in one grant they aren't compared in pairs.
-pub(crate) fn moves_within(bound: &Bound, instruction: &Instruction) -> bool
-    ensures { result ≡ each_use (bound_of bound.now) moves_within (instruction_of instruction.now) }
-{
-    if let Instruction::Invoke { call, .. } = instruction {
-        if let Syscall::Renameat {
-            descriptor,
-            target,
-            ..
-        } = call
-        {
-            let first = bound.slot(operand_interval(bound, *descriptor).low());
-            if let Some(held) = first.held() {
-                if let Target::InGrant(grant) = &held.target() {
-                    if are_in_grant(bound, *descriptor, *target, grant) {
-                        return true;
-                    }
-                }
+        match (self.source, &held.target()) {
+            (Target::InGrant(source), Target::InGrant(target)) => {
+                source.as_bytes() == target.as_bytes()
             }
+            (Target::InGrant(_), Target::AnyNode | Target::Socket(..) | Target::Unknown)
+            | (Target::AnyNode | Target::Socket(..) | Target::Unknown, _) => true,
         }
     }
-    each_use(bound, instruction, &MovesWithin)
 }
 
 /// The test whether nothing is moved from one grant into another.
 #[derive(Clone, Copy)]
-struct MovesWithin;
+pub(crate) struct MovesWithin;
 
 impl UseTest for MovesWithin {
     ghost passes = { λ t u. moves_within u };
