@@ -6,7 +6,7 @@ use Rattle.rights.specs.Opens.{OpenRequest, open_request}
 use Rattle.rights.specs.Operations.{Operation, Look, Read as Reads, Write as Writes, Create as Creates, Remove as Removes}
 use Rattle.file_tree.specs.Nodes.{Kind, File, Dir, Link, Node}
 use Rattle.prog_asm.specs.Programs.{Instruction, Halt, Invoke, Jmp, Jeq, Number, Cap_enter, Openat, Read, Renameat, Sendfd, Recvfd, Fork, Cap_rights_limit}
-use Rattle.certificate.specs.Bounds.{ModeBound, Off, On, In_grant, Socket, Held, Slot, Open, Maybe, Bound, with_interval, PointBound, Certificate}
+use Rattle.certificate.specs.Bounds.{ModeBound, Off, On, Held, Slot, Open, Maybe, Bound, with_interval, PointBound, Certificate}
 use Rattle.kernel.specs.Answers.{Event}
 use Rattle.kernel.specs.Steps.{Acted}
 use Rattle.task.specs.Plans.{Grant, NamedProgram, FirstObject, On_node, On_end, FirstDescriptor, Start, Plan}

@@ -1,5 +1,5 @@
 -- When the program has which fault. (own)
-use Rattle.std.specs.Prelude.{◌≡◌, ◌<◌, ◌⊎◌, ℕ, List, Option, Some, None, Ok, Err}
+use Rattle.std.specs.Prelude.{◌≡◌, ◌<◌, ◌⊎◌, ℕ, List, Option, Ok, Err}
 use Rattle.rights.specs.Output.{Took, TookFront}
 use Rattle.words.specs.Orders.{Order, Example, Run, Check, AsksFor}
 use Rattle.task.specs.Plans.{Plan}

@@ -59,7 +59,9 @@ fn tells_a_failed_verdict(rt: HostRuntime) -> Result<(), Fail> {
         alloc,
         &["check", "task", "schedule"],
         Some(BASE.as_bytes()),
-        Some(b"capcert 1\nat main 0 off\nfd 0 open any 0000 3fff 0 3\nfd 1 open any 0000 3fff 0 3\nend\n"),
+        Some(
+            b"capcert 1\nat main 0 off\nfd 0 open any 0000 3fff 0 3\nfd 1 open any 0000 3fff 0 3\nend\n",
+        ),
         out,
         err,
     )?;

@@ -161,7 +161,10 @@ fn a_process_outside_the_mode_is_judged(rt: HostRuntime) -> Result<(), Fail> {
                 THREE_POINTS,
                 &[
                     ("at main 1 on", "at main 1 off"),
-                    ("at main 2 on", "fd 2 maybe any 0000 3fff 0 3\nat main 2 off"),
+                    (
+                        "at main 2 on",
+                        "fd 2 maybe any 0000 3fff 0 3\nat main 2 off",
+                    ),
                     ("end", "fd 2 maybe any 0000 3fff 0 3\nend"),
                 ],
             ),
@@ -192,8 +195,14 @@ fn a_reader_to_the_end_is_judged(rt: HostRuntime) -> Result<(), Fail> {
             (
                 THREE_POINTS,
                 &[
-                    ("at main 1 on\nfd 0 open grant work 3fff 3fff 3 3", "at main 1 off\nfd 0 open grant work 3fff 3fff 1 1"),
-                    ("at main 2 on\nfd 0 open grant work 3fff 3fff 3 3", "at main 2 off\nfd 0 open grant work 3fff 3fff 1 3"),
+                    (
+                        "at main 1 on\nfd 0 open grant work 3fff 3fff 3 3",
+                        "at main 1 off\nfd 0 open grant work 3fff 3fff 1 1",
+                    ),
+                    (
+                        "at main 2 on\nfd 0 open grant work 3fff 3fff 3 3",
+                        "at main 2 off\nfd 0 open grant work 3fff 3fff 1 3",
+                    ),
                 ],
             ),
             &[(
