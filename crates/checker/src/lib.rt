@@ -3,8 +3,8 @@
 #![tactic(auto)]
 
 mod arrivals;
+mod broken;
 mod points;
-mod rules;
 mod starts;
 mod uses;
 pub mod verdicts;

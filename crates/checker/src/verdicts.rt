@@ -6,7 +6,7 @@ ghost use Rattle.checker.specs.Verdicts.{IsVerdict, Yes};
 ghost use Rattle.checker.specs.Views.{verdict_of};
 ghost use Rattle.task.specs.Sandboxed.{IsSandboxed};
 
-use crate::rules::found_at;
+use crate::broken::found_at;
 use certificate::Cert;
 use task::Task;
 

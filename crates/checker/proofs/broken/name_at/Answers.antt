@@ -1,7 +1,7 @@
 use Rattle.std.proofs.Common.{◌∙◌, ap, sym}
 use Rattle.texts.specs.Names.{is_name}
 use Rattle.checker.proofs.Named.{unnamed_empty}
-use Rattle.checker.proofs.rules.name_at.Goals as goal
+use Rattle.checker.proofs.broken.name_at.Goals as goal
 
 pub returns-clause-none : goal.returns-clause-none
 returns-clause-none c = λ none point.
