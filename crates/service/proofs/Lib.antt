@@ -1,2 +1,3 @@
 pub mod Rows
 pub mod Accepted
+pub mod Listings

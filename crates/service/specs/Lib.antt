@@ -5,4 +5,5 @@ pub mod FaultViews
 pub mod Faults
 pub mod Files
 pub mod Judged
+pub mod Reports
 pub mod Served

@@ -12,7 +12,7 @@ use std::alloc::{AllocError, Global};
 use task::Task;
 
 /// The status of a verdict.
-fn status_of_verdict(verdict: Verdict) -> u8
+pub(crate) fn status_of_verdict(verdict: Verdict) -> u8
     ensures { result ≡ verdict_status (verdict_of verdict) }
 {
     match verdict {
@@ -33,7 +33,11 @@ fn no_at(alloc: Global, task: &Task, program: u8, point: u8) -> Result<Vec<u8>, 
 }
 
 /// The line of a verdict: `yes`; or the program's name and the point, with the rule that is broken.
-fn text_of_verdict(alloc: Global, task: &Task, verdict: Verdict) -> Result<Vec<u8>, AllocError>
+pub(crate) fn text_of_verdict(
+    alloc: Global,
+    task: &Task,
+    verdict: Verdict,
+) -> Result<Vec<u8>, AllocError>
     ensures { IfOk result (λ text. text.items ≡ verdict_text task.now (verdict_of verdict)) }
 {
     match verdict {

@@ -7,14 +7,16 @@ ghost use Rattle.service.specs.Faults.{No_file, No_memory, Refused};
 ghost use Rattle.service.specs.FaultViews.{fault_of};
 ghost use Rattle.service.specs.Files.{IsFile, IsMissing};
 ghost use Rattle.service.specs.Judged.{ChecksFiles};
+ghost use Rattle.service.specs.Reports.{ReportsFiles};
 ghost use Rattle.service.specs.Served.{Does, RunsFiles, Serves, is_done_status, is_fault_status, is_status};
 ghost use Rattle.simulator.specs.Simulations.{WritesTrace};
-ghost use Rattle.words.specs.Orders.{Check, Example, Run};
+ghost use Rattle.words.specs.Orders.{Check, Example, Report, Run};
 ghost use Rattle.words.specs.OrderViews.{order_of};
 
 use crate::example::example_task;
 use crate::faults::{Fault, tell};
 use crate::judging::judge;
+use crate::reporting::report_checked;
 use crate::sources::{Source, Unread};
 use crate::statuses::DONE;
 use rights::Out;
@@ -106,6 +108,26 @@ fn check_files<'a, S: Source, W: Out>(
     Ok(judge(alloc, &claim.task, &claim.cert, out)?)
 }
 
+/// Checks the certificate of a file against the task of another, and writes the report or the line of a no, with the status.
+/// Both files are fetched before either is read.
+fn report_files<'a, S: Source, W: Out>(
+    alloc: Global,
+    task: &'a str,
+    cert: &'a str,
+    files: &mut S,
+    out: &mut W,
+) -> Result<u8, Fault<'a>>
+    requires { W.faults out.old < 2 ^ 64 - 1 }
+    ensures done { IfOk result (λ status. ReportsFiles (S.files files.old) task.now cert.now status (W.taken out.old) (W.taken out.new)) }
+    ensures fails { IfErr result (λ fault. Fails (S.files files.old) (Report task.now cert.now)
+        (W.taken out.old) (W.taken out.new) (W.faults out.old) (W.faults out.new) (fault_of fault)) }
+{
+    let task_file = fetch(files, task)?;
+    let cert_file = fetch(files, cert)?;
+    let claim = read_texts(alloc, &task_file, &cert_file)?;
+    Ok(report_checked(alloc, &claim.task, &claim.cert, out)?)
+}
+
 /// Does what is asked for, and gives the status.
 fn perform<'a, S: Source, W: Out>(
     alloc: Global,
@@ -128,6 +150,7 @@ fn perform<'a, S: Source, W: Out>(
             Ok(DONE)
         }
         Order::Check { task, cert } => check_files(alloc, task, cert, files, out),
+        Order::Report { task, cert } => report_files(alloc, task, cert, files, out),
     }
 }
 

@@ -5,7 +5,7 @@ use Rattle.std.specs.List.{list_any}
 use Rattle.clap.proofs.OnLiterals.{clap_on_literals}
 use Rattle.clap.specs.Words.{takes, is_simple, subcommand_of}
 use Rattle.words.specs.Commands.{program, parsed_order}
-use Rattle.words.specs.Orders.{Order, Example, Run, Check, line_of, is_dashed}
+use Rattle.words.specs.Orders.{Order, Example, Run, Check, Report, line_of, is_dashed}
 
 pub program_is_simple : is_simple program ≡ true
 unfolding clap_on_literals
@@ -39,6 +39,17 @@ take_check (a ∷ r) (b ∷ s) none =
     let e = p.1 in
     simp (d, e)
 
+take_report : (task cert : List ℕ) → list_any is_dashed (task ∷ cert ∷ []) ≡ false → takes program (codes "report" ∷ task ∷ cert ∷ []) ≡ true
+unfolding clap_on_literals
+take_report [] [] none = refl
+take_report [] (b ∷ s) none = let e = (both_false false (b == 45) none).1 in simp e
+take_report (a ∷ r) [] none = let e = (both_false (a == 45) false none).0 in simp e
+take_report (a ∷ r) (b ∷ s) none =
+    let p = both_false (a == 45) (b == 45) none in
+    let d = p.0 in
+    let e = p.1 in
+    simp (d, e)
+
 give_run : (task schedule : List ℕ) → list_any is_dashed (task ∷ schedule ∷ []) ≡ false → parsed_order (subcommand_of program (codes "run" ∷ task ∷ schedule ∷ [])) ≡ Some (Run task schedule)
 unfolding clap_on_literals
 give_run [] [] none = refl
@@ -61,12 +72,24 @@ give_check (a ∷ r) (b ∷ s) none =
     let e = p.1 in
     simp (d, e)
 
+give_report : (task cert : List ℕ) → list_any is_dashed (task ∷ cert ∷ []) ≡ false → parsed_order (subcommand_of program (codes "report" ∷ task ∷ cert ∷ [])) ≡ Some (Report task cert)
+unfolding clap_on_literals
+give_report [] [] none = refl
+give_report [] (b ∷ s) none = let e = (both_false false (b == 45) none).1 in simp e
+give_report (a ∷ r) [] none = let e = (both_false (a == 45) false none).0 in simp e
+give_report (a ∷ r) (b ∷ s) none =
+    let p = both_false (a == 45) (b == 45) none in
+    let d = p.0 in
+    let e = p.1 in
+    simp (d, e)
+
 -- A line none of whose words begins with `-` is taken.
 pub takes_line : (order : Order) → list_any is_dashed (line_of order) ≡ false → takes program (line_of order) ≡ true
 unfolding clap_on_literals
 takes_line Example none = refl
 takes_line (Run task schedule) none = take_run task schedule none
 takes_line (Check task cert) none = take_check task cert none
+takes_line (Report task cert) none = take_report task cert none
 
 -- And it gives the order.
 pub gives_line : (order : Order) → list_any is_dashed (line_of order) ≡ false → parsed_order (subcommand_of program (line_of order)) ≡ Some order
@@ -74,3 +97,4 @@ unfolding clap_on_literals
 gives_line Example none = refl
 gives_line (Run task schedule) none = give_run task schedule none
 gives_line (Check task cert) none = give_check task cert none
+gives_line (Report task cert) none = give_report task cert none

@@ -1,7 +1,7 @@
 //! The program's commands, as `clap` reads them.
 
 ghost use Rattle.std.specs.Prelude.{◌≡◌, IfOk, false};
-ghost use Rattle.clap.specs.Words.{app_of, rule_of};
+ghost use Rattle.clap.specs.Words.{app_of, rule_of, with_subcommand};
 ghost use Rattle.clap.specs.declared.builder.command.Command.TheViews.{out-Command};
 ghost use Rattle.words.specs.Commands.{command_of_two, program, required_rule};
 
@@ -31,7 +31,21 @@ fn command_of_two<'a>(
     with_first.arg(required(alloc, second))
 }
 
-/// The program: with no command the example, and the commands `run` and `check`. It has no help and no flags.
+/// The program with one more command of two words.
+fn with_command<'a>(
+    alloc: Global,
+    program: Command<'a>,
+    name: &'a str,
+    first: &'a str,
+    second: &'a str,
+) -> Result<Command<'a>, AllocError>
+    ensures { IfOk result (λ command. app_of command ≡ with_subcommand (app_of program.entry) (command_of_two name.entry.now first.entry.now second.entry.now).top) }
+{
+    let command = command_of_two(alloc, name, first, second)?;
+    program.subcommand(command)
+}
+
+/// The program: with no command the example, and the commands `run`, `check` and `report`. It has no help and no flags.
 pub(crate) fn program<'a>(alloc: Global) -> Result<Command<'a>, AllocError>
     ensures { IfOk result (λ command. app_of command ≡ program) }
 {
@@ -40,8 +54,7 @@ pub(crate) fn program<'a>(alloc: Global) -> Result<Command<'a>, AllocError>
         .disable_help_flag(true)
         .disable_version_flag(true)
         .disable_help_subcommand(true);
-    let run = command_of_two(alloc, "run", "TASK", "SCHEDULE")?;
-    let with_run = bare.subcommand(run)?;
-    let check = command_of_two(alloc, "check", "TASK", "CERT")?;
-    with_run.subcommand(check)
+    let with_run = with_command(alloc, bare, "run", "TASK", "SCHEDULE")?;
+    let with_check = with_command(alloc, with_run, "check", "TASK", "CERT")?;
+    with_command(alloc, with_check, "report", "TASK", "CERT")
 }

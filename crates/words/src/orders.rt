@@ -13,6 +13,8 @@ pub enum Order<'a> {
     Run { task: &'a str, schedule: &'a str },
     /// `check TASK CERT`: to check a task's certificate.
     Check { task: &'a str, cert: &'a str },
+    /// `report TASK CERT`: to tell what a task's certificate says of its grants.
+    Report { task: &'a str, cert: &'a str },
 }
 
 /// Whether three words are the line of this order.
@@ -23,6 +25,7 @@ fn is_command(command: &str, first: &str, second: &str, order: Order<'_>) -> boo
         Order::Example => false,
         Order::Run { task, schedule } => command == "run" && first == task && second == schedule,
         Order::Check { task, cert } => command == "check" && first == task && second == cert,
+        Order::Report { task, cert } => command == "report" && first == task && second == cert,
     }
 }
 

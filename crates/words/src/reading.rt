@@ -49,6 +49,7 @@ fn named_order<'a>(command: &str, values: &ArgMatches<'a>) -> Option<Order<'a>>
     match (command, task, schedule, cert) {
         ("run", Some(task), Some(schedule), _) => Some(Order::Run { task, schedule }),
         ("check", Some(task), _, Some(cert)) => Some(Order::Check { task, cert }),
+        ("report", Some(task), _, Some(cert)) => Some(Order::Report { task, cert }),
         _ => None,
     }
 }
@@ -63,8 +64,8 @@ fn parsed_order<'a>(matches: &ArgMatches<'a>) -> Option<Order<'a>>
     }
 }
 
-/// Reads the program's words: none at all is the example, `run TASK SCHEDULE` and `check TASK CERT` are the
-/// commands. A name may be empty, and have any bytes but a leading `-`. (own)
+/// Reads the program's words: none at all is the example, `run TASK SCHEDULE`, `check TASK CERT` and `report TASK CERT`
+/// are the commands. A name may be empty, and have any bytes but a leading `-`. (own)
 ///
 /// # Errors
 ///
