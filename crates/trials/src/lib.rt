@@ -25,6 +25,8 @@ mod outputs;
 #[cfg(test)]
 mod processes;
 #[cfg(test)]
+mod reports;
+#[cfg(test)]
 mod rows;
 #[cfg(test)]
 mod schedules;

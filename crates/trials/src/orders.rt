@@ -15,7 +15,7 @@ fn texts(alloc: Global, words: &[&str]) -> Result<Vec<String>, AllocError> {
 
 #[test]
 fn right_lines_are_read(rt: HostRuntime) -> Result<(), Fail> {
-    let rows: [(&[&str], Order<'_>); 9] = [
+    let rows: [(&[&str], Order<'_>); 10] = [
         (&[], Order::Example),
         (
             &["run", "t.toml", "s.txt"],
@@ -27,6 +27,13 @@ fn right_lines_are_read(rt: HostRuntime) -> Result<(), Fail> {
         (
             &["check", "first", "good"],
             Order::Check {
+                task: "first",
+                cert: "good",
+            },
+        ),
+        (
+            &["report", "first", "good"],
+            Order::Report {
                 task: "first",
                 cert: "good",
             },
@@ -83,7 +90,7 @@ fn right_lines_are_read(rt: HostRuntime) -> Result<(), Fail> {
 
 #[test]
 fn other_lines_are_refused(rt: HostRuntime) -> Result<(), Fail> {
-    let rows: [&[&str]; 26] = [
+    let rows: [&[&str]; 28] = [
         &[""],
         &["run"],
         &["run", "t.toml"],
@@ -92,6 +99,8 @@ fn other_lines_are_refused(rt: HostRuntime) -> Result<(), Fail> {
         &["check"],
         &["check", "first"],
         &["check", "first", "good", "more"],
+        &["report", "first"],
+        &["report", "first", "good", "more"],
         &["help"],
         &["help", "run"],
         &["run", "help"],
