@@ -5,5 +5,6 @@ pub mod FaultViews
 pub mod Faults
 pub mod Files
 pub mod Judged
+pub mod ReportRows
 pub mod Reports
 pub mod Served

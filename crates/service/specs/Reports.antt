@@ -1,5 +1,5 @@
 -- What is told of an accepted certificate: at each point the rights that a process may have in each grant. (own)
-use Rattle.std.specs.Prelude.{◌≡◌, ◌==◌, ◌++◌, ℕ, List, [], ◌∷◌, codes, map, take, Option, Some, None, Ok, bit_or, if◌then◌else◌}
+use Rattle.std.specs.Prelude.{◌≡◌, ◌==◌, ◌++◌, ℕ, List, [], ◌∷◌, codes, take, Option, Some, None, Ok, bit_or, if◌then◌else◌}
 use Rattle.std.specs.Fmt.{decimal}
 use Rattle.std.specs.Str.{bytes_eq}
 use Rattle.rights.specs.Output.{Took}

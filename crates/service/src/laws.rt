@@ -1,8 +1,10 @@
 //! What every run of small tasks shows. Each law is the contract of a function that does nothing.
 
-ghost use Rattle.std.specs.Prelude.{◌∷◌, [], codes};
+ghost use Rattle.std.specs.Prelude.{◌≡◌, ◌∷◌, [], codes};
 ghost use Rattle.service.specs.Accepted.{ActsAccepted, forking_certificate, forking_plan, passing_certificate, passing_plan, renaming_certificate, renaming_plan};
 ghost use Rattle.service.specs.Examples.{AlwaysShows, absent_event, bare_plan, events_of_first, example_events, first_plan, loop_plan};
+ghost use Rattle.service.specs.ReportRows.{halting_certificate, halting_plan};
+ghost use Rattle.service.specs.Reports.{report_text};
 
 /// What every run of three small tasks shows, event for event, and of a process that was not made.
 pub fn small_tasks_show_these_traces()
@@ -27,4 +29,9 @@ pub fn accepted_tasks_act_in_the_mode()
         (codes "0 main:0 = 0\n0 main:1 = 1\n1 main:2 ok\n1 main:4 = 2\n") }
     ensures renaming { ActsAccepted renaming_plan renaming_certificate (0 ∷ 0 ∷ [])
         (codes "0 main:0 = 0\n0 main:1 = 0 remove /work/in create /work/out/in\n") }
+{}
+
+/// What is reported of a small task: of its one point with a bound, the rights in its one grant, by their names.
+pub fn a_small_task_is_reported()
+    ensures { report_text halting_plan halting_certificate ≡ codes "main:0 work READ,LOOKUP\n" }
 {}
