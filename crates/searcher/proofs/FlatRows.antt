@@ -1,0 +1,109 @@
+-- Flat certificates of small tasks, by computation.
+use Rattle.std.proofs.Common.{◌≡◌, refl, ℕ, true, false, List, [], ◌∷◌}
+use Rattle.std.specs.Prelude.{codes, Some, None}
+use Rattle.rights.specs.Sets.{all_rights, all_commands, seek_right}
+use Rattle.rights.specs.Operations.{Look, Read as Reads}
+use Rattle.prog_asm.specs.Programs.{Instruction, Halt, Invoke, Cap_enter, Read, Number}
+use Rattle.task.specs.Breaches.{small_tree}
+use Rattle.task.specs.Plans.{On_node, NamedProgram, Plan, Start}
+use Rattle.certificate.specs.Bounds.{On, Either, In_grant, Slot, Closed, Bound, PointBound, Certificate, bound_in, full_interval}
+use Rattle.certificate.specs.Bounds as bounds
+use Rattle.certificate.specs.Growth.{above_blocks, all_from, copies, distinct_behind, may_bound_register, may_bound_slot, on_last, open_bound, taken}
+use Rattle.certificate.specs.Lines.{register_lines, slot_lines}
+use Rattle.task.specs.Policies.{grant_named}
+use Rattle.rules.specs.Slots.{slots_in, free_numbers}
+use Rattle.rules.specs.Uses.{uses}
+use Rattle.rules.specs.Channels.{channel_at}
+use Rattle.rules.specs.Outcomes.{successes, error_outcomes}
+use Rattle.rules.specs.Rules.{tests, tests_without}
+use Rattle.rules.specs.Verdicts.{found_with, found_at, first_found}
+use Rattle.searcher.specs.Growths.{grown, grown_by}
+use Rattle.searcher.specs.Flat.{flat, grant_target, next_behind, points_behind, points_from}
+
+-- One process `main`, with `/work/in` open for reading as descriptor 2, and the grant `work` to look and read.
+abbrev sample : List Instruction → ℕ → Plan
+sample code rights = record {
+  nodes = small_tree;
+  grants = record { name = codes "work"; path = codes "work" ∷ []; operations = Look ∷ Reads ∷ [] } ∷ [];
+  programs = record { name = codes "main"; code = code } ∷ [];
+  starts =
+      record {
+        program = 0;
+        mode = false;
+        descriptors =
+            record { number = 2; object = On_node 2 (record { readable = true; writable = false }); rights = rights; fcntls = all_commands } ∷ [];
+      }
+      ∷ [];
+}
+
+abbrev enters_and_reads : List Instruction
+enters_and_reads = Invoke Cap_enter 2 ∷ Invoke (Read (Number 2)) 2 ∷ Halt ∷ []
+
+abbrev in_work : ℕ → Slot
+in_work rights = bounds.Open (record {
+  target = In_grant (codes "work");
+  least = rights;
+  greatest = rights;
+  least_fcntls = all_commands;
+  greatest_fcntls = all_commands;
+})
+
+abbrev bound_with : ℕ → Bound
+bound_with rights = record {
+  mode = Either;
+  registers = copies 8 full_interval;
+  slots = Closed ∷ Closed ∷ in_work rights ∷ copies 13 Closed;
+}
+
+abbrev three_points : ℕ → Certificate
+three_points rights = record {
+  points =
+      record { program = codes "main"; point = 0; bound = bound_with rights }
+      ∷ record { program = codes "main"; point = 1; bound = bound_with rights }
+      ∷ record { program = codes "main"; point = 2; bound = bound_with rights }
+      ∷ [];
+  channels = [];
+}
+
+flat_of_a_reader : flat (sample enters_and_reads all_rights) ≡ Some (three_points all_rights)
+unfolding flat grown_by grown taken above_blocks all_from may_bound_register may_bound_slot on_last distinct_behind register_lines slot_lines grant_target points_from next_behind points_behind
+flat_of_a_reader = refl
+
+-- It meets the rules; and it doesn't where the descriptor lacks the right to read.
+meets_the_rules : first_found (sample enters_and_reads all_rights) (three_points all_rights) ≡ None
+unfolding first_found found_at found_with tests tests_without bound_in grant_named slots_in free_numbers uses channel_at successes error_outcomes
+meets_the_rules = refl
+
+flat_of_a_reader_without_the_right : flat (sample enters_and_reads seek_right) ≡ Some (three_points seek_right)
+unfolding flat grown_by grown taken above_blocks all_from may_bound_register may_bound_slot on_last distinct_behind register_lines slot_lines grant_target points_from next_behind points_behind
+flat_of_a_reader_without_the_right = refl
+
+lacks_the_right : first_found (sample enters_and_reads seek_right) (three_points seek_right) ≡ Some (0, 1, 7)
+unfolding first_found found_at found_with tests tests_without bound_in grant_named slots_in free_numbers uses channel_at successes error_outcomes
+lacks_the_right = refl
+
+-- Two first processes of one program have no flat certificate; and blocks stand by names.
+abbrev halts : List ℕ → NamedProgram
+halts name = record { name = name; code = Halt ∷ [] }
+
+abbrev bare : ℕ → Start
+bare program = record { program = program; mode = true; descriptors = [] }
+
+abbrev of_two : ℕ → ℕ → Plan
+of_two first second = record {
+  nodes = small_tree;
+  grants = [];
+  programs = halts (codes "main") ∷ halts (codes "child") ∷ [];
+  starts = bare first ∷ bare second ∷ [];
+}
+
+none_of_one_program : flat (of_two 0 0) ≡ None
+unfolding flat
+none_of_one_program = refl
+
+abbrev at_its_start : List ℕ → PointBound
+at_its_start name = record { program = name; point = 0; bound = open_bound On }
+
+by_their_names : flat (of_two 0 1) ≡ Some (record { points = at_its_start (codes "child") ∷ at_its_start (codes "main") ∷ []; channels = [] })
+unfolding flat grown_by grown taken above_blocks all_from may_bound_register may_bound_slot on_last distinct_behind register_lines slot_lines grant_target points_from next_behind points_behind
+by_their_names = refl

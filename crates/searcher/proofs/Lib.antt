@@ -1,0 +1,4 @@
+mod FlatRows
+pub mod Growths
+pub mod Behind
+pub mod Valid

@@ -1,0 +1,32 @@
+-- What lines make of a certificate, one after another. (own)
+use Rattle.std.specs.Prelude.{◌≡◌, List, [], ◌∷◌, Option, Some, None, Result, Ok, Err}
+use Rattle.certificate.specs.declared.lines.Refusal.{Refusal}
+use Rattle.certificate.specs.declared.lines.Refusal.TheVariants.{Limit, Order, Memory}
+use Rattle.certificate.specs.Bounds.{PointBound, Certificate}
+use Rattle.certificate.specs.Growth.{Refused, taken}
+use Rattle.certificate.specs.Lines.{Line, block_lines}
+
+abbrev pub grown_behind : (Certificate → Option Certificate) → Result Certificate Refused → Option Certificate
+grown_behind rest (Ok c) = rest c
+grown_behind rest (Err refused) = None
+
+-- the certificate that has taken these lines too, if none is refused
+unfoldable pub grown : List Line → Certificate → Option Certificate
+grown [] c = Some c
+grown (line ∷ lines) c = grown_behind (grown lines) (taken c line)
+
+abbrev pub then_grown : (Certificate → Option Certificate) → Option Certificate → Option Certificate
+then_grown rest None = None
+then_grown rest (Some c) = rest c
+
+-- the certificate that has taken these blocks too
+unfoldable pub grown_by : List PointBound → Certificate → Option Certificate
+grown_by [] c = Some c
+grown_by (b ∷ points) c = then_grown (grown_by points) (grown (block_lines b) c)
+
+-- What the code's growing comes to: the certificate, or that a line is refused; unless memory is wanting.
+abbrev pub Grows : Result (Unit {0}) Refusal → Certificate → Option Certificate → Type 0
+Grows (Ok _) new answer = answer ≡ Some new
+Grows (Err Limit) new answer = answer ≡ None
+Grows (Err Order) new answer = answer ≡ None
+Grows (Err Memory) new answer = Unit {0}

@@ -1,0 +1,2 @@
+pub mod Growths
+pub mod Flat

@@ -1,0 +1,81 @@
+//! How a certificate grows by blocks.
+
+ghost use Rattle.std.specs.Prelude.{◌≡◌, ◌+◌, ◌≤◌, ◌<◌, length, map, true, false};
+ghost use Rattle.certificate.specs.Lines.{Bounds_register, Bounds_slot, block_lines, is_closed, is_full, is_line, register_lines, slot_lines};
+ghost use Rattle.certificate.specs.Views.{bound_of, interval_of, line_of, name_of, slot_of};
+ghost use Rattle.searcher.specs.Growths.{Grows, grown};
+
+use certificate::{Bound, Cert, Interval, Line, Name, Refusal, Slot};
+
+/// The line of a register that isn't full.
+fn register_line(register: u8, interval: Interval) -> Line
+    requires number { register < 8 }
+    requires bounded { is_full (interval_of interval) ≡ false }
+    ensures value { line_of result ≡ Bounds_register register (interval_of interval) }
+    ensures valid { is_line (line_of result) ≡ true }
+{
+    Line::Register { register, interval }
+}
+
+/// The line of a slot that isn't closed.
+fn slot_line(number: u8, slot: Slot) -> Line
+    requires few { number < 16 }
+    requires open { is_closed (slot_of slot) ≡ false }
+    ensures value { line_of result ≡ Bounds_slot number (slot_of slot) }
+    ensures valid { is_line (line_of result) ≡ true }
+{
+    Line::Slot { number, slot }
+}
+
+/// Adds the registers from a number on that aren't full.
+#[tactic(auto, unfolding(certificate::specs::Lines::register_lines, crate::specs::Growths::grown))]
+fn push_registers(cert: &mut Cert, number: u8, registers: &[Interval]) -> Result<(), Refusal>
+    requires { number + length registers.now ≤ 8 }
+    ensures { Grows result cert.new (grown (register_lines number (map interval_of registers.now)) cert.old) }
+{
+    match registers {
+        [] => Ok(()),
+        [first, rest @ ..] => {
+            if !first.is_full() {
+                cert.push(&register_line(number, *first))?;
+            }
+            push_registers(cert, number + 1, rest)
+        }
+    }
+}
+
+/// Adds the slots from a number on that aren't closed.
+#[tactic(auto, unfolding(certificate::specs::Lines::slot_lines, crate::specs::Growths::grown))]
+fn push_slots(cert: &mut Cert, number: u8, slots: &[Slot]) -> Result<(), Refusal>
+    requires { number + length slots.now ≤ 16 }
+    ensures { Grows result cert.new (grown (slot_lines number (map slot_of slots.now)) cert.old) }
+{
+    match slots {
+        [] => Ok(()),
+        [first, rest @ ..] => {
+            if !first.is_closed() {
+                cert.push(&slot_line(number, *first))?;
+            }
+            push_slots(cert, number + 1, rest)
+        }
+    }
+}
+
+/// Adds the block of a point.
+#[tactic(auto, using(crate::proofs::Growths::grown_append), unfolding(crate::specs::Growths::grown))]
+pub(crate) fn push_block(
+    cert: &mut Cert,
+    program: &Name,
+    point: u8,
+    bound: &Bound,
+) -> Result<(), Refusal>
+    ensures { Grows result cert.new (grown (block_lines (record { program = name_of program.now; point = point; bound = bound_of bound.now })) cert.old) }
+{
+    cert.push(&Line::Block {
+        program: *program,
+        point,
+        mode: bound.mode(),
+    })?;
+    push_registers(cert, 0, bound.registers())?;
+    push_slots(cert, 0, bound.slots())
+}
