@@ -90,7 +90,7 @@ fn first_held(task: &Task, descriptor: FirstDescriptor) -> Held
 }
 
 /// The bound with these descriptors, open.
-fn with_first(task: &Task, bound: Bound, descriptors: &[FirstDescriptor]) -> Bound
+pub(crate) fn with_first(task: &Task, bound: Bound, descriptors: &[FirstDescriptor]) -> Bound
     requires { list_all (is_descriptor task.now.nodes) (map first_descriptor_of descriptors.now) ≡ true }
     ensures { bound_of result ≡ with_first task.now (bound_of bound) (map first_descriptor_of descriptors.now) }
 {

@@ -1,8 +1,12 @@
 //! The searcher: it proposes a certificate for a task. What it gives the checker accepts.
 #![tactic(auto)]
 
+mod channels;
+mod drawing;
 mod flat;
 mod growing;
+mod rounds;
 mod searching;
+mod spots;
 
 pub use searching::search;

@@ -5,8 +5,12 @@ ghost use Rattle.certificate.specs.Bounds.{Certificate};
 ghost use Rattle.rules.specs.Verdicts.{MeetsRules};
 ghost use Rattle.searcher.specs.Flat.{flat};
 
+use crate::channels::Channels;
+use crate::drawing::draw;
 use crate::flat::flat;
-use certificate::Cert;
+use crate::rounds::{all_ways, settle};
+use crate::spots::Way;
+use certificate::{Cert, Refusal};
 use checker::{Verdict, check};
 use std::alloc::{AllocError, Global};
 use task::Task;
@@ -19,12 +23,49 @@ fn is_accepted(task: &Task, cert: &Cert) -> bool
     check(task, cert) == Verdict::Yes
 }
 
-/// A certificate of a task that meets the rules, if the search finds one. Where the flat certificate does, it finds one.
-/// Want of memory may come in place of any answer. It always ends. (own)
+/// A certificate that was proposed, if the checker accepts it.
+fn accepted(task: &Task, proposed: Option<Cert>) -> Option<Cert>
+    ensures { IfSome result (λ cert. MeetsRules task.now cert) }
+{
+    let cert = proposed?;
+    if is_accepted(task, &cert) {
+        return Some(cert);
+    }
+    None
+}
+
+/// What is found point by point, where the search settles.
+fn settled(alloc: Global, task: &Task, mut ways: Vec<Way>) -> Result<Option<Cert>, Refusal> {
+    let mut channels = Channels::new(alloc);
+    if !settle(alloc, task, &mut channels, &mut ways)? {
+        return Ok(None);
+    }
+    let cert = draw(alloc, &ways, &channels)?;
+    Ok(Some(cert))
+}
+
+/// The certificate that the search point by point proposes, if it comes to one.
+fn proposed(alloc: Global, task: &Task) -> Result<Option<Cert>, AllocError> {
+    let Some(ways) = all_ways(alloc, task)? else {
+        return Ok(None);
+    };
+    match settled(alloc, task, ways) {
+        Ok(cert) => Ok(cert),
+        Err(Refusal::Memory) => Err(AllocError),
+        Err(Refusal::Limit | Refusal::Order) => Ok(None),
+    }
+}
+
+/// A certificate of a task that meets the rules, if the search finds one: that of what it finds point by point, or the flat
+/// one. Where the flat certificate meets the rules, it finds one. Want of memory may come in place of any answer. It always
+/// ends. (own)
 pub fn search(alloc: Global, task: &Task) -> Result<Option<Cert>, AllocError>
     ensures accepted { IfOk result (λ found. IfSome found (λ cert. MeetsRules task.now cert)) }
     ensures flat { result ≡ Ok None → (certificate : Certificate) → flat task.now ≡ Some certificate → MeetsRules task.now certificate → ⊥ }
 {
+    if let Some(cert) = accepted(task, proposed(alloc, task)?) {
+        return Ok(Some(cert));
+    }
     let Some(cert) = flat(alloc, task)? else {
         return Ok(None);
     };

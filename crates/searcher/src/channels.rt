@@ -1,0 +1,222 @@
+//! What is known of what socket pairs carry: channels, which grow by what is sent.
+
+ghost use Rattle.std.specs.Prelude.{◌≡◌, ◌≤◌, length, true};
+ghost use Rattle.certificate.specs.Lines.{Bounds_channel, is_line};
+ghost use Rattle.certificate.specs.Views.{channel_of, line_of};
+
+use certificate::{
+    Bound, Cert, Channel, Class, Domain, Held, Interval, Line, Refusal, Side, Target,
+};
+use prog_asm::{Instruction, Operand, Syscall};
+use std::alloc::{AllocError, Global};
+use std::cmp::Ordering;
+use transfer::operand_interval;
+
+/// Channels in their order, and the certificate that has them alone, by which instructions are looked at.
+#[derive(Drop)]
+pub(crate) struct Channels {
+    lines: Vec<Channel>,
+    pub cert: Cert,
+    pub changed: bool,
+}
+
+/// One side of the socket pairs of a class.
+#[derive(Clone, Copy)]
+struct End {
+    class: Class,
+    side: Side,
+}
+
+/// The line of a channel.
+fn channel_line(channel: Channel) -> Line
+    ensures value { line_of result ≡ Bounds_channel (channel_of channel) }
+    ensures valid { is_line (line_of result) ≡ true }
+{
+    Line::Channel(channel)
+}
+
+/// Adds channels to a certificate. Gives up at one that is refused.
+pub(crate) fn push_channels(cert: &mut Cert, channels: &[Channel]) -> Result<(), Refusal> {
+    for channel in channels {
+        cert.push(&channel_line(*channel))?;
+    }
+    Ok(())
+}
+
+/// The number of a side, by which channels stand.
+fn side_number(side: Side) -> u8 {
+    match side {
+        Side::A => 0,
+        Side::B => 1,
+    }
+}
+
+/// How a class stands to another.
+fn compare_classes(class: &Class, other: &Class) -> Ordering {
+    match (class, other) {
+        (Class::Initial(pair), Class::Initial(than)) => pair.number().cmp(&than.number()),
+        (Class::Initial(_), Class::MadeAt(..)) => Ordering::Less,
+        (Class::MadeAt(..), Class::Initial(_)) => Ordering::Greater,
+        (Class::MadeAt(program, point), Class::MadeAt(than, at)) => {
+            program.as_bytes().cmp(than.as_bytes()).then(point.cmp(at))
+        }
+    }
+}
+
+impl End {
+    /// How the channel of what it sends stands to another.
+    fn compare(&self, channel: &Channel) -> Ordering {
+        let sides = side_number(self.side).cmp(&side_number(channel.side()));
+        compare_classes(&self.class, &channel.class()).then(sides)
+    }
+
+    /// The other end.
+    fn other(&self) -> End {
+        let side = match self.side {
+            Side::A => Side::B,
+            Side::B => Side::A,
+        };
+        End {
+            class: self.class,
+            side,
+        }
+    }
+}
+
+/// What a slot holds that may be open, if an operand may name its number.
+fn named_held(bound: &Bound, interval: Interval, number: u32) -> Option<Held> {
+    if number < interval.low() || interval.high() < number {
+        return None;
+    }
+    bound.slot(number).held()
+}
+
+/// The end that a slot may be of, if an operand may name its number.
+fn named_end(bound: &Bound, interval: Interval, number: u32) -> Option<End> {
+    match named_held(bound, interval, number)?.target() {
+        Target::Socket(class, side) => Some(End { class, side }),
+        Target::InGrant(_) | Target::AnyNode | Target::Unknown => None,
+    }
+}
+
+/// Where the channel of what an end sends stands among these, or would.
+fn place_of(lines: &[Channel], end: &End) -> usize
+    ensures { result ≤ length lines.now }
+{
+    for (place, line) in lines.iter().enumerate() {
+        if !end.compare(line).is_gt() {
+            return place;
+        }
+    }
+    lines.len()
+}
+
+impl Channels {
+    /// No channels.
+    pub(crate) fn new(alloc: Global) -> Channels {
+        Channels {
+            lines: Vec::new(alloc),
+            cert: Cert::new(alloc),
+            changed: false,
+        }
+    }
+
+    /// The channels in their order.
+    pub(crate) fn lines(&self) -> &[Channel] {
+        &self.lines
+    }
+
+    /// Lets what is sent from an end be this too.
+    fn add(&mut self, end: End, sends: Option<Held>) -> Result<(), AllocError> {
+        let at = place_of(&self.lines, &end);
+        if let Some(line) = self.lines.get_mut(at) {
+            if end.compare(line).is_eq() {
+                if !sends.within(&line.sends()) {
+                    *line = Channel::new(end.class, end.side, line.sends().join(&sends));
+                    self.changed = true;
+                }
+                return Ok(());
+            }
+        }
+        self.changed = true;
+        self.lines
+            .insert(at, Channel::new(end.class, end.side, sends))?;
+        Ok(())
+    }
+
+    /// Lets it be each slot of a number in an interval.
+    fn add_sent(&mut self, bound: &Bound, end: End, sent: Interval) -> Result<(), AllocError> {
+        self.add(end, None)?;
+        for number in 0..16 {
+            if let Some(held) = named_held(bound, sent, number) {
+                self.add(end, Some(held))?;
+            }
+        }
+        Ok(())
+    }
+
+    /// Learns what is sent from a point with a bound.
+    fn learn_sent(
+        &mut self,
+        bound: &Bound,
+        descriptor: Operand,
+        sent: Operand,
+    ) -> Result<(), AllocError> {
+        let interval = operand_interval(bound, descriptor);
+        let sent = operand_interval(bound, sent);
+        for number in 0..16 {
+            if let Some(end) = named_end(bound, interval, number) {
+                self.add_sent(bound, end, sent)?;
+            }
+        }
+        Ok(())
+    }
+
+    /// Learns what is received there.
+    fn learn_received(&mut self, bound: &Bound, descriptor: Operand) -> Result<(), AllocError> {
+        let interval = operand_interval(bound, descriptor);
+        for number in 0..16 {
+            if let Some(end) = named_end(bound, interval, number) {
+                self.add(end.other(), None)?;
+            }
+        }
+        Ok(())
+    }
+
+    /// Learns what a call sends or receives there.
+    fn learn_call(&mut self, bound: &Bound, call: &Syscall) -> Result<(), AllocError> {
+        match call {
+            Syscall::Sendfd {
+                descriptor,
+                sent,
+                ..
+            } => self.learn_sent(bound, *descriptor, *sent),
+            Syscall::Recvfd { descriptor } => self.learn_received(bound, *descriptor),
+            _ => Ok(()),
+        }
+    }
+
+    /// Learns what an instruction sends or receives, and makes the certificate of the channels again where one changed.
+    pub(crate) fn learn(
+        &mut self,
+        alloc: Global,
+        bound: &Bound,
+        instruction: &Instruction,
+    ) -> Result<(), Refusal> {
+        let Instruction::Invoke { call, .. } = instruction else {
+            return Ok(());
+        };
+        let before = self.changed;
+        self.changed = false;
+        if self.learn_call(bound, call).is_err() {
+            return Err(Refusal::Memory);
+        }
+        if self.changed {
+            let mut cert = Cert::new(alloc);
+            push_channels(&mut cert, &self.lines)?;
+            self.cert = cert;
+        }
+        self.changed = self.changed || before;
+        Ok(())
+    }
+}

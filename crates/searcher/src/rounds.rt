@@ -1,0 +1,172 @@
+//! The search point by point: from the first states through the outcomes of each instruction, until nothing changes.
+
+ghost use Rattle.std.specs.Prelude.{◌≡◌, length, map, true};
+ghost use Rattle.std.specs.List.{list_all};
+ghost use Rattle.task.specs.Limits.{is_start};
+ghost use Rattle.task.specs.Views.{start_of, starts_of};
+
+use crate::channels::Channels;
+use crate::flat::with_first;
+use crate::spots::Way;
+use certificate::{Bound, Interval, ModeBound, Name, Refusal, Slot};
+use prog_asm::{Instruction, Syscall};
+use rights::limits::{MAX_DESCRIPTORS, REGISTERS};
+use std::alloc::{AllocError, Global};
+use task::{Start, Task};
+use transfer::{Change, Outcome, OutcomeTest, Site, failure, successes_pass};
+
+/// How often all points are gone through at most.
+const MOST_ROUNDS: usize = 16_384;
+
+/// The bound of a first process: registers at 0, and its descriptors.
+fn first_bound(task: &Task, start: &Start) -> Bound
+    requires { is_start task.now.nodes (length task.now.programs) (start_of start.now) ≡ true }
+{
+    let mode = if start.mode {
+        ModeBound::On
+    } else {
+        ModeBound::Off
+    };
+    let registers = [Interval::new(0, 0); REGISTERS];
+    let bound = Bound::new(mode, registers, [Slot::Closed; MAX_DESCRIPTORS]);
+    with_first(task, bound, &start.descriptors)
+}
+
+/// Has the first processes at their points.
+fn begin(task: &Task, ways: &mut Vec<Way>, starts: &[Start])
+    requires { list_all (is_start task.now.nodes (length task.now.programs)) (starts_of starts.now) ≡ true }
+{
+    match starts {
+        [] => {}
+        [first, rest @ ..] => {
+            let bound = &first_bound(task, first);
+            if let Some(way) = ways.get_mut(first.program as usize) {
+                way.asks(&Outcome {
+                    point: 0,
+                    bound,
+                    change: Change::Nothing,
+                });
+            }
+            begin(task, ways, rest);
+        }
+    }
+}
+
+/// The points of all programs, none of them reached.
+pub(crate) fn all_ways(alloc: Global, task: &Task) -> Result<Option<Vec<Way>>, AllocError> {
+    let mut ways = Vec::new(alloc);
+    for program in task.programs() {
+        let Some(name) = Name::read(program.name.as_bytes()) else {
+            return Ok(None);
+        };
+        ways.push(Way::new(alloc, name, program.program.code())?)?;
+    }
+    Ok(Some(ways))
+}
+
+/// Whether an instruction receives descriptors.
+fn receives(instruction: &Instruction) -> bool {
+    match instruction {
+        Instruction::Invoke {
+            call: Syscall::Recvfd { .. },
+            ..
+        } => true,
+        _ => false,
+    }
+}
+
+/// Takes the outcomes of an instruction from a point with a bound.
+fn take_outcomes(
+    task: &Task,
+    channels: &Channels,
+    way: &mut Way,
+    point: u8,
+    bound: &Bound,
+    instruction: &Instruction,
+) {
+    let name = way.name;
+    let site = Site {
+        task,
+        cert: &channels.cert,
+        name: &name,
+        point,
+        bound,
+    };
+    successes_pass(&site, instruction, way);
+    if let Some(outcome) = failure(bound, instruction) {
+        way.asks(&outcome);
+    }
+}
+
+/// Takes the outcomes of each point of a program that waits. Whether one did.
+fn take_waiting(
+    alloc: Global,
+    task: &Task,
+    channels: &mut Channels,
+    way: &mut Way,
+    code: &[Instruction],
+) -> Result<bool, Refusal> {
+    let mut any = false;
+    for (point, instruction) in code.iter().enumerate() {
+        if point < 256 {
+            if let Some(bound) = way.next_at(point) {
+                any = true;
+                channels.learn(alloc, &bound, instruction)?;
+                take_outcomes(task, channels, way, point as u8, &bound, instruction);
+            }
+        }
+    }
+    Ok(any)
+}
+
+/// Has each point wait again that receives.
+fn wake_receivers(task: &Task, ways: &mut Vec<Way>) {
+    for (number, program) in task.programs().iter().enumerate() {
+        if let Some(way) = ways.get_mut(number) {
+            for (point, instruction) in program.program.code().iter().enumerate() {
+                if receives(instruction) {
+                    way.wake(point);
+                }
+            }
+        }
+    }
+}
+
+/// Goes through all points once. Whether one waited.
+fn go_through(
+    alloc: Global,
+    task: &Task,
+    channels: &mut Channels,
+    ways: &mut Vec<Way>,
+) -> Result<bool, Refusal> {
+    let mut any = false;
+    for (number, program) in task.programs().iter().enumerate() {
+        if let Some(way) = ways.get_mut(number) {
+            if take_waiting(alloc, task, channels, way, program.program.code())? {
+                any = true;
+            }
+        }
+    }
+    if channels.changed {
+        channels.changed = false;
+        wake_receivers(task, ways);
+    }
+    Ok(any)
+}
+
+/// Goes through all points until none waits. Whether that came.
+pub(crate) fn settle(
+    alloc: Global,
+    task: &Task,
+    channels: &mut Channels,
+    ways: &mut Vec<Way>,
+) -> Result<bool, Refusal> {
+    let _programs = task.programs();
+    begin(task, ways, task.starts());
+    for _ in 0..MOST_ROUNDS {
+        if !go_through(alloc, task, channels, ways)? {
+            return Ok(true);
+        }
+    }
+    Ok(false)
+}

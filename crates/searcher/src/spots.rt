@@ -1,0 +1,194 @@
+//! What is known of the points of a program: a bound at each that is reached, which grows as outcomes come to it.
+
+ghost use Rattle.std.specs.Prelude.{◌≡◌, true};
+
+use certificate::{Bound, Domain, Interval, Name};
+use prog_asm::Instruction;
+use rights::limits::REGISTERS;
+use std::alloc::{AllocError, Global};
+use transfer::{Outcome, OutcomeTest};
+
+/// Changes of a point's bound after which intervals are widened to constants of the program.
+const FEW_CHANGES: u32 = 3;
+
+/// Changes after which they are widened to all values.
+const MANY_CHANGES: u32 = 24;
+
+/// A point: its bound, if it is reached, and whether its outcomes are still to be looked at.
+#[derive(Clone, Copy)]
+pub(crate) struct Spot {
+    pub bound: Option<Bound>,
+    changes: u32,
+    pub waits: bool,
+}
+
+/// A program's points, with the constants at which its registers are compared or set.
+#[derive(Drop)]
+pub(crate) struct Way {
+    pub name: Name,
+    constants: Vec<u32>,
+    pub spots: Vec<Spot>,
+}
+
+/// The greatest constant that isn't above a value, or 0.
+fn constant_below(constants: &[u32], value: u32) -> u32 {
+    let mut found = 0;
+    for constant in constants {
+        if *constant <= value && found < *constant {
+            found = *constant;
+        }
+    }
+    found
+}
+
+/// The least constant that isn't below a value, or the greatest value of a register.
+fn constant_above(constants: &[u32], value: u32) -> u32 {
+    let mut found = u32::MAX;
+    for constant in constants {
+        if value <= *constant && *constant < found {
+            found = *constant;
+        }
+    }
+    found
+}
+
+/// An interval that grew, with the ends that moved taken further.
+fn widened_interval(old: Interval, grown: Interval, constants: &[u32]) -> Interval {
+    let low = if grown.low() < old.low() {
+        constant_below(constants, grown.low())
+    } else {
+        grown.low()
+    };
+    let high = if old.high() < grown.high() {
+        constant_above(constants, grown.high())
+    } else {
+        grown.high()
+    };
+    if low <= high {
+        Interval::new(low, high)
+    } else {
+        Interval::FULL
+    }
+}
+
+/// A bound that grew, with the registers widened that did.
+fn widened(old: &Bound, grown: Bound, constants: &[u32], is_late: bool) -> Bound {
+    let mut next = grown;
+    for register in 0..REGISTERS {
+        let register = register as u8;
+        let before = old.interval(register);
+        let after = grown.interval(register);
+        if !after.within(&before) {
+            let interval = if is_late {
+                Interval::FULL
+            } else {
+                widened_interval(before, after, constants)
+            };
+            next = next.with_interval(register, interval);
+        }
+    }
+    next
+}
+
+impl Spot {
+    /// A point that isn't reached.
+    fn new() -> Spot {
+        Spot {
+            bound: None,
+            changes: 0,
+            waits: false,
+        }
+    }
+
+    /// Takes an outcome: the bound grows to hold it. One that leaves what no bound has is left out, as a rule is broken there.
+    fn take(&mut self, outcome: &Outcome<'_>, constants: &[u32]) {
+        let Some(there) = self.bound else {
+            self.bound = outcome.bound_there();
+            self.waits = true;
+            return;
+        };
+        if outcome.is_within(&there) {
+            return;
+        }
+        let Some(next) = outcome.bound_there() else {
+            return;
+        };
+        let joined = there.join(&next);
+        self.changes = self.changes.saturating_add(1);
+        let grown = if self.changes > FEW_CHANGES {
+            widened(&there, joined, constants, self.changes > MANY_CHANGES)
+        } else {
+            joined
+        };
+        self.bound = Some(grown);
+        self.waits = true;
+    }
+}
+
+/// The constant of an instruction.
+fn constant_of(instruction: &Instruction) -> Option<u32> {
+    match instruction {
+        Instruction::Set { value, .. }
+        | Instruction::Jeq { value, .. }
+        | Instruction::Jlt { value, .. } => Some(*value),
+        _ => None,
+    }
+}
+
+/// The constants of a program, with the numbers beside them.
+fn constants_of(alloc: Global, code: &[Instruction]) -> Result<Vec<u32>, AllocError> {
+    let mut constants = Vec::new(alloc);
+    for instruction in code {
+        if let Some(value) = constant_of(instruction) {
+            constants.push(value)?;
+            constants.push(value.saturating_sub(1))?;
+            constants.push(value.saturating_add(1))?;
+        }
+    }
+    Ok(constants)
+}
+
+impl Way {
+    /// The points of a program, none of them reached.
+    pub(crate) fn new(alloc: Global, name: Name, code: &[Instruction]) -> Result<Way, AllocError> {
+        let constants = constants_of(alloc, code)?;
+        let mut spots = Vec::new(alloc);
+        for _ in code {
+            spots.push(Spot::new())?;
+        }
+        Ok(Way {
+            name,
+            constants,
+            spots,
+        })
+    }
+
+    /// The bound of a point that waits, which waits no more.
+    pub(crate) fn next_at(&mut self, point: usize) -> Option<Bound> {
+        let spot = self.spots.get_mut(point)?;
+        if !spot.waits {
+            return None;
+        }
+        spot.waits = false;
+        spot.bound
+    }
+
+    /// Has a point wait again, if it is reached.
+    pub(crate) fn wake(&mut self, point: usize) {
+        if let Some(spot) = self.spots.get_mut(point) {
+            spot.waits = spot.bound.is_some();
+        }
+    }
+}
+
+impl OutcomeTest for Way {
+    ghost passes = { λ t o. true };
+
+    /// Takes the outcome, and goes on to the next.
+    fn asks(&mut self, outcome: &Outcome<'_>) -> bool {
+        if let Some(spot) = self.spots.get_mut(outcome.point) {
+            spot.take(outcome, &self.constants);
+        }
+        true
+    }
+}
