@@ -25,8 +25,6 @@ mod outputs;
 #[cfg(test)]
 mod processes;
 #[cfg(test)]
-mod reports;
-#[cfg(test)]
 mod rows;
 #[cfg(test)]
 mod schedules;
