@@ -1,7 +1,7 @@
 -- When the program has which fault. (own)
 use Rattle.std.specs.Prelude.{◌≡◌, ◌<◌, ◌⊎◌, ℕ, List, Option, Ok, Err}
 use Rattle.rights.specs.Output.{Took, TookFront}
-use Rattle.words.specs.Orders.{Order, Example, Run, Check, Report, AsksFor}
+use Rattle.words.specs.Orders.{Order, Example, Run, Check, Report, Search, AsksFor}
 use Rattle.task.specs.Plans.{Plan}
 use Rattle.task_reader.specs.Reading.{Mistake, task_of}
 use Rattle.certificate_text.specs.Faults.{Faulty}
@@ -62,11 +62,26 @@ IsCheckRefused files task certificate (No_task mistake) = HasNoTask files task c
 IsCheckRefused files task certificate (No_schedule fault) = ⊥
 IsCheckRefused files task certificate (No_certificate why) = HasNoCertificate files task certificate why
 
+-- The file is no task.
+pub record IsNoTask (files : Files) (task : List ℕ) (mistake : Mistake) : Type 0 where
+  pub task_text : List ℕ
+  pub task_file : IsFile files task task_text
+  pub mistaken : task_of task_text ≡ Err mistake
+
+-- A search for this file is refused so.
+abbrev pub IsSearchRefused : Files → List ℕ → Refusal → Type 0
+IsSearchRefused files task Wrong_words = ⊥
+IsSearchRefused files task (No_file name) = (name ≡ task) × IsMissing files task
+IsSearchRefused files task (No_task mistake) = IsNoTask files task mistake
+IsSearchRefused files task (No_schedule fault) = ⊥
+IsSearchRefused files task (No_certificate why) = ⊥
+
 abbrev pub IsRefused : Files → Order → Refusal → Type 0
 IsRefused files Example refusal = ⊥
 IsRefused files (Run task schedule) refusal = IsRunRefused files task schedule refusal
 IsRefused files (Check task certificate) refusal = IsCheckRefused files task certificate refusal
 IsRefused files (Report task certificate) refusal = IsCheckRefused files task certificate refusal
+IsRefused files (Search task) refusal = IsSearchRefused files task refusal
 
 -- What is asked for isn't done, for that fault: where it is refused nothing was written, and the output fails only where the
 -- writer did. `before` and `after` are what the output had taken, `failures` and `failed` how often it had failed.

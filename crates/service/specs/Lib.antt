@@ -7,4 +7,5 @@ pub mod Files
 pub mod Judged
 pub mod ReportRows
 pub mod Reports
+pub mod Searched
 pub mod Served

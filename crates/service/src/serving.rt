@@ -8,14 +8,16 @@ ghost use Rattle.service.specs.FaultViews.{fault_of};
 ghost use Rattle.service.specs.Files.{IsFile, IsMissing};
 ghost use Rattle.service.specs.Judged.{ChecksFiles};
 ghost use Rattle.service.specs.Reports.{ReportsFiles};
+ghost use Rattle.service.specs.Searched.{SearchesFile};
 ghost use Rattle.service.specs.Served.{Does, RunsFiles, Serves, is_done_status, is_fault_status, is_status};
 ghost use Rattle.simulator.specs.Simulations.{WritesTrace};
-ghost use Rattle.words.specs.Orders.{Check, Example, Report, Run};
+ghost use Rattle.words.specs.Orders.{Check, Example, Report, Run, Search};
 ghost use Rattle.words.specs.OrderViews.{order_of};
 
 use crate::example::example_task;
 use crate::faults::{Fault, tell};
 use crate::judging::judge;
+use crate::proposing::propose;
 use crate::reporting::report_checked;
 use crate::sources::{Source, Unread};
 use crate::statuses::DONE;
@@ -128,6 +130,23 @@ fn report_files<'a, S: Source, W: Out>(
     Ok(report_checked(alloc, &claim.task, &claim.cert, out)?)
 }
 
+/// Searches a certificate of the task of a file, and writes it, or that none is found, with the status.
+fn search_file<'a, S: Source, W: Out>(
+    alloc: Global,
+    task: &'a str,
+    files: &mut S,
+    out: &mut W,
+) -> Result<u8, Fault<'a>>
+    requires { W.faults out.old < 2 ^ 64 - 1 }
+    ensures done { IfOk result (λ status. SearchesFile (S.files files.old) task.now status (W.taken out.old) (W.taken out.new)) }
+    ensures fails { IfErr result (λ fault. Fails (S.files files.old) (Search task.now)
+        (W.taken out.old) (W.taken out.new) (W.faults out.old) (W.faults out.new) (fault_of fault)) }
+{
+    let text = fetch(files, task)?;
+    let plan = read_task(alloc, &text)?;
+    Ok(propose(alloc, &plan, out)?)
+}
+
 /// Does what is asked for, and gives the status.
 fn perform<'a, S: Source, W: Out>(
     alloc: Global,
@@ -151,6 +170,7 @@ fn perform<'a, S: Source, W: Out>(
         }
         Order::Check { task, cert } => check_files(alloc, task, cert, files, out),
         Order::Report { task, cert } => report_files(alloc, task, cert, files, out),
+        Order::Search { task } => search_file(alloc, task, files, out),
     }
 }
 

@@ -25,9 +25,13 @@ mod outputs;
 #[cfg(test)]
 mod processes;
 #[cfg(test)]
+mod reports;
+#[cfg(test)]
 mod rows;
 #[cfg(test)]
 mod schedules;
+#[cfg(test)]
+mod searches;
 #[cfg(test)]
 mod serving;
 #[cfg(test)]

@@ -15,7 +15,7 @@ fn texts(alloc: Global, words: &[&str]) -> Result<Vec<String>, AllocError> {
 
 #[test]
 fn right_lines_are_read(rt: HostRuntime) -> Result<(), Fail> {
-    let rows: [(&[&str], Order<'_>); 10] = [
+    let rows: [(&[&str], Order<'_>); 12] = [
         (&[], Order::Example),
         (
             &["run", "t.toml", "s.txt"],
@@ -38,6 +38,8 @@ fn right_lines_are_read(rt: HostRuntime) -> Result<(), Fail> {
                 cert: "good",
             },
         ),
+        (&["search", "t.toml"], Order::Search { task: "t.toml" }),
+        (&["search", ""], Order::Search { task: "" }),
         (
             &["run", "", ""],
             Order::Run {
@@ -90,7 +92,7 @@ fn right_lines_are_read(rt: HostRuntime) -> Result<(), Fail> {
 
 #[test]
 fn other_lines_are_refused(rt: HostRuntime) -> Result<(), Fail> {
-    let rows: [&[&str]; 28] = [
+    let rows: [&[&str]; 31] = [
         &[""],
         &["run"],
         &["run", "t.toml"],
@@ -101,6 +103,9 @@ fn other_lines_are_refused(rt: HostRuntime) -> Result<(), Fail> {
         &["check", "first", "good", "more"],
         &["report", "first"],
         &["report", "first", "good", "more"],
+        &["search"],
+        &["search", "t.toml", "more"],
+        &["search", "-"],
         &["help"],
         &["help", "run"],
         &["run", "help"],

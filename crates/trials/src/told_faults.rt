@@ -7,7 +7,7 @@ use std::test::Fail;
 
 #[test]
 fn other_words_are_told(rt: HostRuntime) -> Result<(), Fail> {
-    let rows: [&[&str]; 14] = [
+    let rows: [&[&str]; 15] = [
         &[""],
         &["run"],
         &["run", "task"],
@@ -17,7 +17,8 @@ fn other_words_are_told(rt: HostRuntime) -> Result<(), Fail> {
         &["check", "task"],
         &["check", "task", "cert", "more"],
         &["walk", "task", "schedule"],
-        &["search", "task"],
+        &["search"],
+        &["search", "task", "cert"],
         &["report", "task"],
         &["help"],
         &["--help"],
@@ -32,7 +33,7 @@ fn other_words_are_told(rt: HostRuntime) -> Result<(), Fail> {
 
 #[test]
 fn missing_files_are_told_in_the_order_of_the_words(rt: HostRuntime) -> Result<(), Fail> {
-    let rows: [(&[&str], &[u8]); 12] = [
+    let rows: [(&[&str], &[u8]); 13] = [
         (&["run", "nope", "schedule"], b"capcheck: file nope\n"),
         (&["run", "nope", "none"], b"capcheck: file nope\n"),
         (&["run", "nope", "huge"], b"capcheck: file nope\n"),
@@ -45,6 +46,7 @@ fn missing_files_are_told_in_the_order_of_the_words(rt: HostRuntime) -> Result<(
         (&["report", "nope", "none"], b"capcheck: file nope\n"),
         (&["report", "task", "none"], b"capcheck: file none\n"),
         (&["check", "first", "schedule"], b"capcheck: file first\n"),
+        (&["search", "nope"], b"capcheck: file nope\n"),
     ];
     for (words, line) in rows {
         let said = says(rt.alloc(), words, Some(b"no task"), Some(b"no schedule"))?;

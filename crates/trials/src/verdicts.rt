@@ -234,7 +234,7 @@ const PASSES_ANY_FILE: Changes<'_> = &[
 ];
 
 /// `main` sends its directory with few rights, and `child` reads a file beneath it.
-const PASSES_A_DIRECTORY: Changes<'_> = &[
+pub(super) const PASSES_A_DIRECTORY: Changes<'_> = &[
     SIDES,
     (
         "halt\n'''",

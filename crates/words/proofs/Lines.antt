@@ -5,7 +5,7 @@ use Rattle.std.specs.List.{list_any}
 use Rattle.clap.proofs.OnLiterals.{clap_on_literals}
 use Rattle.clap.specs.Words.{takes, is_simple, subcommand_of}
 use Rattle.words.specs.Commands.{program, parsed_order}
-use Rattle.words.specs.Orders.{Order, Example, Run, Check, Report, line_of, is_dashed}
+use Rattle.words.specs.Orders.{Order, Example, Run, Check, Report, Search, line_of, is_dashed}
 
 pub program_is_simple : is_simple program ≡ true
 unfolding clap_on_literals
@@ -50,6 +50,11 @@ take_report (a ∷ r) (b ∷ s) none =
     let e = p.1 in
     simp (d, e)
 
+take_search : (task : List ℕ) → list_any is_dashed (task ∷ []) ≡ false → takes program (codes "search" ∷ task ∷ []) ≡ true
+unfolding clap_on_literals
+take_search [] none = refl
+take_search (a ∷ r) none = let e = (both_false (a == 45) false none).0 in simp e
+
 give_run : (task schedule : List ℕ) → list_any is_dashed (task ∷ schedule ∷ []) ≡ false → parsed_order (subcommand_of program (codes "run" ∷ task ∷ schedule ∷ [])) ≡ Some (Run task schedule)
 unfolding clap_on_literals
 give_run [] [] none = refl
@@ -83,6 +88,11 @@ give_report (a ∷ r) (b ∷ s) none =
     let e = p.1 in
     simp (d, e)
 
+give_search : (task : List ℕ) → list_any is_dashed (task ∷ []) ≡ false → parsed_order (subcommand_of program (codes "search" ∷ task ∷ [])) ≡ Some (Search task)
+unfolding clap_on_literals
+give_search [] none = refl
+give_search (a ∷ r) none = let e = (both_false (a == 45) false none).0 in simp e
+
 -- A line none of whose words begins with `-` is taken.
 pub takes_line : (order : Order) → list_any is_dashed (line_of order) ≡ false → takes program (line_of order) ≡ true
 unfolding clap_on_literals
@@ -90,6 +100,7 @@ takes_line Example none = refl
 takes_line (Run task schedule) none = take_run task schedule none
 takes_line (Check task cert) none = take_check task cert none
 takes_line (Report task cert) none = take_report task cert none
+takes_line (Search task) none = take_search task none
 
 -- And it gives the order.
 pub gives_line : (order : Order) → list_any is_dashed (line_of order) ≡ false → parsed_order (subcommand_of program (line_of order)) ≡ Some order
@@ -98,3 +109,4 @@ gives_line Example none = refl
 gives_line (Run task schedule) none = give_run task schedule none
 gives_line (Check task cert) none = give_check task cert none
 gives_line (Report task cert) none = give_report task cert none
+gives_line (Search task) none = give_search task none

@@ -2,7 +2,7 @@
 use Rattle.std.specs.Prelude.{ℕ, true, List, codes, Option, Some, None, option_map, option_and_then, if◌then◌else◌}
 use Rattle.std.specs.Str.{bytes_eq}
 use Rattle.clap.specs.Words.{App, Row, Rule, first_of, new_app, new_rule, with_rule, with_subcommand}
-use Rattle.words.specs.Orders.{Order, Example, Run, Check, Report}
+use Rattle.words.specs.Orders.{Order, Example, Run, Check, Report, Search}
 
 -- an argument that has to be there
 abbrev pub required_rule : List ℕ → Rule
@@ -14,9 +14,13 @@ command_app name =
     let app = new_app name in
     record app { top = record app.top { disable_help_flag = true } }
 
+-- a command of one word, which has to be there
+abbrev pub command_of_one : List ℕ → List ℕ → App
+command_of_one name first = with_rule (command_app name) (required_rule first)
+
 -- a command of two words, each of which has to be there
 abbrev pub command_of_two : List ℕ → List ℕ → List ℕ → App
-command_of_two name first second = with_rule (with_rule (command_app name) (required_rule first)) (required_rule second)
+command_of_two name first second = with_rule (command_of_one name first) (required_rule second)
 
 -- no help, no version, and no word for the program's own name
 abbrev pub bare_program : App
@@ -32,14 +36,16 @@ bare_program =
           };
     }
 
--- with no command the example, and the commands `run`, `check` and `report`
+-- with no command the example, and the commands `run`, `check`, `report` and `search`
 abbrev pub program : App
 program =
     with_subcommand
     (with_subcommand
+    (with_subcommand
     (with_subcommand bare_program (command_of_two (codes "run") (codes "TASK") (codes "SCHEDULE")).top)
     (command_of_two (codes "check") (codes "TASK") (codes "CERT")).top)
-    (command_of_two (codes "report") (codes "TASK") (codes "CERT")).top
+    (command_of_two (codes "report") (codes "TASK") (codes "CERT")).top)
+    (command_of_one (codes "search") (codes "TASK")).top
 
 -- the order of a command with these values
 abbrev pub command_order : List ℕ → List Row → List ℕ → Option Order
@@ -47,7 +53,7 @@ command_order name values task =
     if bytes_eq name (codes "run") then option_map (λ schedule. Run task schedule) (first_of (codes "SCHEDULE") values)
     else (if bytes_eq name (codes "check") then option_map (λ cert. Check task cert) (first_of (codes "CERT") values)
     else (if bytes_eq name (codes "report") then option_map (λ cert. Report task cert) (first_of (codes "CERT") values)
-    else None))
+    else (if bytes_eq name (codes "search") then Some (Search task) else None)))
 
 abbrev pub named_order : List ℕ → List Row → Option Order
 named_order name values = option_and_then (command_order name values) (first_of (codes "TASK") values)

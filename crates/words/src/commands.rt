@@ -3,7 +3,7 @@
 ghost use Rattle.std.specs.Prelude.{◌≡◌, IfOk, false};
 ghost use Rattle.clap.specs.Words.{app_of, rule_of, with_subcommand};
 ghost use Rattle.clap.specs.declared.builder.command.Command.TheViews.{out-Command};
-ghost use Rattle.words.specs.Commands.{command_of_two, program, required_rule};
+ghost use Rattle.words.specs.Commands.{command_of_one, command_of_two, program, required_rule};
 
 use clap::{Arg, Command};
 use std::alloc::{AllocError, Global};
@@ -16,6 +16,19 @@ fn required<'a>(alloc: Global, name: &'a str) -> Arg<'a>
     Arg::new(alloc, name).required(true)
 }
 
+/// A command of one word, which has to be there.
+fn command_of_one<'a>(
+    alloc: Global,
+    name: &'a str,
+    first: &'a str,
+) -> Result<Command<'a>, AllocError>
+    ensures shape { IfOk result (λ command. app_of command ≡ command_of_one name.entry.now first.entry.now) }
+    ensures local { IfOk result (λ command. (out-Command command).has_globals ≡ false) }
+{
+    let bare = Command::new(alloc, name).disable_help_flag(true);
+    bare.arg(required(alloc, first))
+}
+
 /// A command of two words, each of which has to be there.
 fn command_of_two<'a>(
     alloc: Global,
@@ -26,8 +39,7 @@ fn command_of_two<'a>(
     ensures shape { IfOk result (λ command. app_of command ≡ command_of_two name.entry.now first.entry.now second.entry.now) }
     ensures local { IfOk result (λ command. (out-Command command).has_globals ≡ false) }
 {
-    let bare = Command::new(alloc, name).disable_help_flag(true);
-    let with_first = bare.arg(required(alloc, first))?;
+    let with_first = command_of_one(alloc, name, first)?;
     with_first.arg(required(alloc, second))
 }
 
@@ -45,7 +57,20 @@ fn with_command<'a>(
     program.subcommand(command)
 }
 
-/// The program: with no command the example, and the commands `run`, `check` and `report`. It has no help and no flags.
+/// The program with one more command of one word.
+fn with_short_command<'a>(
+    alloc: Global,
+    program: Command<'a>,
+    name: &'a str,
+    first: &'a str,
+) -> Result<Command<'a>, AllocError>
+    ensures { IfOk result (λ command. app_of command ≡ with_subcommand (app_of program.entry) (command_of_one name.entry.now first.entry.now).top) }
+{
+    let command = command_of_one(alloc, name, first)?;
+    program.subcommand(command)
+}
+
+/// The program: with no command the example, and the commands `run`, `check`, `report` and `search`. It has no help and no flags.
 pub(crate) fn program<'a>(alloc: Global) -> Result<Command<'a>, AllocError>
     ensures { IfOk result (λ command. app_of command ≡ program) }
 {
@@ -56,5 +81,6 @@ pub(crate) fn program<'a>(alloc: Global) -> Result<Command<'a>, AllocError>
         .disable_help_subcommand(true);
     let with_run = with_command(alloc, bare, "run", "TASK", "SCHEDULE")?;
     let with_check = with_command(alloc, with_run, "check", "TASK", "CERT")?;
-    with_command(alloc, with_check, "report", "TASK", "CERT")
+    let with_report = with_command(alloc, with_check, "report", "TASK", "CERT")?;
+    with_short_command(alloc, with_report, "search", "TASK")
 }

@@ -15,6 +15,18 @@ pub enum Order<'a> {
     Check { task: &'a str, cert: &'a str },
     /// `report TASK CERT`: to tell what a task's certificate says of its grants.
     Report { task: &'a str, cert: &'a str },
+    /// `search TASK`: to propose a certificate of a task.
+    Search { task: &'a str },
+}
+
+/// Whether two words are the line of this order.
+fn is_search(command: &str, first: &str, order: Order<'_>) -> bool
+    ensures { IsTrue result ↔ (command.now ∷ first.now ∷ [] ≡ line_of (order_of order.entry)) }
+{
+    match order {
+        Order::Search { task } => command == "search" && first == task,
+        Order::Example | Order::Run { .. } | Order::Check { .. } | Order::Report { .. } => false,
+    }
 }
 
 /// Whether three words are the line of this order.
@@ -22,7 +34,7 @@ fn is_command(command: &str, first: &str, second: &str, order: Order<'_>) -> boo
     ensures { IsTrue result ↔ (command.now ∷ first.now ∷ second.now ∷ [] ≡ line_of (order_of order.entry)) }
 {
     match order {
-        Order::Example => false,
+        Order::Example | Order::Search { .. } => false,
         Order::Run { task, schedule } => command == "run" && first == task && second == schedule,
         Order::Check { task, cert } => command == "check" && first == task && second == cert,
         Order::Report { task, cert } => command == "report" && first == task && second == cert,
@@ -35,6 +47,7 @@ pub(crate) fn is_line_of(words: &[String], order: Order<'_>) -> bool
 {
     match words {
         [] => matches!(order, Order::Example),
+        [command, first] => is_search(command.as_str(), first.as_str(), order),
         [command, first, second] => is_command(
             command.as_str(),
             first.as_str(),

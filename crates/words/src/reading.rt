@@ -50,6 +50,7 @@ fn named_order<'a>(command: &str, values: &ArgMatches<'a>) -> Option<Order<'a>>
         ("run", Some(task), Some(schedule), _) => Some(Order::Run { task, schedule }),
         ("check", Some(task), _, Some(cert)) => Some(Order::Check { task, cert }),
         ("report", Some(task), _, Some(cert)) => Some(Order::Report { task, cert }),
+        ("search", Some(task), _, _) => Some(Order::Search { task }),
         _ => None,
     }
 }
@@ -64,8 +65,8 @@ fn parsed_order<'a>(matches: &ArgMatches<'a>) -> Option<Order<'a>>
     }
 }
 
-/// Reads the program's words: none at all is the example, `run TASK SCHEDULE`, `check TASK CERT` and `report TASK CERT`
-/// are the commands. A name may be empty, and have any bytes but a leading `-`. (own)
+/// Reads the program's words: none at all is the example, `run TASK SCHEDULE`, `check TASK CERT`, `report TASK CERT` and
+/// `search TASK` are the commands. A name may be empty, and have any bytes but a leading `-`. (own)
 ///
 /// # Errors
 ///

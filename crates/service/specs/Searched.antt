@@ -1,0 +1,38 @@
+-- What is proposed for a task, and how it is written.
+use Rattle.std.specs.Prelude.{◌≡◌, ◌⊎◌, ℕ, List, codes, Option, Some, Ok}
+use Rattle.rights.specs.Output.{Took}
+use Rattle.certificate.specs.Bounds.{Certificate}
+use Rattle.certificate_text.specs.Readings.{certificate_of_text}
+use Rattle.certificate_text.specs.Texts.{certificate_text}
+use Rattle.rules.specs.Verdicts.{MeetsRules}
+use Rattle.searcher.specs.Flat.{flat}
+use Rattle.task.specs.Plans.{Plan}
+use Rattle.task.specs.Sandboxed.{IsSandboxed}
+use Rattle.task_reader.specs.Reading.{task_of}
+use Rattle.service.specs.Files.{Files, IsFile}
+
+-- A certificate that meets the rules, so that every run of the task is sandboxed, is written as a text that is read as it again.
+pub record Proposes (plan : Plan) (before after : Option (List ℕ)) : Type 0 where
+  pub bounds : Certificate
+  pub meets : MeetsRules plan bounds
+  pub sandboxed : IsSandboxed plan
+  pub reads_back : certificate_of_text (certificate_text bounds) ≡ Ok bounds
+  pub writes : Took before after (certificate_text bounds)
+
+-- None is found; then the flat certificate, if there is one, doesn't meet the rules either.
+pub record FindsNone (plan : Plan) (before after : Option (List ℕ)) : Type 0 where
+  pub flat_fails : (bounds : Certificate) → flat plan ≡ Some bounds → MeetsRules plan bounds → ⊥
+  pub writes : Took before after (codes "none\n")
+
+-- The status is 0 where a certificate is proposed, and else 1.
+abbrev pub Searches : Plan → ℕ → Option (List ℕ) → Option (List ℕ) → Type 0
+Searches plan status before after =
+    ((status ≡ 0) × Proposes plan before after) ⊎ ((status ≡ 1) × FindsNone plan before after)
+
+-- The file of this name is a task, and this is what is proposed for it.
+pub record SearchesFile (files : Files) (task : List ℕ) (status : ℕ) (before after : Option (List ℕ)) : Type 0 where
+  pub task_text : List ℕ
+  pub task_file : IsFile files task task_text
+  pub plan : Plan
+  pub is_task : task_of task_text ≡ Ok plan
+  pub searches : Searches plan status before after

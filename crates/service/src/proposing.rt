@@ -1,0 +1,35 @@
+//! Certificates that are proposed, and how they are told.
+
+ghost use Rattle.std.specs.Prelude.{◌≡◌, ◌<◌, ◌-◌, ◌^◌, IfOk, IsErrOf, OnOk, codes};
+ghost use Rattle.rights.specs.Output.{Took};
+ghost use Rattle.certificate_text.specs.Texts.{certificate_text};
+ghost use Rattle.service.specs.Searched.{Searches};
+
+use crate::statuses::{BROKEN, DONE};
+use certificate_text::write_cert;
+use rights::{Out, Stop, write_all};
+use searcher::search;
+use std::alloc::Global;
+use task::Task;
+
+/// Searches a certificate of a task, writes it, and gives the status: 0; or writes `none`, with the status 1, where the search
+/// finds none. What is written is a certificate that `check` accepts. Its errors are `Device`, after a failure of the writer,
+/// and `Memory`. (own)
+pub fn propose<W: Out>(alloc: Global, task: &Task, out: &mut W) -> Result<u8, Stop>
+    requires { W.faults out.old < 2 ^ 64 - 1 }
+    ensures proposed { IfOk result (λ status. Searches task.now status (W.taken out.old) (W.taken out.new)) }
+    ensures device { IsErrOf result Stop.Device → W.faults out.old < W.faults out.new }
+    ensures not_spent { IsErrOf result Stop.Spent → ⊥ }
+{
+    let _programs = task.programs();
+    match search(alloc, task)? {
+        Some(cert) => {
+            write_cert(&cert, out)?;
+            Ok(DONE)
+        }
+        None => {
+            write_all(out, b"none\n")?;
+            Ok(BROKEN)
+        }
+    }
+}
