@@ -92,7 +92,7 @@ fn right_lines_are_read(rt: HostRuntime) -> Result<(), Fail> {
 
 #[test]
 fn other_lines_are_refused(rt: HostRuntime) -> Result<(), Fail> {
-    let rows: [&[&str]; 31] = [
+    let rows: [&[&str]; 30] = [
         &[""],
         &["run"],
         &["run", "t.toml"],
@@ -123,7 +123,6 @@ fn other_lines_are_refused(rt: HostRuntime) -> Result<(), Fail> {
         &["Run", "t.toml", "s.txt"],
         &["ru", "t.toml", "s.txt"],
         &["", "t.toml", "s.txt"],
-        &["search", "t.toml"],
     ];
     for words in rows {
         let texts = texts(rt.alloc(), words)?;
