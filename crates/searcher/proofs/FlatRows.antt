@@ -8,8 +8,7 @@ use Rattle.task.specs.Breaches.{small_tree}
 use Rattle.task.specs.Plans.{On_node, NamedProgram, Plan, Start}
 use Rattle.certificate.specs.Bounds.{On, Either, In_grant, Slot, Closed, Bound, PointBound, Certificate, bound_in, full_interval}
 use Rattle.certificate.specs.Bounds as bounds
-use Rattle.certificate.specs.Growth.{above_blocks, all_from, copies, distinct_behind, may_bound_register, may_bound_slot, on_last, open_bound, taken}
-use Rattle.certificate.specs.Lines.{register_lines, slot_lines}
+use Rattle.certificate.specs.Growth.{copies, open_bound}
 use Rattle.task.specs.Policies.{grant_named}
 use Rattle.rules.specs.Slots.{slots_in, free_numbers}
 use Rattle.rules.specs.Uses.{uses}
@@ -17,7 +16,6 @@ use Rattle.rules.specs.Channels.{channel_at}
 use Rattle.rules.specs.Outcomes.{successes, error_outcomes}
 use Rattle.rules.specs.Rules.{tests, tests_without}
 use Rattle.rules.specs.Verdicts.{found_with, found_at, first_found}
-use Rattle.searcher.specs.Growths.{grown, grown_by}
 use Rattle.searcher.specs.Flat.{flat, grant_target, next_behind, points_behind, points_from}
 
 -- One process `main`, with `/work/in` open for reading as descriptor 2, and the grant `work` to look and read.
@@ -66,7 +64,7 @@ three_points rights = record {
 }
 
 flat_of_a_reader : flat (sample enters_and_reads all_rights) ≡ Some (three_points all_rights)
-unfolding flat grown_by grown taken above_blocks all_from may_bound_register may_bound_slot on_last distinct_behind register_lines slot_lines grant_target points_from next_behind points_behind
+unfolding flat grant_target points_from next_behind points_behind
 flat_of_a_reader = refl
 
 -- It meets the rules; and it doesn't where the descriptor lacks the right to read.
@@ -75,7 +73,7 @@ unfolding first_found found_at found_with tests tests_without bound_in grant_nam
 meets_the_rules = refl
 
 flat_of_a_reader_without_the_right : flat (sample enters_and_reads seek_right) ≡ Some (three_points seek_right)
-unfolding flat grown_by grown taken above_blocks all_from may_bound_register may_bound_slot on_last distinct_behind register_lines slot_lines grant_target points_from next_behind points_behind
+unfolding flat grant_target points_from next_behind points_behind
 flat_of_a_reader_without_the_right = refl
 
 lacks_the_right : first_found (sample enters_and_reads seek_right) (three_points seek_right) ≡ Some (0, 1, 7)
@@ -105,5 +103,5 @@ abbrev at_its_start : List ℕ → PointBound
 at_its_start name = record { program = name; point = 0; bound = open_bound On }
 
 by_their_names : flat (of_two 0 1) ≡ Some (record { points = at_its_start (codes "child") ∷ at_its_start (codes "main") ∷ []; channels = [] })
-unfolding flat grown_by grown taken above_blocks all_from may_bound_register may_bound_slot on_last distinct_behind register_lines slot_lines grant_target points_from next_behind points_behind
+unfolding flat grant_target points_from next_behind points_behind
 by_their_names = refl

@@ -3,3 +3,4 @@ pub mod Growths
 pub mod Behind
 pub mod Valid
 pub mod Taken
+pub mod FlatGrows

@@ -1,6 +1,6 @@
 -- Blocks that are taken behind others: each that stands behind them, and whose program's name has room.
-use Rattle.std.proofs.Common.{◌≡◌, ◌≤◌, ◌<◌, rules, ◌+◌, ℕ, zero, suc, Bool, true, false, List, [], ◌∷◌, ◌++◌, length, refl, ap, sym, ◌∙◌, subst, append_assoc, append-nil, add-one, arith}
-use Rattle.std.specs.Prelude.{◌&&◌, ◌||◌, nat_le, Some, Ok, Err, slice_set, if◌then◌else◌}
+use Rattle.std.proofs.Common.{◌≡◌, ◌≤◌, ◌<◌, rules, ◌+◌, ℕ, zero, suc, Bool, true, false, List, [], ◌∷◌, ◌++◌, length, refl, ap, sym, ◌∙◌, append_assoc, append-nil, arith}
+use Rattle.std.specs.Prelude.{◌&&◌, ◌||◌, nat_le, Some, Ok, Err, if◌then◌else◌}
 use Rattle.std.specs.List.{flat_map, list_any}
 use Rattle.std.specs.Ordering.{is_lt, nat_cmp, ordering_then}
 use Rattle.std.specs.declared.cmp.Ordering.TheVariants.{Less, Equal}
@@ -13,10 +13,10 @@ use Rattle.std.proofs.lemmas.Slice.Eq.{bytes_eq-Decides}
 use Rattle.std.specs.Cmp.{nat_cmp_is}
 use Rattle.std.specs.Cmp.Lexicographic.{slice_cmp}
 use Rattle.certificate.specs.Bounds.{ModeBound, Slot, Closed, Open, Maybe, Bound, PointBound, Certificate, full_interval, with_slot}
-use Rattle.certificate.specs.Growth.{above_blocks, all_from, copies, distinct, distinct_behind, has_room, may_bound_slot, on_last, open_bound, programs_of_block, programs_of_slot, stands, taken, with_line, No_room, Out_of_order}
+use Rattle.certificate.specs.Growth.{above_blocks, all_from, copies, distinct, distinct_behind, has_room, on_last, programs_of_block, programs_of_slot, stands, taken, with_line, No_room, Out_of_order}
 use Rattle.certificate.specs.Order.{same_class}
 use Rattle.certificate.specs.Lines.{Line, Begins_block, Bounds_slot, block_lines, is_closed, register_lines, slot_lines}
-use Rattle.certificate.proofs.Distinct.{behind-append, behind-nil}
+use Rattle.certificate.proofs.Distinct.{behind-append}
 use Rattle.certificate.proofs.Last.{above_blocks-last, may_bound_slot-last}
 use Rattle.searcher.specs.Growths.{grown, grown_behind, grown_by, then_grown}
 use Rattle.searcher.specs.Flat.{points_from}
@@ -30,7 +30,7 @@ abbrev pub names : List PointBound → List (List ℕ)
 names points = flat_map programs_of_block points
 
 -- slots that name no program
-pub AllPlain : List Slot → Type 0
+unfoldable pub AllPlain : List Slot → Type 0
 AllPlain [] = Unit {0}
 AllPlain (s ∷ slots) = (programs_of_slot s ≡ []) × AllPlain slots
 
@@ -44,7 +44,7 @@ unfolding AllPlain
 plain_behind [] s plain is = (is, tt)
 plain_behind (t ∷ slots) s plain is = (plain.0, plain_behind slots s plain.1 is)
 
-plain_closed : (slots : List Slot) (n : ℕ) → AllPlain slots → AllPlain (slots ++ copies n Closed)
+pub plain_closed : (slots : List Slot) (n : ℕ) → AllPlain slots → AllPlain (slots ++ copies n Closed)
 unfolding AllPlain
 plain_closed [] zero plain = tt
 plain_closed [] (suc n) plain = (refl, plain_closed [] n tt)
@@ -205,7 +205,7 @@ next_above points b =
     ∙ ap (λ o. is_lt (ordering_then o (nat_cmp b.point (b.point + 1)))) (same_name b.program)
     ∙ ap is_lt (sym (nat_cmp_is b.point (b.point + 1) Less less))
 
-abbrev flat_of : ModeBound → List Slot → Bound
+abbrev pub flat_of : ModeBound → List Slot → Bound
 flat_of mode slots = record { mode = mode; registers = copies 8 full_interval; slots = slots }
 
 module _ (name : List ℕ) (mode : ModeBound) (slots : List Slot) (long : length slots ≡ 16) (plain : AllPlain slots) where

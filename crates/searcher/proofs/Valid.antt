@@ -17,7 +17,7 @@ starts_valid plan valid =
     let few = nat_le 1 (length plan.starts) && nat_le (length plan.starts) most_processes in
     both_right few (list_all (is_start plan.nodes (length plan.programs)) plan.starts) (both_right before starts valid)
 
-programs_named : (plan : Plan) → is_plan plan ≡ true → list_all is_named plan.programs ≡ true
+pub programs_named : (plan : Plan) → is_plan plan ≡ true → list_all is_named plan.programs ≡ true
 programs_named plan valid =
     let before = is_tree plan.nodes && are_grants plan.nodes plan.grants in
     let programs = are_programs plan.programs in

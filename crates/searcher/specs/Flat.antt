@@ -8,11 +8,10 @@ use Rattle.file_tree.specs.Nodes.{node}
 use Rattle.file_tree.specs.Places.{begins}
 use Rattle.certificate.specs.Bounds.{ModeBound, Off, On, Either, Target, In_grant, Any_node, Socket, Held, Bound, PointBound, Certificate, with_slot}
 use Rattle.certificate.specs.Bounds as bounds
-use Rattle.certificate.specs.Growth.{name_order, nothing, open_bound}
+use Rattle.certificate.specs.Growth.{name_order, open_bound}
 use Rattle.prog_asm.specs.Programs.{Syscall, Cap_enter, Instruction, Invoke}
 use Rattle.task.specs.Plans.{Grant, FirstObject, On_node, On_end, FirstDescriptor, Start, Plan, program_name, programs_of_plan}
 use Rattle.task.specs.Limits.{all_apart}
-use Rattle.searcher.specs.Growths.{grown_by}
 
 -- the grant that holds a place, of which there is one at most
 unfoldable pub grant_target : List Grant → List (List ℕ) → Target
@@ -98,6 +97,6 @@ flat_points plan = points_behind plan plan.starts []
 abbrev pub have_own : List Start → Bool
 have_own starts = all_apart (λ (s t : Start). not (s.program == t.program)) starts
 
--- THE FLAT CERTIFICATE, made of its points in their order. A task has none in which two of the first processes have one program.
+-- THE FLAT CERTIFICATE. A task has none in which two of the first processes have one program.
 unfoldable pub flat : Plan → Option Certificate
-flat plan = if have_own plan.starts then grown_by (flat_points plan) nothing else None
+flat plan = if have_own plan.starts then Some (record { points = flat_points plan; channels = [] }) else None

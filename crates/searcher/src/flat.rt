@@ -256,7 +256,7 @@ fn have_own(starts: &[Start]) -> bool
     }
 }
 
-/// The flat certificate of a task, if it has one.
+/// The flat certificate of a task, if it has one: no line of it is ever refused.
 #[tactic(auto, unfolding(crate::specs::Flat::flat))]
 pub(crate) fn flat(alloc: Global, task: &Task) -> Result<Option<Cert>, AllocError>
     ensures { IfOk result (λ found. found ≡ flat task.now) }
@@ -264,10 +264,12 @@ pub(crate) fn flat(alloc: Global, task: &Task) -> Result<Option<Cert>, AllocErro
     if !have_own(task.starts()) {
         return Ok(None);
     }
+    let _programs = task.programs();
     let mut cert = Cert::new(alloc);
     match push_behind(&mut cert, task, task.starts(), b"") {
         Ok(()) => Ok(Some(cert)),
         Err(Refusal::Memory) => Err(AllocError),
-        Err(Refusal::Limit | Refusal::Order) => Ok(None),
+        Err(Refusal::Limit) => unreachable!(),
+        Err(Refusal::Order) => unreachable!(),
     }
 }

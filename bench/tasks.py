@@ -1,0 +1,17 @@
+"""Tasks that benches judge."""
+
+CALLS = ["read r1", "write r2 r3", "renameat r1 \"a\" r2 \"b\"", "fstat r1", "openat r1 \"a\" read", "unlinkat r2 \"a\"", "lseek r1 r3",
+    "mkdirat r2 \"a\""]
+
+
+def task_of(programs):
+    """A task of so many programs of 256 points, each with one process, in the mode, that has sixteen directories of a grant."""
+    slots = ", ".join(f'{{number={number}, path="/work"}}' for number in range(16))
+    starts = ",\n ".join(f'{{program="p{program}", mode="cap", fd=[{slots}]}}' for program in range(programs))
+    code = "".join(f"l{point}: {CALLS[point % len(CALLS)]} else l{point}\n" for point in range(255)) + "halt\n"
+    texts = "".join(f"[[program]]\nname = \"p{program}\"\ncode = '''\n{code}'''\n" for program in range(programs))
+    return (
+        'node = [{path="/work", kind="dir"}]\n'
+        'grant = [{name="work", path="/work", ops=["look", "read", "write", "create", "remove"]}]\n'
+        f"process = [{starts}]\n{texts}"
+    )
