@@ -5,10 +5,12 @@ CALLS = ["read r1", "write r2 r3", "renameat r1 \"a\" r2 \"b\"", "fstat r1", "op
 
 
 def task_of(programs):
-    """A task of so many programs of 256 points, each with one process, in the mode, that has sixteen directories of a grant."""
+    """A task of so many programs of 256 points, each with one process, in the mode, that has sixteen directories of a grant. Three
+    registers are read first, so that a call through one goes to any descriptor; every point is reached, as each call may fail."""
     slots = ", ".join(f'{{number={number}, path="/work"}}' for number in range(16))
     starts = ",\n ".join(f'{{program="p{program}", mode="cap", fd=[{slots}]}}' for program in range(programs))
-    code = "".join(f"l{point}: {CALLS[point % len(CALLS)]} else l{point}\n" for point in range(255)) + "halt\n"
+    lines = ["in r1", "in r2", "in r3"] + [f"{CALLS[point % len(CALLS)]} else l{point + 1}" for point in range(3, 255)] + ["halt"]
+    code = "".join(f"l{point}: {line}\n" for point, line in enumerate(lines))
     texts = "".join(f"[[program]]\nname = \"p{program}\"\ncode = '''\n{code}'''\n" for program in range(programs))
     return (
         'node = [{path="/work", kind="dir"}]\n'
