@@ -4,6 +4,7 @@ pub mod Passing
 pub mod WrittenLaws
 pub mod ValidPlans
 pub mod PathTexts
+pub mod IndexLaws
 pub mod Stages
 pub mod EachItem
 pub mod Rows

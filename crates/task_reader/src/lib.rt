@@ -6,6 +6,7 @@ mod descriptors;
 mod documents;
 pub mod faults;
 mod fields;
+mod indexes;
 pub mod laws;
 mod limits;
 mod paths;

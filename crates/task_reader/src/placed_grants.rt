@@ -4,44 +4,49 @@ ghost use Rattle.std.specs.Prelude.{◌≡◌, IfOk, option_map};
 ghost use Rattle.std.specs.List.{list_all};
 ghost use Rattle.file_tree.specs.Views.{names_of};
 ghost use Rattle.task_reader.specs.Faults.{ReadsTask};
+ghost use Rattle.task_reader.specs.Indexes.{IsIndex, IsPath};
 ghost use Rattle.task.specs.Limits.{all_apart};
 ghost use Rattle.task_reader.specs.Reading.{Wrong_grant, are_disjoint, can_grant, grant_placed, grants_placed, or_mistake, policy_of};
 ghost use Rattle.task.specs.Views.{grant_of, grants_of, nodes_of};
 ghost use Rattle.task_reader.specs.WrittenViews.{grant_seen, grants_seen};
 
 use crate::faults::TaskFault;
+use crate::indexes::{IndexedNodes, has_directory};
 use crate::paths::read_place;
-use crate::trees::has_directory;
 use crate::written::WrittenGrant;
 use file_tree::is_front;
 use std::alloc::{AllocError, Global};
-use task::{Grant, TaskNode};
+use task::Grant;
 
-/// Whether a grant can be of a place: a directory stands there.
+/// Whether a grant can be of the place of a path: a directory stands there.
 #[tactic(auto, unfolding(crate::specs::Reading::can_grant))]
-fn can_grant(nodes: &[TaskNode], place: &[Vec<u8>]) -> bool
-    ensures { result ≡ can_grant (nodes_of nodes.now) (names_of place.now) }
+fn can_grant(tree: &IndexedNodes<'_>, path: &[u8], place: &[Vec<u8>]) -> bool
+    requires index { IsIndex tree.now.numbers (nodes_of tree.now.nodes.items) }
+    requires path { IsPath path.now (names_of place.now) }
+    ensures { result ≡ can_grant (nodes_of tree.now.nodes.items) (names_of place.now) }
 {
-    has_directory(nodes, place)
+    has_directory(tree, path, place)
 }
 
 /// The grant, if a directory stands at its path.
 fn place_grant(
     alloc: Global,
-    nodes: &[TaskNode],
+    tree: &IndexedNodes<'_>,
     grant: &WrittenGrant<'_>,
 ) -> Result<Option<Grant>, AllocError>
-    ensures { IfOk result (λ placed. option_map grant_of placed ≡ grant_placed (nodes_of nodes.now) (grant_seen grant.now)) }
+    requires { IsIndex tree.now.numbers (nodes_of tree.now.nodes.items) }
+    ensures { IfOk result (λ placed. option_map grant_of placed ≡ grant_placed (nodes_of tree.now.nodes.items) (grant_seen grant.now)) }
 {
-    let Some(path) = read_place(alloc, grant.path.as_bytes())? else {
+    let path = grant.path.as_bytes();
+    let Some(place) = read_place(alloc, path)? else {
         return Ok(None);
     };
-    if !can_grant(nodes, &path) {
+    if !can_grant(tree, path, &place) {
         return Ok(None);
     }
     Ok(Some(Grant {
         name: String::from_str(alloc, grant.name)?,
-        path,
+        path: place,
         operations: Vec::from_slice(alloc, &grant.operations)?,
     }))
 }
@@ -49,15 +54,16 @@ fn place_grant(
 /// The grants, if a directory stands at the path of each.
 fn place_grants(
     alloc: Global,
-    nodes: &[TaskNode],
+    tree: &IndexedNodes<'_>,
     written: &[WrittenGrant<'_>],
 ) -> Result<Option<Vec<Grant>>, AllocError>
+    requires { IsIndex tree.now.numbers (nodes_of tree.now.nodes.items) }
     ensures { IfOk result (λ placed. option_map (λ grants. grants_of grants.items) placed
-        ≡ grants_placed (nodes_of nodes.now) (grants_seen written.now)) }
+        ≡ grants_placed (nodes_of tree.now.nodes.items) (grants_seen written.now)) }
 {
     let mut grants = Vec::new(alloc);
     for grant in written {
-        match place_grant(alloc, nodes, grant)? {
+        match place_grant(alloc, tree, grant)? {
             Some(placed) => grants.push(placed)?,
             None => return Ok(None),
         }
@@ -95,13 +101,14 @@ fn are_apart(grants: &[Grant]) -> bool
 /// The policy of some grants: each is of a directory, and no place is in two. (own)
 pub(crate) fn make_policy(
     alloc: Global,
-    nodes: &[TaskNode],
+    tree: &IndexedNodes<'_>,
     written: &[WrittenGrant<'_>],
 ) -> Result<Vec<Grant>, TaskFault>
+    requires { IsIndex tree.now.numbers (nodes_of tree.now.nodes.items) }
     ensures { ReadsTask (λ grants. grants_of grants.items) result
-        (or_mistake Wrong_grant (policy_of (nodes_of nodes.now) (grants_seen written.now))) }
+        (or_mistake Wrong_grant (policy_of (nodes_of tree.now.nodes.items) (grants_seen written.now))) }
 {
-    let Some(grants) = place_grants(alloc, nodes, written)? else {
+    let Some(grants) = place_grants(alloc, tree, written)? else {
         return Err(TaskFault::Grant);
     };
     if !are_apart(&grants) {

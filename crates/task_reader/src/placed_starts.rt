@@ -3,9 +3,8 @@
 ghost use Rattle.std.specs.Prelude.{◌≡◌, ◌<◌, IfOk, IfSome, length, map, option_map};
 ghost use Rattle.std.specs.List.{list_all};
 ghost use Rattle.fd_table.specs.Views.{access_seen, side_seen};
-ghost use Rattle.file_tree.specs.Nodes.{node, node_at};
-ghost use Rattle.file_tree.specs.Views.{names_of};
 ghost use Rattle.task_reader.specs.Faults.{ReadsTask};
+ghost use Rattle.task_reader.specs.Indexes.{IsIndex};
 ghost use Rattle.task.specs.Limits.{all_apart, are_numbered_apart};
 ghost use Rattle.task_reader.specs.Placed.{placed_descriptor, placed_object, placed_start, placed_starts};
 ghost use Rattle.task_reader.specs.Reading.{Wrong_descriptor, can_access, can_open, descriptor_placed, descriptors_placed, number_below, number_of_path, object_placed, or_mistake, pair_placed, path_placed, start_placed, starts_placed, table_of};
@@ -13,10 +12,10 @@ ghost use Rattle.task.specs.Views.{node_of, nodes_of};
 ghost use Rattle.task_reader.specs.WrittenViews.{descriptor_seen, object_seen, start_seen, starts_seen};
 
 use crate::faults::TaskFault;
-use crate::paths::read_place;
+use crate::indexes::{IndexedNodes, number_at};
 use crate::written::{WrittenDescriptor, WrittenObject, WrittenStart};
 use fd_table::{Access, Side};
-use file_tree::{Kind, is_same_place};
+use file_tree::Kind;
 use rights::limits::{MAX_DESCRIPTORS, MAX_PAIRS};
 use rights::{Fcntls, Rights};
 use std::alloc::{AllocError, Global};
@@ -49,35 +48,6 @@ pub(crate) struct PlacedStart {
     pub(crate) descriptors: Vec<PlacedDescriptor>,
 }
 
-/// The number of the node at a place.
-#[tactic(auto, unfolding(file_tree::specs::Nodes::node_at))]
-fn node_number(nodes: &[TaskNode], place: &[Vec<u8>]) -> Option<usize>
-    ensures value { result ≡ node_at (nodes_of nodes.now) (names_of place.now) }
-    ensures within { IfSome result (λ number. number < length nodes.now) }
-{
-    for (number, node) in nodes.iter().enumerate() {
-        if is_same_place(place, &node.place) {
-            return Some(number);
-        }
-    }
-    None
-}
-
-/// The number of the node at a path.
-fn number_of_path(
-    alloc: Global,
-    nodes: &[TaskNode],
-    path: &[u8],
-) -> Result<Option<usize>, AllocError>
-    ensures value { IfOk result (λ number. number ≡ number_of_path (nodes_of nodes.now) path.now) }
-    ensures within { IfOk result (λ number. IfSome number (λ n. n < length nodes.now)) }
-{
-    match read_place(alloc, path)? {
-        Some(place) => Ok(node_number(nodes, &place)),
-        None => Ok(None),
-    }
-}
-
 /// The number, if it is one from 0 to below the bound.
 fn number_below(bound: u8, number: i64) -> Option<u8>
     ensures { result ≡ number_below bound number }
@@ -108,20 +78,16 @@ fn can_open(nodes: &[TaskNode], number: usize, access: Access) -> bool
 }
 
 /// The node at a path, if it can be opened so.
-fn place_node(
-    alloc: Global,
-    nodes: &[TaskNode],
-    path: &str,
-    access: Access,
-) -> Result<Option<PlacedObject>, AllocError>
-    ensures { IfOk result (λ placed. option_map placed_object placed
-        ≡ path_placed (nodes_of nodes.now) path.now (access_seen access)) }
+fn place_node(tree: &IndexedNodes<'_>, path: &str, access: Access) -> Option<PlacedObject>
+    requires { IsIndex tree.now.numbers (nodes_of tree.now.nodes.items) }
+    ensures { option_map placed_object result
+        ≡ path_placed (nodes_of tree.now.nodes.items) path.now (access_seen access) }
 {
-    match number_of_path(alloc, nodes, path.as_bytes())? {
-        Some(node) if can_open(nodes, node, access) => {
-            Ok(Some(PlacedObject::Node { node, access }))
+    match number_at(tree, path.as_bytes()) {
+        Some(node) if can_open(&tree.nodes, node, access) => {
+            Some(PlacedObject::Node { node, access })
         }
-        _ => Ok(None),
+        _ => None,
     }
 }
 
@@ -134,54 +100,47 @@ fn place_end(pair: i64, side: Side) -> Option<PlacedObject>
 }
 
 /// The node or the end that a descriptor is of, if it can be.
-fn place_object(
-    alloc: Global,
-    nodes: &[TaskNode],
-    object: &WrittenObject<'_>,
-) -> Result<Option<PlacedObject>, AllocError>
-    ensures { IfOk result (λ placed. option_map placed_object placed
-        ≡ object_placed (nodes_of nodes.now) (object_seen object.now)) }
+fn place_object(tree: &IndexedNodes<'_>, object: &WrittenObject<'_>) -> Option<PlacedObject>
+    requires { IsIndex tree.now.numbers (nodes_of tree.now.nodes.items) }
+    ensures { option_map placed_object result
+        ≡ object_placed (nodes_of tree.now.nodes.items) (object_seen object.now) }
 {
     match object {
-        WrittenObject::Path { path, access } => place_node(alloc, nodes, path, *access),
-        WrittenObject::Pair { pair, side } => Ok(place_end(*pair, *side)),
+        WrittenObject::Path { path, access } => place_node(tree, path, *access),
+        WrittenObject::Pair { pair, side } => place_end(*pair, *side),
     }
 }
 
 /// The descriptor on its node or end, if its number is one and it can be.
 fn place_descriptor(
-    alloc: Global,
-    nodes: &[TaskNode],
+    tree: &IndexedNodes<'_>,
     descriptor: &WrittenDescriptor<'_>,
-) -> Result<Option<PlacedDescriptor>, AllocError>
-    ensures { IfOk result (λ placed. option_map placed_descriptor placed
-        ≡ descriptor_placed (nodes_of nodes.now) (descriptor_seen descriptor.now)) }
+) -> Option<PlacedDescriptor>
+    requires { IsIndex tree.now.numbers (nodes_of tree.now.nodes.items) }
+    ensures { option_map placed_descriptor result
+        ≡ descriptor_placed (nodes_of tree.now.nodes.items) (descriptor_seen descriptor.now) }
 {
-    let number = number_below(NUMBERS, descriptor.number);
-    let object = place_object(alloc, nodes, &descriptor.object)?;
-    match (number, object) {
-        (Some(number), Some(object)) => Ok(Some(PlacedDescriptor {
-            number,
-            object,
-            rights: descriptor.rights,
-            fcntls: descriptor.fcntls,
-        })),
-        _ => Ok(None),
-    }
+    Some(PlacedDescriptor {
+        number: number_below(NUMBERS, descriptor.number)?,
+        object: place_object(tree, &descriptor.object)?,
+        rights: descriptor.rights,
+        fcntls: descriptor.fcntls,
+    })
 }
 
 /// The descriptors on their nodes and ends, if each can be.
 fn place_descriptors(
     alloc: Global,
-    nodes: &[TaskNode],
+    tree: &IndexedNodes<'_>,
     written: &[WrittenDescriptor<'_>],
 ) -> Result<Option<Vec<PlacedDescriptor>>, AllocError>
+    requires { IsIndex tree.now.numbers (nodes_of tree.now.nodes.items) }
     ensures { IfOk result (λ placed. option_map (λ descriptors. map placed_descriptor descriptors.items) placed
-        ≡ descriptors_placed (nodes_of nodes.now) (map descriptor_seen written.now)) }
+        ≡ descriptors_placed (nodes_of tree.now.nodes.items) (map descriptor_seen written.now)) }
 {
     let mut descriptors = Vec::new(alloc);
     for descriptor in written {
-        match place_descriptor(alloc, nodes, descriptor)? {
+        match place_descriptor(tree, descriptor) {
             Some(placed) => descriptors.push(placed)?,
             None => return Ok(None),
         }
@@ -212,13 +171,14 @@ fn are_apart(descriptors: &[PlacedDescriptor]) -> bool
 /// A process's descriptors, if each can be on its node or end and has a number of its own.
 fn make_table(
     alloc: Global,
-    nodes: &[TaskNode],
+    tree: &IndexedNodes<'_>,
     written: &[WrittenDescriptor<'_>],
 ) -> Result<Option<Vec<PlacedDescriptor>>, AllocError>
+    requires { IsIndex tree.now.numbers (nodes_of tree.now.nodes.items) }
     ensures { IfOk result (λ placed. option_map (λ descriptors. map placed_descriptor descriptors.items) placed
-        ≡ table_of (nodes_of nodes.now) (map descriptor_seen written.now)) }
+        ≡ table_of (nodes_of tree.now.nodes.items) (map descriptor_seen written.now)) }
 {
-    let Some(descriptors) = place_descriptors(alloc, nodes, written)? else {
+    let Some(descriptors) = place_descriptors(alloc, tree, written)? else {
         return Ok(None);
     };
     if !are_apart(&descriptors) {
@@ -230,12 +190,13 @@ fn make_table(
 /// The process with its descriptors on their nodes and ends.
 fn place_start(
     alloc: Global,
-    nodes: &[TaskNode],
+    tree: &IndexedNodes<'_>,
     start: &WrittenStart<'_>,
 ) -> Result<Option<PlacedStart>, AllocError>
-    ensures { IfOk result (λ placed. option_map placed_start placed ≡ start_placed (nodes_of nodes.now) (start_seen start.now)) }
+    requires { IsIndex tree.now.numbers (nodes_of tree.now.nodes.items) }
+    ensures { IfOk result (λ placed. option_map placed_start placed ≡ start_placed (nodes_of tree.now.nodes.items) (start_seen start.now)) }
 {
-    let Some(descriptors) = make_table(alloc, nodes, &start.descriptors)? else {
+    let Some(descriptors) = make_table(alloc, tree, &start.descriptors)? else {
         return Ok(None);
     };
     Ok(Some(PlacedStart {
@@ -248,15 +209,16 @@ fn place_start(
 /// The first processes, with their descriptors on their nodes and ends. (own)
 pub(crate) fn place_starts(
     alloc: Global,
-    nodes: &[TaskNode],
+    tree: &IndexedNodes<'_>,
     written: &[WrittenStart<'_>],
 ) -> Result<Vec<PlacedStart>, TaskFault>
+    requires { IsIndex tree.now.numbers (nodes_of tree.now.nodes.items) }
     ensures { ReadsTask (λ starts. placed_starts starts.items) result
-        (or_mistake Wrong_descriptor (starts_placed (nodes_of nodes.now) (starts_seen written.now))) }
+        (or_mistake Wrong_descriptor (starts_placed (nodes_of tree.now.nodes.items) (starts_seen written.now))) }
 {
     let mut starts = Vec::new(alloc);
     for start in written {
-        match place_start(alloc, nodes, start)? {
+        match place_start(alloc, tree, start)? {
             Some(placed) => starts.push(placed)?,
             None => return Err(TaskFault::Descriptor),
         }

@@ -85,15 +85,15 @@ fn make_task(alloc: Global, written: &WrittenTask<'_>) -> Result<Task, TaskFault
     requires { (document : Members) × (written_task document ≡ Some (task_seen written.now)) }
     ensures { ReadsTask (λ task. task) result (plan_of (task_seen written.now)) }
 {
-    let nodes = make_tree(alloc, &written.nodes)?;
-    let grants = make_policy(alloc, &nodes, &written.grants)?;
-    let placed = place_starts(alloc, &nodes, &written.starts)?;
+    let tree = make_tree(alloc, &written.nodes)?;
+    let grants = make_policy(alloc, &tree, &written.grants)?;
+    let placed = place_starts(alloc, &tree, &written.starts)?;
     let programs = assemble_all(alloc, &written.programs)?;
-    if !keeps_limits(written, &nodes) {
+    if !keeps_limits(written, &tree.nodes) {
         return Err(TaskFault::Limit);
     }
     let starts = kept_starts(alloc, &placed)?;
-    Ok(Task::new(nodes, grants, programs, starts))
+    Ok(Task::new(tree.nodes, grants, programs, starts))
 }
 
 /// Reads a task from a TOML document. (own; descriptors after open(2), socketpair(2), rights(4) and cap_fcntls_limit(2))

@@ -1,84 +1,33 @@
 //! The tree that a task's nodes make.
 
 ghost use Rattle.std.specs.Prelude.{◌≡◌, IfOk, option_map};
-ghost use Rattle.std.specs.List.{list_any};
-ghost use Rattle.file_tree.specs.Nodes.{stands_at};
-ghost use Rattle.file_tree.specs.Places.{above};
-ghost use Rattle.file_tree.specs.Views.{names_of};
-ghost use Rattle.file_tree.specs.WellFormed.{has_directory};
 ghost use Rattle.task_reader.specs.Faults.{ReadsTask};
-ghost use Rattle.task_reader.specs.Reading.{Wrong_node, can_stand, node_made, or_mistake, tree_of};
+ghost use Rattle.task_reader.specs.Indexes.{IsIndex};
+ghost use Rattle.task_reader.specs.Reading.{Wrong_node, node_made, or_mistake, tree_of};
 ghost use Rattle.task.specs.Views.{node_of, nodes_of};
 ghost use Rattle.task_reader.specs.WrittenViews.{node_seen, nodes_seen};
 
 use crate::faults::TaskFault;
+use crate::indexes::{IndexedNodes, add_node, can_stand, root_alone};
 use crate::paths::read_place;
 use crate::written::WrittenNode;
-use file_tree::{Kind, is_same_place};
 use std::alloc::{AllocError, Global};
 use task::TaskNode;
-
-/// Whether a directory stands at a place.
-pub(crate) fn has_directory(nodes: &[TaskNode], place: &[Vec<u8>]) -> bool
-    ensures { result ≡ has_directory (nodes_of nodes.now) (names_of place.now) }
-{
-    match nodes {
-        [] => false,
-        [node, rest @ ..] => {
-            if is_same_place(place, &node.place) && matches!(node.kind, Kind::Dir) {
-                return true;
-            }
-            has_directory(rest, place)
-        }
-    }
-}
-
-/// Whether something stands at a place.
-fn is_taken(nodes: &[TaskNode], place: &[Vec<u8>]) -> bool
-    ensures { result ≡ list_any (stands_at (names_of place.now)) (nodes_of nodes.now) }
-{
-    match nodes {
-        [] => false,
-        [node, rest @ ..] => {
-            if is_same_place(place, &node.place) {
-                return true;
-            }
-            is_taken(rest, place)
-        }
-    }
-}
-
-/// The place of the directory above, which for the root is the root.
-fn above(place: &[Vec<u8>]) -> &[Vec<u8>]
-    ensures { names_of result.now ≡ above (names_of place.now) }
-{
-    match place {
-        [] => place,
-        [front @ .., _] => front,
-    }
-}
-
-/// Whether a node can stand at a place: in a directory that is there, and where nothing stands yet.
-#[tactic(auto, unfolding(crate::specs::Reading::can_stand))]
-fn can_stand(nodes: &[TaskNode], place: &[Vec<u8>]) -> bool
-    ensures { result ≡ can_stand (nodes_of nodes.now) (names_of place.now) }
-{
-    let is_taken = is_taken(nodes, place);
-    has_directory(nodes, above(place)) && !is_taken
-}
 
 /// The node behind those that are made, if it can stand there.
 fn make_node(
     alloc: Global,
-    nodes: &[TaskNode],
+    tree: &IndexedNodes<'_>,
     node: &WrittenNode<'_>,
 ) -> Result<Option<TaskNode>, AllocError>
-    ensures { IfOk result (λ made. option_map node_of made ≡ node_made (nodes_of nodes.now) (node_seen node.now)) }
+    requires { IsIndex tree.now.numbers (nodes_of tree.now.nodes.items) }
+    ensures { IfOk result (λ made. option_map node_of made ≡ node_made (nodes_of tree.now.nodes.items) (node_seen node.now)) }
 {
-    let Some(place) = read_place(alloc, node.path.as_bytes())? else {
+    let path = node.path.as_bytes();
+    let Some(place) = read_place(alloc, path)? else {
         return Ok(None);
     };
-    if !can_stand(nodes, &place) {
+    if !can_stand(tree, path, &place) {
         return Ok(None);
     }
     Ok(Some(TaskNode {
@@ -89,23 +38,19 @@ fn make_node(
 }
 
 /// The tree of some nodes, the root first. (own)
-pub(crate) fn make_tree(
+pub(crate) fn make_tree<'a>(
     alloc: Global,
-    written: &[WrittenNode<'_>],
-) -> Result<Vec<TaskNode>, TaskFault>
-    ensures { ReadsTask (λ nodes. nodes_of nodes.items) result (or_mistake Wrong_node (tree_of (nodes_seen written.now))) }
+    written: &[WrittenNode<'a>],
+) -> Result<IndexedNodes<'a>, TaskFault>
+    ensures tree { ReadsTask (λ tree. nodes_of tree.nodes.items) result (or_mistake Wrong_node (tree_of (nodes_seen written.now))) }
+    ensures index { IfOk result (λ tree. IsIndex tree.numbers (nodes_of tree.nodes.items)) }
 {
-    let mut nodes = Vec::new(alloc);
-    nodes.push(TaskNode {
-        kind: Kind::Dir,
-        place: Vec::new(alloc),
-        content: Vec::new(alloc),
-    })?;
+    let mut tree = root_alone(alloc)?;
     for node in written {
-        match make_node(alloc, &nodes, node)? {
-            Some(made) => nodes.push(made)?,
+        match make_node(alloc, &tree, node)? {
+            Some(made) => add_node(&mut tree, node, made)?,
             None => return Err(TaskFault::Node),
         }
     }
-    Ok(nodes)
+    Ok(tree)
 }

@@ -7,5 +7,5 @@ use Rattle.task_reader.proofs.placed_grants.place_grants.Given as goal
 -- the grants so far, and then those that are left
 abbrev pub invariant-loop-grant : goal.invariant-loop-grant
 invariant-loop-grant l =
-    grants_placed (nodes_of l.nodes) (grants_seen l.written)
-    ≡ option_map (λ rest. grants_of l.grants.items ++ rest) (grants_placed (nodes_of l.nodes) (grants_seen (drop l.grant-index l.written)))
+    grants_placed (nodes_of l.tree.nodes.items) (grants_seen l.written)
+    ≡ option_map (λ rest. grants_of l.grants.items ++ rest) (grants_placed (nodes_of l.tree.nodes.items) (grants_seen (drop l.grant-index l.written)))

@@ -8,5 +8,5 @@ use Rattle.task_reader.proofs.placed_starts.place_starts.Given as goal
 -- the processes so far, and then those that are left
 abbrev pub invariant-loop-start : goal.invariant-loop-start
 invariant-loop-start l =
-    starts_placed (nodes_of l.nodes) (starts_seen l.written)
-    ≡ option_map (λ rest. placed_starts l.starts.items ++ rest) (starts_placed (nodes_of l.nodes) (starts_seen (drop l.start-index l.written)))
+    starts_placed (nodes_of l.tree.nodes.items) (starts_seen l.written)
+    ≡ option_map (λ rest. placed_starts l.starts.items ++ rest) (starts_placed (nodes_of l.tree.nodes.items) (starts_seen (drop l.start-index l.written)))

@@ -1,7 +1,7 @@
 use Rattle.std.proofs.Common.{◌-◌, length, map, take, ap, sym, ◌∙◌}
 use Rattle.std.specs.List.{take-map}
 use Rattle.std.proofs.lemmas.List.{length-map}
-use Rattle.task_reader.proofs.trees.above.Goals as goal
+use Rattle.task_reader.proofs.indexes.above.Goals as goal
 
 pub returns-in-len1-up : goal.returns-in-len1-up
 returns-in-len1-up c =

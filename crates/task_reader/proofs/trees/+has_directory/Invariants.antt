@@ -1,5 +1,0 @@
-use Rattle.std.proofs.Common.{length}
-use Rattle.task_reader.proofs.trees.+has_directory.Given as goal
-
-abbrev pub decreases-has_directory : goal.decreases-has_directory
-decreases-has_directory l = length l.nodes.now
