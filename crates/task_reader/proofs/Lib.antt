@@ -5,6 +5,7 @@ pub mod WrittenLaws
 pub mod ValidPlans
 pub mod PathTexts
 pub mod IndexLaws
+pub mod OnceLaws
 pub mod Stages
 pub mod EachItem
 pub mod Rows

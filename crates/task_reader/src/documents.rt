@@ -1,13 +1,15 @@
 //! What stands in the tables of a TOML document.
 
-ghost use Rattle.std.specs.Prelude.{◌≡◌, map, option_map};
+ghost use Rattle.std.specs.Prelude.{◌≡◌, IfErr, IfOk, map, option_map};
 ghost use Rattle.toml.specs.Data.{as_str, get_member};
 ghost use Rattle.toml.specs.View.{array_view, items_view, table_view, view};
-ghost use Rattle.task_reader.specs.Documents.{are_once, document_of, each_item, integer_at, is_among, items_at, only_keys, text_at, words_in};
+ghost use Rattle.task_reader.specs.Documents.{document_of, each_item, integer_at, is_among, items_at, once, only_keys, text_at, words_in};
 ghost use Rattle.task_reader.specs.Faults.{ReadsTask};
 ghost use Rattle.task_reader.specs.Reading.{Not_toml, Wrong_field, or_mistake};
+ghost use Rattle.task_reader.specs.declared.faults.TaskFault.TheVariants as fault;
 
 use crate::faults::TaskFault;
+use indexmap::IndexSet;
 use std::alloc::Global;
 use toml::value::Array;
 use toml::{Table, Value};
@@ -39,14 +41,22 @@ pub(crate) fn is_among(word: &str, words: &[&str]) -> bool
     false
 }
 
-/// Whether no word is given twice.
-pub(crate) fn are_once(words: &[&str]) -> bool
-    ensures { result ≡ are_once (map (λ w. w.now) words.now) }
+/// The words as a set, or nothing where one is given twice.
+pub(crate) fn words_once<'a>(
+    alloc: Global,
+    words: &[&'a str],
+) -> Result<Option<IndexSet<&'a str>>, TaskFault>
+    ensures once { IfOk result (λ set. option_map (λ s. map (λ w. w.now) s.keys) set ≡ once (map (λ w. w.now) words.now)) }
+    ensures memory { IfErr result (λ error. error ≡ fault.Memory) }
 {
-    match words {
-        [] => true,
-        [word, rest @ ..] => !is_among(word, rest) && are_once(rest),
+    let mut set = IndexSet::new(alloc);
+    for word in words {
+        let (_, is_new) = set.insert_full(*word)?;
+        if !is_new {
+            return Ok(None);
+        }
     }
+    Ok(Some(set))
 }
 
 /// Whether a table has no keys but these.
@@ -121,8 +131,8 @@ pub(crate) fn read_words<'a>(alloc: Global, value: &'a Value) -> Result<Vec<&'a 
         None => return Err(TaskFault::Field),
     };
     let words = read_texts(alloc, values)?;
-    if !are_once(&words) {
-        return Err(TaskFault::Field);
+    match words_once(alloc, &words)? {
+        Some(_) => Ok(words),
+        None => Err(TaskFault::Field),
     }
-    Ok(words)
 }

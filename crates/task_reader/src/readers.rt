@@ -10,13 +10,14 @@ ghost use Rattle.task_reader.specs.Written.{descriptors_in, listed_starts, mode_
 ghost use Rattle.task_reader.specs.WrittenViews.{descriptor_seen, grant_seen, grants_seen, node_seen, nodes_seen, program_seen, programs_seen, start_seen, starts_seen, task_seen};
 
 use crate::descriptors::written_descriptor;
-use crate::documents::{are_once, has_only, items_at, text_at, value_at};
+use crate::documents::{has_only, items_at, text_at, value_at, words_once};
 use crate::faults::TaskFault;
 use crate::fields::{written_grant, written_node, written_program};
 use crate::words::{mode, place_among};
 use crate::written::{
     WrittenDescriptor, WrittenGrant, WrittenNode, WrittenProgram, WrittenStart, WrittenTask,
 };
+use indexmap::IndexSet;
 use std::alloc::{AllocFailed, Global};
 use toml::{Table, Value};
 
@@ -83,10 +84,17 @@ fn read_grants<'a>(alloc: Global, table: &'a Table) -> Result<Vec<WrittenGrant<'
     };
     let grants = grant_list(alloc, values)?;
     let names = grant_names(alloc, &grants)?;
-    if !are_once(&names) {
-        return Err(TaskFault::Field);
+    match words_once(alloc, &names)? {
+        Some(_) => Ok(grants),
+        None => Err(TaskFault::Field),
     }
-    Ok(grants)
+}
+
+/// Programs, and the set of their names in the same order.
+#[derive(Drop)]
+struct NamedPrograms<'a> {
+    programs: Vec<WrittenProgram<'a>>,
+    names: IndexSet<&'a str>,
 }
 
 /// The programs of a list.
@@ -121,21 +129,22 @@ fn program_names<'a>(
     Ok(names)
 }
 
-/// A document's programs: each name is given once.
-fn read_programs<'a>(alloc: Global, table: &'a Table) -> Result<Vec<WrittenProgram<'a>>, TaskFault>
-    ensures { ReadsTask (λ programs. programs_seen programs.items) result
+/// A document's programs, with their names: each is given once.
+fn read_programs<'a>(alloc: Global, table: &'a Table) -> Result<NamedPrograms<'a>, TaskFault>
+    ensures programs { ReadsTask (λ read. programs_seen read.programs.items) result
         (or_mistake Wrong_field (written_programs (table_view table.now))) }
+    ensures names { IfOk result (λ read. map (λ n. n.now) read.names.keys ≡ names_of_programs (programs_seen read.programs.items)) }
 {
     let values = match items_at(table, "program") {
         Some(values) => values,
         None => return Err(TaskFault::Field),
     };
     let programs = program_list(alloc, values)?;
-    let names = program_names(alloc, &programs)?;
-    if !are_once(&names) {
-        return Err(TaskFault::Field);
+    let list = program_names(alloc, &programs)?;
+    match words_once(alloc, &list)? {
+        Some(names) => Ok(NamedPrograms { programs, names }),
+        None => Err(TaskFault::Field),
     }
-    Ok(programs)
 }
 
 /// Whether a process starts in capability mode: not where nothing says it. (cap_enter(2))
@@ -152,8 +161,8 @@ fn read_mode(value: Option<&Value>) -> Option<bool>
 }
 
 /// The place of a process's program among the programs of these names.
-fn program_at(names: &[&str], table: &Table) -> Option<usize>
-    ensures { result ≡ program_place (map (λ n. n.now) names.now) (table_view table.now) }
+fn program_at(names: &IndexSet<&str>, table: &Table) -> Option<usize>
+    ensures { result ≡ program_place (map (λ n. n.now) names.now.keys) (table_view table.now) }
 {
     match text_at(table, "program") {
         Some(name) => place_among(names, name),
@@ -191,9 +200,9 @@ fn read_descriptors<'a>(
 }
 
 /// A first process of one of these programs.
-fn start<'a>(alloc: Global, names: &[&str], table: &'a Table) -> Result<WrittenStart<'a>, TaskFault>
+fn start<'a>(alloc: Global, names: &IndexSet<&str>, table: &'a Table) -> Result<WrittenStart<'a>, TaskFault>
     ensures { ReadsTask start_seen result
-        (or_mistake Wrong_field (start_in (map (λ n. n.now) names.now) (table_view table.now))) }
+        (or_mistake Wrong_field (start_in (map (λ n. n.now) names.now.keys) (table_view table.now))) }
 {
     if !has_only(table, &["program", "mode", "fd"]) {
         return Err(TaskFault::Field);
@@ -214,11 +223,11 @@ fn start<'a>(alloc: Global, names: &[&str], table: &'a Table) -> Result<WrittenS
 /// The first process that a value is.
 fn written_start<'a>(
     alloc: Global,
-    names: &[&str],
+    names: &IndexSet<&str>,
     value: &'a Value,
 ) -> Result<WrittenStart<'a>, TaskFault>
     ensures { ReadsTask start_seen result
-        (or_mistake Wrong_field (written_start (map (λ n. n.now) names.now) (view value.now))) }
+        (or_mistake Wrong_field (written_start (map (λ n. n.now) names.now.keys) (view value.now))) }
 {
     match value.as_table() {
         Some(table) => start(alloc, names, table),
@@ -229,11 +238,11 @@ fn written_start<'a>(
 /// The first processes of a list.
 fn start_list<'a>(
     alloc: Global,
-    names: &[&str],
+    names: &IndexSet<&str>,
     values: &'a [Value],
 ) -> Result<Vec<WrittenStart<'a>>, TaskFault>
     ensures { ReadsTask (λ starts. starts_seen starts.items) result
-        (or_mistake Wrong_field (each_item (written_start (map (λ n. n.now) names.now)) (items_view values.now))) }
+        (or_mistake Wrong_field (each_item (written_start (map (λ n. n.now) names.now.keys)) (items_view values.now))) }
 {
     let mut starts = Vec::new(alloc);
     for value in values {
@@ -245,11 +254,11 @@ fn start_list<'a>(
 /// A document's list of first processes, of programs of these names.
 fn listed_starts<'a>(
     alloc: Global,
-    names: &[&str],
+    names: &IndexSet<&str>,
     table: &'a Table,
 ) -> Result<Vec<WrittenStart<'a>>, TaskFault>
     ensures { ReadsTask (λ starts. starts_seen starts.items) result
-        (or_mistake Wrong_field (listed_starts (map (λ n. n.now) names.now) (table_view table.now))) }
+        (or_mistake Wrong_field (listed_starts (map (λ n. n.now) names.now.keys) (table_view table.now))) }
 {
     match items_at(table, "process") {
         Some(values) => start_list(alloc, names, values),
@@ -261,13 +270,13 @@ fn listed_starts<'a>(
 fn read_starts<'a>(
     alloc: Global,
     table: &'a Table,
-    programs: &[WrittenProgram<'_>],
+    read: &NamedPrograms<'_>,
 ) -> Result<Vec<WrittenStart<'a>>, TaskFault>
+    requires { map (λ n. n.now) read.now.names.keys ≡ names_of_programs (programs_seen read.now.programs.items) }
     ensures { ReadsTask (λ starts. starts_seen starts.items) result
-        (or_mistake Wrong_field (written_starts (table_view table.now) (programs_seen programs.now))) }
+        (or_mistake Wrong_field (written_starts (table_view table.now) (programs_seen read.now.programs.items))) }
 {
-    let names = program_names(alloc, programs)?;
-    let starts = listed_starts(alloc, &names, table)?;
+    let starts = listed_starts(alloc, &read.names, table)?;
     if starts.is_empty() {
         return Err(TaskFault::Field);
     }
@@ -284,12 +293,12 @@ pub(crate) fn read_written(alloc: Global, table: &Table) -> Result<WrittenTask<'
     }
     let nodes = read_nodes(alloc, table)?;
     let grants = read_grants(alloc, table)?;
-    let programs = read_programs(alloc, table)?;
-    let starts = read_starts(alloc, table, &programs)?;
+    let read = read_programs(alloc, table)?;
+    let starts = read_starts(alloc, table, &read)?;
     Ok(WrittenTask {
         nodes,
         grants,
-        programs,
+        programs: read.programs,
         starts,
     })
 }

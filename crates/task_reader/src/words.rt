@@ -14,19 +14,15 @@ use crate::documents::is_among;
 use crate::faults::TaskFault;
 use bitflags::{Flag, Flags};
 use fd_table::{Access, Side};
+use indexmap::IndexSet;
 use rights::Op;
 use std::alloc::Global;
 
 /// The place of a name among these.
-pub(crate) fn place_among(names: &[&str], word: &str) -> Option<usize>
-    ensures { result ≡ place_among (map (λ n. n.now) names.now) word.now }
+pub(crate) fn place_among(names: &IndexSet<&str>, word: &str) -> Option<usize>
+    ensures { result ≡ place_among (map (λ n. n.now) names.now.keys) word.now }
 {
-    for (place, name) in names.iter().enumerate() {
-        if *name == word {
-            return Some(place);
-        }
-    }
-    None
+    names.get_index_of(&word)
 }
 
 /// The operation of a name.

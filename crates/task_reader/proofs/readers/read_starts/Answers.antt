@@ -21,11 +21,11 @@ decided starts b is = ap (λ x. cond x None (Some starts)) is
 
 pub returns-in_err-starts : goal.returns-in_err-starts
 returns-in_err-starts c =
-    let p = err_from_is_err_and c.from_residual-in_err-starts.result c.from_residual-in_err-starts.ensures.1 in
+    let p = err_from_is_err_and c.from_residual.result c.from_residual.ensures.1 in
     let error = c.in_err-starts.field-0.0 in
     let ms = table_view c.args.table.now in
-    let programs = programs_seen c.args.programs.now in
-    let same : map (λ n. n.now) c.deref.result.now ≡ names_of_programs programs = ap (map (λ n. n.now)) c.deref.ensures.value ∙ c.in_ok-names.ensures in
+    let programs = programs_seen c.args.read.now.programs.items in
+    let same : map (λ n. n.now) c.args.read.now.names.keys ≡ names_of_programs programs = c.requires in
     let told : FaultIs error (or_mistake Wrong_field (listed_starts (names_of_programs programs) ms)) =
     subst (λ n. FaultIs error (or_mistake Wrong_field (listed_starts n ms))) same c.in_err-starts.ensures in
     rw (p.1, p.2) (field-fault error (listed_starts (names_of_programs programs) ms) (written_starts ms programs) (λ none. ap (option_and_then some_start) none) told)
@@ -33,9 +33,9 @@ returns-in_err-starts c =
 pub returns-then-is_empty : goal.returns-then-is_empty
 returns-then-is_empty c =
     let ms = table_view c.args.table.now in
-    let programs = programs_seen c.args.programs.now in
+    let programs = programs_seen c.args.read.now.programs.items in
     let starts = c.in_ok-starts.starts in
-    let same : map (λ n. n.now) c.deref.result.now ≡ names_of_programs programs = ap (map (λ n. n.now)) c.deref.ensures.value ∙ c.in_ok-names.ensures in
+    let same : map (λ n. n.now) c.args.read.now.names.keys ≡ names_of_programs programs = c.requires in
     let empty : (length (starts_seen starts.items) == 0) ≡ true =
     ap (λ n. n == 0) (length-map starts.items start_seen ∙ sym starts.ok.0) ∙ sym c.is_empty.ensures ∙ c.if-is_empty.true in
     ap (or_mistake Wrong_field) (listed ms programs _ _ same (some_from Wrong_field _ _ c.in_ok-starts.ensures) ∙ decided _ _ empty)
@@ -43,9 +43,9 @@ returns-then-is_empty c =
 pub returns : goal.returns
 returns c =
     let ms = table_view c.args.table.now in
-    let programs = programs_seen c.args.programs.now in
+    let programs = programs_seen c.args.read.now.programs.items in
     let starts = c.in_ok-starts.starts in
-    let same : map (λ n. n.now) c.deref.result.now ≡ names_of_programs programs = ap (map (λ n. n.now)) c.deref.ensures.value ∙ c.in_ok-names.ensures in
+    let same : map (λ n. n.now) c.args.read.now.names.keys ≡ names_of_programs programs = c.requires in
     let some : (length (starts_seen starts.items) == 0) ≡ false =
     ap (λ n. n == 0) (length-map starts.items start_seen ∙ sym starts.ok.0) ∙ sym c.is_empty.ensures ∙ c.if-is_empty.false in
     ap (or_mistake Wrong_field) (listed ms programs _ _ same (some_from Wrong_field _ _ c.in_ok-starts.ensures) ∙ decided _ _ some)

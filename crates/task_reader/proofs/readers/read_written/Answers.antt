@@ -13,15 +13,14 @@ returns-in_err-starts c =
     let p = err_from_is_err_and c.from_residual-in_err-starts.result c.from_residual-in_err-starts.ensures.1 in
     let error = c.in_err-starts.field-0.0 in
     let ms = table_view c.args.table.now in
-    let programs = programs_seen c.deref.result.now in
-    let is : written_programs ms ≡ Some programs = some_from Wrong_field _ _ c.in_ok-programs.ensures ∙ ap (λ items. Some (programs_seen items)) (sym c.deref.ensures.value) in
+    let programs = programs_seen c.in_ok-read.read.programs.items in
+    let is : written_programs ms ≡ Some programs = some_from Wrong_field _ _ c.in_ok-read.ensures.programs in
     rw (p.1, p.2) (field-fault error (written_starts ms programs) (written_task ms) (without-starts ms programs is) c.in_err-starts.ensures)
 
 pub returns : goal.returns
 returns c =
     let ms = table_view c.args.table.now in
-    let programs = programs_seen c.deref.result.now in
-    let same = ap programs_seen c.deref.ensures.value in
+    let programs = programs_seen c.in_ok-read.read.programs.items in
     ap (or_mistake Wrong_field) (all-parts ms _ _ _ _ (sym c.has_only.ensures ∙ c.if-not-has_only.false)
-    (some_from Wrong_field _ _ c.in_ok-nodes.ensures) (some_from Wrong_field _ _ c.in_ok-grants.ensures) (some_from Wrong_field _ _ c.in_ok-programs.ensures)
-    (ap (written_starts ms) (sym same) ∙ some_from Wrong_field _ _ c.in_ok-starts.ensures))
+    (some_from Wrong_field _ _ c.in_ok-nodes.ensures) (some_from Wrong_field _ _ c.in_ok-grants.ensures) (some_from Wrong_field _ _ c.in_ok-read.ensures.programs)
+    (some_from Wrong_field _ _ c.in_ok-starts.ensures))
