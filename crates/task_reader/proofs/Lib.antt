@@ -6,6 +6,7 @@ pub mod ValidPlans
 pub mod PathTexts
 pub mod IndexLaws
 pub mod OnceLaws
+pub mod ApartLaws
 pub mod Stages
 pub mod EachItem
 pub mod Rows

@@ -39,6 +39,7 @@ none_among-more seen word (next ∷ words) =
     or-or : (a b : Bool) → (a || b || false) ≡ (a || (b || false))
     or-or true b = refl
     or-or false b = refl
+
     any-more : (next : List ℕ) (seen : List (List ℕ)) → list_any (bytes_eq next) (seen ++ word ∷ []) ≡ (list_any (bytes_eq next) seen || bytes_eq next word || false)
     any-more next [] = refl
     any-more next (x ∷ seen) = elim (cases_Bool (bytes_eq next x)) [ inl here ↦ rw here refl | inr other ↦ rw other (any-more next seen) ]
@@ -66,6 +67,7 @@ once-behind words = sym (both-ways [] words ∙ ap (λ b. are_once words && b) (
     nothing : (words : List (List ℕ)) → none_among [] words ≡ true
     nothing [] = refl
     nothing (word ∷ words) = nothing words
+
     and-true : (b : Bool) → (b && true) ≡ b
     and-true true = refl
     and-true false = refl
@@ -75,6 +77,7 @@ both-less k l = sym (ltb_from_iff (up, down))
   where
     up : nat_lt k l ≡ true → suc k < suc l
     up is = let less : k < l = ltb-true k l is in omega arith
+
     down : suc k < suc l → nat_lt k l ≡ true
     down is = lt-ltb k l (omega arith)
 

@@ -2,6 +2,7 @@ pub mod Documents
 pub mod Written
 pub mod Paths
 pub mod Reading
+pub mod Apart
 pub mod Indexes
 pub mod Laws
 pub mod WrittenViews

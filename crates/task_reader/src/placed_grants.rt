@@ -1,7 +1,6 @@
 //! The policy that a task's grants make.
 
-ghost use Rattle.std.specs.Prelude.{◌≡◌, IfOk, option_map};
-ghost use Rattle.std.specs.List.{list_all};
+ghost use Rattle.std.specs.Prelude.{◌≡◌, IfErr, IfOk, map, option_map};
 ghost use Rattle.file_tree.specs.Views.{names_of};
 ghost use Rattle.task_reader.specs.Faults.{ReadsTask};
 ghost use Rattle.task_reader.specs.Indexes.{IsIndex, IsPath};
@@ -9,6 +8,8 @@ ghost use Rattle.task.specs.Limits.{all_apart};
 ghost use Rattle.task_reader.specs.Reading.{Wrong_grant, are_disjoint, can_grant, grant_placed, grants_placed, or_mistake, policy_of};
 ghost use Rattle.task.specs.Views.{grant_of, grants_of, nodes_of};
 ghost use Rattle.task_reader.specs.WrittenViews.{grant_seen, grants_seen};
+ghost use Rattle.task_reader.specs.Apart.{none_begins_so};
+ghost use Rattle.task_reader.specs.declared.faults.TaskFault.TheVariants as fault;
 
 use crate::faults::TaskFault;
 use crate::indexes::{IndexedNodes, has_directory};
@@ -71,31 +72,38 @@ fn place_grants(
     Ok(Some(grants))
 }
 
-/// Whether no place is in both.
-fn is_disjoint(grant: &Grant, other: &Grant) -> bool
-    ensures { result ≡ are_disjoint (grant_of grant.now) (grant_of other.now) }
+/// The places of some grants.
+fn grant_places<'g>(alloc: Global, grants: &'g [Grant]) -> Result<Vec<&'g [Vec<u8>]>, TaskFault>
+    ensures places { IfOk result (λ places. map (λ p. names_of p.now) places.items ≡ map (λ g. g.path) (grants_of grants.now)) }
+    ensures memory { IfErr result (λ error. error ≡ fault.Memory) }
 {
-    !is_front(&grant.path, &other.path) && !is_front(&other.path, &grant.path)
+    let mut places = Vec::new(alloc);
+    for grant in grants {
+        places.push(grant.path.as_slice())?;
+    }
+    Ok(places)
 }
 
-/// Whether no place of a grant is in one of the others.
-fn is_apart(grant: &Grant, others: &[Grant]) -> bool
-    ensures { result ≡ list_all (are_disjoint (grant_of grant.now)) (grants_of others.now) }
+/// Whether no place begins with the one before it.
+fn none_begins_so(places: &[&[Vec<u8>]]) -> bool
+    ensures { result ≡ none_begins_so (map (λ p. names_of p.now) places.now) }
 {
-    match others {
-        [] => true,
-        [other, rest @ ..] => is_disjoint(grant, other) && is_apart(grant, rest),
+    for at in 1..places.len() {
+        if is_front(places[at - 1], places[at]) {
+            return false;
+        }
     }
+    true
 }
 
-/// Whether no place is in two grants.
-fn are_apart(grants: &[Grant]) -> bool
-    ensures { result ≡ all_apart are_disjoint (grants_of grants.now) }
+/// Whether no place is in two grants. In the order of places, what begins with a place stands right behind it.
+fn are_apart(alloc: Global, grants: &[Grant]) -> Result<bool, TaskFault>
+    ensures apart { IfOk result (λ apart. apart ≡ all_apart are_disjoint (grants_of grants.now)) }
+    ensures memory { IfErr result (λ error. error ≡ fault.Memory) }
 {
-    match grants {
-        [] => true,
-        [grant, rest @ ..] => is_apart(grant, rest) && are_apart(rest),
-    }
+    let mut places = grant_places(alloc, grants)?;
+    places.sort()?;
+    Ok(none_begins_so(&places))
 }
 
 /// The policy of some grants: each is of a directory, and no place is in two. (own)
@@ -111,7 +119,7 @@ pub(crate) fn make_policy(
     let Some(grants) = place_grants(alloc, tree, written)? else {
         return Err(TaskFault::Grant);
     };
-    if !are_apart(&grants) {
+    if !are_apart(alloc, &grants)? {
         return Err(TaskFault::Grant);
     }
     Ok(grants)

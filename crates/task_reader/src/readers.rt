@@ -200,7 +200,11 @@ fn read_descriptors<'a>(
 }
 
 /// A first process of one of these programs.
-fn start<'a>(alloc: Global, names: &IndexSet<&str>, table: &'a Table) -> Result<WrittenStart<'a>, TaskFault>
+fn start<'a>(
+    alloc: Global,
+    names: &IndexSet<&str>,
+    table: &'a Table,
+) -> Result<WrittenStart<'a>, TaskFault>
     ensures { ReadsTask start_seen result
         (or_mistake Wrong_field (start_in (map (λ n. n.now) names.now.keys) (table_view table.now))) }
 {

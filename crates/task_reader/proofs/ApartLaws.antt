@@ -1,0 +1,276 @@
+-- Places are apart where, in their order, none begins with the one before it.
+use Rattle.std.proofs.Common.{◌≡◌, ◌≢◌, ◌+◌, ◌*◌, ◌<◌, ◌≤◌, ℕ, suc, List, [], ◌∷◌, Bool, true, false, cond, length, map, refl, ap, sym, subst, ◌∙◌, arith, get_or, inl, inr}
+use Rattle.std.specs.Prelude.{◌==◌, ◌&&◌, not, if◌then◌else◌}
+use Rattle.std.specs.List.{list_all, sum_by}
+use Rattle.std.specs.List.Sorted.{IsPermutation, IsSorted, IsSortedBy}
+use Rattle.std.specs.Ordering.{is_lt, is_eq, nat_cmp, ordering_then, ordering_reverse}
+use Rattle.std.specs.declared.cmp.Ordering.{Ordering}
+use Rattle.std.specs.declared.cmp.Ordering.TheVariants.{Less, Equal, Greater}
+use Rattle.std.specs.Str.{bytes_eq}
+use Rattle.std.proofs.lemmas.Cmp.{lists_total, nat_list_eq_equiv, nat_list_cmp_total}
+use Rattle.std.proofs.lemmas.Map.Text.{is_eq-slice_cmp}
+use Rattle.rights.proofs.Words.{same_bytes}
+use Rattle.rights.proofs.Tests.{both_left, both_right}
+use Rattle.file_tree.specs.Places.{begins}
+use Rattle.task_reader.specs.Apart.{none_begins_so}
+use Rattle.std.specs.Cmp.{IsTotalOrder, IsStrictWeakOrder}
+use Rattle.std.specs.Cmp.Lexicographic.{slice_cmp}
+use Rattle.std.proofs.lemmas.Bool.{cases_Bool, eqb-true}
+use Rattle.std.proofs.lemmas.List.Sums.{sum_by-cons}
+use Rattle.std.proofs.lemmas.List.Folds.{sum_by-zero}
+use Rattle.std.proofs.lemmas.List.Sorted.{sum_by-IsPermutation, length_permutation, sorted_far}
+use Rattle.task.specs.Limits.{all_apart}
+use Rattle.task.specs.Plans.{Grant}
+use Rattle.task_reader.specs.Reading.{are_disjoint}
+use Rattle.std.proofs.lemmas.List.{get_or-map, length-map}
+
+-- the sum of what is the same at each element is the same
+sum-same : {A : Type 0} (f g : A → ℕ) (xs : List A) → ((x : A) → f x ≡ g x) → sum_by f xs ≡ sum_by g xs
+sum-same f g [] same = refl
+sum-same f g (x ∷ xs) same = sum_by-cons f x xs ∙ ap (λ n. n + sum_by f xs) (same x) ∙ ap (λ n. g x + n) (sum-same f g xs same) ∙ sym (sum_by-cons g x xs)
+
+-- 1 for each two that are not apart
+abbrev clash : {A : Type 0} → (A → A → Bool) → A → A → ℕ
+clash apart x y = if apart x y then 0 else 1
+
+abbrev against : {A : Type 0} → (A → A → Bool) → List A → A → ℕ
+against apart xs x = sum_by (clash apart x) xs
+
+abbrev pairs : {A : Type 0} → (A → A → Bool) → List A → ℕ
+pairs apart [] = 0
+pairs apart (x ∷ xs) = against apart xs x + pairs apart xs
+
+against-more : {A : Type 0} (apart : A → A → Bool) (x : A) (ys zs : List A) → sum_by (against apart (x ∷ ys)) zs ≡ sum_by (λ z. clash apart z x) zs + sum_by (against apart ys) zs
+against-more apart x ys [] = refl
+against-more apart x ys (z ∷ zs) =
+    let first = sum_by-cons (clash apart z) x ys in
+    let rest = against-more apart x ys zs in
+    let left = sum_by-cons (against apart (x ∷ ys)) z zs in
+    let right = sum_by-cons (λ z. clash apart z x) z zs in
+    let last = sum_by-cons (against apart ys) z zs in
+    omega arith
+
+-- each clashes with itself, and with another as the other with it: so all clashes are the elements, and each pair twice
+all-clashes : {A : Type 0} (apart : A → A → Bool) → ((x : A) → apart x x ≡ false) → ((x y : A) → apart x y ≡ apart y x) → (xs : List A)
+    → sum_by (against apart xs) xs ≡ length xs + (pairs apart xs + pairs apart xs)
+all-clashes apart self turned [] = refl
+all-clashes apart self turned (x ∷ xs) =
+    let first = sum_by-cons (against apart (x ∷ xs)) x xs in
+    let own = sum_by-cons (clash apart x) x xs in
+    let one : clash apart x x ≡ 1 = ap (λ b. if b then 0 else 1) (self x) in
+    let more = against-more apart x xs xs in
+    let same : sum_by (λ z. clash apart z x) xs ≡ against apart xs x = sum-same (λ z. clash apart z x) (clash apart x) xs (λ z. ap (λ b. if b then 0 else 1) (turned z x)) in
+    let rest = all-clashes apart self turned xs in
+    omega arith
+
+-- no pair clashes exactly if all are apart
+no-clash : {A : Type 0} (apart : A → A → Bool) (xs : List A) → (pairs apart xs == 0) ≡ all_apart apart xs
+no-clash apart [] = refl
+no-clash {A = A} apart (x ∷ xs) =
+    neither (against apart xs x) (pairs apart xs)
+    ∙ ap (λ b. b && (pairs apart xs == 0)) (sum_by-zero (clash apart x) xs ∙ each xs)
+    ∙ ap (λ b. list_all (apart x) xs && b) (no-clash apart xs)
+  where
+    is-apart : (b : Bool) → ((if b then 0 else 1) == 0) ≡ b
+    is-apart true = refl
+    is-apart false = refl
+
+    each : (ys : List A) → list_all (λ y. clash apart x y == 0) ys ≡ list_all (apart x) ys
+    each [] = refl
+    each (y ∷ ys) = ap (λ b. b && list_all (λ y. clash apart x y == 0) ys) (is-apart (apart x y)) ∙ ap (λ b. apart x y && b) (each ys)
+
+    neither : (m n : ℕ) → (m + n == 0) ≡ ((m == 0) && (n == 0))
+    neither m n =
+        elim (cases_Bool (m == 0)) [
+          | inl none ↦ let zero : m ≡ 0 = eqb-true m 0 none in ap (λ k. k + n == 0) zero ∙ ap (λ k. k == 0) (let same : 0 + n ≡ n = omega arith in same) ∙ ap (λ b. b && (n == 0)) (sym none)
+          | inr some ↦ elim (cases_Bool (m + n == 0)) [
+            | inl all ↦ let sum : m + n ≡ 0 = eqb-true (m + n) 0 all in let zero : m ≡ 0 = omega arith in let is : (m == 0) ≡ true = ap (λ k. k == 0) zero in cc
+            | inr not_all ↦ not_all ∙ ap (λ b. b && (n == 0)) (sym some)
+          ]
+        ]
+
+-- the order of the elements doesn't matter
+pub permuted-apart : {A : Type 0} (apart : A → A → Bool) → ((x : A) → apart x x ≡ false) → ((x y : A) → apart x y ≡ apart y x) → (xs ys : List A)
+    → IsPermutation xs ys → all_apart apart xs ≡ all_apart apart ys
+permuted-apart apart self turned xs ys permuted =
+    let before = all-clashes apart self turned xs in
+    let after = all-clashes apart self turned ys in
+    let moved : sum_by (against apart ys) ys ≡ sum_by (against apart xs) xs =
+    sum-same (against apart ys) (against apart xs) ys (λ z. sum_by-IsPermutation (clash apart z) xs ys permuted) ∙ sum_by-IsPermutation (against apart xs) xs ys permuted in
+    let long : length ys ≡ length xs = length_permutation xs ys permuted in
+    let same : pairs apart xs ≡ pairs apart ys = omega arith in
+    sym (no-clash apart xs) ∙ ap (λ n. n == 0) same ∙ no-clash apart ys
+
+-- Two places are apart where neither begins with the other.
+abbrev pub disjoint : List (List ℕ) → List (List ℕ) → Bool
+disjoint p q = not (begins p q) && not (begins q p)
+
+pub never-apart-from-itself : (p : List (List ℕ)) → disjoint p p ≡ false
+never-apart-from-itself p = ap (λ b. not b && not b) (begins-itself p)
+  where
+    begins-itself : (p : List (List ℕ)) → begins p p ≡ true
+    begins-itself [] = refl
+    begins-itself (x ∷ p) = ap (λ b. b && begins p p) (nat_list_eq_equiv.refl x) ∙ begins-itself p
+
+pub apart-either-way : (p q : List (List ℕ)) → disjoint p q ≡ disjoint q p
+apart-either-way p q = turned (begins p q) (begins q p)
+  where
+    turned : (a b : Bool) → (not a && not b) ≡ (not b && not a)
+    turned true true = refl
+    turned true false = refl
+    turned false true = refl
+    turned false false = refl
+
+-- The order of places: name by name, and each by its bytes.
+abbrev pub name_cmp : List ℕ → List ℕ → Ordering
+name_cmp = slice_cmp nat_cmp
+
+abbrev pub place_cmp : List (List ℕ) → List (List ℕ) → Ordering
+place_cmp = slice_cmp name_cmp
+
+-- What stands between a place and one that begins with it begins with it too.
+between-names : (x z : List ℕ) (o : Ordering) (p q r : List (List ℕ)) → name_cmp z x ≡ o
+    → (bytes_eq x z ≡ true → is_lt (place_cmp r p) ≡ false → is_lt (place_cmp q r) ≡ false → begins p r ≡ true)
+    → is_lt (ordering_then o (place_cmp r p)) ≡ false → is_lt (ordering_then (ordering_reverse o) (place_cmp q r)) ≡ false
+    → (bytes_eq x z && begins p r) ≡ true
+between-names x z Less p q r is rest low high = absurd cc
+between-names x z Equal p q r is rest low high =
+    let same : bytes_eq x z ≡ true = nat_list_eq_equiv.symm x z ∙ sym (is_eq-slice_cmp z x) ∙ ap is_eq is in
+    ap (λ b. b && begins p r) same ∙ rest same low high
+between-names x z Greater p q r is rest low high = absurd cc
+
+pub between : (p q r : List (List ℕ)) → begins p q ≡ true → is_lt (place_cmp r p) ≡ false → is_lt (place_cmp q r) ≡ false → begins p r ≡ true
+between [] q r front low high = refl
+between (x ∷ p) [] r front low high = absurd cc
+between (x ∷ p) (y ∷ q) [] front low high = absurd cc
+between (x ∷ p) (y ∷ q) (z ∷ r) front low high =
+    let same : x ≡ y = same_bytes x y (both_left (bytes_eq x y) (begins p q) front) in
+    let rest : begins p q ≡ true = both_right (bytes_eq x y) (begins p q) front in
+    let turned : name_cmp y z ≡ ordering_reverse (name_cmp z x) = ap (λ n. name_cmp n z) (sym same) ∙ nat_list_cmp_total.antisymm x z in
+    between-names x z (name_cmp z x) p q r refl (λ alike low high. between p q r rest low high) low
+    (ap (λ o. is_lt (ordering_then o (place_cmp q r))) (sym turned) ∙ high)
+
+-- what is not less than another, which is not less than a third, is not less than that
+never-less : {K : Type 0} (R : K → K → Ordering) → IsTotalOrder R → (x y z : K) (first second : Ordering) → R x y ≡ first → R y z ≡ second
+    → is_lt first ≡ false → is_lt second ≡ false → is_lt (R x z) ≡ false
+never-less R o x y z Less second xy yz low high = absurd cc
+never-less R o x y z Equal second xy yz low high = ap is_lt (o.congr x y z xy ∙ yz) ∙ high
+never-less R o x y z Greater Less xy yz low high = absurd cc
+never-less R o x y z Greater Equal xy yz low high =
+    let zy : R z y ≡ Equal = o.antisymm z y ∙ ap ordering_reverse yz in
+    let yx : R y x ≡ Less = o.antisymm y x ∙ ap ordering_reverse xy in
+    ap is_lt (o.antisymm x z ∙ ap ordering_reverse (o.congr z y x zy ∙ yx))
+never-less R o x y z Greater Greater xy yz low high =
+    let zy : R z y ≡ Less = o.antisymm z y ∙ ap ordering_reverse yz in
+    let yx : R y x ≡ Less = o.antisymm y x ∙ ap ordering_reverse xy in
+    ap is_lt (o.antisymm x z ∙ ap ordering_reverse (o.trans z y x zy yx))
+
+place-order : IsStrictWeakOrder (λ p q. is_lt (place_cmp p q))
+place-order = record {
+  one_way = λ p q less. reversed (place_cmp q p) (sym (ap is_lt (total.antisymm p q)) ∙ less);
+  chain = λ p q r low high. never-less place_cmp total p q r (place_cmp p q) (place_cmp q r) refl refl low high;
+}
+  where
+    total : IsTotalOrder place_cmp
+    total = lists_total nat_list_cmp_total
+
+    reversed : (o : Ordering) → is_lt (ordering_reverse o) ≡ true → is_lt o ≡ false
+    reversed Less is = absurd cc
+    reversed Equal is = refl
+    reversed Greater is = refl
+
+-- what isn't behind a place that it begins is that place
+front-first : (r p : List (List ℕ)) → begins r p ≡ true → is_lt (place_cmp r p) ≡ false → begins p r ≡ true
+front-first [] [] front high = refl
+front-first [] (y ∷ p) front high = absurd cc
+front-first (x ∷ r) [] front high = absurd cc
+front-first (x ∷ r) (y ∷ p) front high =
+    let same : bytes_eq x y ≡ true = both_left (bytes_eq x y) (begins r p) front in
+    let level : name_cmp x y ≡ Equal = equal-from (name_cmp x y) (is_eq-slice_cmp x y ∙ same) in
+    ap (λ b. b && begins p r) (nat_list_eq_equiv.symm y x ∙ same)
+    ∙ front-first r p (both_right (bytes_eq x y) (begins r p) front) (sym (ap (λ o. is_lt (ordering_then o (place_cmp r p))) level) ∙ high)
+  where
+    equal-from : (o : Ordering) → is_eq o ≡ true → o ≡ Equal
+    equal-from Less is = absurd cc
+    equal-from Equal is = refl
+    equal-from Greater is = absurd cc
+
+-- places behind two in order are apart from the first where the second is
+apart-behind : (p q r : List (List ℕ)) → begins p q ≡ false → is_lt (place_cmp q p) ≡ false → is_lt (place_cmp r q) ≡ false → is_lt (place_cmp r p) ≡ false → disjoint p r ≡ true
+apart-behind p q r other first second third =
+    elim (cases_Bool (begins p r)) [
+      | inl front ↦ let wrong : begins p q ≡ true = between p r q front first second in cc
+      | inr not_front ↦ elim (cases_Bool (begins r p)) [
+        | inl back ↦ let wrong : begins p r ≡ true = front-first r p back third in cc
+        | inr not_back ↦ rw (not_front, not_back) refl
+      ]
+    ]
+
+all-by-index : {A : Type 0} (test : A → Bool) (xs : List A) → ((k : ℕ) (d : A) → k < length xs → test (get_or xs k d) ≡ true) → list_all test xs ≡ true
+all-by-index test [] each = refl
+all-by-index test (x ∷ xs) each = ap (λ b. b && list_all test xs) (each 0 x (omega arith)) ∙ all-by-index test xs (λ k d within. each (suc k) d (omega arith))
+
+sorted-rest : (p : List (List ℕ)) (places : List (List (List ℕ))) → IsSortedBy (λ p q. is_lt (place_cmp p q)) (p ∷ places) → IsSortedBy (λ p q. is_lt (place_cmp p q)) places
+sorted-rest p places sorted k d low high =
+    let next : suc k + 1 ≡ suc (k + 1) = omega arith in
+    ap (λ n. is_lt (place_cmp (get_or (p ∷ places) n d) (get_or places k d))) (sym next) ∙ sorted (suc k) d (omega arith) (omega arith)
+
+-- In the order of places none begins with the one before it exactly if none begins with another.
+pub sorted-apart : (places : List (List (List ℕ))) → IsSortedBy (λ p q. is_lt (place_cmp p q)) places → all_apart disjoint places ≡ none_begins_so places
+sorted-apart [] sorted = refl
+sorted-apart (p ∷ []) sorted = refl
+sorted-apart (p ∷ q ∷ places) sorted =
+    ap (λ b. b && all_apart disjoint (q ∷ places)) (first (begins p q) refl) ∙ ap (λ b. not (begins p q) && b) (sorted-apart (q ∷ places) (sorted-rest p (q ∷ places) sorted))
+  where
+    far : (k : ℕ) (d : List (List ℕ)) → begins p q ≡ false → k < length (q ∷ places) → disjoint p (get_or (q ∷ places) k d) ≡ true
+    far k d other within =
+        apart-behind p q (get_or (q ∷ places) k d) other
+        (sorted_far (λ p q. is_lt (place_cmp p q)) place-order (p ∷ q ∷ places) sorted 0 1 d (omega arith) (omega arith))
+        (sorted_far (λ p q. is_lt (place_cmp p q)) place-order (p ∷ q ∷ places) sorted 1 (suc k) d (omega arith) (omega arith))
+        (sorted_far (λ p q. is_lt (place_cmp p q)) place-order (p ∷ q ∷ places) sorted 0 (suc k) d (omega arith) (omega arith))
+
+    first : (b : Bool) → begins p q ≡ b → list_all (disjoint p) (q ∷ places) ≡ not (begins p q)
+    first true is = ap (λ b. not b && not (begins q p) && list_all (disjoint p) places) is ∙ ap not (sym is)
+    first false is = all-by-index (disjoint p) (q ∷ places) (λ k d within. far k d is within) ∙ ap not (sym is)
+
+all_apart-map : {X Y : Type 0} (f : X → Y) (apart : Y → Y → Bool) (xs : List X) → all_apart apart (map f xs) ≡ all_apart (λ x y. apart (f x) (f y)) xs
+all_apart-map {X = X} f apart [] = refl
+all_apart-map {X = X} f apart (x ∷ xs) = ap (λ b. b && all_apart apart (map f xs)) (each xs) ∙ ap (λ b. list_all (λ y. apart (f x) (f y)) xs && b) (all_apart-map f apart xs)
+  where
+    each : (ys : List X) → list_all (apart (f x)) (map f ys) ≡ list_all (λ y. apart (f x) (f y)) ys
+    each [] = refl
+    each (y ∷ ys) = ap (λ b. apart (f x) (f y) && b) (each ys)
+
+sorted-by : {X : Type 0} (place : X → List (List ℕ)) (cmp : X → X → Ordering) → ((x y : X) → cmp x y ≡ place_cmp (place x) (place y)) → (xs : List X)
+    → IsSorted cmp xs → IsSortedBy (λ p q. is_lt (place_cmp p q)) (map place xs)
+sorted-by place cmp agree [] sorted k d low high = absurd (omega arith)
+sorted-by place cmp agree (x ∷ xs) sorted k d low high =
+    let long : length (map place (x ∷ xs)) ≡ length (x ∷ xs) = length-map (x ∷ xs) place in
+    let above : k + 1 < length (x ∷ xs) = omega arith in
+    let first = get_or-map place (x ∷ xs) k x d (omega arith) in
+    let second = get_or-map place (x ∷ xs) (k + 1) x d above in
+    ap (λ p. is_lt (place_cmp (get_or (map place (x ∷ xs)) (k + 1) d) p)) first ∙ ap (λ p. is_lt (place_cmp p (place (get_or (x ∷ xs) k x)))) second
+    ∙ ap is_lt (sym (agree (get_or (x ∷ xs) (k + 1) x) (get_or (x ∷ xs) k x))) ∙ sorted k x low above
+
+pub slice_cmp-map : {X Y : Type 0} (f : X → Y) (cmp : Y → Y → Ordering) (xs ys : List X) → slice_cmp (λ x y. cmp (f x) (f y)) xs ys ≡ slice_cmp cmp (map f xs) (map f ys)
+slice_cmp-map f cmp [] [] = refl
+slice_cmp-map f cmp [] (y ∷ ys) = refl
+slice_cmp-map f cmp (x ∷ xs) [] = refl
+slice_cmp-map f cmp (x ∷ xs) (y ∷ ys) = ap (λ o. ordering_then (cmp (f x) (f y)) o) (slice_cmp-map f cmp xs ys)
+
+-- What has places is apart exactly if, once it is sorted by them, none begins with the one before it.
+pub sorted-places : {X : Type 0} (place : X → List (List ℕ)) (cmp : X → X → Ordering) → ((x y : X) → cmp x y ≡ place_cmp (place x) (place y)) → (before after : List X)
+    → IsPermutation before after → IsSorted cmp after → all_apart disjoint (map place before) ≡ none_begins_so (map place after)
+sorted-places place cmp agree before after permuted sorted =
+    all_apart-map place disjoint before
+    ∙ permuted-apart (λ x y. disjoint (place x) (place y)) (λ x. never-apart-from-itself (place x)) (λ x y. apart-either-way (place x) (place y)) before after permuted
+    ∙ sym (all_apart-map place disjoint after)
+    ∙ sorted-apart (map place after) (sorted-by place cmp agree after sorted)
+
+pub apart-grants : (grants : List Grant) → all_apart are_disjoint grants ≡ all_apart disjoint (map (λ g. g.path) grants)
+apart-grants grants = sym (all_apart-map (λ g. g.path) disjoint grants)
+
+pub at-most-one : (places : List (List (List ℕ))) → length places ≤ 1 → none_begins_so places ≡ true
+at-most-one [] few = refl
+at-most-one (p ∷ []) few = refl
+at-most-one (p ∷ q ∷ places) few = absurd (omega arith)
