@@ -7,6 +7,7 @@ pub mod PathTexts
 pub mod IndexLaws
 pub mod OnceLaws
 pub mod ApartLaws
+pub mod NumberLaws
 pub mod Stages
 pub mod EachItem
 pub mod Rows

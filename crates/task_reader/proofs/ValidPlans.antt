@@ -207,7 +207,7 @@ programs-valid written programs words once is few =
     (all-named-apart programs (subst (λ ns. are_once ns ≡ true) (sym all.named) once))
 
 -- the first processes
-below : (bound : ℕ) (z : ℤ) (n : ℕ) → number_below bound z ≡ Some n → nat_lt n bound ≡ true
+pub below : (bound : ℕ) (z : ℤ) (n : ℕ) → number_below bound z ≡ Some n → nat_lt n bound ≡ true
 below bound (pos k) n is =
     let p = if-some (nat_lt k bound) (Some k) n is in
     subst (λ m. nat_lt m bound ≡ true) (some-equal k n p.1) p.0
@@ -223,13 +223,13 @@ object-valid tree (By_pair pair side) x sided is =
     let p = map-some (λ n. On_end n side) (number_below most_pairs pair) x is in
     subst (λ y. is_object tree y ≡ true) p.2 (both_true (below most_pairs pair p.0 p.1) sided)
 
-record On (d : WrittenDescriptor) (number : Option ℕ) (object : Option FirstObject) (x : FirstDescriptor) : Type 0 where
-  number_is : number ≡ Some x.number
+pub record On (d : WrittenDescriptor) (number : Option ℕ) (object : Option FirstObject) (x : FirstDescriptor) : Type 0 where
+  pub number_is : number ≡ Some x.number
   object_is : object ≡ Some x.object
   rights_are : d.rights ≡ x.rights
   fcntls_are : d.fcntls ≡ x.fcntls
 
-on-object : (d : WrittenDescriptor) (number : Option ℕ) (object : Option FirstObject) (x : FirstDescriptor) → descriptor_at d number object ≡ Some x → On d number object x
+pub on-object : (d : WrittenDescriptor) (number : Option ℕ) (object : Option FirstObject) (x : FirstDescriptor) → descriptor_at d number object ≡ Some x → On d number object x
 on-object d None object x is = absurd cc
 on-object d (Some n) None x is = absurd cc
 on-object d (Some n) (Some o) x is =

@@ -168,7 +168,7 @@ fn are_apart(descriptors: &[PlacedDescriptor]) -> bool
     }
 }
 
-/// A process's descriptors, if each can be on its node or end and has a number of its own.
+/// A process's descriptors, if each can be on its node or end and has a number of its own, and so no more of them than numbers.
 fn make_table(
     alloc: Global,
     tree: &IndexedNodes<'_>,
@@ -181,6 +181,9 @@ fn make_table(
     let Some(descriptors) = place_descriptors(alloc, tree, written)? else {
         return Ok(None);
     };
+    if descriptors.len() > MAX_DESCRIPTORS {
+        return Ok(None);
+    }
     if !are_apart(&descriptors) {
         return Ok(None);
     }
