@@ -1,5 +1,5 @@
 -- Places are apart where, in their order, none begins with the one before it.
-use Rattle.std.proofs.Common.{◌≡◌, ◌≢◌, ◌+◌, ◌*◌, ◌<◌, ◌≤◌, ℕ, suc, List, [], ◌∷◌, Bool, true, false, cond, length, map, refl, ap, sym, subst, ◌∙◌, arith, get_or, inl, inr}
+use Rattle.std.proofs.Common.{◌≡◌, ◌+◌, ◌<◌, ◌≤◌, ℕ, suc, List, [], ◌∷◌, Bool, true, false, length, map, refl, ap, sym, ◌∙◌, arith, get_or, inl, inr}
 use Rattle.std.specs.Prelude.{◌==◌, ◌&&◌, not, if◌then◌else◌}
 use Rattle.std.specs.List.{list_all, sum_by}
 use Rattle.std.specs.List.Sorted.{IsPermutation, IsSorted, IsSortedBy}

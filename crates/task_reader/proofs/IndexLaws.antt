@@ -1,6 +1,6 @@
 -- An index stays one as nodes are added, and the path of the directory above.
-use Rattle.std.proofs.Common.{◌≡◌, ◌≢◌, ◌⊎◌, ◌<◌, ◌≤◌, ◌-◌, ◌+◌, inl, inr, ℕ, suc, List, [], ◌∷◌, ◌++◌, Option, Some, None, option_map, Bool, true, false, cond, length, take, refl, ap, sym, subst, ◌∙◌, append_assoc, append-nil, arith}
-use Rattle.std.specs.Prelude.{◌==◌, ◌&&◌, ◌||◌, not, nat_eq, is_some, option_and_then, if◌then◌else◌}
+use Rattle.std.proofs.Common.{◌≡◌, ◌≢◌, ◌<◌, ◌≤◌, ◌-◌, ◌+◌, inl, inr, ℕ, suc, List, [], ◌∷◌, ◌++◌, Option, Some, None, option_map, Bool, true, false, cond, length, take, refl, ap, sym, subst, ◌∙◌, append_assoc, append-nil, arith}
+use Rattle.std.specs.Prelude.{◌==◌, ◌&&◌, ◌||◌, not, is_some, option_and_then, if◌then◌else◌}
 use Rattle.std.specs.Borrow.{Bor}
 use Rattle.std.specs.List.{list_all, list_any}
 use Rattle.std.specs.Str.{bytes_eq}
@@ -18,7 +18,7 @@ use Rattle.file_tree.specs.Nodes.{Node, Dir, nowhere, node, node_at, node_from, 
 use Rattle.file_tree.specs.Places.{same_place, names_text, place_text, above, at_name}
 use Rattle.file_tree.specs.WellFormed.{is_directory_at, has_directory}
 use Rattle.file_tree.proofs.PlaceLaws.{above_at_name, other_place}
-use Rattle.file_tree.proofs.NodeLaws.{linked_there, node_at_found, node_at_none, stands_is, stands_from, any_at, any_found, none_at, more_cases}
+use Rattle.file_tree.proofs.NodeLaws.{linked_there, node_at_found, node_at_none, stands_is, stands_from, any_at}
 use Rattle.texts.specs.Parts.{parts}
 use Rattle.task_reader.specs.Indexes.{number_in, is_directory, IsIndex, IsPath}
 use Rattle.task_reader.specs.Paths.{is_path_name, path_names, names_behind, place_of}

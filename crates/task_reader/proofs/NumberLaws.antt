@@ -1,6 +1,6 @@
 -- More descriptors than numbers aren't apart.
-use Rattle.std.proofs.Common.{◌≡◌, ◌<◌, ◌≤◌, ℕ, ℤ, pos, negsuc, List, [], ◌∷◌, Option, Some, None, option_map, Bool, true, false, cond, length, map, refl, ap, sym, ◌∙◌, arith, inl, inr}
-use Rattle.std.specs.Prelude.{◌==◌, ◌&&◌, ◌||◌, not, nat_lt, option_and_then, if◌then◌else◌}
+use Rattle.std.proofs.Common.{◌≡◌, ◌<◌, ◌≤◌, ℕ, List, [], ◌∷◌, Some, None, option_map, Bool, true, false, length, map, refl, ap, sym, ◌∙◌, arith, inl, inr}
+use Rattle.std.specs.Prelude.{◌==◌, ◌||◌, not, option_and_then, if◌then◌else◌}
 use Rattle.std.specs.List.{list_all, list_any, AllByRecursion, IsDistinct}
 use Rattle.std.proofs.lemmas.Bool.{cases_Bool, eqb-true, ltb-true}
 use Rattle.std.proofs.lemmas.List.{length-map}
@@ -8,9 +8,9 @@ use Rattle.std.proofs.lemmas.Map.Steps.{length-le_from_distinct_below}
 use Rattle.rights.specs.Limits.{most_descriptors}
 use Rattle.rights.proofs.Tests.{both_left, both_right}
 use Rattle.file_tree.specs.Nodes.{Node}
-use Rattle.task.specs.Plans.{FirstObject, FirstDescriptor}
+use Rattle.task.specs.Plans.{FirstDescriptor}
 use Rattle.task.specs.Limits.{all_apart, are_numbered_apart}
-use Rattle.task_reader.specs.Reading.{descriptor_at, descriptor_placed, descriptors_placed, number_below, numbered_apart, object_placed, table_of}
+use Rattle.task_reader.specs.Reading.{descriptor_placed, descriptors_placed, number_below, numbered_apart, object_placed, table_of}
 use Rattle.task_reader.specs.Written.{WrittenDescriptor}
 use Rattle.task_reader.proofs.ValidPlans.{below, on-object}
 use Rattle.task_reader.proofs.WrittenLaws.{some-equal, and_then-some, map-some}
@@ -39,6 +39,7 @@ distinct (x ∷ xs) apart = (others xs (both_left (list_all (are_numbered_apart 
     unequal : (b : Bool) → not b ≡ true → b ≡ false
     unequal true is = absurd cc
     unequal false is = refl
+
     others : (ys : List FirstDescriptor) → list_all (are_numbered_apart x) ys ≡ true → AllByRecursion (λ n. (x.number == n) ≡ false) (numbers ys)
     others [] all = tt
     others (y ∷ ys) all = (unequal (x.number == y.number) (both_left (are_numbered_apart x y) (list_all (are_numbered_apart x) ys) all), others ys (both_right (are_numbered_apart x y) (list_all (are_numbered_apart x) ys) all))

@@ -18,10 +18,12 @@ use task::TaskNode;
 fn are_names(place: &[Vec<u8>]) -> bool
     ensures { result ≡ list_all is_name (names_of place.now) }
 {
-    match place {
-        [] => true,
-        [name, rest @ ..] => is_valid_name(name) && are_names(rest),
+    for name in place {
+        if !is_valid_name(name) {
+            return false;
+        }
     }
+    true
 }
 
 /// Whether a content is one of a node of that kind.
@@ -48,20 +50,24 @@ fn is_within_limits(node: &TaskNode) -> bool
 fn are_within_limits(nodes: &[TaskNode]) -> bool
     ensures { result ≡ list_all is_within_limits (nodes_of nodes.now) }
 {
-    match nodes {
-        [] => true,
-        [node, rest @ ..] => is_within_limits(node) && are_within_limits(rest),
+    for node in nodes {
+        if !is_within_limits(node) {
+            return false;
+        }
     }
+    true
 }
 
 /// Whether the path of each node is short enough.
 fn are_short(nodes: &[WrittenNode<'_>]) -> bool
     ensures { result ≡ list_all is_short (nodes_seen nodes.now) }
 {
-    match nodes {
-        [] => true,
-        [node, rest @ ..] => node.path.len() <= MAX_PATH && are_short(rest),
+    for node in nodes {
+        if node.path.len() > MAX_PATH {
+            return false;
+        }
     }
+    true
 }
 
 /// Whether a task and its tree keep the limits: of the length of a node's path, of its names, and of what it holds; and of

@@ -1,4 +1,4 @@
-use Rattle.std.proofs.Common.{◌≡◌, ◌-◌, ◌≤◌, drop, map, length, sym, ap, ◌∙◌, arith}
+use Rattle.std.proofs.Common.{◌≡◌, ◌-◌, ◌≤◌, drop, map, length, sym, ◌∙◌, arith}
 use Rattle.std.proofs.lemmas.List.{length-map, length-drop}
 use Rattle.file_tree.specs.Views.{names_of}
 use Rattle.task_reader.proofs.ApartLaws.{at-most-one}

@@ -1,4 +1,4 @@
-use Rattle.std.proofs.Common.{◌≡◌, ◌-◌, ◌≤◌, drop, map, length}
+use Rattle.std.proofs.Common.{◌≡◌, ◌-◌, drop, map}
 use Rattle.file_tree.specs.Views.{names_of}
 use Rattle.task_reader.specs.Apart.{none_begins_so}
 use Rattle.task_reader.proofs.placed_grants.none_begins_so.Given as goal
