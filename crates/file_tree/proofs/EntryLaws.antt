@@ -7,8 +7,9 @@ use Rattle.file_tree.specs.Places.{above}
 use Rattle.file_tree.specs.Nodes.{Node, node, nowhere, node_at, parent_of}
 use Rattle.file_tree.proofs.TreeLaws.{parent_above}
 use Rattle.file_tree.specs.Changes.{unlinked, removed, filled, resized}
-use Rattle.file_tree.specs.Views.{names_of, node_of, nodes_of}
-use Rattle.file_tree.specs.declared.entries.Entry.{Entry}
+use Rattle.file_tree.specs.Views.{names_of}
+use Rattle.file_tree.specs.PlaceEntries.{node_of, nodes_of}
+use Rattle.file_tree.specs.declared.place_tree.entries.Entry.{Entry}
 
 pub entry_node : (es : List Entry) (n : ℕ) (e : Entry) → n < length es → e ≡ get_or es n e → node (nodes_of es) n ≡ node_of e
 entry_node es n e there is = get_or-map node_of es n e nowhere there ∙ ap node_of (sym is)

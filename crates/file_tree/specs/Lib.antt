@@ -4,3 +4,4 @@ pub mod Changes
 pub mod Refusals
 pub mod WellFormed
 pub mod Views
+pub mod PlaceEntries

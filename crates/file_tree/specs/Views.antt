@@ -6,9 +6,8 @@ use Rattle.file_tree.specs.declared.nodes.New.{New}
 use Rattle.file_tree.specs.declared.nodes.New.TheVariants as new
 use Rattle.file_tree.specs.declared.faults.TreeFault.{TreeFault}
 use Rattle.file_tree.specs.declared.faults.TreeFault.TheVariants as fault
-use Rattle.file_tree.specs.declared.entries.Entry.{Entry}
 use Rattle.file_tree.specs.Places.{is_target}
-use Rattle.file_tree.specs.Nodes.{Kind, File, Dir, Link, Node}
+use Rattle.file_tree.specs.Nodes.{Kind, File, Dir, Link}
 use Rattle.file_tree.specs.Refusals.{Fault, Exists, NotEmpty, Full, IntoItself, Gone}
 
 abbrev pub kind_of : KindCode → Kind
@@ -58,10 +57,3 @@ tree_fault_number fault.Memory = 6
 -- the names that a list of vectors holds
 abbrev pub names_of : {A : Type 0} → List (Vec ℕ A) → List (List ℕ)
 names_of names = map (λ name. name.items) names
-
--- the node that an entry of the plain list keeps, and the tree that the list is
-abbrev pub node_of : Entry → Node
-node_of entry = record { kind = kind_of entry.kind; place = names_of entry.place.items; linked = entry.linked; content = entry.content.items }
-
-abbrev pub nodes_of : List Entry → List Node
-nodes_of entries = map node_of entries

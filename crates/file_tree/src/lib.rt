@@ -2,11 +2,10 @@
 //!
 //! A `Tree` is a list of nodes in the order in which they were made. Each has the place that it has, or
 //! had when it was removed. The contracts of `Tree` say of each call what becomes of that list, and
-//! which changes are refused. `PlaceTree` keeps the list itself.
+//! which changes are refused. `PlaceTree` keeps the list itself; what is of it alone lies in its folder.
 #![tactic(auto)]
 
-mod changes;
-mod entries;
+mod contents;
 pub mod faults;
 pub mod names;
 pub mod nodes;

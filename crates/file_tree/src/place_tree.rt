@@ -1,11 +1,14 @@
 //! A tree as a plain list of nodes with their whole places.
 
-use crate::changes::{create_in, put_in, remove_in, rename_in, truncate_in};
-use crate::entries::{Entry, child_in, parent_in, target_in};
+mod changes;
+mod entries;
+
 use crate::faults::TreeFault;
 use crate::nodes::{Kind, New, NodeId};
 use crate::places::{append_text, begins_with_path};
 use crate::tree::Tree;
+use changes::{create_in, put_in, remove_in, rename_in, truncate_in};
+use entries::{Entry, child_in, parent_in, target_in};
 use std::alloc::Global;
 use std::marker::Model;
 
@@ -21,7 +24,7 @@ impl Model for PlaceTree {
     ghost use Rattle.std.specs.Prelude.{List};
     ghost use Rattle.file_tree.specs.Nodes.{Node};
     ghost use Rattle.file_tree.specs.WellFormed.{IsTree};
-    ghost use Rattle.file_tree.specs.Views.{nodes_of};
+    ghost use Rattle.file_tree.specs.PlaceEntries.{nodes_of};
 
     ghost Value = { List Node };
 

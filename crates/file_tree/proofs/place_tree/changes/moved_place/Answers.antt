@@ -1,7 +1,7 @@
 use Rattle.std.proofs.Common.{◌++◌, sym, ap, length}
 use Rattle.std.proofs.lemmas.List.{take_rest, drop-map, length-map}
 use Rattle.file_tree.specs.Views.{names_of}
-use Rattle.file_tree.proofs.changes.moved_place.Goals as goal
+use Rattle.file_tree.proofs.place_tree.changes.moved_place.Goals as goal
 
 pub returns : goal.returns
 returns c =

@@ -1,7 +1,8 @@
 use Rattle.std.proofs.Common.{◌≡◌, drop}
 use Rattle.file_tree.specs.Nodes.{has_below}
-use Rattle.file_tree.specs.Views.{names_of, nodes_of}
-use Rattle.file_tree.proofs.entries.holds_below.Given as goal
+use Rattle.file_tree.specs.Views.{names_of}
+use Rattle.file_tree.specs.PlaceEntries.{nodes_of}
+use Rattle.file_tree.proofs.place_tree.entries.holds_below.Given as goal
 
 -- what is left decides it
 abbrev pub invariant-loop-entry : goal.invariant-loop-entry

@@ -1,7 +1,8 @@
 use Rattle.std.proofs.Common.{◌≡◌, drop}
 use Rattle.file_tree.specs.Nodes.{node_from}
-use Rattle.file_tree.specs.Views.{names_of, nodes_of}
-use Rattle.file_tree.proofs.entries.find_place.Given as goal
+use Rattle.file_tree.specs.Views.{names_of}
+use Rattle.file_tree.specs.PlaceEntries.{nodes_of}
+use Rattle.file_tree.proofs.place_tree.entries.find_place.Given as goal
 
 -- what is left decides it
 abbrev pub invariant-loop-i : goal.invariant-loop-i

@@ -1,7 +1,8 @@
 use Rattle.std.proofs.Common.{◌≡◌, ◌++◌, drop, map}
 use Rattle.file_tree.specs.Changes.{moved, replaced_at}
-use Rattle.file_tree.specs.Views.{names_of, nodes_of}
-use Rattle.file_tree.proofs.changes.moved_entries.Given as goal
+use Rattle.file_tree.specs.Views.{names_of}
+use Rattle.file_tree.specs.PlaceEntries.{nodes_of}
+use Rattle.file_tree.proofs.place_tree.changes.moved_entries.Given as goal
 
 -- what is made and what is left are all
 abbrev pub invariant-loop-entry : goal.invariant-loop-entry

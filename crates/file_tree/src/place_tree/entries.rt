@@ -4,7 +4,8 @@ ghost use Rattle.std.specs.Prelude.{◌≡◌, ◌<◌, Option, length, IfSome};
 ghost use Rattle.std.specs.Option.{option_copied};
 ghost use Rattle.file_tree.specs.Places.{at_name};
 ghost use Rattle.file_tree.specs.Nodes.{child_of, has_below, node_at, parent_of, target_of};
-ghost use Rattle.file_tree.specs.Views.{names_of, nodes_of};
+ghost use Rattle.file_tree.specs.Views.{names_of};
+ghost use Rattle.file_tree.specs.PlaceEntries.{nodes_of};
 
 use crate::nodes::Kind;
 use crate::places::{is_child, is_front, is_same_place};

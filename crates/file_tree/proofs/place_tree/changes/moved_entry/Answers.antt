@@ -2,7 +2,7 @@ use Rattle.std.proofs.Common.{arith, sym, ◌∙◌}
 use Rattle.std.proofs.lemmas.List.{length-map}
 use Rattle.file_tree.specs.Views.{names_of}
 use Rattle.file_tree.proofs.PlaceLaws.{begins_length}
-use Rattle.file_tree.proofs.changes.moved_entry.Goals as goal
+use Rattle.file_tree.proofs.place_tree.changes.moved_entry.Goals as goal
 
 pub moved_place-requires : goal.moved_place-requires
 moved_place-requires c =

@@ -2,7 +2,7 @@ use Rattle.std.proofs.Common.{sym, ◌∙◌, ap}
 use Rattle.file_tree.specs.Nodes.{Node}
 use Rattle.file_tree.specs.Changes.{written}
 use Rattle.file_tree.proofs.EntryLaws.{entry_kept, entry_filled, entry_node, in_items, on_err, same_content}
-use Rattle.file_tree.proofs.changes.put_in.Goals as goal
+use Rattle.file_tree.proofs.place_tree.changes.put_in.Goals as goal
 
 pub returns-in_err-put-clause-err : goal.returns-in_err-put-clause-err
 returns-in_err-put-clause-err c =

@@ -1,7 +1,7 @@
 use Rattle.std.proofs.Common.{◌<◌, length, arith, sym, ◌∙◌}
 use Rattle.std.proofs.lemmas.Bool.{eqb-false}
 use Rattle.file_tree.proofs.EntryLaws.{parent_in_entries}
-use Rattle.file_tree.proofs.entries.parent_in.Goals as goal
+use Rattle.file_tree.proofs.place_tree.entries.parent_in.Goals as goal
 
 pub returns-clause-found : goal.returns-clause-found
 returns-clause-found c =

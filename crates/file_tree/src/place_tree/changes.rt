@@ -7,49 +7,16 @@ ghost use Rattle.file_tree.specs.Nodes.{node};
 ghost use Rattle.file_tree.specs.Changes.{filled, moved, removed, renamed, replaced_at, resized, written};
 ghost use Rattle.file_tree.specs.Refusals.{create_fault, created, put_byte_fault, remove_fault, rename_fault, truncate_fault};
 ghost use Rattle.file_tree.specs.WellFormed.{is_byte};
-ghost use Rattle.file_tree.specs.Views.{TellsTreeFault, kind_of, names_of, new_content, new_kind, node_of, nodes_of};
+ghost use Rattle.file_tree.specs.Views.{TellsTreeFault, kind_of, names_of, new_content, new_kind};
+ghost use Rattle.file_tree.specs.PlaceEntries.{node_of, nodes_of};
 
-use crate::entries::{Entry, child_in, holds_below};
+use super::entries::{Entry, child_in, holds_below};
+use crate::contents::{content_to_make, kind_to_make, put};
 use crate::faults::TreeFault;
 use crate::nodes::{Kind, New, NodeId};
 use crate::places::{append_names, child_place, copy_of, is_child, is_front, is_same_place};
 use rights::limits::{MAX_BYTES, MAX_NODES};
 use std::alloc::{AllocError, Global};
-
-/// The kind of a node that is to be made.
-fn kind_to_make(what: New<'_>) -> Kind
-    ensures { kind_of result ≡ new_kind what.entry }
-{
-    match what {
-        New::File => Kind::File,
-        New::Dir => Kind::Dir,
-        New::Link(_) => Kind::Link,
-    }
-}
-
-/// A copy of some bytes.
-fn copy_of_bytes(alloc: Global, bytes: &[u8]) -> Result<Vec<u8>, AllocError>
-    ensures copied { IfOk result (λ copy. copy.items ≡ bytes.now) }
-    ensures bytes { OnOk result (list_all is_byte bytes.now ≡ true) }
-{
-    let copy = Vec::from_slice(alloc, bytes)?;
-    Ok(copy)
-}
-
-/// The content of a node that is to be made.
-fn content_to_make(alloc: Global, what: New<'_>) -> Result<Vec<u8>, AllocError>
-    ensures copied { IfOk result (λ content. content.items ≡ new_content what.entry) }
-    ensures bytes { OnOk result (list_all is_byte (new_content what.entry) ≡ true) }
-{
-    match what {
-        New::File => Ok(Vec::new(alloc)),
-        New::Dir => Ok(Vec::new(alloc)),
-        New::Link(target) => {
-            let content = copy_of_bytes(alloc, target)?;
-            Ok(content)
-        }
-    }
-}
 
 /// Makes a node of that name in a directory.
 #[tactic(auto, unfolding(crate::specs::Refusals::created, crate::specs::Refusals::create_fault, crate::specs::Nodes::child_of))]
@@ -218,19 +185,6 @@ pub(crate) fn rename_in(
     }
     let made = moved_entries(alloc, from, to.as_slice(), entries)?;
     *entries = made;
-    Ok(())
-}
-
-/// Writes a byte into a content, the gap before it filled with zeros.
-fn put(content: &mut Vec<u8>, at: usize, b: u8) -> Result<(), AllocError>
-    requires { at < MAX_BYTES }
-    ensures ok { OnOk result (content.new.items ≡ written content.old.items at b) }
-    ensures err { OnErr result (content.new.items ≡ content.old.items) }
-{
-    if at >= content.len() {
-        content.resize(at + 1, 0)?;
-    }
-    content[at] = b;
     Ok(())
 }
 
