@@ -44,25 +44,25 @@ may_rename t n d name h other =
     let third = passed (has_below t to) NotEmpty None second.1 in
     record { linked = linked.0; dir_linked = linked.1; apart = second.0; empty = third.0 }
 
-and_no : (a : Bool) {b : Bool} → b ≡ false → (a && b) ≡ false
+pub and_no : (a : Bool) {b : Bool} → b ≡ false → (a && b) ≡ false
 and_no true h = h
 and_no false h = refl
 
 -- what becomes of one node
 module _ (p q : List (List ℕ)) (m : Node) where
-  replaced : stands_at q m ≡ true → moved p q (replaced_at q m) ≡ unlinked m
+  pub replaced : stands_at q m ≡ true → moved p q (replaced_at q m) ≡ unlinked m
   replaced at = rw at refl
 
-  not_replaced : stands_at q m ≡ false → replaced_at q m ≡ m
+  pub not_replaced : stands_at q m ≡ false → replaced_at q m ≡ m
   not_replaced off = rw off refl
 
-  is_moved : stands_at q m ≡ false → (m.linked && begins p m.place) ≡ true → moved p q (replaced_at q m) ≡ record { kind = m.kind; place = q ++ drop (length p) m.place; linked = m.linked; content = m.content }
+  pub is_moved : stands_at q m ≡ false → (m.linked && begins p m.place) ≡ true → moved p q (replaced_at q m) ≡ record { kind = m.kind; place = q ++ drop (length p) m.place; linked = m.linked; content = m.content }
   is_moved off front = ap (moved p q) (not_replaced off) ∙ (rw front refl)
 
-  is_kept : stands_at q m ≡ false → (m.linked && begins p m.place) ≡ false → moved p q (replaced_at q m) ≡ m
+  pub is_kept : stands_at q m ≡ false → (m.linked && begins p m.place) ≡ false → moved p q (replaced_at q m) ≡ m
   is_kept off back = ap (moved p q) (not_replaced off) ∙ (rw back refl)
 
-  unaffected : same_place q m.place ≡ false → begins p m.place ≡ false → moved p q (replaced_at q m) ≡ m
+  pub unaffected : same_place q m.place ≡ false → begins p m.place ≡ false → moved p q (replaced_at q m) ≡ m
   unaffected off back = is_kept (and_no m.linked off) (and_no m.linked back)
 
 -- a linked node after a rename from p to q: the node before was linked and not at q, and it was moved or stayed
@@ -144,7 +144,7 @@ directory_moves t p q s d off front =
     }
 
 -- With nothing below q, no linked node that isn't at q begins with q.
-nothing_in : (t : List Node) (q : List (List ℕ)) → has_below t q ≡ false → (k : ℕ) → (node t k).linked ≡ true → same_place q (node t k).place ≡ false → begins q (node t k).place ≡ true → ⊥
+pub nothing_in : (t : List Node) (q : List (List ℕ)) → has_below t q ≡ false → (k : ℕ) → (node t k).linked ≡ true → same_place q (node t k).place ≡ false → begins q (node t k).place ≡ true → ⊥
 nothing_in t q empty k linked off front =
     let below : lies_below q (node t k) ≡ true = both_true (both_true linked front) (rw off refl) in
     both_ways (lies_below q (node t k)) (none_at (lies_below q) t k refl empty) below
@@ -158,7 +158,7 @@ rest_above p s front other =
 
 module _ (t : List Node) (n d : ℕ) (name : List ℕ) (tree : IsTree t) (directory : (node t d).kind ≡ Dir) (may : MayMove t n d (at_name (node t d).place name)) where
   -- the root and the directory stay
-  below_root : begins (node t n).place [] ≡ false
+  pub below_root : begins (node t n).place [] ≡ false
   below_root = false_from_ne_true _ (λ h. both_ways _ may.apart (begins_trans (node t n).place [] (at_name (node t d).place name) h refl))
 
   root_stays : node (after t (node t n).place (at_name (node t d).place name)) 0 ≡ node t 0

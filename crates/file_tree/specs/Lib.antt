@@ -5,3 +5,4 @@ pub mod Refusals
 pub mod WellFormed
 pub mod Views
 pub mod PlaceEntries
+pub mod Links

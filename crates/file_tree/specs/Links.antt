@@ -1,0 +1,93 @@
+-- A file tree by links: each node names the directory that holds it, and each directory its children. (own)
+use Rattle.std.specs.Prelude.{◌≡◌, ℕ, zero, suc, ◌<◌, Bool, true, false, List, [], map, length, Option, Some, None, slice_index_or, slice_set, cond}
+use Rattle.std.specs.Str.{bytes_eq}
+use Rattle.file_tree.specs.Places.{at_name}
+use Rattle.file_tree.specs.Nodes as nodes
+use Rattle.file_tree.specs.Nodes.{Kind, Node, node}
+use Rattle.file_tree.specs.WellFormed.{IsTree}
+
+-- Where a node stands: it is the root, or it has a name in the directory of a number, or it was removed and
+-- keeps the place that it had then.
+pub data Stand : Type 0 where
+  Root : Stand
+  In : ℕ → List ℕ → Stand
+  Out : List (List ℕ) → Stand
+
+-- A node, with the number of the child that has a name in it.
+pub record Link : Type 0 where
+  pub kind : Kind
+  pub stand : Stand
+  pub child : List ℕ → Option ℕ
+  pub content : List ℕ
+
+-- what a number names that no node has
+abbrev pub no_link : Link
+no_link = record { kind = nodes.Link; stand = Out []; child = λ name. None; content = [] }
+
+abbrev pub link : List Link → ℕ → Link
+link ls n = slice_index_or ls n no_link
+
+abbrev pub is_in : Stand → Bool
+is_in Root = true
+is_in (In d name) = true
+is_in (Out p) = false
+
+-- the names from the root down to a node, found by going up so many times at most
+abbrev pub place_up : ℕ → List Link → Stand → List (List ℕ)
+place_up zero ls s = []
+place_up (suc fuel) ls Root = []
+place_up (suc fuel) ls (In d name) = at_name (place_up fuel ls (link ls d).stand) name
+place_up (suc fuel) ls (Out p) = p
+
+-- The tree that the links are: no node lies deeper than there are nodes.
+abbrev pub linked_node : List Link → Link → Node
+linked_node ls l = record { kind = l.kind; place = place_up (length ls) ls l.stand; linked = is_in l.stand; content = l.content }
+
+unfoldable pub linked_nodes : List Link → List Node
+linked_nodes ls = map (linked_node ls) ls
+
+-- When a stand is that of a node in a tree: the root's place is empty, a name's is in the directory that holds it, which is linked.
+abbrev pub StandFits : List Node → Stand → Node → Type 0
+StandFits t Root m = (m.linked ≡ true) × (m.place ≡ [])
+StandFits t (In d name) m = (m.linked ≡ true) × ((node t d).linked ≡ true) × (m.place ≡ at_name (node t d).place name)
+StandFits t (Out p) m = (m.linked ≡ false) × (m.place ≡ p)
+
+pub record LinkFits (t : List Node) (l : Link) (m : Node) : Type 0 where
+  pub kind : l.kind ≡ m.kind
+  pub content : l.content ≡ m.content
+  pub stand : StandFits t l.stand m
+
+pub record Fits (ls : List Link) (t : List Node) : Type 0 where
+  pub count : length ls ≡ length t
+  pub each : (n : ℕ) → n < length t → LinkFits t (link ls n) (node t n)
+
+-- The directories name as their children those nodes, and only those, that name them as what holds them.
+pub record Filed (stand : ℕ → Stand) (child : ℕ → List ℕ → Option ℕ) : Type 0 where
+  pub named : (n d : ℕ) (name : List ℕ) → stand n ≡ In d name → child d name ≡ Some n
+  pub holds : (d : ℕ) (name : List ℕ) (n : ℕ) → child d name ≡ Some n → stand n ≡ In d name
+
+abbrev pub IsFiled : List Link → Type 0
+IsFiled ls = Filed (λ n. (link ls n).stand) (λ d. (link ls d).child)
+
+-- The links are a tree, and each name is filed.
+pub record IsLinked (ls : List Link) : Type 0 where
+  pub tree : IsTree (linked_nodes ls)
+  pub fits : Fits ls (linked_nodes ls)
+  pub filed : IsFiled ls
+
+-- what holds a node by its stand
+abbrev pub holder : Stand → Option ℕ
+holder Root = None
+holder (In d name) = Some d
+holder (Out p) = None
+
+-- The links with another stand of one node, with another child under a name of one directory, and with another content of one node.
+unfoldable pub stood : List Link → ℕ → Stand → List Link
+stood ls n s = slice_set ls n (record { kind = (link ls n).kind; stand = s; child = (link ls n).child; content = (link ls n).content })
+
+unfoldable pub filed : List Link → ℕ → List ℕ → Option ℕ → List Link
+filed ls d name o =
+    slice_set ls d (record { kind = (link ls d).kind; stand = (link ls d).stand; child = λ q. cond (bytes_eq name q) o ((link ls d).child q); content = (link ls d).content })
+
+unfoldable pub refilled : List Link → ℕ → List ℕ → List Link
+refilled ls n content = slice_set ls n (record { kind = (link ls n).kind; stand = (link ls n).stand; child = (link ls n).child; content = content })
