@@ -1,5 +1,5 @@
 -- Names that are filed stay so when a node leaves its directory, and when one comes into a directory.
-use Rattle.std.proofs.Common.{◌≡◌, ℕ, ◌⊎◌, inl, inr, List, true, false, Option, Some, None, ap, sym, ◌∙◌, refl, cond, eqb}
+use Rattle.std.proofs.Common.{◌≡◌, ℕ, ◌⊎◌, inl, inr, List, [], true, false, Option, Some, None, ap, sym, ◌∙◌, refl, cond, eqb}
 use Rattle.std.specs.Prelude.{◌≢◌, ◌&&◌}
 use Rattle.std.specs.Str.{bytes_eq}
 use Rattle.std.proofs.lemmas.Bool.{cases_Bool}
@@ -89,3 +89,32 @@ module _ (S : ℕ → Stand) (C : ℕ → List ℕ → Option ℕ) (filed : File
       holds : (e : ℕ) (q : List ℕ) (k : ℕ) → S k ≡ In e q → ((eqb n k ≡ true) × (n ≡ k)) ⊎ ((eqb n k ≡ false) × (n ≢ k)) → put S n (In d name) k ≡ In e q
       holds e q k was (inl same) = let number : n ≡ k = same.1 in let no : Out p ≡ In e q = sym out ∙ ap S number ∙ was in cc
       holds e q k was (inr other) = rw other.0 was
+
+-- a node moves from one directory into another, where what had the name is out already
+pub filed_moved : (S T : ℕ → Stand) (C D : ℕ → List ℕ → Option ℕ) (n d e : ℕ) (name x : List ℕ) → Filed T (put2 C d name None) → T n ≡ In e x → (d ≡ e → name ≡ x → ⊥) → ((k : ℕ) → S k ≡ put T n (In d name) k) → ((i : ℕ) (q : List ℕ) → D i q ≡ put2 (put2 C d name (Some n)) e x None i q) → Filed S D
+filed_moved S T C D n d e name x filed at apart stands children =
+    filed_same (put (put T n (Out [])) n (In d name)) S (put2 (put2 (put2 C d name None) e x None) d name (Some n)) D
+    (filed_in (put T n (Out [])) (put2 (put2 C d name None) e x None) (filed_out T (put2 C d name None) filed n e x [] at) n d name [] out free)
+    (λ k. stands k ∙ twice k)
+    (λ i q. children i q ∙ turned i q)
+  where
+    out : put T n (Out []) n ≡ Out []
+    out = elim (eqb_tells n n) [ inl same ↦ rw same.0 refl | inr other ↦ absurd (other.1 refl) ]
+
+    free : put2 (put2 C d name None) e x None d name ≡ None
+    free = elim (slot_cases e d x name) [
+      | inl same ↦ rw same.0 refl
+      | inr other ↦ elim (slot_cases d d name name) [ inl here ↦ rw (other.0, here.0) refl | inr elsewhere ↦ absurd (elsewhere.1 refl refl) ]
+    ]
+
+    twice : (k : ℕ) → put T n (In d name) k ≡ put (put T n (Out [])) n (In d name) k
+    twice k = elim (eqb_tells n k) [ inl same ↦ rw same.0 refl | inr other ↦ rw other.0 refl ]
+
+    turned : (i : ℕ) (q : List ℕ) → put2 (put2 C d name (Some n)) e x None i q ≡ put2 (put2 (put2 C d name None) e x None) d name (Some n) i q
+    turned i q = both (slot_cases d i name q) (slot_cases e i x q)
+      where
+        both : (((eqb d i && bytes_eq name q) ≡ true) × (d ≡ i) × (name ≡ q)) ⊎ (((eqb d i && bytes_eq name q) ≡ false) × (d ≡ i → name ≡ q → ⊥)) → (((eqb e i && bytes_eq x q) ≡ true) × (e ≡ i) × (x ≡ q)) ⊎ (((eqb e i && bytes_eq x q) ≡ false) × (e ≡ i → x ≡ q → ⊥)) → put2 (put2 C d name (Some n)) e x None i q ≡ put2 (put2 (put2 C d name None) e x None) d name (Some n) i q
+        both (inl a) (inl b) = absurd (apart (a.1 ∙ sym b.1) (a.2 ∙ sym b.2))
+        both (inl a) (inr b) = rw (a.0, b.0) refl
+        both (inr a) (inl b) = rw (a.0, b.0) refl
+        both (inr a) (inr b) = rw (a.0, b.0) refl

@@ -22,12 +22,12 @@ pub shows_itself : (ls : List Link) → Shows ls (length ls) (λ k. (link ls k).
 shows_itself ls = record { count_is = refl; kind = λ k. refl; content = λ k. refl; stand = λ k. refl; child = λ k name. refl }
 
 -- one link is replaced by another
-record Replaced (us vs : List Link) (n : ℕ) (l : Link) : Type 0 where
-  count : length vs ≡ length us
-  here : link vs n ≡ l
-  other : (k : ℕ) → n ≢ k → link vs k ≡ link us k
+pub record Replaced (us vs : List Link) (n : ℕ) (l : Link) : Type 0 where
+  pub count : length vs ≡ length us
+  pub here : link vs n ≡ l
+  pub other : (k : ℕ) → n ≢ k → link vs k ≡ link us k
 
-replaced_link : (us : List Link) (n : ℕ) (l : Link) → n < length us → Replaced us (slice_set us n l) n l
+pub replaced_link : (us : List Link) (n : ℕ) (l : Link) → n < length us → Replaced us (slice_set us n l) n l
 replaced_link us n l there = record {
   count = length-set us n l;
   here = get_or-set_same us n l no_link there;

@@ -58,7 +58,7 @@ lies_parts p m is = split m.linked (begins p m.place) (same_place p m.place) is
 
 module _ (t : List Node) (ls : List Link) (tree : IsTree t) (fits : Fits ls t) (filed : IsFiled ls) where
   -- a node that the tree has in a directory is filed there
-  filed_child : (d n : ℕ) (name : List ℕ) → Child t d name n → (link ls d).child name ≡ Some n
+  pub filed_child : (d n : ℕ) (name : List ℕ) → Child t d name n → (link ls d).child name ≡ Some n
   filed_child d n name child = by_stand (stand_of t ls n fits child.linked)
     where
       by_stand : ((node t n).place ≡ []) ⊎ ((e : ℕ) × (other : List ℕ) × ((link ls n).stand ≡ In e other)) → (link ls d).child name ≡ Some n

@@ -6,3 +6,4 @@ pub mod WellFormed
 pub mod Views
 pub mod PlaceEntries
 pub mod Links
+pub mod LinkEntries

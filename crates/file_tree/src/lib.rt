@@ -7,6 +7,7 @@
 
 mod contents;
 pub mod faults;
+pub(crate) mod link_tree;
 pub mod names;
 pub mod nodes;
 pub mod place_tree;

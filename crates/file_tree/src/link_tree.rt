@@ -1,0 +1,3 @@
+//! A tree as nodes that name what holds them, and directories that name their children.
+
+mod links;
