@@ -1,12 +1,12 @@
 -- What an entry of a tree by links says of its node.
-use Rattle.std.proofs.Common.{◌≡◌, ℕ, ◌<◌, List, Option, Some, None, length, get_or, ap, sym, ◌∙◌, refl, arith}
+use Rattle.std.proofs.Common.{◌≡◌, ℕ, ◌<◌, List, Option, Some, None, length, get_or, ap, sym, ◌∙◌, arith}
 use Rattle.std.proofs.lemmas.List.{get_or-map, length-map}
 use Rattle.std.specs.Prelude.{IfSome}
-use Rattle.file_tree.specs.Nodes.{Node, node, child_of, parent_of, target_of, is_link}
-use Rattle.file_tree.specs.Links.{Link, link, no_link, linked_nodes, holder, StandFits, LinkFits, IsLinked}
+use Rattle.file_tree.specs.Nodes.{node, child_of, parent_of}
+use Rattle.file_tree.specs.Links.{Stand, In, Link, link, no_link, linked_nodes, holder, LinkFits, IsLinked}
 use Rattle.file_tree.specs.LinkEntries.{link_of, links_of, named_in, stand_of}
 use Rattle.file_tree.specs.declared.link_tree.links.Link.{Link as Entry}
-use Rattle.file_tree.proofs.LinkReads.{child_linked, parent_linked}
+use Rattle.file_tree.proofs.LinkReads.{child_linked, parent_linked, held, Held}
 use Rattle.file_tree.proofs.TreeLaws.{child_there, parent_is}
 
 pub entry_link : (es : List Entry) (n : ℕ) (e : Entry) → n < length es → e ≡ get_or es n e → link (links_of es) n ≡ link_of e
@@ -43,3 +43,10 @@ module _ (es : List Entry) (linked : IsLinked (links_of es)) where
 
   pub parent_in_entries : (n d : ℕ) → parent_of (linked_nodes (links_of es)) n ≡ Some d → d < length es
   parent_in_entries n d h = omega (arith, (parent_is (linked_nodes (links_of es)) n d h).holder.there, count_nodes)
+
+  pub entry_stand : (n : ℕ) (e : Entry) (s : Stand) → n < length es → e ≡ get_or es n e → stand_of e.stand ≡ s → (link (links_of es) n).stand ≡ s
+  entry_stand n e s there is stands = ap (λ (l : Link). l.stand) (entry_link es n e there is) ∙ stands
+
+  -- what an entry says of a node that has a name in a directory
+  pub entry_held : (n : ℕ) (e : Entry) (d : ℕ) (name : List ℕ) → n < length es → e ≡ get_or es n e → stand_of e.stand ≡ In d name → Held (linked_nodes (links_of es)) n d name
+  entry_held n e d name there is stands = held (linked_nodes (links_of es)) (links_of es) n d name linked.fits (entry_stand n e (In d name) there is stands)

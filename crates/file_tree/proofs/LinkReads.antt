@@ -1,13 +1,13 @@
 -- What the links say of children, parents and what lies below a node.
 use Rattle.std.proofs.Common.{◌≡◌, ℕ, zero, suc, ◌<◌, ◌≤◌, ◌+◌, ◌⊎◌, inl, inr, List, [], ◌∷◌, Bool, true, false, Option, Some, None, length, ap, sym, ◌∙◌, refl, arith}
-use Rattle.std.specs.Prelude.{◌&&◌, not}
-use Rattle.std.proofs.lemmas.Bool.{cases_Bool, both_ways}
+use Rattle.std.specs.Prelude.{◌≢◌, ◌&&◌, not}
+use Rattle.std.proofs.lemmas.Bool.{cases_Bool, both_ways, false_from_ne_true}
 use Rattle.std.proofs.lemmas.List.{get_or_past}
 use Rattle.file_tree.specs.Places.{at_name, above, begins, same_place}
 use Rattle.file_tree.specs.Nodes.{Node, node, node_at, child_of, parent_of, has_below, lies_below}
 use Rattle.file_tree.specs.WellFormed.{IsTree}
 use Rattle.file_tree.proofs.NodeLaws.{linked_there, any_found, any_at}
-use Rattle.file_tree.proofs.PlaceLaws.{at_name_length, above_at_name, rest_same, same_place_is, begins_longer, begins_above_other}
+use Rattle.file_tree.proofs.PlaceLaws.{at_name_length, above_at_name, rest_same, same_place_is, begins_longer, begins_above_other, begins_trans, begins_append}
 use Rattle.file_tree.proofs.TreeLaws.{Child, child_is, child_by_place, node_at_its_place, parent_above}
 use Rattle.file_tree.proofs.KeptByRemove.{lies_in}
 use Rattle.file_tree.specs.Links.{Stand, Root, In, Out, Link, link, no_link, holder, StandFits, Fits, IsFiled}
@@ -139,3 +139,23 @@ module _ (t : List Node) (ls : List Link) (tree : IsTree t) (fits : Fits ls t) (
         where
           no_child_here : (k : ℕ) (name : List ℕ) → (link ls k).stand ≡ In d name → ⊥
           no_child_here k name is = let none : None ≡ Some k = sym (bare name) ∙ filed.named k d name is in cc
+
+-- a node lies at or above another one exactly if it is that one, or lies at or above what holds it
+pub above_holder : (t : List Node) (ls : List Link) (n d e : ℕ) (name : List ℕ) → IsTree t → Fits ls t → (node t n).linked ≡ true → n ≢ d → (link ls d).stand ≡ In e name → begins (node t n).place (node t e).place ≡ begins (node t n).place (node t d).place
+above_holder t ls n d e name tree fits linked apart is = by_cases (cases_Bool (begins (node t n).place (node t e).place)) (cases_Bool (begins (node t n).place (node t d).place))
+  where
+    h : Held t d e name
+    h = held t ls d e name fits is
+
+    up : begins (node t n).place (node t d).place ≡ true → begins (node t n).place (node t e).place ≡ true
+    up front =
+        let other : same_place (node t n).place (node t d).place ≡ false = false_from_ne_true _ (λ at. apart (tree.apart n d linked h.linked (same_place_is _ _ at))) in
+        rw (← above_at_name (node t e).place name, ← h.place) (begins_above_other (node t n).place (node t d).place front other)
+
+    down : begins (node t n).place (node t e).place ≡ true → begins (node t n).place (node t d).place ≡ true
+    down front = rw h.place (begins_trans (node t n).place (node t e).place (at_name (node t e).place name) front (begins_append (node t e).place (name ∷ [])))
+
+    by_cases : (begins (node t n).place (node t e).place ≡ true) ⊎ (begins (node t n).place (node t e).place ≡ false) → (begins (node t n).place (node t d).place ≡ true) ⊎ (begins (node t n).place (node t d).place ≡ false) → begins (node t n).place (node t e).place ≡ begins (node t n).place (node t d).place
+    by_cases (inl a) b = a ∙ sym (down a)
+    by_cases (inr a) (inl b) = up b ∙ sym b
+    by_cases (inr a) (inr b) = a ∙ sym b

@@ -7,3 +7,4 @@ pub mod Views
 pub mod PlaceEntries
 pub mod Links
 pub mod LinkEntries
+pub mod PathMatch

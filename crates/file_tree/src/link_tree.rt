@@ -1,3 +1,4 @@
 //! A tree as nodes that name what holds them, and directories that name their children.
 
+mod climbs;
 mod links;

@@ -1,6 +1,5 @@
-use Rattle.std.proofs.Common.{◌≡◌, Option, Some, None, sym, ◌∙◌, ap, refl, if◌then◌else◌}
-use Rattle.file_tree.specs.Nodes.{target_of, is_link}
-use Rattle.file_tree.specs.Views.{kind_of}
+use Rattle.std.proofs.Common.{Some, ap, refl}
+use Rattle.file_tree.specs.Nodes.{target_of}
 use Rattle.file_tree.proofs.LinkEntryLaws.{entry_fits}
 use Rattle.file_tree.proofs.link_tree.links.target_in.Goals as goal
 
