@@ -109,3 +109,11 @@ shows_more ls l bare = record {
     | inr old ↦ ap (λ (m : Link). m.child name) old.1
   ];
 }
+
+pub stood_length : (ls : List Link) (n : ℕ) (s : Stand) → length (stood ls n s) ≡ length ls
+unfolding stood
+stood_length ls n s = length-set ls n _
+
+pub filed_length : (ls : List Link) (n : ℕ) (name : List ℕ) (o : Option ℕ) → length (filed ls n name o) ≡ length ls
+unfolding filed
+filed_length ls n name o = length-set ls n _

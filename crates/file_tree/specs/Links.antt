@@ -91,3 +91,14 @@ filed ls d name o =
 
 unfoldable pub refilled : List Link → ℕ → List ℕ → List Link
 refilled ls n content = slice_set ls n (record { kind = (link ls n).kind; stand = (link ls n).stand; child = (link ls n).child; content = content })
+
+-- A link of a node that was just made in a directory: it has that name there, and no children.
+pub record IsMade (l : Link) (d : ℕ) (name : List ℕ) (kind : Kind) (content : List ℕ) : Type 0 where
+  pub stand : l.stand ≡ In d name
+  pub bare : (q : List ℕ) → l.child q ≡ None
+  pub kind_is : l.kind ≡ kind
+  pub content_is : l.content ≡ content
+
+-- The links once a node is out of its directory and keeps a place: the name that it had there is filed no more.
+pub record TakenOut (ls us : List Link) (n : ℕ) (p : List (List ℕ)) : Type 0 where
+  pub from : (d : ℕ) (name : List ℕ) → (link ls n).stand ≡ In d name → us ≡ filed (stood ls n (Out p)) d name None
