@@ -24,7 +24,7 @@ pub record MayMove (t : List Node) (n d : ℕ) (to : List (List ℕ)) : Type 0 w
   pub apart : begins (node t n).place to ≡ false
   pub empty : has_below t to ≡ false
 
-both_or : (a b : Bool) → not (a && b) ≡ false → (a ≡ true) × (b ≡ true)
+pub both_or : (a b : Bool) → not (a && b) ≡ false → (a ≡ true) × (b ≡ true)
 both_or a b h = and_parts a b (not-false (a && b) h)
 
 skipped : (b : Bool) (rest : Option Fault) → b ≡ false → cond b None rest ≡ None → rest ≡ None

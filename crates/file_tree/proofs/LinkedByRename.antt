@@ -127,8 +127,7 @@ abbrev pub with_out : (ℕ → Stand) → Option ℕ → List (List ℕ) → ℕ
 with_out S None q k = S k
 with_out S (Some r) q k = put S r (Out q) k
 
-module _ (t : List Node) (ls us : List Link) (n d e : ℕ) (name x : List ℕ) (gone : Option ℕ) (tree : IsTree t) (fits : Fits ls t) (is_filed : IsFiled ls) (may : MayMove t n d (at_name (node t d).place name)) (elsewhere : same_place (at_name (node t d).place name) (node t n).place ≡ false) (stand : (link ls n).stand ≡ In e x) (child : (link ls d).child name ≡ gone)
-    (shows : Shows us (length ls) (λ k. (link ls k).kind) (λ k. (link ls k).content) (put (with_out (λ k. (link ls k).stand) gone (at_name (node t d).place name)) n (In d name)) (put2 (put2 (λ k. (link ls k).child) d name (Some n)) e x None)) where
+module _ (t : List Node) (ls : List Link) (n d e : ℕ) (name x : List ℕ) (gone : Option ℕ) (tree : IsTree t) (fits : Fits ls t) (is_filed : IsFiled ls) (may : MayMove t n d (at_name (node t d).place name)) (elsewhere : same_place (at_name (node t d).place name) (node t n).place ≡ false) (stand : (link ls n).stand ≡ In e x) (child : (link ls d).child name ≡ gone) where
   -- a node at the new place is what was in the way
   in_the_way : (k : ℕ) → (node t k).linked ≡ true → same_place (at_name (node t d).place name) (node t k).place ≡ true → gone ≡ Some k
   in_the_way k linked at =
@@ -141,6 +140,23 @@ module _ (t : List Node) (ls us : List Link) (n d e : ℕ) (name x : List ℕ) (
       let place : at_name (node t d).place name ≡ (node t n).place = ap (λ i. at_name (node t i).place name) number ∙ ap (at_name (node t e).place) names ∙ sym h.place in
       both_ways _ elsewhere (same_place_from _ _ place)
 
+  -- names stay filed when what was in the way is out
+  pub cleared : Filed (with_out (λ k. (link ls k).stand) gone (at_name (node t d).place name)) (put2 (λ k. (link ls k).child) d name None) × (with_out (λ k. (link ls k).stand) gone (at_name (node t d).place name) n ≡ In e x)
+  cleared = by_gone gone refl
+    where
+      none : gone ≡ None → (i : ℕ) (q : List ℕ) → put2 (λ k. (link ls k).child) d name None i q ≡ (link ls i).child q
+      none is i q = elim (slot_cases d i name q) [ inl same ↦ rw same.0 (sym is ∙ sym child ∙ ap (λ k. (link ls k).child name) same.1 ∙ ap (λ r. (link ls i).child r) same.2) | inr other ↦ rw other.0 refl ]
+
+      by_gone : (o : Option ℕ) → gone ≡ o → Filed (with_out (λ k. (link ls k).stand) o (at_name (node t d).place name)) (put2 (λ k. (link ls k).child) d name None) × (with_out (λ k. (link ls k).stand) o (at_name (node t d).place name) n ≡ In e x)
+      by_gone None is = (filed_same (λ k. (link ls k).stand) _ (λ k. (link ls k).child) _ is_filed (λ k. refl) (none is), stand)
+      by_gone (Some r) is =
+          let stood = is_filed.holds d name r (child ∙ is) in
+          let h = held t ls r d name fits stood in
+          let different : r ≢ n = λ same. both_ways _ elsewhere (same_place_from _ _ (sym h.place ∙ ap (λ k. (node t k).place) same)) in
+          (filed_out (λ k. (link ls k).stand) (λ k. (link ls k).child) is_filed r d name (at_name (node t d).place name) stood, put_other (λ k. (link ls k).stand) r n (Out (at_name (node t d).place name)) different ∙ stand)
+
+module _ (t : List Node) (ls us : List Link) (n d e : ℕ) (name x : List ℕ) (gone : Option ℕ) (tree : IsTree t) (fits : Fits ls t) (is_filed : IsFiled ls) (may : MayMove t n d (at_name (node t d).place name)) (elsewhere : same_place (at_name (node t d).place name) (node t n).place ≡ false) (stand : (link ls n).stand ≡ In e x) (child : (link ls d).child name ≡ gone)
+    (shows : Shows us (length ls) (λ k. (link ls k).kind) (λ k. (link ls k).content) (put (with_out (λ k. (link ls k).stand) gone (at_name (node t d).place name)) n (In d name)) (put2 (put2 (λ k. (link ls k).child) d name (Some n)) e x None)) where
   other_stand : (k : ℕ) → n ≢ k → k < length t → StandFits (renamed t n (at_name (node t d).place name)) (with_out (λ i. (link ls i).stand) gone (at_name (node t d).place name) k) (node (renamed t n (at_name (node t d).place name)) k)
   unfolding q
   other_stand k different there = by_gone gone refl
@@ -149,11 +165,11 @@ module _ (t : List Node) (ls us : List Link) (n d e : ℕ) (name x : List ℕ) (
       stays off = other_fits t ls n d name tree fits is_filed may elsewhere k different (link ls k).stand refl (fits.each k there).stand off
 
       by_gone : (o : Option ℕ) → gone ≡ o → StandFits (renamed t n (at_name (node t d).place name)) (with_out (λ i. (link ls i).stand) o (at_name (node t d).place name) k) (node (renamed t n (at_name (node t d).place name)) k)
-      by_gone None is = stays (λ linked. false_from_ne_true _ (λ at. let no : None ≡ Some k = sym is ∙ in_the_way k linked at in cc))
+      by_gone None is = stays (λ linked. false_from_ne_true _ (λ at. let no : None ≡ Some k = sym is ∙ in_the_way t ls n d e name x gone tree fits is_filed may elsewhere stand child k linked at in cc))
       by_gone (Some r) is = elim (eqb_tells r k) [
         | inl same ↦ let h = held t ls r d name fits (is_filed.holds d name r (child ∙ is)) in
             rw (same.0, ← same.1) (replaced_fits t ls n d name tree fits is_filed may elsewhere r h.linked h.place)
-        | inr other ↦ rw other.0 (stays (λ linked. false_from_ne_true _ (λ at. let it : Some r ≡ Some k = sym is ∙ in_the_way k linked at in let same : r ≡ k = cc in other.1 same)))
+        | inr other ↦ rw other.0 (stays (λ linked. false_from_ne_true _ (λ at. let it : Some r ≡ Some k = sym is ∙ in_the_way t ls n d e name x gone tree fits is_filed may elsewhere stand child k linked at in let same : r ≡ k = cc in other.1 same)))
       ]
 
   each : (k : ℕ) → k < length t → ((eqb n k ≡ true) × (n ≡ k)) ⊎ ((eqb n k ≡ false) × (n ≢ k)) → LinkFits (renamed t n (at_name (node t d).place name)) (link us k) (node (renamed t n (at_name (node t d).place name)) k)
@@ -177,22 +193,7 @@ module _ (t : List Node) (ls us : List Link) (n d e : ℕ) (name x : List ℕ) (
     each = λ k h. let less : k < length t = omega (arith, renamed_length t n d name) in each k less (eqb_tells n k);
   }
 
-  -- names stay filed when what was in the way is out
-  cleared : Filed (with_out (λ k. (link ls k).stand) gone (at_name (node t d).place name)) (put2 (λ k. (link ls k).child) d name None) × (with_out (λ k. (link ls k).stand) gone (at_name (node t d).place name) n ≡ In e x)
-  cleared = by_gone gone refl
-    where
-      none : gone ≡ None → (i : ℕ) (q : List ℕ) → put2 (λ k. (link ls k).child) d name None i q ≡ (link ls i).child q
-      none is i q = elim (slot_cases d i name q) [ inl same ↦ rw same.0 (sym is ∙ sym child ∙ ap (λ k. (link ls k).child name) same.1 ∙ ap (λ r. (link ls i).child r) same.2) | inr other ↦ rw other.0 refl ]
-
-      by_gone : (o : Option ℕ) → gone ≡ o → Filed (with_out (λ k. (link ls k).stand) o (at_name (node t d).place name)) (put2 (λ k. (link ls k).child) d name None) × (with_out (λ k. (link ls k).stand) o (at_name (node t d).place name) n ≡ In e x)
-      by_gone None is = (filed_same (λ k. (link ls k).stand) _ (λ k. (link ls k).child) _ is_filed (λ k. refl) (none is), stand)
-      by_gone (Some r) is =
-          let stood = is_filed.holds d name r (child ∙ is) in
-          let h = held t ls r d name fits stood in
-          let different : r ≢ n = λ same. both_ways _ elsewhere (same_place_from _ _ (sym h.place ∙ ap (λ k. (node t k).place) same)) in
-          (filed_out (λ k. (link ls k).stand) (λ k. (link ls k).child) is_filed r d name (at_name (node t d).place name) stood, put_other (λ k. (link ls k).stand) r n (Out (at_name (node t d).place name)) different ∙ stand)
-
   pub renamed_filed : IsFiled us
   renamed_filed =
-      let c = cleared in
-      filed_moved (λ k. (link us k).stand) (with_out (λ k. (link ls k).stand) gone (at_name (node t d).place name)) (λ k. (link ls k).child) (λ k. (link us k).child) n d e name x c.0 c.1 apart shows.stand shows.child
+      let c = cleared t ls n d e name x gone tree fits is_filed may elsewhere stand child in
+      filed_moved (λ k. (link us k).stand) (with_out (λ k. (link ls k).stand) gone (at_name (node t d).place name)) (λ k. (link ls k).child) (λ k. (link us k).child) n d e name x c.0 c.1 (apart t ls n d e name x gone tree fits is_filed may elsewhere stand child) shows.stand shows.child

@@ -102,3 +102,13 @@ pub record IsMade (l : Link) (d : ℕ) (name : List ℕ) (kind : Kind) (content 
 -- The links once a node is out of its directory and keeps a place: the name that it had there is filed no more.
 pub record TakenOut (ls us : List Link) (n : ℕ) (p : List (List ℕ)) : Type 0 where
   pub from : (d : ℕ) (name : List ℕ) → (link ls n).stand ≡ In d name → us ≡ filed (stood ls n (Out p)) d name None
+
+-- The links once the way to a place in a directory is clear for a node: it is filed under the name there, and what
+-- had the name is out, at that place.
+abbrev pub way_made : List Link → Option ℕ → List (List ℕ) → ℕ → List ℕ → ℕ → List Link
+way_made ls None place d name n = filed ls d name (Some n)
+way_made ls (Some r) place d name n = stood (filed ls d name (Some n)) r (Out place)
+
+-- The links once a node names a directory as what holds it, and is no more filed where it was.
+pub record Relinked (ls us : List Link) (n d : ℕ) (name : List ℕ) : Type 0 where
+  pub from : (e : ℕ) (old : List ℕ) → (link ls n).stand ≡ In e old → us ≡ filed (stood ls n (In d name)) e old None
