@@ -10,3 +10,11 @@ pub mod Sending
 pub mod Unused
 pub mod Pairing
 pub mod Counting
+pub mod Sums
+pub mod Steps
+pub mod Ending
+pub mod Releasing
+pub mod Moving
+pub mod Making
+pub mod Naming
+pub mod Answering

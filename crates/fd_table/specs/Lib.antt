@@ -6,3 +6,5 @@ pub mod Views
 pub mod Kept
 pub mod Stored
 pub mod Counts
+pub mod Books
+pub mod Holders
