@@ -18,3 +18,7 @@ pub mod Moving
 pub mod Making
 pub mod Naming
 pub mod Answering
+pub mod SlabLaws
+pub mod Following
+pub mod Beginning
+pub mod Sides

@@ -7,15 +7,13 @@ use Rattle.rights.proofs.Changes.{put-same, put-other}
 use Rattle.fd_table.specs.Descriptions.{Object, At_node, At_end, Class, Access, Descriptor, Message, new_state}
 use Rattle.fd_table.specs.OpenFiles.{OpenFiles, is_end}
 use Rattle.fd_table.specs.Openings.{described}
-use Rattle.fd_table.specs.Books.{Held, Pair, Kept, slot, queue, object_in, half_in, end_of}
-use Rattle.fd_table.specs.Holders.{in_pair, holders, IsCounted, IsNeeded, with_hand, Changed, ShowsAt, Follows}
+use Rattle.fd_table.proofs.Naming.{unnamed_vacant}
+use Rattle.fd_table.proofs.Answering.{follows_itself, unused_vacant}
+use Rattle.fd_table.specs.Books.{open_files, Held, Pair, Kept, slot, queue, object_in, half_in, end_of}
+use Rattle.fd_table.specs.Holders.{IsKept, in_pair, holders, IsCounted, IsNeeded, with_hand, Changed, ShowsAt, Follows, empty_hand, pair_new, held_new, Makes}
 use Rattle.fd_table.proofs.Sums.{changed-cases, sum_changed}
 use Rattle.fd_table.proofs.Ending.{same_end, end_itself, half_there}
 use Rattle.fd_table.proofs.Releasing.{named_own, named_other}
-
--- a description that begins with one holder, in hand
-abbrev pub held_new : Object → Bool → Held
-held_new object append = record { description = record { object = object; state = new_state append }; count = 1 }
 
 -- the maps with a new description
 shows_described : (f : OpenFiles) (ds es : List (Option Held)) (n : ℕ) (object : Object) (append : Bool) → ((m : ℕ) → ShowsAt f m (slot ds m)) → Changed ds es n (Some (held_new object append)) → (m : ℕ) → ShowsAt (described f n object append) m (slot es m)
@@ -63,10 +61,6 @@ follows_node f k ds d node access append hand follows vacant change = record {
         changed-cases (λ o. is_end r s (object_in o) ≡ is_end r s (object_in (slot k.descriptions m))) k.descriptions ds d.description (Some (held_new (At_node node access) append)) change m
         (λ is. ap (λ o. is_end r s (object_in o)) (sym (ap (slot k.descriptions) is ∙ vacant)))
         (λ other. refl)
-
--- a pair with both ends open, and nothing on its way
-abbrev pub pair_new : ℕ → ℕ → Pair
-pair_new first second = record { a = record { description = Some first; sent = [] }; b = record { description = Some second; sent = [] } }
 
 abbrev pub pair_described : OpenFiles → ℕ → ℕ → ℕ → Class → OpenFiles
 pair_described f first second pair class = described (described f first (At_end pair 0 class) false) second (At_end pair 1 class) false
@@ -199,3 +193,31 @@ module _ (f : OpenFiles) (k : Kept) (ds es : List (Option Held)) (ps : List (Opt
           (shows_described f k.descriptions ds d.description (At_end pair 0 class) false follows.shows.described change1) change2;
     };
   }
+
+pub makes_pair : (k : Kept) (ds es : List (Option Held)) (ps : List (Option Pair)) (first second pair : ℕ) (class : Class) → IsKept k empty_hand → slot k.descriptions first ≡ None → Changed k.descriptions ds first (Some (held_new (At_end pair 0 class) false)) → slot ds second ≡ None → Changed ds es second (Some (held_new (At_end pair 1 class) false)) → slot k.pairs pair ≡ None → Changed k.pairs ps pair (Some (pair_new first second)) → Makes k (record k { descriptions = es; pairs = ps }) class first second
+makes_pair k ds es ps first second pair class kept vacant1 change1 vacant2 change2 vacant change = record {
+  pair = pair;
+  first_fresh = unnamed_vacant k first empty_hand kept vacant1;
+  second_fresh = unnamed_vacant k second empty_hand kept (sym (change1.others second (λ same. apart (sym same))) ∙ vacant2);
+  apart = apart;
+  unused = unused_vacant k pair kept vacant;
+  follows = λ d e is1 is2.
+      subst (λ (n : ℕ). Follows (described (described (open_files k) n (At_end pair 0 class) false) second (At_end pair 1 class) false) (record k { descriptions = es; pairs = ps }) (with_hand (Some d) (with_hand (Some e) empty_hand))) is1
+      (subst (λ (n : ℕ). Follows (described (described (open_files k) d.description (At_end pair 0 class) false) n (At_end pair 1 class) false) (record k { descriptions = es; pairs = ps }) (with_hand (Some d) (with_hand (Some e) empty_hand))) is2
+      (follows_pair (open_files k) k ds es ps d e pair class empty_hand (follows_itself k empty_hand kept)
+      (ap (slot k.descriptions) is1 ∙ vacant1) (subst (λ (n : ℕ). Changed k.descriptions ds n (Some (held_new (At_end pair 0 class) false))) (sym is1) change1)
+      (ap (slot ds) is2 ∙ vacant2) (subst (λ (n : ℕ). Changed ds es n (Some (held_new (At_end pair 1 class) false))) (sym is2) change2)
+      vacant
+      (subst (λ (n : ℕ). Changed k.pairs ps pair (Some (pair_new n e.description))) (sym is1) (subst (λ (n : ℕ). Changed k.pairs ps pair (Some (pair_new first n))) (sym is2) change))));
+}
+  where
+    apart : first ≢ second
+    apart same =
+        let some : slot ds second ≡ Some (held_new (At_end pair 0 class) false) = ap (slot ds) (sym same) ∙ change1.changed in
+        absurd cc
+
+pub makes_node : (k : Kept) (ds : List (Option Held)) (d : Descriptor) (n node : ℕ) (access : Access) (append : Bool) → IsKept k empty_hand → d.description ≡ n → slot k.descriptions n ≡ None → Changed k.descriptions ds n (Some (held_new (At_node node access) append)) → Follows (described (open_files k) n (At_node node access) append) (record k { descriptions = ds }) (with_hand (Some d) empty_hand)
+makes_node k ds d n node access append kept is vacant change =
+    subst (λ (n : ℕ). Follows (described (open_files k) n (At_node node access) append) (record k { descriptions = ds }) (with_hand (Some d) empty_hand)) is
+    (follows_node (open_files k) k ds d node access append empty_hand (follows_itself k empty_hand kept) (ap (slot k.descriptions) is ∙ vacant)
+    (subst (λ (n : ℕ). Changed k.descriptions ds n (Some (held_new (At_node node access) append))) (sym is) change))

@@ -127,7 +127,7 @@ sent_open p side (suc zero) ms there = subst (λ (o : Option ℕ). IsSome o) (sy
 sent_open p side (suc (suc s)) ms there = absurd cc
 
 -- a pair with an open end has another queue
-follows_queue : (f : OpenFiles) (k : Kept) (ps : List (Option Pair)) (pair side s : ℕ) (p : Pair) (ms : List Message) (hand left : ℕ → ℕ) → Follows f k hand → slot k.pairs pair ≡ Some p → Changed k.pairs ps pair (Some (with_sent p side ms)) → side < 2 → length ms ≤ 16 → IsSome ((half_in (Some p) s).description) → ((n : ℕ) → in_queue n ms + left n ≡ in_queue n ((half_in (Some p) side).sent) + hand n) → Follows (with_queue f pair side ms) (record k { pairs = ps }) left
+pub follows_queue : (f : OpenFiles) (k : Kept) (ps : List (Option Pair)) (pair side s : ℕ) (p : Pair) (ms : List Message) (hand left : ℕ → ℕ) → Follows f k hand → slot k.pairs pair ≡ Some p → Changed k.pairs ps pair (Some (with_sent p side ms)) → side < 2 → length ms ≤ 16 → IsSome ((half_in (Some p) s).description) → ((n : ℕ) → in_queue n ms + left n ≡ in_queue n ((half_in (Some p) side).sent) + hand n) → Follows (with_queue f pair side ms) (record k { pairs = ps }) left
 follows_queue f k ps pair side s p ms hand left follows there change small few busy same = record {
   kept =
       kept_pair k ps pair p (with_sent p side ms) hand left follows.kept change there (sent_ends_a p side ms) (sent_ends_b p side ms)
@@ -184,22 +184,3 @@ with_none hand = λ i n. none n i
   where
     none : (n : ℕ) → with_hand None hand n ≡ hand n
     none n = omega arith
-
--- where no message is, none is taken
-pub follows_untaken : (f : OpenFiles) (k : Kept) (pair side : ℕ) (hand : ℕ → ℕ) → Follows f k hand → queue k.pairs pair side ≡ [] → Follows (with_taken f pair side) k (with_hand None hand)
-follows_untaken f k pair side hand follows none = record {
-  kept = subst (IsKept k) (sym (with_none hand)) follows.kept;
-  shows = record { table = follows.shows.table; queue = queues; described = follows.shows.described };
-}
-  where
-    shown : f.queue pair side ≡ []
-    shown = sym (follows.shows.queue pair side) ∙ none
-
-    own : drop 1 (f.queue pair side) ≡ f.queue pair side
-    own = ap (drop 1) shown ∙ sym shown
-
-    queues : (r t : ℕ) → queue k.pairs r t ≡ put2 f.queue pair side (drop 1 (f.queue pair side)) r t
-    queues r t =
-        follows.shows.queue r t
-        ∙ sym (put2_own f.queue pair side r t)
-        ∙ ap (λ ms. put2 f.queue pair side ms r t) (sym own)

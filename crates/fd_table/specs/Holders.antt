@@ -1,11 +1,12 @@
 -- How many entries and queued messages name each description, and what they say of the lists. (own)
-use Rattle.std.specs.Prelude.{◌≡◌, ◌≢◌, ◌+◌, ◌-◌, ◌<◌, ◌≤◌, ℕ, zero, suc, Bool, true, false, nat_lt, ◌&&◌, length, drop, List, [], ◌∷◌, Option, Some, None, is_none, if◌then◌else◌}
-use Rattle.std.specs.Option.{IsSome}
+use Rattle.std.specs.Prelude.{◌≡◌, ◌≢◌, ◌+◌, ◌-◌, ◌<◌, ◌≤◌, ℕ, zero, suc, Bool, true, false, nat_lt, ◌&&◌, ◌++◌, ◌^◌, length, drop, List, [], ◌∷◌, Option, Some, None, is_none, if◌then◌else◌}
+use Rattle.std.specs.Option.{IsSome, option_map}
 use Rattle.std.specs.List.{sum_by}
 use Rattle.rights.specs.Limits.{most_messages}
-use Rattle.fd_table.specs.Descriptions.{Object, At_node, At_end, Descriptor, Message}
-use Rattle.fd_table.specs.OpenFiles.{OpenFiles, is_end, names}
-use Rattle.fd_table.specs.Books.{Description, Held, Pair, Kept, entry, slot, queue, object_in, end_of}
+use Rattle.fd_table.specs.Descriptions.{Object, At_node, At_end, Class, Descriptor, Message, new_state}
+use Rattle.fd_table.specs.OpenFiles.{OpenFiles, IsUnnamed, IsUnused, is_end, names}
+use Rattle.fd_table.specs.Openings.{described}
+use Rattle.fd_table.specs.Books.{Description, Held, Pair, Kept, entry, slot, queue, object_in, half_in, end_of, open_files}
 use Rattle.fd_table.specs.Filled.{with_queue}
 
 -- one where the descriptor names the description
@@ -127,3 +128,65 @@ front_message (m ∷ messages) = Some m
 -- the messages without the one in front
 abbrev pub with_taken : OpenFiles → ℕ → ℕ → OpenFiles
 with_taken f pair side = with_queue f pair side (drop 1 (f.queue pair side))
+
+-- the number of holders, and a description with one holder more, and with another description
+abbrev pub count_in : Option Held → ℕ
+count_in None = 0
+count_in (Some h) = h.count
+
+abbrev pub raised : Option Held → Option Held
+raised o = option_map (λ (h : Held). record h { count = h.count + 1 }) o
+
+abbrev pub described_as : Description → Option Held → Option Held
+described_as description o = option_map (λ (h : Held). record h { description = description }) o
+
+-- a pair with one message more of a side, and with the message in front of a side taken
+abbrev pub with_more : ℕ → Message → Option Pair → Option Pair
+with_more side m o = option_map (λ (p : Pair). with_sent p side ((half_in (Some p) side).sent ++ m ∷ [])) o
+
+abbrev pub with_less : ℕ → Option Pair → Option Pair
+with_less side o = option_map (λ (p : Pair). with_sent p side (drop 1 ((half_in (Some p) side).sent))) o
+
+abbrev pub after_close : ℕ → Option Pair → Option Pair
+after_close side None = None
+after_close side (Some p) = unless_idle (with_closed p side)
+
+-- a pair with both ends open, and nothing on its way
+abbrev pub pair_new : ℕ → ℕ → Pair
+pair_new first second = record { a = record { description = Some first; sent = [] }; b = record { description = Some second; sent = [] } }
+
+-- a descriptor, if there is one, that some count covers beside what else is in hand
+pub record IsInHand (k : Kept) (o : Option Descriptor) : Type 0 where
+  pub hand : ℕ → ℕ
+  pub kept : IsKept k (with_hand o hand)
+
+-- The counts after one more holder of what a descriptor names, if there is one. Counts are small.
+abbrev pub IsHeld : List (Option Held) → List (Option Held) → Option Descriptor → Type 0
+IsHeld old new None = new ≡ old
+IsHeld old new (Some d) = Changed old new d.description (raised (slot old d.description))
+
+abbrev pub IsFew : (ℕ → Option Held) → Option Descriptor → Type 0
+IsFew slots None = Unit {0}
+IsFew slots (Some d) = count_in (slots d.description) < 2 ^ 127
+
+-- the pair of a description that has ended is there, if it was of an end
+abbrev pub IsClosable : List (Option Pair) → Object → Type 0
+IsClosable pairs (At_node node access) = Unit {0}
+IsClosable pairs (At_end pair side class) = IsSome (slot pairs pair)
+
+abbrev pub IsEndable : List (Option Pair) → Option Description → Type 0
+IsEndable pairs None = Unit {0}
+IsEndable pairs (Some d) = IsClosable pairs d.object
+
+-- a description that begins with one holder
+abbrev pub held_new : Object → Bool → Held
+held_new object append = record { description = record { object = object; state = new_state append }; count = 1 }
+
+-- A pair is made, and the descriptions of its ends, with one holder each that is in hand.
+pub record Makes (j k : Kept) (class : Class) (first second : ℕ) : Type 0 where
+  pub pair : ℕ
+  pub first_fresh : IsUnnamed (open_files j) first
+  pub second_fresh : IsUnnamed (open_files j) second
+  pub apart : first ≢ second
+  pub unused : IsUnused (open_files j) pair
+  pub follows : (d e : Descriptor) → d.description ≡ first → e.description ≡ second → Follows (described (described (open_files j) first (At_end pair 0 class) false) second (At_end pair 1 class) false) k (with_hand (Some d) (with_hand (Some e) empty_hand))

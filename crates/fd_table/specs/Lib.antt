@@ -8,3 +8,4 @@ pub mod Stored
 pub mod Counts
 pub mod Books
 pub mod Holders
+pub mod Seen

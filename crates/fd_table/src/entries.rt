@@ -1,6 +1,6 @@
 //! The tables of all processes as one list of entries: sixteen for each of sixteen processes.
 
-ghost use Rattle.std.specs.Prelude.{◌≡◌, ◌-◌, ◌≤◌, ◌<◌, None, length, replicate, IfOk, option_map};
+ghost use Rattle.std.specs.Prelude.{◌≡◌, ◌+◌, ◌*◌, ◌-◌, ◌≤◌, ◌<◌, None, length, replicate, slice_set, IfOk, option_map};
 ghost use Rattle.rights.specs.Maps.{put, put2};
 ghost use Rattle.fd_table.specs.Kept.{entry};
 ghost use Rattle.fd_table.specs.OpenFiles.{lowest_from};
@@ -70,6 +70,7 @@ pub(crate) fn set_entry(
     requires number { n < 16 }
     ensures entries { entry (entries_kept entries.new.items)
         ≡ put2 (entry (entries_kept entries.old.items)) p n (entry_kept descriptor) }
+    ensures items { entries.new.items ≡ slice_set entries.old.items (p * 16 + n) descriptor }
     ensures room { length entries.new.items ≡ 256 }
 {
     entries[p as usize * MAX_DESCRIPTORS + n as usize] = descriptor;

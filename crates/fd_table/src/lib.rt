@@ -1,11 +1,14 @@
 //! What is open: descriptors, the descriptions that they name, and what is on its way through socket pairs.
 #![tactic(auto)]
 
+mod books;
+mod descriptions;
 pub mod descriptors;
 pub mod ends;
 mod entries;
 pub mod faults;
 pub mod files;
+mod pairs;
 mod queues;
 mod search;
 mod slots;

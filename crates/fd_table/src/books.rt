@@ -1,0 +1,220 @@
+//! The tables, the open descriptions and the socket pairs, step by step. Each description knows how many entries and
+//! queued messages name it.
+
+ghost use Rattle.std.specs.Prelude.{◌≡◌, ◌≢◌, ◌<◌, ℕ, IfErr, IfOk, None, OnErr, OnOk, Some, length, option_map};
+ghost use Rattle.std.specs.Option.{IsSome};
+ghost use Rattle.rights.specs.Sets.{all_commands, all_rights};
+ghost use Rattle.fd_table.specs.Descriptions.{At_node, Descriptor as SeenDescriptor, descriptor_of, message_of, other_side};
+ghost use Rattle.fd_table.specs.OpenFiles.{IsUnnamed, IsUnused, OpenFiles};
+ghost use Rattle.fd_table.specs.Openings.{described, with_entry};
+ghost use Rattle.fd_table.specs.Filled.{IsEmpty, limited, sent, with_end, with_row};
+ghost use Rattle.fd_table.specs.Books.{end_of, entry, open_files, queue, slot};
+ghost use Rattle.fd_table.specs.Holders.{Follows, IsInHand, IsKept, IsThere, Makes, empty_hand, front_message, passed_in, with_hand, with_taken};
+ghost use Rattle.fd_table.specs.Stored.{IsWithinTables};
+ghost use Rattle.fd_table.specs.Views.{access_asked, class_seen, entry_seen, side_seen};
+ghost use Rattle.fd_table.specs.Seen.{books_kept, entry_kept, message_kept};
+ghost use Rattle.fd_table.specs.declared.faults.SendFault.TheVariants as fault;
+
+use crate::descriptions::{Held, describe, hold_named, opened_end, opened_node, release_one};
+use crate::descriptors::{Class, DescriptionId, Descriptor, Entry};
+use crate::ends::{End, PairId, Side};
+use crate::entries::{NUMBERS, entry_at, no_entries, set_entry};
+use crate::faults::SendFault;
+use crate::pairs::{Message, Pair, close_ended, make_pair, note_few, send_in, take_in};
+use file_tree::NodeId;
+use rights::{Fcntls, Memory, OpenFlags, Rights};
+use slab::Slab;
+use std::alloc::Global;
+
+/// The tables, the open descriptions and the socket pairs.
+#[derive(Drop)]
+pub(crate) struct Books {
+    pub(crate) alloc: Global,
+    pub(crate) entries: Vec<Option<Descriptor>>,
+    pub(crate) descriptions: Slab<Held>,
+    pub(crate) pairs: Slab<Pair>,
+}
+
+impl Books {
+    /// Nothing is open.
+    pub(crate) fn new(alloc: Global) -> Result<Books, Memory>
+        ensures kept { IfOk result (λ books. IsKept (books_kept books) empty_hand) }
+        ensures empty { IfOk result (λ books. IsEmpty (open_files (books_kept books))) }
+    {
+        let entries = no_entries(alloc)?;
+        Ok(Books {
+            alloc,
+            entries,
+            descriptions: Slab::new(alloc),
+            pairs: Slab::new(alloc),
+        })
+    }
+
+    /// Puts a descriptor, or none, into an entry, and gives what was there.
+    pub(crate) fn exchange(
+        &mut self,
+        p: u8,
+        n: u8,
+        descriptor: Option<Descriptor>,
+    ) -> Option<Descriptor>
+        requires room { length (books_kept self.old).entries ≡ 256 }
+        requires process { p < 16 }
+        requires number { n < 16 }
+        ensures given { entry_kept result ≡ entry (books_kept self.old).entries p n }
+        ensures follows { (f : OpenFiles) (hand : ℕ → ℕ) → Follows f (books_kept self.old) (with_hand (entry_kept descriptor) hand) → Follows (with_entry f p n (entry_kept descriptor)) (books_kept self.new) (with_hand (entry_kept result) hand) }
+    {
+        let was = entry_at(self.entries.as_slice(), p, n);
+        set_entry(&mut self.entries, p, n, descriptor);
+        was
+    }
+
+    /// Leaves an entry these rights and commands.
+    pub(crate) fn limit(&mut self, p: u8, n: u8, rights: Rights, fcntls: Fcntls)
+        requires room { length (books_kept self.old).entries ≡ 256 }
+        requires there { IsSome (entry (books_kept self.old).entries p n) }
+        ensures { (f : OpenFiles) (hand : ℕ → ℕ) → Follows f (books_kept self.old) hand → Follows (limited f p n rights.0 fcntls.0) (books_kept self.new) hand }
+    {
+        if let Some(descriptor) = entry_at(self.entries.as_slice(), p, n) {
+            let left = Descriptor {
+                description: descriptor.description,
+                rights,
+                fcntls,
+            };
+            set_entry(&mut self.entries, p, n, Some(left));
+        }
+    }
+
+    /// Counts a descriptor, if there is one, that will be put into an entry.
+    pub(crate) fn hold(&mut self, held: Option<Descriptor>)
+        requires kept { IsKept (books_kept self.old) empty_hand }
+        requires there { IsThere (slot (books_kept self.old).descriptions) (entry_kept held) }
+        ensures { (f : OpenFiles) → Follows f (books_kept self.old) empty_hand → Follows f (books_kept self.new) (with_hand (entry_kept held) empty_hand) }
+    {
+        note_few(&self.pairs);
+        hold_named(&mut self.descriptions, held);
+    }
+
+    /// Lets a descriptor go, if there is one, that no entry and no message has. A description whose last holder it was
+    /// is taken out, and so is a pair that nobody needs then.
+    pub(crate) fn release(&mut self, held: Option<Descriptor>)
+        requires { IsInHand (books_kept self.old) (entry_kept held) }
+        ensures { (f : OpenFiles) (hand : ℕ → ℕ) → Follows f (books_kept self.old) (with_hand (entry_kept held) hand) → Follows f (books_kept self.new) hand }
+    {
+        if let Some(descriptor) = held {
+            let ended = release_one(&mut self.descriptions, descriptor.description.number());
+            close_ended(&mut self.pairs, ended);
+        }
+    }
+
+    /// Puts a message with a descriptor, or without one, behind the others that a side has sent.
+    pub(crate) fn send(
+        &mut self,
+        end: End,
+        byte: u8,
+        passed: Option<Descriptor>,
+    ) -> Result<(), SendFault>
+        requires kept { IsKept (books_kept self.old) empty_hand }
+        requires opened { IsSome (end_of (books_kept self.old).pairs end.pair (side_seen end.side)) }
+        requires there { IsThere (slot (books_kept self.old).descriptions) (entry_kept passed) }
+        requires few { length (queue (books_kept self.old).pairs end.pair (side_seen end.side)) < 16 }
+        ensures ok { OnOk result (Follows (sent (open_files (books_kept self.old)) end.pair (side_seen end.side) (message_of byte (entry_kept passed))) (books_kept self.new) empty_hand) }
+        ensures err { OnErr result (books_kept self.new ≡ books_kept self.old) }
+        ensures memory { IfErr result (λ error. error ≡ fault.Memory) }
+    {
+        note_few(&self.pairs);
+        let carried = passed;
+        send_in(&mut self.pairs, end.pair.number(), end.side, byte, passed)?;
+        hold_named(&mut self.descriptions, carried);
+        Ok(())
+    }
+
+    /// Clears all entries of a process.
+    pub(crate) fn clear_row(&mut self, p: u8)
+        requires kept { IsKept (books_kept self.old) empty_hand }
+        requires process { p < 16 }
+        ensures { Follows (with_row (open_files (books_kept self.old)) p (λ n. None)) (books_kept self.new) empty_hand }
+    {
+        for n in 0..NUMBERS {
+            let gone = self.exchange(p, n, None);
+            self.release(gone);
+        }
+    }
+
+    /// Copies all entries of a process over those of another.
+    pub(crate) fn copy_row(&mut self, p: u8, q: u8)
+        requires kept { IsKept (books_kept self.old) empty_hand }
+        requires process { q < 16 }
+        ensures { Follows (with_row (open_files (books_kept self.old)) q ((open_files (books_kept self.old)).table p)) (books_kept self.new) empty_hand }
+    {
+        for n in 0..NUMBERS {
+            let copied = entry_at(self.entries.as_slice(), p, n);
+            let held = copied;
+            self.hold(held);
+            let gone = self.exchange(q, n, copied);
+            self.release(gone);
+        }
+    }
+
+    /// Names a description, of which one holder is counted, with all rights and commands in an entry, or nowhere.
+    pub(crate) fn place(&mut self, to: Option<Entry>, description: usize)
+        requires kept { IsInHand (books_kept self.old) (Some (descriptor_of description all_rights all_commands)) }
+        requires within { IsWithinTables (option_map entry_seen to) }
+        ensures { (f : OpenFiles) (hand : ℕ → ℕ) → Follows f (books_kept self.old) (with_hand (Some (descriptor_of description all_rights all_commands)) hand) → Follows (with_end f description (option_map entry_seen to)) (books_kept self.new) hand }
+    {
+        let named = Some(Descriptor {
+            description: DescriptionId::at(description),
+            rights: Rights::all(),
+            fcntls: Fcntls::all(),
+        });
+        match to {
+            Some(to) => {
+                let gone = self.exchange(to.process, to.number, named);
+                self.release(gone);
+            }
+            None => self.release(named),
+        }
+    }
+
+    /// Makes the description of a file or directory, at its beginning, with one holder.
+    pub(crate) fn make_node(&mut self, node: NodeId, flags: OpenFlags) -> Result<usize, Memory>
+        requires kept { IsKept (books_kept self.old) empty_hand }
+        ensures fresh { IfOk result (λ n. IsUnnamed (open_files (books_kept self.old)) n) }
+        ensures follows { IfOk result (λ n. (d : SeenDescriptor) → d.description ≡ n → Follows (described (open_files (books_kept self.old)) n (At_node node (access_asked flags)) flags.append) (books_kept self.new) (with_hand (Some d) empty_hand)) }
+        ensures err { OnErr result (books_kept self.new ≡ books_kept self.old) }
+    {
+        self.descriptions.reserve(1)?;
+        Ok(describe(&mut self.descriptions, opened_node(node, flags)))
+    }
+
+    /// Makes a pair and the descriptions of both its ends, with one holder each.
+    pub(crate) fn make_ends(&mut self, class: Class) -> Result<(usize, usize), Memory>
+        requires kept { IsKept (books_kept self.old) empty_hand }
+        ensures made { IfOk result (λ ends. Makes (books_kept self.old) (books_kept self.new) (class_seen class) ends.0 ends.1) }
+        ensures err { OnErr result (books_kept self.new ≡ books_kept self.old) }
+    {
+        self.descriptions.reserve(2)?;
+        self.pairs.reserve(1)?;
+        let pair = PairId::at(self.pairs.vacant_key());
+        let side_a = End {
+            pair,
+            side: Side::A,
+        };
+        let side_b = End {
+            pair,
+            side: Side::B,
+        };
+        let first = describe(&mut self.descriptions, opened_end(side_a, class));
+        let second = describe(&mut self.descriptions, opened_end(side_b, class));
+        make_pair(self.alloc, &mut self.pairs, first, second);
+        Ok((first, second))
+    }
+
+    /// Takes the message in front of those that an end receives, if there is one.
+    pub(crate) fn take(&mut self, end: End) -> Option<Message>
+        requires { IsSome (end_of (books_kept self.old).pairs end.pair (side_seen end.side)) }
+        ensures front { option_map message_kept result ≡ front_message (queue (books_kept self.old).pairs end.pair (other_side (side_seen end.side))) }
+        ensures follows { (f : OpenFiles) (hand : ℕ → ℕ) → Follows f (books_kept self.old) hand → Follows (with_taken f end.pair (other_side (side_seen end.side))) (books_kept self.new) (with_hand (passed_in (option_map message_kept result)) hand) }
+    {
+        take_in(&mut self.pairs, end.pair.number(), end.side.other())
+    }
+}
