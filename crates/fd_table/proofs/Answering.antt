@@ -9,7 +9,7 @@ use Rattle.std.proofs.lemmas.List.Sums.{sum_by-cons}
 use Rattle.fd_table.specs.Descriptions.{Object, Descriptor, Message}
 use Rattle.fd_table.specs.OpenFiles.{OpenFiles, any_below, any_named, names, names_end, is_end, is_open, IsOther, AreOther, IsUnnamed, IsUnused, Alike, SameDescription, SameDescriptions}
 use Rattle.fd_table.specs.Filled.{IsNamed, by_entry, by_message, IsEndThere, MayPass}
-use Rattle.fd_table.specs.Books.{Held, Pair, Kept, entry, slot, queue, object_in, state_in, half_in, end_of, open_files}
+use Rattle.fd_table.specs.Kept.{Held, Pair, Kept, entry, slot, queue, object_in, state_in, half_in, end_of, open_files}
 use Rattle.fd_table.specs.Holders.{named, in_queue, in_pair, holders, IsCounted, IsKept, IsThere, ShowsAt, Follows, empty_hand}
 use Rattle.fd_table.proofs.Scans.{or_false, left_false, right_false, nothing_below}
 use Rattle.fd_table.proofs.Ending.{end_itself}

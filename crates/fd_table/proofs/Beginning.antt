@@ -4,9 +4,9 @@ use Rattle.std.specs.Prelude.{Option, None, Bool, true, false, cond, nat_lt}
 use Rattle.std.proofs.Math.ListN.{length-map}
 use Rattle.fd_table.specs.declared.descriptors.Descriptor.{Descriptor as DescriptorCode}
 use Rattle.fd_table.specs.Filled.{IsEmpty}
-use Rattle.fd_table.specs.Books.{entry, slot, open_files}
+use Rattle.fd_table.specs.Kept.{entry, slot, open_files}
 use Rattle.fd_table.specs.Holders.{IsKept, empty_hand, named}
-use Rattle.fd_table.specs.Seen.{entry_kept, entries_kept}
+use Rattle.fd_table.specs.Stored.{entry_kept, entries_kept}
 use Rattle.fd_table.proofs.Sums.{sum_zero}
 
 none_at : (n i : ℕ) → slot (map entry_kept (replicate n None)) i ≡ None

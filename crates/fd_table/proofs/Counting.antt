@@ -1,30 +1,29 @@
 -- The numbers that are named, counted one after another.
-use Rattle.std.proofs.Common.{◌≡◌, ◌≢◌, ℕ, zero, suc, ◌+◌, ◌<◌, ◌≤◌, Bool, true, false, ◌&&◌, ◌||◌, List, [], ◌∷◌, length, refl, ap, ◌∙◌, sym, arith, add-one, ◌⊎◌, inl, inr}
-use Rattle.std.specs.Prelude.{cond, not, nat_eq}
+use Rattle.std.proofs.Common.{◌≡◌, ◌≢◌, ℕ, zero, suc, ◌<◌, ◌≤◌, Bool, true, false, ◌&&◌, ◌||◌, List, [], ◌∷◌, length, refl, ap, ◌∙◌, sym, arith, add-one, ◌⊎◌, inl, inr}
+use Rattle.std.specs.Prelude.{Option, None, is_some, take, cond, not, nat_eq}
 use Rattle.std.proofs.lemmas.Bool.Decides.{eqb_tells}
-use Rattle.fd_table.specs.OpenFiles.{OpenFiles, any_named, names}
 use Rattle.fd_table.specs.Counts.{Counts, is_among, are_apart}
-use Rattle.fd_table.specs.Kept.{Kept, open_files, IsKept}
+use Rattle.std.specs.List.{count_by}
+use Rattle.std.specs.Option.{option_map}
+use Rattle.std.proofs.lemmas.List.Sums.{sum_by-cons}
+use Rattle.std.proofs.Common.{map, Some}
+use Rattle.std.proofs.Math.Seq.{take-length}
+use Rattle.std.proofs.lemmas.List.Sums.{count_by_more_no, count_by_more_yes}
+use Rattle.std.proofs.lemmas.List.{get_or_past}
+use Rattle.fd_table.specs.Kept.{Kept, slot, open_files}
+use Rattle.fd_table.specs.Holders.{IsKept, empty_hand}
 use Rattle.fd_table.proofs.Scans.{or_false}
-use Rattle.fd_table.proofs.Tables.{lt_or_le}
-use Rattle.fd_table.proofs.Unnamed.{named_none, unnamed_far}
+use Rattle.fd_table.proofs.Naming.{named_is}
+
+lt_or_le : (m n : ℕ) → (m < n) ⊎ (n ≤ m)
+lt_or_le m zero = inr (omega arith)
+lt_or_le zero (suc n) = inl (omega arith)
+lt_or_le (suc m) (suc n) = elim (lt_or_le m n) [ inl below ↦ inl (omega arith) | inr far ↦ inr (omega arith) ]
 
 -- the numbers below n that pass the test
 unfoldable pub chosen : (ℕ → Bool) → ℕ → List ℕ
 chosen test zero = []
 chosen test (suc n) = cond (test n) (n ∷ chosen test n) (chosen test n)
-
-pub chosen_none : (test : ℕ → Bool) → length (chosen test 0) ≡ 0
-unfolding chosen
-chosen_none test = refl
-
-pub chosen_more : (test : ℕ → Bool) (n : ℕ) → test n ≡ true → length (chosen test (n + 1)) ≡ length (chosen test n) + 1
-unfolding chosen
-chosen_more test n yes_here = rw (add-one n) (ap (λ b. length (cond b (n ∷ chosen test n) (chosen test n))) yes_here ∙ sym (add-one _))
-
-pub chosen_same : (test : ℕ → Bool) (n : ℕ) → test n ≡ false → length (chosen test (n + 1)) ≡ length (chosen test n)
-unfolding chosen
-chosen_same test n no_here = rw add-one (ap (λ b. length (cond b (n ∷ chosen test n) (chosen test n))) no_here)
 
 itself : (n m : ℕ) → n ≡ m → nat_eq n m ≡ true
 itself n m same = elim (eqb_tells n m) [ inl is ↦ is.0 | inr apart ↦ absurd (apart.1 same) ]
@@ -70,21 +69,43 @@ chosen_apart test (suc n) = go (test n) (chosen_apart test n)
     go true rest = both (not (is_among n (chosen test n))) (are_apart (chosen test n)) (ap not (among_none test n n (omega arith))) rest
     go false rest = rest
 
-abbrev pub named_below : OpenFiles → ℕ → List ℕ
-named_below f n = chosen (λ m. any_named f (names m)) n
+-- as many are chosen as there are values
+chosen_many : {A : Type 0} (xs : List (Option A)) (n : ℕ) → n ≤ length xs → length (chosen (λ m. is_some (slot xs m)) n) ≡ count_by is_some (take n xs)
+unfolding chosen
+chosen_many xs zero within = refl
+chosen_many xs (suc n) within = go (is_some (slot xs n)) refl (chosen_many xs n (omega (arith, within)))
+  where
+    below : n < length xs
+    below = omega (arith, within)
 
--- all numbers that are named are below the number of slots
-pub counts_is : (k : Kept) (count : ℕ) → IsKept k → count ≡ length (named_below (open_files k) (length k.slots)) → Counts (open_files k) count
+    go : (b : Bool) → is_some (slot xs n) ≡ b → length (chosen (λ m. is_some (slot xs m)) n) ≡ count_by is_some (take n xs) → length (cond (is_some (slot xs n)) (n ∷ chosen (λ m. is_some (slot xs m)) n) (chosen (λ m. is_some (slot xs m)) n)) ≡ count_by is_some (take (suc n) xs)
+    go true is rest =
+        ap (λ b. length (cond b (n ∷ chosen (λ m. is_some (slot xs m)) n) (chosen (λ m. is_some (slot xs m)) n))) is
+        ∙ omega (arith, rest, rw (add-one n) at (count_by_more_yes is_some xs n None below is))
+    go false is rest =
+        ap (λ b. length (cond b (n ∷ chosen (λ m. is_some (slot xs m)) n) (chosen (λ m. is_some (slot xs m)) n))) is
+        ∙ rest ∙ sym (rw (add-one n) at (count_by_more_no is_some xs n None below is))
+
+-- the descriptions that are there are those that are named
+pub counts_is : (k : Kept) (count : ℕ) → IsKept k empty_hand → count ≡ count_by is_some k.descriptions → Counts (open_files k) count
 counts_is k count kept is = record {
-  numbers = named_below (open_files k) (length k.slots);
-  apart = chosen_apart test (length k.slots);
-  named = λ n. at n (lt_or_le n (length k.slots));
-  all = sym is;
+  numbers = chosen test (length k.descriptions);
+  apart = chosen_apart test (length k.descriptions);
+  named = λ n. at n (lt_or_le n (length k.descriptions)) ∙ sym (named_is k n kept);
+  all = chosen_many k.descriptions (length k.descriptions) (omega arith) ∙ ap (count_by is_some) (take-length k.descriptions) ∙ sym is;
 }
   where
     test : ℕ → Bool
-    test m = any_named (open_files k) (names m)
+    test m = is_some (slot k.descriptions m)
 
-    at : (n : ℕ) → (n < length k.slots) ⊎ (length k.slots ≤ n) → is_among n (chosen test (length k.slots)) ≡ any_named (open_files k) (names n)
-    at n (inl below) = among_is test (length k.slots) n below
-    at n (inr far) = among_none test (length k.slots) n far ∙ sym (named_none (open_files k) n (unnamed_far k n kept far))
+    at : (n : ℕ) → (n < length k.descriptions) ⊎ (length k.descriptions ≤ n) → is_among n (chosen test (length k.descriptions)) ≡ is_some (slot k.descriptions n)
+    at n (inl below) = among_is test (length k.descriptions) n below
+    at n (inr far) = among_none test (length k.descriptions) n far ∙ sym (ap is_some (get_or_past k.descriptions n None far))
+
+-- as many values as are seen
+pub count_map : {A B : Type 0} (g : A → B) (xs : List (Option A)) → count_by is_some (map (option_map g) xs) ≡ count_by is_some xs
+count_map g [] = refl
+count_map g (None ∷ xs) =
+    omega (arith, sum_by-cons (λ (o : Option _). cond (is_some o) 1 0) None xs, sum_by-cons (λ (o : Option _). cond (is_some o) 1 0) None (map (option_map g) xs), count_map g xs)
+count_map g (Some x ∷ xs) =
+    omega (arith, sum_by-cons (λ (o : Option _). cond (is_some o) 1 0) (Some x) xs, sum_by-cons (λ (o : Option _). cond (is_some o) 1 0) (Some (g x)) (map (option_map g) xs), count_map g xs)

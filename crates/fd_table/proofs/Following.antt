@@ -8,9 +8,9 @@ use Rattle.fd_table.specs.Descriptions.{Object, At_node, At_end, State, Descript
 use Rattle.fd_table.specs.OpenFiles.{OpenFiles, is_end, names}
 use Rattle.fd_table.specs.Openings.{with_table, with_entry}
 use Rattle.fd_table.specs.Filled.{with_queue, with_row, with_state, sent}
-use Rattle.fd_table.specs.Books.{Description, Held, Pair, Kept, entry, slot, queue, object_in, half_in, end_of, open_files}
+use Rattle.fd_table.specs.Kept.{Description, Held, Pair, Kept, entry, slot, queue, object_in, half_in, end_of, open_files}
 use Rattle.fd_table.proofs.Ending.{end_itself}
-use Rattle.fd_table.specs.Holders.{in_queue, holders, IsKept, IsCounted, IsThere, IsFew, IsHeld, IsClosable, IsEndable, with_hand, Changed, ShowsAt, Follows, empty_hand, with_more, with_less, with_sent, with_taken, passed_in, front_message, count_in, raised, ended_in}
+use Rattle.fd_table.specs.Holders.{in_queue, holders, IsKept, IsCounted, IsThere, IsFew, IsHeld, IsClosable, IsEndable, with_hand, Changed, ShowsAt, Follows, empty_hand, with_more, with_less, with_sent, with_taken, passed_in, front_message, count_in, raised, ended_in, described_as}
 use Rattle.fd_table.proofs.Sums.{changed-cases}
 use Rattle.fd_table.proofs.Steps.{kept_count}
 use Rattle.fd_table.proofs.Releasing.{follows_hold}
@@ -194,3 +194,8 @@ endable k d hand kept = go (slot k.descriptions d.description) refl
 pub other_small : (side : ℕ) → other_side side < 2
 other_small zero = omega arith
 other_small (suc side) = omega arith
+
+pub follows_described : (f : OpenFiles) (k : Kept) (ds : List (Option Held)) (n : ℕ) (d : Description) (state : State) (hand : ℕ → ℕ) → Follows f k hand → IsSome (slot k.descriptions n) → Changed k.descriptions ds n (described_as d (slot k.descriptions n)) → d.object ≡ object_in (slot k.descriptions n) → d.state ≡ state → Follows (with_state f n state) (record k { descriptions = ds }) hand
+follows_described f k ds n d state hand follows there change object set =
+    let found = some_of (slot k.descriptions n) there in
+    follows_state f k ds n found.0 d state hand follows found.1 (subst (Changed k.descriptions ds n) (ap (described_as d) found.1) change) (object ∙ ap object_in found.1) set

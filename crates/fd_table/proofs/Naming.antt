@@ -7,7 +7,7 @@ use Rattle.std.proofs.lemmas.Bool.Decides.{eqb_tells}
 use Rattle.std.proofs.lemmas.List.Sums.{sum_by-cons}
 use Rattle.fd_table.specs.Descriptions.{Descriptor, Message}
 use Rattle.fd_table.specs.OpenFiles.{OpenFiles, any_below, any_named, names, IsOther, AreOther, IsUnnamed}
-use Rattle.fd_table.specs.Books.{Held, Pair, Kept, entry, slot, queue, half_in, open_files}
+use Rattle.fd_table.specs.Kept.{Held, Pair, Kept, entry, slot, queue, half_in, open_files}
 use Rattle.fd_table.specs.Holders.{named, in_queue, in_pair, holders, IsCounted, IsKept, empty_hand}
 use Rattle.fd_table.proofs.Scans.{or_false, left_false, right_false, none_below, nothing_below}
 use Rattle.fd_table.proofs.Sums.{sum_at, sum_zero}

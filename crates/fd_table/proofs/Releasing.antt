@@ -5,7 +5,7 @@ use Rattle.std.proofs.lemmas.Bool.{ltb-true, ltb-false, eq-eqb}
 use Rattle.std.proofs.lemmas.Bool.Decides.{eqb_tells}
 use Rattle.fd_table.specs.Descriptions.{Object, At_node, At_end, Class, Descriptor}
 use Rattle.fd_table.specs.OpenFiles.{OpenFiles, is_end}
-use Rattle.fd_table.specs.Books.{Description, Held, Pair, Kept, slot, queue, object_in}
+use Rattle.fd_table.specs.Kept.{Description, Held, Pair, Kept, slot, queue, object_in}
 use Rattle.fd_table.specs.Holders.{named, holders, IsCounted, IsKept, with_hand, Changed, lowered, ended_in, Closes, Ends, ShowsAt, Follows}
 use Rattle.fd_table.proofs.Sums.{changed-cases}
 use Rattle.fd_table.proofs.Steps.{kept_count}

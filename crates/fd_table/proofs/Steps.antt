@@ -6,7 +6,7 @@ use Rattle.std.proofs.lemmas.List.Sums.{sum_by-set}
 use Rattle.std.proofs.Math.ListN.{length-set}
 use Rattle.fd_table.specs.Descriptions.{Object, Descriptor}
 use Rattle.fd_table.specs.OpenFiles.{is_end}
-use Rattle.fd_table.specs.Books.{Held, Pair, Kept, slot, object_in, half_in, end_of}
+use Rattle.fd_table.specs.Kept.{Held, Pair, Kept, slot, object_in, half_in, end_of}
 use Rattle.fd_table.specs.Holders.{named, in_pair, holders, IsCounted, is_idle, IsNeeded, IsKept, with_hand, Changed}
 use Rattle.fd_table.proofs.Sums.{changed-cases, sum_changed}
 

@@ -6,7 +6,7 @@ use Rattle.rights.specs.Limits.{most_messages}
 use Rattle.fd_table.specs.Descriptions.{Object, At_node, At_end, Class, Descriptor, Message, new_state}
 use Rattle.fd_table.specs.OpenFiles.{OpenFiles, IsUnnamed, IsUnused, is_end, names}
 use Rattle.fd_table.specs.Openings.{described}
-use Rattle.fd_table.specs.Books.{Description, Held, Pair, Kept, entry, slot, queue, object_in, half_in, end_of, open_files}
+use Rattle.fd_table.specs.Kept.{Description, Held, Pair, Kept, entry, slot, queue, object_in, half_in, end_of, open_files}
 use Rattle.fd_table.specs.Filled.{with_queue}
 
 -- one where the descriptor names the description

@@ -4,8 +4,6 @@ pub mod Openings
 pub mod Filled
 pub mod Views
 pub mod Kept
+pub mod Holders
 pub mod Stored
 pub mod Counts
-pub mod Books
-pub mod Holders
-pub mod Seen

@@ -1,18 +1,18 @@
 -- What the lists of the code hold.
-use Rattle.std.specs.Prelude.{◌≢◌, [], ◌<◌, ◌∷◌, ℕ, Bool, List, map, Option, Some, None}
-use Rattle.std.specs.Option.{option_map}
+use Rattle.std.specs.Prelude.{◌<◌, Bool, List, map, Option, Some, None}
 use Rattle.rights.specs.Limits.{most_processes, most_descriptors}
+use Rattle.std.specs.Option.{option_map}
 use Rattle.fd_table.specs.declared.descriptors.Descriptor.{Descriptor as DescriptorCode}
 use Rattle.fd_table.specs.declared.descriptors.Description.{Description as DescriptionCode}
-use Rattle.fd_table.specs.declared.queues.Message.{Message as MessageCode}
-use Rattle.fd_table.specs.declared.queues.Queues.{Queues as QueuesCode}
+use Rattle.fd_table.specs.declared.descriptions.Held.{Held as HeldCode}
+use Rattle.fd_table.specs.declared.pairs.Message.{Message as MessageCode}
+use Rattle.fd_table.specs.declared.pairs.Half.{Half as HalfCode}
+use Rattle.fd_table.specs.declared.pairs.Pair.{Pair as PairCode}
+use Rattle.fd_table.specs.declared.books.Books.{Books}
 use Rattle.fd_table.specs.Descriptions.{Object, Descriptor, Message, new_state}
-use Rattle.fd_table.specs.Views.{descriptor_seen, object_seen, side_seen, state_seen}
-use Rattle.fd_table.specs.declared.search.SearchKey.{SearchKey}
-use Rattle.fd_table.specs.declared.search.SearchKey.TheVariants as key
-use Rattle.fd_table.specs.OpenFiles.{OpenFiles, IsUnnamed, names, names_end}
+use Rattle.fd_table.specs.Views.{descriptor_seen, object_seen, state_seen}
 use Rattle.fd_table.specs.Filled.{Entry}
-use Rattle.fd_table.specs.Kept.{Description, Queues, Kept}
+use Rattle.fd_table.specs.Kept.{Description, Held, Half, Pair, Kept}
 
 abbrev pub entry_kept : Option DescriptorCode → Option Descriptor
 entry_kept o = option_map descriptor_seen o
@@ -27,41 +27,28 @@ description_kept d = record { object = object_seen d.object; state = state_seen 
 abbrev pub new_description : Object → Bool → Description
 new_description object append = record { object = object; state = new_state append }
 
-abbrev pub slot_kept : Option DescriptionCode → Option Description
-slot_kept o = option_map description_kept o
+abbrev pub held_kept : HeldCode → Held
+held_kept h = record { description = description_kept h.description; count = h.count }
 
-abbrev pub slots_kept : List (Option DescriptionCode) → List (Option Description)
-slots_kept slots = map slot_kept slots
+abbrev pub descriptions_kept : List (Option HeldCode) → List (Option Held)
+descriptions_kept slots = map (option_map held_kept) slots
 
 abbrev pub message_kept : MessageCode → Message
 message_kept m = record { byte = m.byte; passed = option_map descriptor_seen m.passed }
 
-abbrev pub queues_of : QueuesCode → Queues
-queues_of q = record { a = map message_kept q.a.items; b = map message_kept q.b.items }
+abbrev pub half_kept : HalfCode → Half
+half_kept h = record { description = h.description; sent = map message_kept h.sent.items }
 
-abbrev pub queues_kept : List QueuesCode → List Queues
-queues_kept queues = map queues_of queues
+abbrev pub pair_kept : PairCode → Pair
+pair_kept p = record { a = half_kept p.a; b = half_kept p.b }
 
-abbrev pub kept : List (Option DescriptorCode) → List (Option DescriptionCode) → List QueuesCode → Kept
-kept entries slots queues = record { entries = entries_kept entries; slots = slots_kept slots; queues = queues_kept queues }
+abbrev pub pairs_kept : List (Option PairCode) → List (Option Pair)
+pairs_kept slots = map (option_map pair_kept) slots
 
--- whether a descriptor is one that is looked for: of a description, or of an end
-abbrev pub matches_key : (ℕ → Object) → SearchKey → Option Descriptor → Bool
-matches_key objects (key.Description n) o = names n o
-matches_key objects (key.End end) o = names_end objects end.pair (side_seen end.side) o
-
--- the message in front
-abbrev pub front_message : List Message → Option Message
-front_message [] = None
-front_message (m ∷ messages) = Some m
+abbrev pub books_kept : Books → Kept
+books_kept b = record { entries = entries_kept b.entries.items; descriptions = descriptions_kept b.descriptions.slots; pairs = pairs_kept b.pairs.slots }
 
 -- the entry, if there is one, is of a table
 abbrev pub IsWithinTables : Option Entry → Type 0
 IsWithinTables None = Unit {0}
 IsWithinTables (Some e) = (e.process < most_processes) × (e.number < most_descriptors)
-
--- two numbers that nobody names
-pub record AreNew (f : OpenFiles) (first second : ℕ) : Type 0 where
-  pub first_fresh : IsUnnamed f first
-  pub second_fresh : IsUnnamed f second
-  pub apart : first ≢ second

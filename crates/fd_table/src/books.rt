@@ -8,11 +8,11 @@ ghost use Rattle.fd_table.specs.Descriptions.{At_node, Descriptor as SeenDescrip
 ghost use Rattle.fd_table.specs.OpenFiles.{IsUnnamed, IsUnused, OpenFiles};
 ghost use Rattle.fd_table.specs.Openings.{described, with_entry};
 ghost use Rattle.fd_table.specs.Filled.{IsEmpty, limited, sent, with_end, with_row};
-ghost use Rattle.fd_table.specs.Books.{end_of, entry, open_files, queue, slot};
+ghost use Rattle.fd_table.specs.Kept.{end_of, entry, open_files, queue, slot};
 ghost use Rattle.fd_table.specs.Holders.{Follows, IsInHand, IsKept, IsThere, Makes, empty_hand, front_message, passed_in, with_hand, with_taken};
 ghost use Rattle.fd_table.specs.Stored.{IsWithinTables};
 ghost use Rattle.fd_table.specs.Views.{access_asked, class_seen, entry_seen, side_seen};
-ghost use Rattle.fd_table.specs.Seen.{books_kept, entry_kept, message_kept};
+ghost use Rattle.fd_table.specs.Stored.{books_kept, entry_kept, message_kept};
 ghost use Rattle.fd_table.specs.declared.faults.SendFault.TheVariants as fault;
 
 use crate::descriptions::{Held, describe, hold_named, opened_end, opened_node, release_one};
@@ -51,7 +51,7 @@ impl Books {
     }
 
     /// Puts a descriptor, or none, into an entry, and gives what was there.
-    pub(crate) fn exchange(
+    fn exchange(
         &mut self,
         p: u8,
         n: u8,
@@ -66,6 +66,17 @@ impl Books {
         let was = entry_at(self.entries.as_slice(), p, n);
         set_entry(&mut self.entries, p, n, descriptor);
         was
+    }
+
+    /// Puts a descriptor that is counted, or none, into an entry, and lets go what was there.
+    pub(crate) fn put(&mut self, p: u8, n: u8, descriptor: Option<Descriptor>)
+        requires kept { IsInHand (books_kept self.old) (entry_kept descriptor) }
+        requires process { p < 16 }
+        requires number { n < 16 }
+        ensures { (f : OpenFiles) (hand : ℕ → ℕ) → Follows f (books_kept self.old) (with_hand (entry_kept descriptor) hand) → Follows (with_entry f p n (entry_kept descriptor)) (books_kept self.new) hand }
+    {
+        let was = self.exchange(p, n, descriptor);
+        self.release(was);
     }
 
     /// Leaves an entry these rights and commands.
@@ -135,8 +146,7 @@ impl Books {
         ensures { Follows (with_row (open_files (books_kept self.old)) p (λ n. None)) (books_kept self.new) empty_hand }
     {
         for n in 0..NUMBERS {
-            let gone = self.exchange(p, n, None);
-            self.release(gone);
+            self.put(p, n, None);
         }
     }
 
@@ -150,8 +160,7 @@ impl Books {
             let copied = entry_at(self.entries.as_slice(), p, n);
             let held = copied;
             self.hold(held);
-            let gone = self.exchange(q, n, copied);
-            self.release(gone);
+            self.put(q, n, copied);
         }
     }
 
@@ -167,10 +176,7 @@ impl Books {
             fcntls: Fcntls::all(),
         });
         match to {
-            Some(to) => {
-                let gone = self.exchange(to.process, to.number, named);
-                self.release(gone);
-            }
+            Some(to) => self.put(to.process, to.number, named),
             None => self.release(named),
         }
     }

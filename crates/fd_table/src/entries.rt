@@ -1,16 +1,13 @@
 //! The tables of all processes as one list of entries: sixteen for each of sixteen processes.
 
-ghost use Rattle.std.specs.Prelude.{◌≡◌, ◌+◌, ◌*◌, ◌-◌, ◌≤◌, ◌<◌, None, length, replicate, slice_set, IfOk, option_map};
-ghost use Rattle.rights.specs.Maps.{put, put2};
+ghost use Rattle.std.specs.Prelude.{◌≡◌, ◌+◌, ◌*◌, ◌-◌, ◌≤◌, ◌<◌, None, length, replicate, slice_set, IfOk};
+ghost use Rattle.rights.specs.Maps.{put2};
 ghost use Rattle.fd_table.specs.Kept.{entry};
 ghost use Rattle.fd_table.specs.OpenFiles.{lowest_from};
-ghost use Rattle.fd_table.specs.Filled.{ended};
-ghost use Rattle.fd_table.specs.Views.{entry_seen};
-ghost use Rattle.fd_table.specs.Stored.{IsWithinTables, entries_kept, entry_kept};
+ghost use Rattle.fd_table.specs.Stored.{entries_kept, entry_kept};
 
-use crate::descriptors::{DescriptionId, Descriptor, Entry};
+use crate::descriptors::Descriptor;
 use rights::limits::{MAX_DESCRIPTORS, MAX_PROCESSES};
-use rights::{Fcntls, Rights};
 use std::alloc::{AllocError, Global};
 
 /// How many processes there may be.
@@ -74,49 +71,4 @@ pub(crate) fn set_entry(
     ensures room { length entries.new.items ≡ 256 }
 {
     entries[p as usize * MAX_DESCRIPTORS + n as usize] = descriptor;
-}
-
-/// Clears all entries of a process.
-pub(crate) fn clear_row(entries: &mut Vec<Option<Descriptor>>, p: u8)
-    requires room { length entries.old.items ≡ 256 }
-    requires process { p < 16 }
-    ensures entries { entry (entries_kept entries.new.items)
-        ≡ put (entry (entries_kept entries.old.items)) p (λ n. None) }
-    ensures room { length entries.new.items ≡ 256 }
-{
-    for n in 0..NUMBERS {
-        set_entry(entries, p, n, None);
-    }
-}
-
-/// Copies all entries of a process over those of another.
-pub(crate) fn copy_row(entries: &mut Vec<Option<Descriptor>>, p: u8, q: u8)
-    requires room { length entries.old.items ≡ 256 }
-    requires process { q < 16 }
-    ensures entries { entry (entries_kept entries.new.items)
-        ≡ put (entry (entries_kept entries.old.items)) q (entry (entries_kept entries.old.items) p) }
-    ensures room { length entries.new.items ≡ 256 }
-{
-    for n in 0..NUMBERS {
-        let copied = entry_at(entries.as_slice(), p, n);
-        set_entry(entries, q, n, copied);
-    }
-}
-
-/// Names a description, with all rights and commands, in an entry or nowhere.
-pub(crate) fn set_end(entries: &mut Vec<Option<Descriptor>>, to: Option<Entry>, description: usize)
-    requires room { length entries.old.items ≡ 256 }
-    requires within { IsWithinTables (option_map entry_seen to) }
-    ensures entries { entry (entries_kept entries.new.items)
-        ≡ ended (entry (entries_kept entries.old.items)) (option_map entry_seen to) description }
-    ensures room { length entries.new.items ≡ 256 }
-{
-    if let Some(to) = to {
-        let descriptor = Descriptor {
-            description: DescriptionId::at(description),
-            rights: Rights::all(),
-            fcntls: Fcntls::all(),
-        };
-        set_entry(entries, to.process, to.number, Some(descriptor));
-    }
 }

@@ -10,13 +10,13 @@ ghost use Rattle.fd_table.specs.Filled.{AreApart, IsEmpty, IsEndThere, IsFree, I
 ghost use Rattle.fd_table.specs.Counts.{Counts};
 ghost use Rattle.fd_table.specs.Views.{TellsSendFault, access_asked, class_seen, descriptor_seen, entry_seen, front_seen, object_seen, side_seen, state_seen};
 
+use crate::books::Books;
+use crate::descriptions::{description_of, set_description};
 use crate::descriptors::{Class, Description, DescriptionId, Descriptor, Entry};
 use crate::ends::{End, Front, PairId, Side};
-use crate::entries::{clear_row, copy_row, entry_at, lowest_in, no_entries, set_end, set_entry};
+use crate::entries::{entry_at, lowest_in};
 use crate::faults::SendFault;
-use crate::queues::{Queues, front_in, make_queues, messages_in, send_in, take_in};
-use crate::search::{SearchKey, count_named, first_unnamed, first_unused, is_named, two_unnamed};
-use crate::slots::{description_at, make_room, opened_end, opened_node, set_slot};
+use crate::pairs::{front_in, is_end_open, messages_in};
 use crate::status::Status;
 use file_tree::NodeId;
 use rights::limits::MAX_MESSAGES;
@@ -28,21 +28,19 @@ use std::marker::Model;
 /// A clause sees lists, which `open_files` turns into maps. (own)
 #[derive(Drop)]
 pub struct Files {
-    alloc: Global,
-    entries: Vec<Option<Descriptor>>,
-    slots: Vec<Option<Description>>,
-    queues: Vec<Queues>,
+    books: Books,
 }
 
 impl Model for Files {
-    ghost use Rattle.fd_table.specs.Kept.{Kept, IsKept};
-    ghost use Rattle.fd_table.specs.Stored.{kept};
+    ghost use Rattle.fd_table.specs.Kept.{Kept};
+    ghost use Rattle.fd_table.specs.Holders.{IsKept, empty_hand};
+    ghost use Rattle.fd_table.specs.Stored.{books_kept};
 
     ghost Value = { Kept };
 
-    ghost view = { λ f. kept f.entries.items f.slots.items f.queues.items };
+    ghost view = { λ f. books_kept f.books };
 
-    ghost invariant = { λ f. IsKept (kept f.entries.items f.slots.items f.queues.items) };
+    ghost invariant = { λ f. IsKept (books_kept f.books) empty_hand };
 }
 
 impl Files {
@@ -52,13 +50,8 @@ impl Files {
     pub fn new(alloc: Global) -> Result<Files, Memory>
         ensures { IfOk result (λ files. IsEmpty (open_files files)) }
     {
-        let entries = no_entries(alloc)?;
-        Ok(Files {
-            alloc,
-            entries,
-            slots: Vec::new(alloc),
-            queues: Vec::new(alloc),
-        })
+        let books = Books::new(alloc)?;
+        Ok(Files { books })
     }
 
     /// The descriptor of a process at a number, if there is one.
@@ -66,7 +59,7 @@ impl Files {
     pub fn get(&self, p: u8, n: u8) -> Option<Descriptor>
         ensures { option_map descriptor_seen result ≡ (open_files self.now).table p n }
     {
-        entry_at(self.entries.as_slice(), p, n)
+        entry_at(self.books.entries.as_slice(), p, n)
     }
 
     /// The lowest number that no descriptor of the process has, if one is free. (open(2), dup(2))
@@ -74,7 +67,7 @@ impl Files {
     pub fn lowest_free(&self, p: u8) -> Option<u8>
         ensures { result ≡ lowest_number ((open_files self.now).table p) }
     {
-        lowest_in(self.entries.as_slice(), p, 0)
+        lowest_in(self.books.entries.as_slice(), p, 0)
     }
 
     /// The lowest number above this one that no descriptor of the process has, if one is free. (socketpair(2))
@@ -83,7 +76,7 @@ impl Files {
         requires { n < 16 }
         ensures { result ≡ lowest_from (15 - n) (n + 1) ((open_files self.now).table p) }
     {
-        lowest_in(self.entries.as_slice(), p, n + 1)
+        lowest_in(self.books.entries.as_slice(), p, n + 1)
     }
 
     /// What a description is of, and its state.
@@ -93,7 +86,7 @@ impl Files {
         ensures object { object_seen result.object ≡ (open_files self.now).objects d }
         ensures state { state_seen result ≡ (open_files self.now).states d }
     {
-        description_at(self.slots.as_slice(), d.number())
+        description_of(&self.books.descriptions, d.number())
     }
 
     /// What the end would receive next: the byte, and whether a descriptor comes with it.
@@ -101,7 +94,7 @@ impl Files {
     pub fn front(&self, end: End) -> Option<Front>
         ensures { option_map front_seen result ≡ front_of ((open_files self.now).queue end.pair (other_side (side_seen end.side))) }
     {
-        front_in(self.queues.as_slice(), end.pair.number(), end.side.other())
+        front_in(&self.books.pairs, end.pair.number(), end.side.other())
     }
 
     /// Whether some entry, or a descriptor on its way, is of that end.
@@ -109,12 +102,7 @@ impl Files {
     pub fn is_open(&self, pair: PairId, side: Side) -> bool
         ensures { result ≡ is_end_open (open_files self.now) pair (side_seen side) }
     {
-        is_named(
-            self.entries.as_slice(),
-            self.slots.as_slice(),
-            self.queues.as_slice(),
-            &SearchKey::End(End { pair, side }),
-        )
+        is_end_open(&self.books.pairs, End { pair, side })
     }
 
     /// Clears an entry. (close(2))
@@ -123,7 +111,7 @@ impl Files {
         requires { IsSome ((open_files self.old).table p n) }
         ensures { Alike (with_entry (open_files self.old) p n None) (open_files self.new) }
     {
-        set_entry(&mut self.entries, p, n, None);
+        self.books.put(p, n, None);
     }
 
     /// Clears all entries of a process.
@@ -132,7 +120,7 @@ impl Files {
         requires { p < 16 }
         ensures { Alike (with_row (open_files self.old) p (λ n. None)) (open_files self.new) }
     {
-        clear_row(&mut self.entries, p);
+        self.books.clear_row(p);
     }
 
     /// Copies an entry to a free one, of the same process or of another. (dup(2))
@@ -142,8 +130,10 @@ impl Files {
         requires free { IsFreeAt (open_files self.old) q m }
         ensures { Alike (with_entry (open_files self.old) q m ((open_files self.old).table p n)) (open_files self.new) }
     {
-        let shared = entry_at(self.entries.as_slice(), p, n);
-        set_entry(&mut self.entries, q, m, shared);
+        let shared = entry_at(self.books.entries.as_slice(), p, n);
+        let held = shared;
+        self.books.hold(held);
+        self.books.put(q, m, shared);
     }
 
     /// Copies the table of a process to one that has no entry. (fork(2))
@@ -154,7 +144,7 @@ impl Files {
         requires free { (n : ℕ) → (open_files self.old).table q n ≡ None }
         ensures { Alike (with_row (open_files self.old) q ((open_files self.old).table p)) (open_files self.new) }
     {
-        copy_row(&mut self.entries, p, q);
+        self.books.copy_row(p, q);
     }
 
     /// Leaves a descriptor these rights and fcntl commands, which are within those that it has.
@@ -164,14 +154,7 @@ impl Files {
         requires { MayLimit ((open_files self.old).table p n) rights.0 fcntls.0 }
         ensures { Alike (limited (open_files self.old) p n rights.0 fcntls.0) (open_files self.new) }
     {
-        if let Some(descriptor) = entry_at(self.entries.as_slice(), p, n) {
-            let left = Descriptor {
-                description: descriptor.description,
-                rights,
-                fcntls,
-            };
-            set_entry(&mut self.entries, p, n, Some(left));
-        }
+        self.books.limit(p, n, rights, fcntls);
     }
 
     /// Sets the offset of a description. (lseek(2))
@@ -181,13 +164,13 @@ impl Files {
         ensures { Alike (with_offset (open_files self.old) d offset) (open_files self.new) }
     {
         let at = d.number();
-        let description = description_at(self.slots.as_slice(), at);
+        let description = description_of(&self.books.descriptions, at);
         let moved = Description {
             object: description.object,
             offset,
             status: description.status,
         };
-        set_slot(&mut self.slots, at, moved);
+        set_description(&mut self.books.descriptions, at, moved);
     }
 
     /// Sets the status flags of a description. (fcntl(2), F_SETFL)
@@ -197,13 +180,13 @@ impl Files {
         ensures { Alike (with_flags (open_files self.old) d status.append status.nonblock) (open_files self.new) }
     {
         let at = d.number();
-        let description = description_at(self.slots.as_slice(), at);
+        let description = description_of(&self.books.descriptions, at);
         let set = Description {
             object: description.object,
             offset: description.offset,
             status,
         };
-        set_slot(&mut self.slots, at, set);
+        set_description(&mut self.books.descriptions, at, set);
     }
 
     /// Opens a file or directory through a free entry: a new description, at its beginning. With too little memory
@@ -222,20 +205,13 @@ impl Files {
         ensures ok { OnOk result (Opens (open_files self.old) (open_files self.new) p n node (access_asked flags) flags.append rights.0 fcntls.0) }
         ensures err { OnErr result (open_files self.new ≡ open_files self.old) }
     {
-        let number = first_unnamed(
-            self.entries.as_slice(),
-            self.slots.as_slice(),
-            self.queues.as_slice(),
-            0,
-        );
-        make_room(&mut self.slots, number)?;
-        set_slot(&mut self.slots, number, opened_node(node, flags));
+        let number = self.books.make_node(node, flags)?;
         let descriptor = Descriptor {
             description: DescriptionId::at(number),
             rights,
             fcntls,
         };
-        set_entry(&mut self.entries, p, n, Some(descriptor));
+        self.books.put(p, n, Some(descriptor));
         Ok(())
     }
 
@@ -249,24 +225,17 @@ impl Files {
         ensures refused { IfErr result (TellsSendFault (send_refusal (open_files self.old) end.pair (side_seen end.side))) }
         ensures err { OnErr result (open_files self.new ≡ open_files self.old) }
     {
-        let other = SearchKey::End(End {
+        let other = End {
             pair: end.pair,
             side: end.side.other(),
-        });
-        let open = is_named(
-            self.entries.as_slice(),
-            self.slots.as_slice(),
-            self.queues.as_slice(),
-            &other,
-        );
-        if !open {
+        };
+        if !is_end_open(&self.books.pairs, other) {
             return Err(SendFault::Closed);
         }
-        let pair = end.pair.number();
-        if messages_in(self.queues.as_slice(), pair, end.side) >= MAX_MESSAGES {
+        if messages_in(&self.books.pairs, end.pair.number(), end.side) >= MAX_MESSAGES {
             return Err(SendFault::Full);
         }
-        send_in(&mut self.queues, pair, end.side, byte, passed)
+        self.books.send(end, byte, passed)
     }
 
     /// Takes the next message that the end receives, and gives its byte. A descriptor that came with it is lost.
@@ -277,8 +246,11 @@ impl Files {
         ensures byte { result ≡ front_byte ((open_files self.old).queue end.pair (other_side (side_seen end.side))) }
         ensures taken { Alike (taken (open_files self.old) end.pair (side_seen end.side)) (open_files self.new) }
     {
-        match take_in(&mut self.queues, end.pair.number(), end.side.other()) {
-            Some(message) => Some(message.byte),
+        match self.books.take(end) {
+            Some(message) => {
+                self.books.release(message.passed);
+                Some(message.byte)
+            }
             None => None,
         }
     }
@@ -292,8 +264,8 @@ impl Files {
         requires carries { IsSome (front_passed ((open_files self.old).queue end.pair (other_side (side_seen end.side)))) }
         ensures { Alike (taken_to (open_files self.old) end.pair (side_seen end.side) p n) (open_files self.new) }
     {
-        if let Some(message) = take_in(&mut self.queues, end.pair.number(), end.side.other()) {
-            set_entry(&mut self.entries, p, n, message.passed);
+        if let Some(message) = self.books.take(end) {
+            self.books.put(p, n, message.passed);
         }
     }
 
@@ -312,30 +284,9 @@ impl Files {
         ensures ok { OnOk result (Pairs (open_files self.old) (open_files self.new) (class_seen class) (option_map entry_seen a) (option_map entry_seen b)) }
         ensures err { OnErr result (open_files self.new ≡ open_files self.old) }
     {
-        let number = first_unused(
-            self.entries.as_slice(),
-            self.slots.as_slice(),
-            self.queues.as_slice(),
-        );
-        let (first, second) = two_unnamed(
-            self.entries.as_slice(),
-            &mut self.slots,
-            self.queues.as_slice(),
-        )?;
-        make_queues(self.alloc, &mut self.queues, number)?;
-        let pair = PairId::at(number);
-        let side_a = End {
-            pair,
-            side: Side::A,
-        };
-        let side_b = End {
-            pair,
-            side: Side::B,
-        };
-        set_slot(&mut self.slots, first, opened_end(side_a, class));
-        set_slot(&mut self.slots, second, opened_end(side_b, class));
-        set_end(&mut self.entries, a, first);
-        set_end(&mut self.entries, b, second);
+        let (first, second) = self.books.make_ends(class)?;
+        self.books.place(a, first);
+        self.books.place(b, second);
         Ok(())
     }
 
@@ -344,10 +295,6 @@ impl Files {
     pub fn count(&self) -> usize
         ensures { Counts (open_files self.now) result }
     {
-        count_named(
-            self.entries.as_slice(),
-            self.slots.as_slice(),
-            self.queues.as_slice(),
-        )
+        self.books.descriptions.len()
     }
 }

@@ -9,9 +9,6 @@ mod entries;
 pub mod faults;
 pub mod files;
 mod pairs;
-mod queues;
-mod search;
-mod slots;
 pub mod status;
 
 pub use descriptors::{Access, Class, Description, DescriptionId, Descriptor, Entry, Object};

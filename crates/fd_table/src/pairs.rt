@@ -5,10 +5,10 @@ ghost use Rattle.std.specs.Option.{IsSome};
 ghost use Rattle.slab.specs.Slab.{HasRoomFor};
 ghost use Rattle.fd_table.specs.Filled.{front_of};
 ghost use Rattle.fd_table.specs.Descriptions.{message_of};
-ghost use Rattle.fd_table.specs.Books.{end_of, half_in, queue, slot};
+ghost use Rattle.fd_table.specs.Kept.{end_of, half_in, queue, slot};
 ghost use Rattle.fd_table.specs.Holders.{Changed, Ends, IsEndable, after_close, front_message, is_idle, pair_new, with_closed, with_less, with_more, with_sent};
 ghost use Rattle.fd_table.specs.Views.{front_seen, side_seen};
-ghost use Rattle.fd_table.specs.Seen.{description_kept, entry_kept, half_kept, message_kept, pair_kept, pairs_kept};
+ghost use Rattle.fd_table.specs.Stored.{description_kept, entry_kept, half_kept, message_kept, pair_kept, pairs_kept};
 ghost use Rattle.fd_table.specs.declared.faults.SendFault.TheVariants as fault;
 
 use crate::descriptors::{Description, Descriptor, Object};

@@ -1,5 +1,5 @@
-use Rattle.fd_table.specs.Books.{entry}
-use Rattle.fd_table.specs.Seen.{books_kept}
+use Rattle.fd_table.specs.Kept.{entry}
+use Rattle.fd_table.specs.Stored.{books_kept}
 use Rattle.fd_table.proofs.Following.{IsFollowing}
 use Rattle.fd_table.proofs.books.Books.copy_row.Given as goal
 

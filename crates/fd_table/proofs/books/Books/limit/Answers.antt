@@ -1,7 +1,7 @@
 use Rattle.std.proofs.Common.{ap, ◌∙◌, ◌+◌, ◌*◌}
 use Rattle.std.proofs.Math.Seq.{map-set}
 use Rattle.fd_table.specs.Views.{descriptor_seen}
-use Rattle.fd_table.specs.Seen.{books_kept, entries_kept, entry_kept}
+use Rattle.fd_table.specs.Stored.{books_kept, entries_kept, entry_kept}
 use Rattle.fd_table.proofs.Tables.{there_within}
 use Rattle.fd_table.proofs.Moving.{follows_limit}
 use Rattle.fd_table.proofs.books.Books.limit.Goals as goal

@@ -1,8 +1,8 @@
 use Rattle.fd_table.specs.Descriptions.{message_of}
 use Rattle.fd_table.specs.Views.{side_seen}
-use Rattle.fd_table.specs.Books.{open_files}
+use Rattle.fd_table.specs.Kept.{open_files}
 use Rattle.fd_table.specs.Holders.{empty_hand}
-use Rattle.fd_table.specs.Seen.{books_kept, entry_kept}
+use Rattle.fd_table.specs.Stored.{books_kept, entry_kept}
 use Rattle.fd_table.proofs.Answering.{follows_itself}
 use Rattle.fd_table.proofs.Following.{few_counts, follows_send}
 use Rattle.fd_table.proofs.Sides.{side_small}

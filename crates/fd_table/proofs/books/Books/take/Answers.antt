@@ -1,7 +1,7 @@
 use Rattle.std.specs.Option.{option_map}
 use Rattle.fd_table.specs.Descriptions.{other_side}
 use Rattle.fd_table.specs.Views.{side_seen}
-use Rattle.fd_table.specs.Seen.{books_kept, message_kept}
+use Rattle.fd_table.specs.Stored.{books_kept, message_kept}
 use Rattle.fd_table.proofs.Following.{follows_take, other_small}
 use Rattle.fd_table.proofs.books.Books.take.Goals as goal
 

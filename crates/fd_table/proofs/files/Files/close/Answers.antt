@@ -1,11 +1,20 @@
-use Rattle.std.proofs.Math.ListN.{length-map}
-use Rattle.fd_table.specs.Stored.{entry_kept}
-use Rattle.fd_table.proofs.Kept.{kept_entry}
-use Rattle.fd_table.proofs.Alike.{alike_entry}
+use Rattle.fd_table.specs.Holders.{empty_hand}
+use Rattle.fd_table.specs.Stored.{books_kept}
+use Rattle.fd_table.proofs.Answering.{alike_follows, follows_itself}
+use Rattle.fd_table.proofs.Following.{follows_full}
 use Rattle.fd_table.proofs.files.Files.close.Goals as goal
 
+pub put-requires-clause-kept : goal.put-requires-clause-kept
+put-requires-clause-kept c =
+    let given = follows_full _ _ empty_hand (follows_itself (books_kept c.self.inside.books) empty_hand c.self.invariant) in
+    record { hand = empty_hand; kept = given.kept }
+
 pub invariant_of-self : goal.invariant_of-self
-invariant_of-self c = kept_entry _ _ _ _ _ c.self.invariant (rw (length-map c.set_entry.new.entries.items entry_kept) c.set_entry.ensures.room) c.set_entry.ensures.entries tt
+invariant_of-self c =
+    let closed = c.put.ensures _ empty_hand (follows_full _ _ empty_hand (follows_itself (books_kept c.self.inside.books) empty_hand c.self.invariant)) in
+    closed.kept
 
 pub returns : goal.returns
-returns c = rw (← c.self.view_is) (alike_entry _ _ _ _ _ c.set_entry.ensures.entries)
+returns c =
+    rw (← c.self.view_is)
+    (alike_follows _ (books_kept c.put.new.self) (c.put.ensures _ empty_hand (follows_full _ _ empty_hand (follows_itself (books_kept c.self.inside.books) empty_hand c.self.invariant))))

@@ -1,4 +1,8 @@
+use Rattle.std.proofs.Common.{◌∙◌, sym}
+use Rattle.fd_table.specs.Views.{side_seen}
+use Rattle.fd_table.specs.Stored.{books_kept}
+use Rattle.fd_table.proofs.Answering.{open_is}
 use Rattle.fd_table.proofs.files.Files.is_open.Goals as goal
 
 pub returns : goal.returns
-returns c = rw (c.as_slice.ensures.value, c.as_slice-2.ensures.value, c.as_slice-3.ensures.value, c.self.view_is) at c.is_named.ensures
+returns c = rw (← c.self.view_is) (c.is_end_open.ensures ∙ sym (open_is (books_kept c.self.inside.books) c.args.pair (side_seen c.args.side) c.self.invariant))

@@ -1,24 +1,26 @@
-use Rattle.std.proofs.Math.ListN.{length-map}
-use Rattle.fd_table.specs.Stored.{entry_kept}
-use Rattle.fd_table.proofs.Lists.{on_err}
-use Rattle.fd_table.proofs.Alike.{kept_new, kept_room, opens_kept, same_files}
+use Rattle.std.proofs.Common.{Some}
+use Rattle.fd_table.specs.Views.{descriptor_seen}
+use Rattle.fd_table.specs.Holders.{empty_hand}
+use Rattle.fd_table.specs.Stored.{books_kept}
+use Rattle.fd_table.proofs.Answering.{alike_follows, follows_itself}
 use Rattle.fd_table.proofs.files.Files.open_node.Goals as goal
 
-pub invariant_of-self : goal.invariant_of-self
-invariant_of-self c = kept_room _ _ c.self.invariant c.make_room.ensures.same
-
-pub returns-in_err-make_room-clause-err : goal.returns-in_err-make_room-clause-err
-returns-in_err-make_room-clause-err c = rw (← c.self.view_is) (on_err _ (same_files _ _ c.make_room.ensures.same))
+pub put-requires-clause-kept : goal.put-requires-clause-kept
+put-requires-clause-kept c =
+    let made = c.in_ok-number.ensures.follows (descriptor_seen (record { description = c.at.result; rights = c.args.rights; fcntls = c.args.fcntls })) c.at.ensures in
+    record { hand = empty_hand; kept = made.kept }
 
 pub invariant_of-self-2 : goal.invariant_of-self-2
 invariant_of-self-2 c =
-    let filled = rw (c.make_room.ensures.same, c.opened_node.ensures) at c.set_slot.ensures.slots in
-    let set = rw c.at.ensures at c.set_entry.ensures.entries in
-    kept_new _ _ _ _ _ _ _ _ _ c.self.invariant (rw (length-map c.set_entry.new.entries.items entry_kept) c.set_entry.ensures.room) filled tt set
+    let opened = c.put.ensures _ empty_hand (c.in_ok-number.ensures.follows (descriptor_seen (record { description = c.at.result; rights = c.args.rights; fcntls = c.args.fcntls })) c.at.ensures) in
+    opened.kept
 
 pub returns-clause-ok : goal.returns-clause-ok
 returns-clause-ok c =
-    let filled = rw (c.make_room.ensures.same, c.opened_node.ensures) at c.set_slot.ensures.slots in
-    let set = rw c.at.ensures at c.set_entry.ensures.entries in
-    let fresh = rw (c.as_slice.ensures.value, c.as_slice-2.ensures.value, c.as_slice-3.ensures.value) at c.first_unnamed-number.ensures.unnamed in
-    rw (← c.self.view_is) (opens_kept _ _ _ _ _ _ _ _ _ _ _ fresh filled set)
+    let opened = c.put.ensures _ empty_hand (c.in_ok-number.ensures.follows (descriptor_seen (record { description = c.at.result; rights = c.args.rights; fcntls = c.args.fcntls })) c.at.ensures) in
+    rw (← c.self.view_is)
+    (record {
+      description = c.in_ok-number.number;
+      fresh = c.in_ok-number.ensures.fresh;
+      alike = rw c.at.ensures at (alike_follows _ (books_kept c.put.new.self) opened);
+    })

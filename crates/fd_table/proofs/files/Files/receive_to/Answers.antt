@@ -1,17 +1,28 @@
-use Rattle.std.proofs.Math.ListN.{length-map}
-use Rattle.fd_table.specs.Stored.{entry_kept}
-use Rattle.fd_table.proofs.QueueLaws.{same_length}
-use Rattle.fd_table.proofs.Sending.{alike_taken_to, kept_taken_to, passed_is}
+use Rattle.fd_table.specs.Views.{side_seen}
+use Rattle.fd_table.specs.Kept.{open_files}
+use Rattle.fd_table.specs.Holders.{empty_hand}
+use Rattle.fd_table.specs.Stored.{books_kept}
+use Rattle.fd_table.proofs.Answering.{alike_follows, follows_itself}
+use Rattle.fd_table.proofs.Answering.{end_open}
+use Rattle.fd_table.proofs.Refusals.{passed_is}
 use Rattle.fd_table.proofs.files.Files.receive_to.Goals as goal
+
+pub take-requires : goal.take-requires
+take-requires c = end_open (books_kept c.self.inside.books) c.args.end.pair (side_seen c.args.end.side) empty_hand c.self.invariant (rw (← c.self.view_is) at c.requires.there)
+
+pub put-requires-clause-kept : goal.put-requires-clause-kept
+put-requires-clause-kept c =
+    let taken = c.in-Some.ensures.follows _ empty_hand (follows_itself (books_kept c.self.inside.books) empty_hand c.self.invariant) in
+    record { hand = empty_hand; kept = taken.kept }
 
 pub invariant_of-self : goal.invariant_of-self
 invariant_of-self c =
-    kept_taken_to _ _ _ _ _ _ _ _ c.self.invariant (same_length _ _ c.take_in.ensures.pairs)
-    (rw (length-map c.set_entry.new.entries.items entry_kept) c.set_entry.ensures.room)
-    c.take_in.ensures.rest (passed_is _ _ c.in-Some.ensures.front) c.set_entry.ensures.entries
+    let taken = c.put.ensures _ empty_hand (c.in-Some.ensures.follows _ empty_hand (follows_itself (books_kept c.self.inside.books) empty_hand c.self.invariant)) in
+    taken.kept
 
 pub returns-in-Some : goal.returns-in-Some
+unfolding open_files
 returns-in-Some c =
-    rw (← c.self.view_is)
-    (alike_taken_to _ _ _ _ _ _ _ _ (rw (c.other.ensures, c.number.ensures) at c.take_in.ensures.rest)
-    (passed_is _ _ (rw (c.other.ensures, c.number.ensures) at c.in-Some.ensures.front)) c.set_entry.ensures.entries)
+    let taken = c.put.ensures _ empty_hand (c.in-Some.ensures.follows _ empty_hand (follows_itself (books_kept c.self.inside.books) empty_hand c.self.invariant)) in
+    let passed = passed_is _ _ c.in-Some.ensures.front in
+    rw (← c.self.view_is) (rw passed at (alike_follows _ (books_kept c.put.new.self) taken))

@@ -1,21 +1,37 @@
 use Rattle.std.proofs.Common.{ap}
 use Rattle.fd_table.specs.Descriptions.{State}
-use Rattle.fd_table.proofs.Alike.{alike_offset, kept_state}
-use Rattle.fd_table.proofs.Sending.{slot_within, there_named}
+use Rattle.fd_table.specs.Kept.{open_files}
+use Rattle.fd_table.specs.Holders.{empty_hand}
+use Rattle.fd_table.specs.Stored.{books_kept}
+use Rattle.fd_table.proofs.Answering.{alike_follows, follows_itself}
+use Rattle.fd_table.proofs.Answering.{there_named}
+use Rattle.fd_table.proofs.Following.{follows_described}
 use Rattle.fd_table.proofs.files.Files.set_offset.Goals as goal
 
-pub description_at-description-requires : goal.description_at-description-requires
-description_at-description-requires c = rw (c.as_slice.ensures.value, c.number-at.ensures) (there_named _ _ c.self.invariant (rw (← c.self.view_is) at c.requires))
+pub description_of-description-requires : goal.description_of-description-requires
+description_of-description-requires c =
+    rw c.number-at.ensures (there_named (books_kept c.self.inside.books) c.args.d empty_hand c.self.invariant (rw (← c.self.view_is) at c.requires))
 
-pub set_slot-requires : goal.set_slot-requires
-set_slot-requires c = rw c.number-at.ensures (slot_within c.self.inside.slots.items c.args.d (there_named _ _ c.self.invariant (rw (← c.self.view_is) at c.requires)))
+pub set_description-requires : goal.set_description-requires
+set_description-requires c =
+    rw c.number-at.ensures (there_named (books_kept c.self.inside.books) c.args.d empty_hand c.self.invariant (rw (← c.self.view_is) at c.requires))
 
 pub invariant_of-self : goal.invariant_of-self
-invariant_of-self c = kept_state _ _ _ _ c.self.invariant c.set_slot.ensures.slots (rw c.as_slice.ensures.value at c.description_at-description.ensures.object)
+unfolding open_files
+invariant_of-self c =
+    let there = there_named (books_kept c.self.inside.books) c.args.d empty_hand c.self.invariant (rw (← c.self.view_is) at c.requires) in
+    let change = rw c.number-at.ensures at c.set_description.ensures in
+    let object = rw c.number-at.ensures at c.description_of-description.ensures.object in
+    let state = rw c.number-at.ensures at c.description_of-description.ensures.state in
+    let set = follows_described (open_files (books_kept c.self.inside.books)) (books_kept c.self.inside.books) _ c.args.d _ _ empty_hand (follows_itself (books_kept c.self.inside.books) empty_hand c.self.invariant) there change object (ap (λ (s : State). record s { offset = c.args.offset }) state) in
+    set.kept
 
 pub returns : goal.returns
+unfolding open_files
 returns c =
-    let object = rw c.as_slice.ensures.value at c.description_at-description.ensures.object in
-    let state = rw c.as_slice.ensures.value at c.description_at-description.ensures.state in
-    rw (← c.self.view_is, ← c.number-at.ensures)
-    (alike_offset _ _ _ _ _ c.set_slot.ensures.slots object (ap (λ (s : State). record s { offset = c.args.offset }) state))
+    let there = there_named (books_kept c.self.inside.books) c.args.d empty_hand c.self.invariant (rw (← c.self.view_is) at c.requires) in
+    let change = rw c.number-at.ensures at c.set_description.ensures in
+    let object = rw c.number-at.ensures at c.description_of-description.ensures.object in
+    let state = rw c.number-at.ensures at c.description_of-description.ensures.state in
+    let set = follows_described (open_files (books_kept c.self.inside.books)) (books_kept c.self.inside.books) _ c.args.d _ _ empty_hand (follows_itself (books_kept c.self.inside.books) empty_hand c.self.invariant) there change object (ap (λ (s : State). record s { offset = c.args.offset }) state) in
+    rw (← c.self.view_is) (alike_follows _ _ set)

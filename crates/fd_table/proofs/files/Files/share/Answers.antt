@@ -1,12 +1,22 @@
-use Rattle.std.proofs.Math.ListN.{length-map}
-use Rattle.fd_table.specs.Stored.{entry_kept}
-use Rattle.fd_table.proofs.Alike.{alike_share, kept_share}
+use Rattle.fd_table.specs.Holders.{empty_hand}
+use Rattle.fd_table.specs.Stored.{books_kept}
+use Rattle.fd_table.proofs.Answering.{alike_follows, follows_itself}
+use Rattle.fd_table.specs.Kept.{open_files}
 use Rattle.fd_table.proofs.files.Files.share.Goals as goal
+
+pub put-requires-clause-kept : goal.put-requires-clause-kept
+put-requires-clause-kept c =
+    let held = c.hold.ensures _ (follows_itself (books_kept c.self.inside.books) empty_hand c.self.invariant) in
+    record { hand = empty_hand; kept = held.kept }
 
 pub invariant_of-self : goal.invariant_of-self
 invariant_of-self c =
-    kept_share _ _ _ _ _ _ _ c.self.invariant (rw (length-map c.set_entry.new.entries.items entry_kept) c.set_entry.ensures.room) c.set_entry.ensures.entries
-    (rw c.as_slice.ensures.value at c.entry_at-shared.ensures)
+    let shared = c.put.ensures _ empty_hand (c.hold.ensures _ (follows_itself (books_kept c.self.inside.books) empty_hand c.self.invariant)) in
+    shared.kept
 
 pub returns : goal.returns
-returns c = rw (← c.self.view_is) (alike_share _ _ _ _ _ _ _ c.set_entry.ensures.entries (rw c.as_slice.ensures.value at c.entry_at-shared.ensures))
+unfolding open_files
+returns c =
+    let shared = c.put.ensures _ empty_hand (c.hold.ensures _ (follows_itself (books_kept c.self.inside.books) empty_hand c.self.invariant)) in
+    let given = rw c.as_slice.ensures.value at c.entry_at-shared.ensures in
+    rw (← c.self.view_is, ← given) (alike_follows _ (books_kept c.put.new.self) shared)
