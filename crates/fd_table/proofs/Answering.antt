@@ -10,7 +10,8 @@ use Rattle.fd_table.specs.Descriptions.{Object, Descriptor, Message}
 use Rattle.fd_table.specs.OpenFiles.{OpenFiles, any_below, any_named, names, names_end, is_end, is_open, IsOther, AreOther, IsUnnamed, IsUnused, Alike, SameDescription, SameDescriptions}
 use Rattle.fd_table.specs.Filled.{IsNamed, by_entry, by_message, IsEndThere, MayPass}
 use Rattle.fd_table.specs.Kept.{Held, Pair, Kept, entry, slot, queue, object_in, state_in, half_in, end_of, open_files}
-use Rattle.fd_table.specs.Holders.{named, in_queue, in_pair, holders, IsCounted, IsKept, IsThere, ShowsAt, Follows, empty_hand}
+use Rattle.fd_table.specs.Holders.{named, in_queue, in_pair, holders, IsCounted, IsKept, IsThere, empty_hand}
+use Rattle.fd_table.specs.Follows.{ShowsAt, Follows}
 use Rattle.fd_table.proofs.Scans.{or_false, left_false, right_false, nothing_below}
 use Rattle.fd_table.proofs.Ending.{end_itself}
 use Rattle.fd_table.proofs.Naming.{named_is, holders_vacant, entry_silent, queue_silent, queue_zero, unnamed_vacant}

@@ -6,7 +6,8 @@ use Rattle.std.proofs.lemmas.Bool.{eqb-true, eq-eqb}
 use Rattle.fd_table.specs.Descriptions.{Object, At_end, Class, Message}
 use Rattle.fd_table.specs.OpenFiles.{is_end}
 use Rattle.fd_table.specs.Kept.{Held, Pair, Kept, slot, queue, object_in, half_in, end_of}
-use Rattle.fd_table.specs.Holders.{in_queue, in_pair, holders, IsCounted, is_idle, is_empty, IsNeeded, IsKept, Changed, unless_idle, with_closed}
+use Rattle.fd_table.specs.Holders.{in_queue, in_pair, holders, IsCounted, is_idle, is_empty, IsNeeded, IsKept}
+use Rattle.fd_table.specs.Changes.{Changed, unless_idle, with_closed}
 use Rattle.fd_table.proofs.Sums.{changed-cases, sum_changed}
 
 pub both_true : (a b : Bool) → (a && b) ≡ true → (a ≡ true) × (b ≡ true)

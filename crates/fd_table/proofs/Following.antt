@@ -10,7 +10,9 @@ use Rattle.fd_table.specs.Openings.{with_table, with_entry}
 use Rattle.fd_table.specs.Filled.{with_queue, with_row, with_state, sent}
 use Rattle.fd_table.specs.Kept.{Description, Held, Pair, Kept, entry, slot, queue, object_in, half_in, end_of, open_files}
 use Rattle.fd_table.proofs.Ending.{end_itself}
-use Rattle.fd_table.specs.Holders.{in_queue, holders, IsKept, IsCounted, IsThere, IsFew, IsHeld, IsClosable, IsEndable, with_hand, Changed, ShowsAt, Follows, empty_hand, with_more, with_less, with_sent, with_taken, passed_in, front_message, count_in, raised, ended_in, described_as}
+use Rattle.fd_table.specs.Holders.{in_queue, holders, IsKept, IsCounted, IsThere, IsFew, with_hand, empty_hand, count_in}
+use Rattle.fd_table.specs.Changes.{IsHeld, IsClosable, IsEndable, Changed, with_more, with_less, with_sent, passed_in, front_message, raised, ended_in, described_as}
+use Rattle.fd_table.specs.Follows.{ShowsAt, Follows, with_taken}
 use Rattle.fd_table.proofs.Sums.{changed-cases}
 use Rattle.fd_table.proofs.Steps.{kept_count}
 use Rattle.fd_table.proofs.Releasing.{follows_hold}

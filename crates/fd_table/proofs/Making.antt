@@ -10,7 +10,9 @@ use Rattle.fd_table.specs.Openings.{described}
 use Rattle.fd_table.proofs.Naming.{unnamed_vacant}
 use Rattle.fd_table.proofs.Answering.{follows_itself, unused_vacant}
 use Rattle.fd_table.specs.Kept.{open_files, Held, Pair, Kept, slot, queue, object_in, half_in, end_of}
-use Rattle.fd_table.specs.Holders.{IsKept, in_pair, holders, IsCounted, IsNeeded, with_hand, Changed, ShowsAt, Follows, empty_hand, pair_new, held_new, Makes}
+use Rattle.fd_table.specs.Holders.{IsKept, in_pair, holders, IsCounted, IsNeeded, with_hand, empty_hand}
+use Rattle.fd_table.specs.Changes.{Changed, pair_new, held_new}
+use Rattle.fd_table.specs.Follows.{ShowsAt, Follows, Makes}
 use Rattle.fd_table.proofs.Sums.{changed-cases, sum_changed}
 use Rattle.fd_table.proofs.Ending.{same_end, end_itself, half_there}
 use Rattle.fd_table.proofs.Releasing.{named_own, named_other}

@@ -14,7 +14,9 @@ use Rattle.fd_table.specs.OpenFiles.{OpenFiles}
 use Rattle.fd_table.specs.Openings.{with_entry}
 use Rattle.fd_table.specs.Filled.{with_queue, limited, sent}
 use Rattle.fd_table.specs.Kept.{Pair, Kept, entry, slot, queue, half_in}
-use Rattle.fd_table.specs.Holders.{named, in_queue, in_pair, is_idle, is_empty, IsKept, with_hand, Changed, Follows, with_sent, with_taken}
+use Rattle.fd_table.specs.Holders.{named, in_queue, in_pair, is_idle, is_empty, IsKept, with_hand}
+use Rattle.fd_table.specs.Changes.{Changed, with_sent}
+use Rattle.fd_table.specs.Follows.{Follows, with_taken}
 use Rattle.fd_table.proofs.Sums.{changed-cases}
 use Rattle.fd_table.proofs.Steps.{kept_entries, kept_exchange, kept_pair}
 

@@ -1,12 +1,12 @@
 -- Which messages are refused, and what the message in front is.
-use Rattle.std.proofs.Common.{◌≡◌, ℕ, ◌<◌, ◌≤◌, Bool, true, false, List, [], ◌∷◌, length, refl, ap, ◌∙◌}
+use Rattle.std.proofs.Common.{◌≡◌, ℕ, ◌<◌, ◌≤◌, Bool, true, false, List, [], ◌∷◌, length, ap, ◌∙◌}
 use Rattle.std.specs.Prelude.{Option, Some, None, cond, nat_lt}
 use Rattle.std.specs.Option.{IsSome, option_map}
 use Rattle.std.proofs.lemmas.Bool.{lt-ltb, le-ltb}
-use Rattle.fd_table.specs.Descriptions.{Descriptor, Message, other_side}
+use Rattle.fd_table.specs.Descriptions.{Message, other_side}
 use Rattle.fd_table.specs.OpenFiles.{OpenFiles, is_open}
 use Rattle.fd_table.specs.Filled.{Closed, Full, send_refusal, front_byte, front_passed}
-use Rattle.fd_table.specs.Holders.{front_message, passed_in}
+use Rattle.fd_table.specs.Changes.{front_message, passed_in}
 
 pub closed_is : (f : OpenFiles) (pair side : ℕ) → is_open f pair (other_side side) ≡ false → send_refusal f pair side ≡ Some Closed
 closed_is f pair side closed = ap (λ b. cond b (cond (nat_lt (length (f.queue pair side)) 16) None (Some Full)) (Some Closed)) closed

@@ -6,7 +6,9 @@ use Rattle.std.proofs.lemmas.Bool.Decides.{eqb_tells}
 use Rattle.fd_table.specs.Descriptions.{Object, At_node, At_end, Class, Descriptor}
 use Rattle.fd_table.specs.OpenFiles.{OpenFiles, is_end}
 use Rattle.fd_table.specs.Kept.{Description, Held, Pair, Kept, slot, queue, object_in}
-use Rattle.fd_table.specs.Holders.{named, holders, IsCounted, IsKept, with_hand, Changed, lowered, ended_in, Closes, Ends, ShowsAt, Follows}
+use Rattle.fd_table.specs.Holders.{named, holders, IsCounted, IsKept, with_hand}
+use Rattle.fd_table.specs.Changes.{after_close, Changed, lowered, ended_in, Closes, Ends}
+use Rattle.fd_table.specs.Follows.{ShowsAt, Follows}
 use Rattle.fd_table.proofs.Sums.{changed-cases}
 use Rattle.fd_table.proofs.Steps.{kept_count}
 use Rattle.fd_table.proofs.Ending.{kept_gone_node, kept_gone_end, end_itself, half_there, left_sent}
@@ -63,7 +65,7 @@ module _ (f : OpenFiles) (k : Kept) (ds : List (Option Held)) (ps : List (Option
   at_end h pair side class there few gone object closes =
       let open_is = follows.kept.known pair side d.description (subst (λ (o : Object). is_end pair side o ≡ true) (sym (ap object_in there ∙ object)) (end_itself pair side class)) in
       let found = half_there (slot k.pairs pair) side d.description open_is in
-      let closed = closes found.0 found.1 in
+      let closed = subst (Changed k.pairs ps pair) (ap (after_close side) found.1) closes in
       record {
         kept = kept_gone_end k ds ps d.description h pair side class found.0 (with_hand (Some d) hand) hand follows.kept gone there few object found.1 closed one_more no_more;
         shows = record { table = follows.shows.table; queue = λ r s. left_sent k.pairs ps pair side found.0 closed found.1 r s ∙ follows.shows.queue r s; described = described };

@@ -4,7 +4,8 @@ use Rattle.std.specs.Prelude.{Option, Some, None, slice_set, true, false, cond}
 use Rattle.std.specs.Option.{option_map, IsSome}
 use Rattle.slab.specs.Slab.{Slab, Updates}
 use Rattle.fd_table.specs.Kept.{Pair, slot}
-use Rattle.fd_table.specs.Holders.{Changed, is_idle, unless_idle}
+use Rattle.fd_table.specs.Holders.{is_idle}
+use Rattle.fd_table.specs.Changes.{Changed, unless_idle}
 
 pub slot_map : {A B : Type 0} (g : A → B) (xs : List (Option A)) (n : ℕ) → slot (map (option_map g) xs) n ≡ option_map g (slot xs n)
 slot_map g [] n = refl

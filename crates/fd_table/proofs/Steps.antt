@@ -7,7 +7,8 @@ use Rattle.std.proofs.Math.ListN.{length-set}
 use Rattle.fd_table.specs.Descriptions.{Object, Descriptor}
 use Rattle.fd_table.specs.OpenFiles.{is_end}
 use Rattle.fd_table.specs.Kept.{Held, Pair, Kept, slot, object_in, half_in, end_of}
-use Rattle.fd_table.specs.Holders.{named, in_pair, holders, IsCounted, is_idle, IsNeeded, IsKept, with_hand, Changed}
+use Rattle.fd_table.specs.Holders.{named, in_pair, holders, IsCounted, is_idle, IsNeeded, IsKept, with_hand}
+use Rattle.fd_table.specs.Changes.{Changed}
 use Rattle.fd_table.proofs.Sums.{changed-cases, sum_changed}
 
 -- the entries are changed

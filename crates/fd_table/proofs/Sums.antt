@@ -5,7 +5,7 @@ use Rattle.std.specs.List.{sum_by}
 use Rattle.std.proofs.lemmas.List.Sums.{sum_by-cons}
 use Rattle.std.proofs.Math.Decide.{ℕ_discrete}
 use Rattle.fd_table.specs.Kept.{slot}
-use Rattle.fd_table.specs.Holders.{Changed}
+use Rattle.fd_table.specs.Changes.{Changed}
 
 pub changed-cases : {A : Type 0} (Q : Option A → Type 0) (old new : List (Option A)) (key : ℕ) (v : Option A) → Changed old new key v → (n : ℕ) → (n ≡ key → Q v) → (n ≢ key → Q (slot old n)) → Q (slot new n)
 changed-cases Q old new key v change n here there = go (ℕ_discrete n key)

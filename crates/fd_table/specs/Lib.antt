@@ -5,5 +5,7 @@ pub mod Filled
 pub mod Views
 pub mod Kept
 pub mod Holders
+pub mod Changes
+pub mod Follows
 pub mod Stored
 pub mod Counts

@@ -5,7 +5,8 @@ ghost use Rattle.std.specs.Option.{IsSome};
 ghost use Rattle.slab.specs.Slab.{HasRoomFor, Updates, get, slab_len};
 ghost use Rattle.fd_table.specs.Descriptions.{At_end, At_node};
 ghost use Rattle.fd_table.specs.Kept.{object_in, slot, state_in};
-ghost use Rattle.fd_table.specs.Holders.{Changed, IsFew, IsHeld, IsThere, count_in, described_as, ended_in, lowered, raised};
+ghost use Rattle.fd_table.specs.Holders.{IsFew, IsThere, count_in};
+ghost use Rattle.fd_table.specs.Changes.{Changed, IsHeld, described_as, ended_in, lowered, raised};
 ghost use Rattle.fd_table.specs.Views.{access_asked, class_seen, object_seen, side_seen, state_seen};
 ghost use Rattle.fd_table.specs.Stored.{description_kept, descriptions_kept, entry_kept, new_description};
 

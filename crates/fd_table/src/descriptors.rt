@@ -1,8 +1,6 @@
 //! Descriptors, and the open descriptions that they name.
 
 ghost use Rattle.std.specs.Prelude.{◌≡◌};
-ghost use Rattle.fd_table.specs.OpenFiles.{is_end};
-ghost use Rattle.fd_table.specs.Views.{object_seen, side_seen};
 
 use crate::ends::End;
 use crate::status::Status;
@@ -74,20 +72,6 @@ pub enum Object {
     Node { node: NodeId, access: Access },
     /// An end of a socket pair.
     End { end: End, class: Class },
-}
-
-impl Object {
-    /// Whether it is that end.
-    pub(crate) fn is_end(self, end: End) -> bool
-        ensures { result ≡ is_end end.pair (side_seen end.side) (object_seen self) }
-    {
-        match self {
-            Object::Node { .. } => false,
-            Object::End { end: own, .. } => {
-                own.pair.number() == end.pair.number() && own.side.is(end.side)
-            }
-        }
-    }
 }
 
 /// An open description: all descriptors that name it share it. (open(2))

@@ -1,6 +1,6 @@
 //! Socket pairs and their ends.
 
-ghost use Rattle.std.specs.Prelude.{◌≡◌, ◌==◌};
+ghost use Rattle.std.specs.Prelude.{◌≡◌};
 ghost use Rattle.fd_table.specs.Descriptions.{other_side};
 ghost use Rattle.fd_table.specs.Views.{side_seen};
 
@@ -53,18 +53,6 @@ impl Side {
         match self {
             Side::A => Side::B,
             Side::B => Side::A,
-        }
-    }
-
-    /// Whether it is that one.
-    pub(crate) fn is(self, other: Side) -> bool
-        ensures { result ≡ (side_seen self == side_seen other) }
-    {
-        match (self, other) {
-            (Side::A, Side::A) => true,
-            (Side::A, Side::B) => false,
-            (Side::B, Side::A) => false,
-            (Side::B, Side::B) => true,
         }
     }
 }

@@ -1,8 +1,7 @@
-use Rattle.std.proofs.Common.{Some}
 use Rattle.fd_table.specs.Views.{descriptor_seen}
 use Rattle.fd_table.specs.Holders.{empty_hand}
 use Rattle.fd_table.specs.Stored.{books_kept}
-use Rattle.fd_table.proofs.Answering.{alike_follows, follows_itself}
+use Rattle.fd_table.proofs.Answering.{alike_follows}
 use Rattle.fd_table.proofs.files.Files.open_node.Goals as goal
 
 pub put-requires-clause-kept : goal.put-requires-clause-kept
