@@ -22,17 +22,25 @@ pub record Follows (f : OpenFiles) (k : Kept) (hand : ℕ → ℕ) : Type 0 wher
   pub kept : IsKept k hand
   pub shows : Shows f k
 
+-- Whatever the lists stood for, they stand for what the step makes of it, with another hand.
+abbrev pub Moves : Kept → Kept → (OpenFiles → OpenFiles) → ((ℕ → ℕ) → ℕ → ℕ) → ((ℕ → ℕ) → ℕ → ℕ) → Type 0
+Moves old new step before after = (f : OpenFiles) (hand : ℕ → ℕ) → Follows f old (before hand) → Follows (step f) new (after hand)
+
+abbrev pub same_hand : (ℕ → ℕ) → ℕ → ℕ
+same_hand hand = hand
+
 -- the messages without the one in front
 abbrev pub with_taken : OpenFiles → ℕ → ℕ → OpenFiles
 with_taken f pair side = with_queue f pair side (drop 1 (f.queue pair side))
 
--- A pair is made, and the descriptions of its ends, with one holder each that is in hand.
+-- the descriptions of both ends of a pair, and a descriptor of each in hand
 abbrev pub with_ends : OpenFiles → ℕ → ℕ → ℕ → Class → OpenFiles
 with_ends f first second pair class = described (described f first (At_end pair 0 class) false) second (At_end pair 1 class) false
 
 abbrev pub hand_of_two : Descriptor → Descriptor → ℕ → ℕ
 hand_of_two d e = with_hand (Some d) (with_hand (Some e) empty_hand)
 
+-- A pair is made, and the descriptions of its ends, with one holder each that is in hand.
 pub record Makes (j k : Kept) (class : Class) (first second : ℕ) : Type 0 where
   pub pair : ℕ
   pub first_fresh : IsUnnamed (open_files j) first

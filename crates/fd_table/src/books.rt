@@ -11,7 +11,7 @@ ghost use Rattle.fd_table.specs.Filled.{IsEmpty, limited, sent, with_end, with_r
 ghost use Rattle.fd_table.specs.Kept.{end_of, entry, open_files, queue, slot};
 ghost use Rattle.fd_table.specs.Holders.{IsInHand, IsKept, IsThere, empty_hand, with_hand};
 ghost use Rattle.fd_table.specs.Changes.{front_message, passed_in};
-ghost use Rattle.fd_table.specs.Follows.{Follows, Makes, with_taken};
+ghost use Rattle.fd_table.specs.Follows.{Follows, Makes, Moves, same_hand, with_taken};
 ghost use Rattle.fd_table.specs.Stored.{IsWithinTables};
 ghost use Rattle.fd_table.specs.Views.{access_asked, class_seen, entry_seen, side_seen};
 ghost use Rattle.fd_table.specs.Stored.{books_kept, entry_kept, message_kept};
@@ -63,7 +63,8 @@ impl Books {
         requires process { p < 16 }
         requires number { n < 16 }
         ensures given { entry_kept result ≡ entry (books_kept self.old).entries p n }
-        ensures follows { (f : OpenFiles) (hand : ℕ → ℕ) → Follows f (books_kept self.old) (with_hand (entry_kept descriptor) hand) → Follows (with_entry f p n (entry_kept descriptor)) (books_kept self.new) (with_hand (entry_kept result) hand) }
+        ensures follows { Moves (books_kept self.old) (books_kept self.new) (λ f. with_entry f p n (entry_kept descriptor))
+            (with_hand (entry_kept descriptor)) (with_hand (entry_kept result)) }
     {
         let was = entry_at(self.entries.as_slice(), p, n);
         set_entry(&mut self.entries, p, n, descriptor);
@@ -75,7 +76,8 @@ impl Books {
         requires kept { IsInHand (books_kept self.old) (entry_kept descriptor) }
         requires process { p < 16 }
         requires number { n < 16 }
-        ensures { (f : OpenFiles) (hand : ℕ → ℕ) → Follows f (books_kept self.old) (with_hand (entry_kept descriptor) hand) → Follows (with_entry f p n (entry_kept descriptor)) (books_kept self.new) hand }
+        ensures { Moves (books_kept self.old) (books_kept self.new) (λ f. with_entry f p n (entry_kept descriptor))
+            (with_hand (entry_kept descriptor)) same_hand }
     {
         let was = self.exchange(p, n, descriptor);
         self.release(was);
@@ -85,7 +87,7 @@ impl Books {
     pub(crate) fn limit(&mut self, p: u8, n: u8, rights: Rights, fcntls: Fcntls)
         requires room { length (books_kept self.old).entries ≡ 256 }
         requires there { IsSome (entry (books_kept self.old).entries p n) }
-        ensures { (f : OpenFiles) (hand : ℕ → ℕ) → Follows f (books_kept self.old) hand → Follows (limited f p n rights.0 fcntls.0) (books_kept self.new) hand }
+        ensures { Moves (books_kept self.old) (books_kept self.new) (λ f. limited f p n rights.0 fcntls.0) same_hand same_hand }
     {
         if let Some(descriptor) = entry_at(self.entries.as_slice(), p, n) {
             let left = Descriptor {
@@ -111,7 +113,7 @@ impl Books {
     /// is taken out, and so is a pair that nobody needs then.
     pub(crate) fn release(&mut self, held: Option<Descriptor>)
         requires { IsInHand (books_kept self.old) (entry_kept held) }
-        ensures { (f : OpenFiles) (hand : ℕ → ℕ) → Follows f (books_kept self.old) (with_hand (entry_kept held) hand) → Follows f (books_kept self.new) hand }
+        ensures { Moves (books_kept self.old) (books_kept self.new) (λ f. f) (with_hand (entry_kept held)) same_hand }
     {
         if let Some(descriptor) = held {
             let ended = release_one(&mut self.descriptions, descriptor.description.number());
@@ -170,7 +172,8 @@ impl Books {
     pub(crate) fn place(&mut self, to: Option<Entry>, description: usize)
         requires kept { IsInHand (books_kept self.old) (Some (descriptor_of description all_rights all_commands)) }
         requires within { IsWithinTables (option_map entry_seen to) }
-        ensures { (f : OpenFiles) (hand : ℕ → ℕ) → Follows f (books_kept self.old) (with_hand (Some (descriptor_of description all_rights all_commands)) hand) → Follows (with_end f description (option_map entry_seen to)) (books_kept self.new) hand }
+        ensures { Moves (books_kept self.old) (books_kept self.new) (λ f. with_end f description (option_map entry_seen to))
+            (with_hand (Some (descriptor_of description all_rights all_commands))) same_hand }
     {
         let named = Some(Descriptor {
             description: DescriptionId::at(description),
@@ -187,7 +190,8 @@ impl Books {
     pub(crate) fn make_node(&mut self, node: NodeId, flags: OpenFlags) -> Result<usize, Memory>
         requires kept { IsKept (books_kept self.old) empty_hand }
         ensures fresh { IfOk result (λ n. IsUnnamed (open_files (books_kept self.old)) n) }
-        ensures follows { IfOk result (λ n. (d : SeenDescriptor) → d.description ≡ n → Follows (described (open_files (books_kept self.old)) n (At_node node (access_asked flags)) flags.append) (books_kept self.new) (with_hand (Some d) empty_hand)) }
+        ensures follows { IfOk result (λ n. (d : SeenDescriptor) → d.description ≡ n
+            → Follows (described (open_files (books_kept self.old)) n (At_node node (access_asked flags)) flags.append) (books_kept self.new) (with_hand (Some d) empty_hand)) }
         ensures err { OnErr result (books_kept self.new ≡ books_kept self.old) }
     {
         self.descriptions.reserve(1)?;
@@ -221,7 +225,8 @@ impl Books {
     pub(crate) fn take(&mut self, end: End) -> Option<Message>
         requires { IsSome (end_of (books_kept self.old).pairs end.pair (side_seen end.side)) }
         ensures front { option_map message_kept result ≡ front_message (queue (books_kept self.old).pairs end.pair (other_side (side_seen end.side))) }
-        ensures follows { (f : OpenFiles) (hand : ℕ → ℕ) → Follows f (books_kept self.old) hand → Follows (with_taken f end.pair (other_side (side_seen end.side))) (books_kept self.new) (with_hand (passed_in (option_map message_kept result)) hand) }
+        ensures follows { Moves (books_kept self.old) (books_kept self.new) (λ f. with_taken f end.pair (other_side (side_seen end.side)))
+            same_hand (with_hand (passed_in (option_map message_kept result))) }
     {
         take_in(&mut self.pairs, end.pair.number(), end.side.other())
     }

@@ -36,7 +36,8 @@ pub(crate) fn description_of(descriptions: &Slab<Held>, n: usize) -> Description
 /// Puts another description at a number that is in use. Its holders stay.
 pub(crate) fn set_description(descriptions: &mut Slab<Held>, n: usize, description: Description)
     requires { IsSome (slot (descriptions_kept descriptions.old.slots) n) }
-    ensures { Changed (descriptions_kept descriptions.old.slots) (descriptions_kept descriptions.new.slots) n (described_as (description_kept description) (slot (descriptions_kept descriptions.old.slots) n)) }
+    ensures { Changed (descriptions_kept descriptions.old.slots) (descriptions_kept descriptions.new.slots) n
+        (described_as (description_kept description) (slot (descriptions_kept descriptions.old.slots) n)) }
 {
     descriptions[n].description = description;
 }

@@ -130,7 +130,8 @@ impl Pair {
 
     /// Puts a message behind the others that a side has sent.
     fn push(&mut self, side: Side, byte: u8, passed: Option<Descriptor>) -> Result<(), SendFault>
-        ensures ok { OnOk result (pair_kept self.new ≡ with_sent (pair_kept self.old) (side_seen side) ((half_in (Some (pair_kept self.old)) (side_seen side)).sent ++ message_of byte (entry_kept passed) ∷ [])) }
+        ensures ok { OnOk result (pair_kept self.new
+            ≡ with_sent (pair_kept self.old) (side_seen side) ((half_in (Some (pair_kept self.old)) (side_seen side)).sent ++ message_of byte (entry_kept passed) ∷ [])) }
         ensures err { OnErr result (pair_kept self.new ≡ pair_kept self.old) }
         ensures memory { IfErr result (λ error. error ≡ fault.Memory) }
     {
@@ -191,7 +192,8 @@ pub(crate) fn send_in(
     passed: Option<Descriptor>,
 ) -> Result<(), SendFault>
     requires { IsSome (slot (pairs_kept pairs.old.slots) pair) }
-    ensures ok { OnOk result (Changed (pairs_kept pairs.old.slots) (pairs_kept pairs.new.slots) pair (with_more (side_seen side) (message_of byte (entry_kept passed)) (slot (pairs_kept pairs.old.slots) pair))) }
+    ensures ok { OnOk result (Changed (pairs_kept pairs.old.slots) (pairs_kept pairs.new.slots) pair
+        (with_more (side_seen side) (message_of byte (entry_kept passed)) (slot (pairs_kept pairs.old.slots) pair))) }
     ensures err { OnErr result (pairs_kept pairs.new.slots ≡ pairs_kept pairs.old.slots) }
     ensures memory { IfErr result (λ error. error ≡ fault.Memory) }
 {
