@@ -16,3 +16,4 @@ pub mod Following
 pub mod Beginning
 pub mod Sides
 pub mod Refusals
+pub mod HolderRows

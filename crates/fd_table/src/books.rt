@@ -53,12 +53,7 @@ impl Books {
     }
 
     /// Puts a descriptor, or none, into an entry, and gives what was there.
-    fn exchange(
-        &mut self,
-        p: u8,
-        n: u8,
-        descriptor: Option<Descriptor>,
-    ) -> Option<Descriptor>
+    fn exchange(&mut self, p: u8, n: u8, descriptor: Option<Descriptor>) -> Option<Descriptor>
         requires room { length (books_kept self.old).entries ≡ 256 }
         requires process { p < 16 }
         requires number { n < 16 }
