@@ -49,7 +49,7 @@ pub(crate) fn words_once<'a>(
     ensures once { IfOk result (λ set. option_map (λ s. map (λ w. w.now) s.keys) set ≡ once (map (λ w. w.now) words.now)) }
     ensures memory { IfErr result (λ error. error ≡ fault.Memory) }
 {
-    let mut set = IndexSet::new(alloc);
+    let mut set = IndexSet::with_capacity(alloc, words.len())?;
     for word in words {
         let (_, is_new) = set.insert_full(*word)?;
         if !is_new {
@@ -112,7 +112,7 @@ pub(crate) fn items_at<'a>(table: &'a Table, key: &str) -> Option<&'a Array>
 fn read_texts<'a>(alloc: Global, values: &'a [Value]) -> Result<Vec<&'a str>, TaskFault>
     ensures { ReadsTask (λ words. map (λ w. w.now) words.items) result (or_mistake Wrong_field (each_item as_str (items_view values.now))) }
 {
-    let mut texts = Vec::new(alloc);
+    let mut texts = Vec::with_capacity(alloc, values.len())?;
     for value in values {
         match value.as_str() {
             Some(text) => texts.push(text)?,

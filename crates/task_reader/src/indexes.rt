@@ -26,19 +26,19 @@ pub(crate) struct IndexedNodes<'a> {
     pub(crate) numbers: IndexMap<&'a [u8], usize>,
 }
 
-/// The root alone.
-pub(crate) fn root_alone<'a>(alloc: Global) -> Result<IndexedNodes<'a>, TaskFault>
+/// The root alone, with room for as many nodes.
+pub(crate) fn root_alone<'a>(alloc: Global, room: usize) -> Result<IndexedNodes<'a>, TaskFault>
     ensures nodes { IfOk result (λ tree. nodes_of tree.nodes.items ≡ new_tree) }
     ensures index { IfOk result (λ tree. IsIndex tree.numbers (nodes_of tree.nodes.items)) }
     ensures memory { IfErr result (λ error. error ≡ fault.Memory) }
 {
-    let mut nodes = Vec::new(alloc);
+    let mut nodes = Vec::with_capacity(alloc, room)?;
     nodes.push(TaskNode {
         kind: Kind::Dir,
         place: Vec::new(alloc),
         content: Vec::new(alloc),
     })?;
-    let mut numbers = IndexMap::new(alloc);
+    let mut numbers = IndexMap::with_capacity(alloc, room)?;
     numbers.insert(b"/".as_slice(), 0)?;
     Ok(IndexedNodes { nodes, numbers })
 }

@@ -62,7 +62,7 @@ fn place_grants(
     ensures { IfOk result (λ placed. option_map (λ grants. grants_of grants.items) placed
         ≡ grants_placed (nodes_of tree.now.nodes.items) (grants_seen written.now)) }
 {
-    let mut grants = Vec::new(alloc);
+    let mut grants = Vec::with_capacity(alloc, written.len())?;
     for grant in written {
         match place_grant(alloc, tree, grant)? {
             Some(placed) => grants.push(placed)?,
@@ -77,7 +77,7 @@ fn grant_places<'g>(alloc: Global, grants: &'g [Grant]) -> Result<Vec<&'g [Vec<u
     ensures places { IfOk result (λ places. map (λ p. names_of p.now) places.items ≡ map (λ g. g.path) (grants_of grants.now)) }
     ensures memory { IfErr result (λ error. error ≡ fault.Memory) }
 {
-    let mut places = Vec::new(alloc);
+    let mut places = Vec::with_capacity(alloc, grants.len())?;
     for grant in grants {
         places.push(grant.path.as_slice())?;
     }

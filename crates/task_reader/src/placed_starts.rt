@@ -138,7 +138,7 @@ fn place_descriptors(
     ensures { IfOk result (λ placed. option_map (λ descriptors. map placed_descriptor descriptors.items) placed
         ≡ descriptors_placed (nodes_of tree.now.nodes.items) (map descriptor_seen written.now)) }
 {
-    let mut descriptors = Vec::new(alloc);
+    let mut descriptors = Vec::with_capacity(alloc, written.len())?;
     for descriptor in written {
         match place_descriptor(tree, descriptor) {
             Some(placed) => descriptors.push(placed)?,
@@ -219,7 +219,7 @@ pub(crate) fn place_starts(
     ensures { ReadsTask (λ starts. placed_starts starts.items) result
         (or_mistake Wrong_descriptor (starts_placed (nodes_of tree.now.nodes.items) (starts_seen written.now))) }
 {
-    let mut starts = Vec::new(alloc);
+    let mut starts = Vec::with_capacity(alloc, written.len())?;
     for start in written {
         match place_start(alloc, tree, start)? {
             Some(placed) => starts.push(placed)?,

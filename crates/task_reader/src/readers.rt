@@ -26,7 +26,7 @@ fn node_list<'a>(alloc: Global, values: &'a [Value]) -> Result<Vec<WrittenNode<'
     ensures { ReadsTask (λ nodes. nodes_seen nodes.items) result
         (or_mistake Wrong_field (each_item written_node (items_view values.now))) }
 {
-    let mut nodes = Vec::new(alloc);
+    let mut nodes = Vec::with_capacity(alloc, values.len())?;
     for value in values {
         match written_node(value) {
             Some(node) => nodes.push(node)?,
@@ -52,7 +52,7 @@ fn grant_list<'a>(alloc: Global, values: &'a [Value]) -> Result<Vec<WrittenGrant
     ensures { ReadsTask (λ grants. grants_seen grants.items) result
         (or_mistake Wrong_field (each_item written_grant (items_view values.now))) }
 {
-    let mut grants = Vec::new(alloc);
+    let mut grants = Vec::with_capacity(alloc, values.len())?;
     for value in values {
         grants.push(written_grant(alloc, value)?)?;
     }
@@ -105,7 +105,7 @@ fn program_list<'a>(
     ensures { ReadsTask (λ programs. programs_seen programs.items) result
         (or_mistake Wrong_field (each_item written_program (items_view values.now))) }
 {
-    let mut programs = Vec::new(alloc);
+    let mut programs = Vec::with_capacity(alloc, values.len())?;
     for value in values {
         match written_program(value) {
             Some(program) => programs.push(program)?,
@@ -178,7 +178,7 @@ fn descriptor_list<'a>(
     ensures { ReadsTask (λ descriptors. map descriptor_seen descriptors.items) result
         (or_mistake Wrong_field (each_item written_descriptor (items_view values.now))) }
 {
-    let mut descriptors = Vec::new(alloc);
+    let mut descriptors = Vec::with_capacity(alloc, values.len())?;
     for value in values {
         descriptors.push(written_descriptor(alloc, value)?)?;
     }
@@ -248,7 +248,7 @@ fn start_list<'a>(
     ensures { ReadsTask (λ starts. starts_seen starts.items) result
         (or_mistake Wrong_field (each_item (written_start (map (λ n. n.now) names.now.keys)) (items_view values.now))) }
 {
-    let mut starts = Vec::new(alloc);
+    let mut starts = Vec::with_capacity(alloc, values.len())?;
     for value in values {
         starts.push(written_start(alloc, names, value)?)?;
     }

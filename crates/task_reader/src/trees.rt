@@ -45,7 +45,7 @@ pub(crate) fn make_tree<'a>(
     ensures tree { ReadsTask (λ tree. nodes_of tree.nodes.items) result (or_mistake Wrong_node (tree_of (nodes_seen written.now))) }
     ensures index { IfOk result (λ tree. IsIndex tree.numbers (nodes_of tree.nodes.items)) }
 {
-    let mut tree = root_alone(alloc)?;
+    let mut tree = root_alone(alloc, written.len().saturating_add(1))?;
     for node in written {
         match make_node(alloc, &tree, node)? {
             Some(made) => add_node(&mut tree, node, made)?,

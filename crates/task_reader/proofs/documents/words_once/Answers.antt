@@ -11,7 +11,7 @@ turned a false is = ap not (sym is)
 pub loop-word-init : goal.loop-word-init
 loop-word-init c =
     let words = map (λ w. w.now) c.args.words.now in
-    subst (λ keys. SoFar words (map (λ w. w.now) keys) words) (sym c.new-set.ensures.empty) (none-yet words)
+    subst (λ keys. SoFar words (map (λ w. w.now) keys) words) (sym c.in_ok-set.ensures.empty) (none-yet words)
 
 pub loop-word-preserved : goal.loop-word-preserved
 loop-word-preserved c =

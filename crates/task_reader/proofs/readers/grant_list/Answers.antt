@@ -12,7 +12,7 @@ use Rattle.task_reader.proofs.readers.grant_list.Goals as goal
 
 pub returns-in_err-written_grant : goal.returns-in_err-written_grant
 returns-in_err-written_grant c =
-    let p = err_from_is_err_and c.from_residual.result c.from_residual.ensures.1 in
+    let p = err_from_is_err_and c.from_residual-in_err-written_grant.result c.from_residual-in_err-written_grant.ensures.1 in
     let error = c.in_err-written_grant.field-0.0 in
     let vs = c.args.values.now in
     let i = c.loop-value.value-index in
