@@ -1,20 +1,19 @@
 //! The tables, the open descriptions and the socket pairs, step by step. Each description knows how many entries and
 //! queued messages name it.
 
-ghost use Rattle.std.specs.Prelude.{◌≡◌, ◌≢◌, ◌<◌, ℕ, IfErr, IfOk, None, OnErr, OnOk, Some, length, option_map};
+ghost use Rattle.std.specs.Prelude.{◌≡◌, ◌<◌, IfErr, IfOk, None, OnErr, OnOk, Some, length, option_map};
 ghost use Rattle.std.specs.Option.{IsSome};
 ghost use Rattle.rights.specs.Sets.{all_commands, all_rights};
 ghost use Rattle.fd_table.specs.Descriptions.{At_node, Descriptor as SeenDescriptor, descriptor_of, message_of, other_side};
-ghost use Rattle.fd_table.specs.OpenFiles.{IsUnnamed, IsUnused, OpenFiles};
+ghost use Rattle.fd_table.specs.OpenFiles.{IsUnnamed, OpenFiles};
 ghost use Rattle.fd_table.specs.Openings.{described, with_entry};
 ghost use Rattle.fd_table.specs.Filled.{IsEmpty, limited, sent, with_end, with_row};
 ghost use Rattle.fd_table.specs.Kept.{end_of, entry, open_files, queue, slot};
 ghost use Rattle.fd_table.specs.Holders.{IsInHand, IsKept, IsThere, empty_hand, with_hand};
 ghost use Rattle.fd_table.specs.Changes.{front_message, passed_in};
 ghost use Rattle.fd_table.specs.Follows.{Follows, Makes, Moves, same_hand, with_taken};
-ghost use Rattle.fd_table.specs.Stored.{IsWithinTables};
 ghost use Rattle.fd_table.specs.Views.{access_asked, class_seen, entry_seen, side_seen};
-ghost use Rattle.fd_table.specs.Stored.{books_kept, entry_kept, message_kept};
+ghost use Rattle.fd_table.specs.Stored.{IsWithinTables, books_kept, entry_kept, message_kept};
 ghost use Rattle.fd_table.specs.declared.faults.SendFault.TheVariants as fault;
 
 use crate::descriptions::{Held, describe, hold_named, opened_end, opened_node, release_one};

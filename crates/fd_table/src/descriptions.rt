@@ -2,7 +2,7 @@
 
 ghost use Rattle.std.specs.Prelude.{◌≡◌, ◌+◌, ◌<◌, ◌^◌, Some, false, option_map};
 ghost use Rattle.std.specs.Option.{IsSome};
-ghost use Rattle.slab.specs.Slab.{HasRoomFor, Updates, get, slab_len};
+ghost use Rattle.slab.specs.Slab.{HasRoomFor, slab_len};
 ghost use Rattle.fd_table.specs.Descriptions.{At_end, At_node};
 ghost use Rattle.fd_table.specs.Kept.{object_in, slot, state_in};
 ghost use Rattle.fd_table.specs.Holders.{IsFew, IsThere, count_in};
