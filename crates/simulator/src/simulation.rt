@@ -13,7 +13,7 @@ ghost use Rattle.simulator.specs.Views.{line_of};
 use crate::lines::Line;
 use crate::machine::Machine;
 use crate::trace::text_of_line;
-use file_tree::PlaceTree;
+use file_tree::LinkTree;
 use rights::{Out, Stop, write_all};
 use std::alloc::Global;
 use syscalls::Event;
@@ -53,7 +53,7 @@ pub fn simulate<W: Out>(
     // In every run of these events no process leaves capability mode, and no descriptor gains a right.
     ensures gains { NeverGains (programs_of_plan task.now) (first_world task.now) (map event_of events.now) }
 {
-    let mut machine: Machine<'_, PlaceTree> = Machine::start(alloc, task)?;
+    let mut machine: Machine<'_, LinkTree> = Machine::start(alloc, task)?;
     for event in events {
         let line = machine.step(*event)?;
         write_line(alloc, task, &line, out)?;

@@ -1,7 +1,7 @@
 //! What paths lead to, row by row, over any tree.
 
 use crate::trees::{Grown, Row, base, node, plays};
-use file_tree::{New, PlaceTree, Tree, TreeFault};
+use file_tree::{LinkTree, New, PlaceTree, Tree, TreeFault};
 use lookup::{Found, Last, PathFault, Way, find, last_name};
 use std::alloc::Global;
 use std::process::Abort;
@@ -211,6 +211,16 @@ fn place_tree_has_the_rows(rt: HostRuntime) -> Result<(), Fail> {
 #[test]
 fn place_tree_meets_refused_growths(rt: HostRuntime) {
     growths::<PlaceTree>(&rt, rt.alloc())
+}
+
+#[test]
+fn link_tree_has_the_rows(rt: HostRuntime) -> Result<(), Fail> {
+    Ok(rows::<LinkTree>(&rt, rt.alloc())?)
+}
+
+#[test]
+fn link_tree_meets_refused_growths(rt: HostRuntime) {
+    growths::<LinkTree>(&rt, rt.alloc())
 }
 
 #[test]

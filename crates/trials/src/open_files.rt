@@ -298,6 +298,40 @@ fn an_end_on_its_way_is_open(rt: HostRuntime) -> Result<(), Fail> {
 }
 
 #[test]
+fn an_end_stays_open_until_its_last_holder_closes_it(rt: HostRuntime) -> Result<(), Fail> {
+    let mut files = Files::new(rt.alloc())?;
+    pair(&rt, &mut files, 0, 2, 1, 3)?;
+    for process in 1..16 {
+        share(&rt, &mut files, 0, 2, process, 2);
+    }
+    let a = end(&rt, &files, 0, 2);
+    for process in 0..16 {
+        assert!(rt; files.is_open(a.pair, Side::A));
+        assert!(rt; files.count() == 2);
+        close(&rt, &mut files, process, 2);
+    }
+    assert!(rt; !files.is_open(a.pair, Side::A));
+    assert!(rt; files.count() == 1);
+    assert!(rt; send(&rt, &mut files, 1, 3, 0) == Err(SendFault::Closed));
+    Ok(())
+}
+
+#[test]
+fn a_message_stays_when_its_pair_has_no_end(rt: HostRuntime) -> Result<(), Fail> {
+    let node = root(rt.alloc())?;
+    let mut files = Files::new(rt.alloc())?;
+    open(&rt, &mut files, 0, 0, node, to_append(&rt))?;
+    pair(&rt, &mut files, 0, 2, 1, 3)?;
+    pass(&rt, &mut files, 0, 2, 0)?;
+    close(&rt, &mut files, 1, 3);
+    close(&rt, &mut files, 0, 2);
+    assert!(rt; files.count() == 1);
+    files.close_all(0);
+    assert!(rt; files.count() == 1);
+    Ok(())
+}
+
+#[test]
 fn faults_are_numbered(rt: HostRuntime) {
     assert!(rt; SendFault::Closed.number() == 1);
     assert!(rt; SendFault::Full.number() == 2);

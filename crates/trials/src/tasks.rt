@@ -3,7 +3,7 @@
 
 use crate::base::{BASE, changed, times};
 use fd_table::{Access, Side};
-use file_tree::{Kind, PlaceTree};
+use file_tree::{Kind, LinkTree};
 use prog_asm::{AsmFault, Instruction};
 use rights::{Fcntls, Op, Rights};
 use simulator::{LineResult, Machine};
@@ -366,7 +366,7 @@ fn event(process: u8) -> Event {
 #[test]
 fn a_machine_steps(rt: HostRuntime) -> Result<(), Fail> {
     let task = task(&rt, rt.alloc(), BASE);
-    let mut machine: Machine<'_, PlaceTree> = Machine::start(rt.alloc(), &task)?;
+    let mut machine: Machine<'_, LinkTree> = Machine::start(rt.alloc(), &task)?;
     let line = machine.step(event(0))?;
     assert!(rt; line.process == 0);
     match line.acted {

@@ -3,7 +3,8 @@
 ghost use Rattle.std.specs.Prelude.{◌<◌, length};
 
 use file_tree::{
-    Kind, New, NodeId, PlaceTree, Tree, TreeFault, is_same_place, is_valid_name, is_valid_target,
+    Kind, LinkTree, New, NodeId, PlaceTree, Tree, TreeFault, is_same_place, is_valid_name,
+    is_valid_target,
 };
 use rights::limits::MAX_BYTES;
 use std::alloc::Global;
@@ -405,6 +406,16 @@ fn place_tree_has_the_rows(rt: HostRuntime) -> Result<(), Fail> {
 #[test]
 fn place_tree_meets_refused_growths(rt: HostRuntime) {
     growths::<PlaceTree>(&rt, rt.alloc())
+}
+
+#[test]
+fn link_tree_has_the_rows(rt: HostRuntime) -> Result<(), Fail> {
+    Ok(rows::<LinkTree>(&rt, rt.alloc())?)
+}
+
+#[test]
+fn link_tree_meets_refused_growths(rt: HostRuntime) {
+    growths::<LinkTree>(&rt, rt.alloc())
 }
 
 #[test]
