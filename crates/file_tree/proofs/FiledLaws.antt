@@ -18,7 +18,8 @@ put2 C d name o e q = cond (eqb d e && bytes_eq name q) o (C e q)
 pub slot_cases : (d e : ℕ) (name q : List ℕ) → (((eqb d e && bytes_eq name q) ≡ true) × (d ≡ e) × (name ≡ q)) ⊎ (((eqb d e && bytes_eq name q) ≡ false) × (d ≡ e → name ≡ q → ⊥))
 slot_cases d e name q = by_number (eqb_tells d e) (cases_Bool (bytes_eq name q))
   where
-    by_number : ((eqb d e ≡ true) × (d ≡ e)) ⊎ ((eqb d e ≡ false) × (d ≢ e)) → (bytes_eq name q ≡ true) ⊎ (bytes_eq name q ≡ false) → (((eqb d e && bytes_eq name q) ≡ true) × (d ≡ e) × (name ≡ q)) ⊎ (((eqb d e && bytes_eq name q) ≡ false) × (d ≡ e → name ≡ q → ⊥))
+    by_number : ((eqb d e ≡ true) × (d ≡ e)) ⊎ ((eqb d e ≡ false) × (d ≢ e)) → (bytes_eq name q ≡ true) ⊎ (bytes_eq name q ≡ false)
+        → (((eqb d e && bytes_eq name q) ≡ true) × (d ≡ e) × (name ≡ q)) ⊎ (((eqb d e && bytes_eq name q) ≡ false) × (d ≡ e → name ≡ q → ⊥))
     by_number (inr other) names = inr (rw other.0 refl, λ same _. other.1 same)
     by_number (inl same) (inl names) = inl (rw (same.0, names) refl, same.1, (bytes_eq-Decides name q).0 names)
     by_number (inl same) (inr names) = inr (rw (same.0, names) refl, λ _ equal. let yes : bytes_eq name q ≡ true = (bytes_eq-Decides name q).1 equal in let no : true ≡ false = sym yes ∙ names in cc)
@@ -43,7 +44,8 @@ module _ (S : ℕ → Stand) (C : ℕ → List ℕ → Option ℕ) (filed : File
     ];
   }
     where
-      named : (k e : ℕ) (q : List ℕ) → n ≢ k → S k ≡ In e q → (((eqb d e && bytes_eq name q) ≡ true) × (d ≡ e) × (name ≡ q)) ⊎ (((eqb d e && bytes_eq name q) ≡ false) × (d ≡ e → name ≡ q → ⊥)) → put2 C d name None e q ≡ Some k
+      named : (k e : ℕ) (q : List ℕ) → n ≢ k → S k ≡ In e q → (((eqb d e && bytes_eq name q) ≡ true) × (d ≡ e) × (name ≡ q)) ⊎ (((eqb d e && bytes_eq name q) ≡ false) × (d ≡ e → name ≡ q → ⊥))
+          → put2 C d name None e q ≡ Some k
       named k e q apart was (inl same) =
           let mine : C d name ≡ Some n = filed.named n d name at in
           let its : C e q ≡ Some k = filed.named k e q was in
@@ -71,11 +73,13 @@ module _ (S : ℕ → Stand) (C : ℕ → List ℕ → Option ℕ) (filed : File
     ];
   }
     where
-      mine : (k e : ℕ) (q : List ℕ) → n ≡ k → In d name ≡ In e q → (((eqb d e && bytes_eq name q) ≡ true) × (d ≡ e) × (name ≡ q)) ⊎ (((eqb d e && bytes_eq name q) ≡ false) × (d ≡ e → name ≡ q → ⊥)) → put2 C d name (Some n) e q ≡ Some k
+      mine : (k e : ℕ) (q : List ℕ) → n ≡ k → In d name ≡ In e q → (((eqb d e && bytes_eq name q) ≡ true) × (d ≡ e) × (name ≡ q)) ⊎ (((eqb d e && bytes_eq name q) ≡ false) × (d ≡ e → name ≡ q → ⊥))
+          → put2 C d name (Some n) e q ≡ Some k
       mine k e q same slot (inl it) = rw it.0 (ap Some same)
       mine k e q same slot (inr other) = let numbers : d ≡ e = cc in let names : name ≡ q = cc in absurd (other.1 numbers names)
 
-      named : (k e : ℕ) (q : List ℕ) → S k ≡ In e q → (((eqb d e && bytes_eq name q) ≡ true) × (d ≡ e) × (name ≡ q)) ⊎ (((eqb d e && bytes_eq name q) ≡ false) × (d ≡ e → name ≡ q → ⊥)) → put2 C d name (Some n) e q ≡ Some k
+      named : (k e : ℕ) (q : List ℕ) → S k ≡ In e q → (((eqb d e && bytes_eq name q) ≡ true) × (d ≡ e) × (name ≡ q)) ⊎ (((eqb d e && bytes_eq name q) ≡ false) × (d ≡ e → name ≡ q → ⊥))
+          → put2 C d name (Some n) e q ≡ Some k
       named k e q was (inl same) =
           let its : C e q ≡ Some k = filed.named k e q was in
           let number : d ≡ e = same.1 in let names : name ≡ q = same.2 in
@@ -91,7 +95,8 @@ module _ (S : ℕ → Stand) (C : ℕ → List ℕ → Option ℕ) (filed : File
       holds e q k was (inr other) = rw other.0 was
 
 -- a node moves from one directory into another, where what had the name is out already
-pub filed_moved : (S T : ℕ → Stand) (C D : ℕ → List ℕ → Option ℕ) (n d e : ℕ) (name x : List ℕ) → Filed T (put2 C d name None) → T n ≡ In e x → (d ≡ e → name ≡ x → ⊥) → ((k : ℕ) → S k ≡ put T n (In d name) k) → ((i : ℕ) (q : List ℕ) → D i q ≡ put2 (put2 C d name (Some n)) e x None i q) → Filed S D
+pub filed_moved : (S T : ℕ → Stand) (C D : ℕ → List ℕ → Option ℕ) (n d e : ℕ) (name x : List ℕ) → Filed T (put2 C d name None) → T n ≡ In e x → (d ≡ e → name ≡ x → ⊥)
+    → ((k : ℕ) → S k ≡ put T n (In d name) k) → ((i : ℕ) (q : List ℕ) → D i q ≡ put2 (put2 C d name (Some n)) e x None i q) → Filed S D
 filed_moved S T C D n d e name x filed at apart stands children =
     filed_same (put (put T n (Out [])) n (In d name)) S (put2 (put2 (put2 C d name None) e x None) d name (Some n)) D
     (filed_in (put T n (Out [])) (put2 (put2 C d name None) e x None) (filed_out T (put2 C d name None) filed n e x [] at) n d name [] out free)
@@ -113,7 +118,9 @@ filed_moved S T C D n d e name x filed at apart stands children =
     turned : (i : ℕ) (q : List ℕ) → put2 (put2 C d name (Some n)) e x None i q ≡ put2 (put2 (put2 C d name None) e x None) d name (Some n) i q
     turned i q = both (slot_cases d i name q) (slot_cases e i x q)
       where
-        both : (((eqb d i && bytes_eq name q) ≡ true) × (d ≡ i) × (name ≡ q)) ⊎ (((eqb d i && bytes_eq name q) ≡ false) × (d ≡ i → name ≡ q → ⊥)) → (((eqb e i && bytes_eq x q) ≡ true) × (e ≡ i) × (x ≡ q)) ⊎ (((eqb e i && bytes_eq x q) ≡ false) × (e ≡ i → x ≡ q → ⊥)) → put2 (put2 C d name (Some n)) e x None i q ≡ put2 (put2 (put2 C d name None) e x None) d name (Some n) i q
+        both : (((eqb d i && bytes_eq name q) ≡ true) × (d ≡ i) × (name ≡ q)) ⊎ (((eqb d i && bytes_eq name q) ≡ false) × (d ≡ i → name ≡ q → ⊥))
+            → (((eqb e i && bytes_eq x q) ≡ true) × (e ≡ i) × (x ≡ q)) ⊎ (((eqb e i && bytes_eq x q) ≡ false) × (e ≡ i → x ≡ q → ⊥))
+            → put2 (put2 C d name (Some n)) e x None i q ≡ put2 (put2 (put2 C d name None) e x None) d name (Some n) i q
         both (inl a) (inl b) = absurd (apart (a.1 ∙ sym b.1) (a.2 ∙ sym b.2))
         both (inl a) (inr b) = rw (a.0, b.0) refl
         both (inr a) (inl b) = rw (a.0, b.0) refl

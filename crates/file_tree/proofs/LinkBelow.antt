@@ -23,7 +23,8 @@ some_named : {A : Type 0} (es : List (Vec ℕ A × ℕ)) → length es ≢ 0 →
 some_named [] h = absurd (h refl)
 some_named (e ∷ es) h = (e.0.items, e.1, rw (is_eq-slice_cmp e.0.items e.0.items ∙ (bytes_eq-Decides e.0.items e.0.items).1 refl) refl)
 
-pub has_children_is : (es : List Entry) (n : ℕ) (e : Entry) (b : Bool) → IsLinked (links_of es) → n < length es → e ≡ get_or es n e → (node (linked_nodes (links_of es)) n).linked ≡ true → (IsTrue b ↔ (btree_map_len e.children ≡ 0)) → not b ≡ has_below (linked_nodes (links_of es)) (node (linked_nodes (links_of es)) n).place
+pub has_children_is : (es : List Entry) (n : ℕ) (e : Entry) (b : Bool) → IsLinked (links_of es) → n < length es → e ≡ get_or es n e → (node (linked_nodes (links_of es)) n).linked ≡ true
+    → (IsTrue b ↔ (btree_map_len e.children ≡ 0)) → not b ≡ has_below (linked_nodes (links_of es)) (node (linked_nodes (links_of es)) n).place
 has_children_is es n e true linked there is in_tree test =
     sym (bare_below (linked_nodes (links_of es)) (links_of es) linked.tree linked.fits linked.filed n in_tree (λ name. ap (λ (l : Link). l.child name) (entry_link es n e there is) ∙ none_named e.children.entries (test.0 refl) name))
 has_children_is es n e false linked there is in_tree test =

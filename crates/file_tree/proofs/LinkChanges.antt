@@ -86,7 +86,8 @@ before_or_past k n = elim (cases_Bool (ltb k n)) [ inl less ↦ inl (ltb-true k 
 pub more_link : (ls : List Link) (l : Link) (k : ℕ) → ((length ls ≡ k) × (link (ls ++ l ∷ []) k ≡ l)) ⊎ ((length ls ≢ k) × (link (ls ++ l ∷ []) k ≡ link ls k))
 more_link ls l k = by_order (before_or_past k (length ls)) (eqb_tells (length ls) k)
   where
-    by_order : (k < length ls) ⊎ (length ls ≤ k) → ((eqb (length ls) k ≡ true) × (length ls ≡ k)) ⊎ ((eqb (length ls) k ≡ false) × (length ls ≢ k)) → ((length ls ≡ k) × (link (ls ++ l ∷ []) k ≡ l)) ⊎ ((length ls ≢ k) × (link (ls ++ l ∷ []) k ≡ link ls k))
+    by_order : (k < length ls) ⊎ (length ls ≤ k) → ((eqb (length ls) k ≡ true) × (length ls ≡ k)) ⊎ ((eqb (length ls) k ≡ false) × (length ls ≢ k))
+        → ((length ls ≡ k) × (link (ls ++ l ∷ []) k ≡ l)) ⊎ ((length ls ≢ k) × (link (ls ++ l ∷ []) k ≡ link ls k))
     by_order order (inl same) = inl (same.1, ap (link (ls ++ l ∷ [])) (sym same.1) ∙ get_or-append_seam ls l [] no_link)
     by_order (inl less) (inr other) = inr (other.1, get_or_append_left ls (l ∷ []) no_link k less)
     by_order (inr past) (inr other) =

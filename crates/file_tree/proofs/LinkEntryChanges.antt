@@ -18,7 +18,8 @@ use Rattle.file_tree.specs.declared.link_tree.links.Link.{Link as Entry}
 use Rattle.file_tree.specs.declared.link_tree.links.Stand.{Stand as StandCode}
 use Rattle.file_tree.proofs.LinkEntryLaws.{entry_link}
 
-other_entries : {K X : Type 0} (eq : K → K → Bool) (test : K → Bool) (old new : List (K × X)) → KeepsOthers eq test old new → (other : K → Bool) → IsKeyTest eq other → AreApart test other → lookup other new ≡ lookup other old
+other_entries : {K X : Type 0} (eq : K → K → Bool) (test : K → Bool) (old new : List (K × X)) → KeepsOthers eq test old new → (other : K → Bool) → IsKeyTest eq other → AreApart test other
+    → lookup other new ≡ lookup other old
 unfolding KeepsOthers
 other_entries eq test old new h = h
 
@@ -29,7 +30,8 @@ apart_in_order : (bs cs ks : List ℕ) → bytes_eq bs cs ≡ false → is_eq (s
 apart_in_order bs cs ks n y = is_eq-slice_cmp cs ks ∙ apart bs cs ks n (sym (is_eq-slice_cmp bs ks) ∙ y)
 
 -- a map that is changed under a name
-pub named_after : {A : Type 0} (name : List ℕ) (m n : BTreeMap (Vec ℕ A) ℕ) (o : Option ℕ) → UpdatesBy (λ x y. slice_cmp nat_cmp x.items y.items) (λ key. slice_cmp nat_cmp name key.items) m n o → (q : List ℕ) → named_in n q ≡ cond (bytes_eq name q) o (named_in m q)
+pub named_after : {A : Type 0} (name : List ℕ) (m n : BTreeMap (Vec ℕ A) ℕ) (o : Option ℕ) → UpdatesBy (λ x y. slice_cmp nat_cmp x.items y.items) (λ key. slice_cmp nat_cmp name key.items) m n o
+    → (q : List ℕ) → named_in n q ≡ cond (bytes_eq name q) o (named_in m q)
 named_after name m n o h q = elim (cases_Bool (bytes_eq name q)) [
   | inl same ↦ let it : name ≡ q = (bytes_eq-Decides name q).0 same in rw (same, ← it) h.1
   | inr other ↦ rw other (other_entries _ _ m.entries n.entries h.3 _ (λ x y. (eq_by_cmp_equiv nat_list_cmp_total).congr q x.items y.items) (λ k. apart_in_order name q k.items other))
@@ -46,13 +48,15 @@ module _ (es : List Entry) (n : ℕ) (e : Entry) (there : n < length es) (is : e
   unfolding stood
   entry_stood s = entry_changed (record { kind = e.kind; stand = s; children = e.children; content = e.content }) (λ l. record { kind = l.kind; stand = stand_of s; child = l.child; content = l.content }) refl
 
-  pub entry_filed : (m : BTreeMap (Vec ℕ Global) ℕ) (name : List ℕ) (o : Option ℕ) → ((q : List ℕ) → named_in m q ≡ cond (bytes_eq name q) o (named_in e.children q)) → links_of (slice_set es n (record { kind = e.kind; stand = e.stand; children = m; content = e.content })) ≡ filed (links_of es) n name o
+  pub entry_filed : (m : BTreeMap (Vec ℕ Global) ℕ) (name : List ℕ) (o : Option ℕ) → ((q : List ℕ) → named_in m q ≡ cond (bytes_eq name q) o (named_in e.children q))
+      → links_of (slice_set es n (record { kind = e.kind; stand = e.stand; children = m; content = e.content })) ≡ filed (links_of es) n name o
   unfolding filed
   entry_filed m name o same = entry_changed (record { kind = e.kind; stand = e.stand; children = m; content = e.content })
       (λ l. record { kind = l.kind; stand = l.stand; child = λ q. cond (bytes_eq name q) o (l.child q); content = l.content })
       (λ i. record { kind = (link_of e).kind; stand = (link_of e).stand; child = fun_ext same i; content = (link_of e).content })
 
-  pub entry_refilled : (v : Vec ℕ Global) (content : List ℕ) → v.items ≡ content → links_of (slice_set es n (record { kind = e.kind; stand = e.stand; children = e.children; content = v })) ≡ refilled (links_of es) n content
+  pub entry_refilled : (v : Vec ℕ Global) (content : List ℕ) → v.items ≡ content
+      → links_of (slice_set es n (record { kind = e.kind; stand = e.stand; children = e.children; content = v })) ≡ refilled (links_of es) n content
   unfolding refilled
   entry_refilled v content same = entry_changed (record { kind = e.kind; stand = e.stand; children = e.children; content = v })
       (λ l. record { kind = l.kind; stand = l.stand; child = l.child; content = content })

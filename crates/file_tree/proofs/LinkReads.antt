@@ -103,11 +103,14 @@ module _ (t : List Node) (ls : List Link) (tree : IsTree t) (fits : Fits ls t) (
       any_at (lies_below (node t d).place) t n refl (lies_in (node t d).place (node t n) h.linked (omega arith) up)
 
   -- where something lies below a node, some node has a name in it
-  child_on_way : (d : ℕ) → (node t d).linked ≡ true → (most n : ℕ) → (node t n).linked ≡ true → begins (node t d).place (node t n).place ≡ true → same_place (node t d).place (node t n).place ≡ false → length (node t n).place ≤ most → (k : ℕ) × (name : List ℕ) × ((link ls k).stand ≡ In d name)
+  child_on_way : (d : ℕ) → (node t d).linked ≡ true → (most n : ℕ) → (node t n).linked ≡ true → begins (node t d).place (node t n).place ≡ true → same_place (node t d).place (node t n).place ≡ false
+      → length (node t n).place ≤ most → (k : ℕ) × (name : List ℕ) × ((link ls k).stand ≡ In d name)
   child_on_way d linked zero n is front other less = let longer : length (node t d).place < length (node t n).place = begins_longer _ _ front other in absurd (omega arith)
   child_on_way d linked (suc most) n is front other less = by_stand (stand_of t ls n fits is) (child_on_way d linked most)
     where
-      by_stand : ((node t n).place ≡ []) ⊎ ((e : ℕ) × (name : List ℕ) × ((link ls n).stand ≡ In e name)) → ((m : ℕ) → (node t m).linked ≡ true → begins (node t d).place (node t m).place ≡ true → same_place (node t d).place (node t m).place ≡ false → length (node t m).place ≤ most → (k : ℕ) × (name : List ℕ) × ((link ls k).stand ≡ In d name)) → (k : ℕ) × (name : List ℕ) × ((link ls k).stand ≡ In d name)
+      by_stand : ((node t n).place ≡ []) ⊎ ((e : ℕ) × (name : List ℕ) × ((link ls n).stand ≡ In e name))
+          → ((m : ℕ) → (node t m).linked ≡ true → begins (node t d).place (node t m).place ≡ true → same_place (node t d).place (node t m).place ≡ false → length (node t m).place ≤ most → (k : ℕ) × (name : List ℕ) × ((link ls k).stand ≡ In d name))
+          → (k : ℕ) × (name : List ℕ) × ((link ls k).stand ≡ In d name)
       by_stand (inl root) up =
           let longer : length (node t d).place < length (node t n).place = begins_longer _ _ front other in
           let none : length (node t n).place ≡ 0 = ap length root in absurd (omega arith)
@@ -141,7 +144,8 @@ module _ (t : List Node) (ls : List Link) (tree : IsTree t) (fits : Fits ls t) (
           no_child_here k name is = let none : None ≡ Some k = sym (bare name) ∙ filed.named k d name is in cc
 
 -- a node lies at or above another one exactly if it is that one, or lies at or above what holds it
-pub above_holder : (t : List Node) (ls : List Link) (n d e : ℕ) (name : List ℕ) → IsTree t → Fits ls t → (node t n).linked ≡ true → n ≢ d → (link ls d).stand ≡ In e name → begins (node t n).place (node t e).place ≡ begins (node t n).place (node t d).place
+pub above_holder : (t : List Node) (ls : List Link) (n d e : ℕ) (name : List ℕ) → IsTree t → Fits ls t → (node t n).linked ≡ true → n ≢ d → (link ls d).stand ≡ In e name
+    → begins (node t n).place (node t e).place ≡ begins (node t n).place (node t d).place
 above_holder t ls n d e name tree fits linked apart is = by_cases (cases_Bool (begins (node t n).place (node t e).place)) (cases_Bool (begins (node t n).place (node t d).place))
   where
     h : Held t d e name
@@ -155,7 +159,8 @@ above_holder t ls n d e name tree fits linked apart is = by_cases (cases_Bool (b
     down : begins (node t n).place (node t e).place ≡ true → begins (node t n).place (node t d).place ≡ true
     down front = rw h.place (begins_trans (node t n).place (node t e).place (at_name (node t e).place name) front (begins_append (node t e).place (name ∷ [])))
 
-    by_cases : (begins (node t n).place (node t e).place ≡ true) ⊎ (begins (node t n).place (node t e).place ≡ false) → (begins (node t n).place (node t d).place ≡ true) ⊎ (begins (node t n).place (node t d).place ≡ false) → begins (node t n).place (node t e).place ≡ begins (node t n).place (node t d).place
+    by_cases : (begins (node t n).place (node t e).place ≡ true) ⊎ (begins (node t n).place (node t e).place ≡ false)
+        → (begins (node t n).place (node t d).place ≡ true) ⊎ (begins (node t n).place (node t d).place ≡ false) → begins (node t n).place (node t e).place ≡ begins (node t n).place (node t d).place
     by_cases (inl a) b = a ∙ sym (down a)
     by_cases (inr a) (inl b) = up b ∙ sym b
     by_cases (inr a) (inr b) = a ∙ sym b

@@ -61,27 +61,34 @@ begins_in p q name other = by_cases (cases_Bool (begins q (at_name p name))) (ca
     by_cases (inr a) (inl b) = absurd (both_ways _ a (begins_trans q p (at_name p name) b (begins_append p (name ∷ []))))
     by_cases (inr a) (inr b) = a ∙ sym b
 
-module _ (t : List Node) (n d : ℕ) (name : List ℕ) (linked : (node t n).linked ≡ true) (dir_linked : (node t d).linked ≡ true) (other : same_place (at_name (node t d).place name) (node t n).place ≡ false) where
+-- what the code has tested when it asks whether a node may come to another place
+pub record Tested (t : List Node) (n d : ℕ) (name : List ℕ) : Type 0 where
+  pub linked : (node t n).linked ≡ true
+  pub dir_linked : (node t d).linked ≡ true
+  pub other : same_place (at_name (node t d).place name) (node t n).place ≡ false
+
+module _ (t : List Node) (n d : ℕ) (name : List ℕ) (tested : Tested t n d name) where
   pub refused_above : begins (node t n).place (node t d).place ≡ true → rename_fault t n d name ≡ Some IntoItself
   unfolding rename_fault
   refused_above front =
-      let into : begins (node t n).place (at_name (node t d).place name) ≡ true = begins_in (node t d).place (node t n).place name other ∙ front in
-      rw (linked, dir_linked, other, into) refl
+      let into : begins (node t n).place (at_name (node t d).place name) ≡ true = begins_in (node t d).place (node t n).place name tested.other ∙ front in
+      rw (tested.linked, tested.dir_linked, tested.other, into) refl
 
   pub refused_blocked : begins (node t n).place (node t d).place ≡ false → has_below t (at_name (node t d).place name) ≡ true → rename_fault t n d name ≡ Some NotEmpty
   unfolding rename_fault
   refused_blocked back full =
-      let into : begins (node t n).place (at_name (node t d).place name) ≡ false = begins_in (node t d).place (node t n).place name other ∙ back in
-      rw (linked, dir_linked, other, into, full) refl
+      let into : begins (node t n).place (at_name (node t d).place name) ≡ false = begins_in (node t d).place (node t n).place name tested.other ∙ back in
+      rw (tested.linked, tested.dir_linked, tested.other, into, full) refl
 
   pub rename_allowed : begins (node t n).place (node t d).place ≡ false → has_below t (at_name (node t d).place name) ≡ false → rename_fault t n d name ≡ None
   unfolding rename_fault
   rename_allowed back empty =
-      let into : begins (node t n).place (at_name (node t d).place name) ≡ false = begins_in (node t d).place (node t n).place name other ∙ back in
-      rw (linked, dir_linked, other, into, empty) refl
+      let into : begins (node t n).place (at_name (node t d).place name) ≡ false = begins_in (node t d).place (node t n).place name tested.other ∙ back in
+      rw (tested.linked, tested.dir_linked, tested.other, into, empty) refl
 
 -- the links once the way is clear
-pub way_some : (ls vs us : List Link) (o : Option ℕ) (old : ℕ) (place q : List (List ℕ)) (d : ℕ) (name key : List ℕ) (n : ℕ) → Some old ≡ o → vs ≡ filed ls d key (Some n) → key ≡ name → us ≡ stood vs old (Out place) → place ≡ q → us ≡ way_made ls o q d name n
+pub way_some : (ls vs us : List Link) (o : Option ℕ) (old : ℕ) (place q : List (List ℕ)) (d : ℕ) (name key : List ℕ) (n : ℕ) → Some old ≡ o → vs ≡ filed ls d key (Some n) → key ≡ name
+    → us ≡ stood vs old (Out place) → place ≡ q → us ≡ way_made ls o q d name n
 way_some ls vs us o old place q d name key n is first same then there =
     then ∙ ap (λ ws. stood ws old (Out place)) (first ∙ ap (λ k. filed ls d k (Some n)) same) ∙ ap (λ p. stood (filed ls d name (Some n)) old (Out p)) there ∙ ap (λ r. way_made ls r q d name n) is
 
@@ -94,9 +101,10 @@ way_shows ls (Some r) q d name n there way =
     shows_stood (filed ls d name (Some n)) (length ls) _ _ _ _ first r known (Out q)
 
 -- a node that may be renamed, and isn't to its own place, has a name in a directory
-module _ (ls vs : List Link) (n d : ℕ) (name : List ℕ) (linked : IsLinked ls) (allowed : rename_fault (linked_nodes ls) n d name ≡ None) (other : same_place (at_name (node (linked_nodes ls) d).place name) (node (linked_nodes ls) n).place ≡ false) (way : vs ≡ way_made ls (child_of (linked_nodes ls) d name) (at_name (node (linked_nodes ls) d).place name) d name n) where
+module _ (ls vs : List Link) (n d : ℕ) (name : List ℕ) (linked : IsLinked ls) (tested : Tested (linked_nodes ls) n d name) (allowed : rename_fault (linked_nodes ls) n d name ≡ None)
+    (way : vs ≡ way_made ls (child_of (linked_nodes ls) d name) (at_name (node (linked_nodes ls) d).place name) d name n) where
   may : MayMove (linked_nodes ls) n d (at_name (node (linked_nodes ls) d).place name)
-  may = may_rename (linked_nodes ls) n d name allowed other
+  may = may_rename (linked_nodes ls) n d name allowed tested.other
 
   stands : (e : ℕ) × (x : List ℕ) × ((link ls n).stand ≡ In e x)
   stands = elim (stand_of (linked_nodes ls) ls n linked.fits may.linked) [
@@ -115,7 +123,7 @@ module _ (ls vs : List Link) (n d : ℕ) (name : List ℕ) (linked : IsLinked ls
       (λ r is. omega (arith, child_there (linked_nodes ls) d name r is, linked.fits.count)))
 
   stands_still : (link vs n).stand ≡ In stands.0 stands.1
-  stands_still = shows_way.stand n ∙ (cleared (linked_nodes ls) ls n d stands.0 name stands.1 (child_of (linked_nodes ls) d name) linked.tree linked.fits linked.filed may other stands.2 filed_there).1
+  stands_still = shows_way.stand n ∙ (cleared (linked_nodes ls) ls n d stands.0 name stands.1 (child_of (linked_nodes ls) d name) linked.tree linked.fits linked.filed may tested.other stands.2 filed_there).1
 
   pub way_length : length vs ≡ length ls
   way_length = shows_way.count_is
@@ -128,7 +136,8 @@ module _ (ls vs : List Link) (n d : ℕ) (name : List ℕ) (linked : IsLinked ls
       omega (arith, linked_there (linked_nodes ls) stands.0 h.holder, linked.fits.count)
 
   -- and it is then linked as the renamed tree
-  pub renamed_linked : (us : List Link) → (node (linked_nodes ls) d).kind ≡ Dir → is_name name ≡ true → Relinked vs us n d name → IsLinked us × (linked_nodes us ≡ renamed (linked_nodes ls) n (at_name (node (linked_nodes ls) d).place name))
+  pub renamed_linked : (us : List Link) → (node (linked_nodes ls) d).kind ≡ Dir → is_name name ≡ true → Relinked vs us n d name
+      → IsLinked us × (linked_nodes us ≡ renamed (linked_nodes ls) n (at_name (node (linked_nodes ls) d).place name))
   renamed_linked us directory named relinked =
       let t = linked_nodes ls in
       let n_there : n < length vs = omega (arith, linked_there (linked_nodes ls) n may.linked, linked.fits.count, way_length) in
@@ -137,20 +146,5 @@ module _ (ls vs : List Link) (n d : ℕ) (name : List ℕ) (linked : IsLinked ls
       let last = shows_filed (stood vs n (In d name)) (length ls) _ _ _ _ first stands.0 e_there stands.1 None in
       let shows = rw (← relinked.from stands.0 stands.1 stands_still) at last in
       is_linked (renamed t n (at_name (node t d).place name)) us (renamed_is_tree t n d name linked.tree directory named allowed)
-      (renamed_fits t ls us n d stands.0 name stands.1 (child_of t d name) linked.tree linked.fits linked.filed may other stands.2 filed_there shows)
-      (renamed_filed t ls us n d stands.0 name stands.1 (child_of t d name) linked.tree linked.fits linked.filed may other stands.2 filed_there shows)
-
--- what the code has tested before it changes the links
-pub way_tested : (ls vs : List Link) (n d : ℕ) (name : List ℕ) → IsLinked ls → (node (linked_nodes ls) n).linked ≡ true → (node (linked_nodes ls) d).linked ≡ true → same_place (at_name (node (linked_nodes ls) d).place name) (node (linked_nodes ls) n).place ≡ false → begins (node (linked_nodes ls) n).place (node (linked_nodes ls) d).place ≡ false → has_below (linked_nodes ls) (at_name (node (linked_nodes ls) d).place name) ≡ false → vs ≡ way_made ls (child_of (linked_nodes ls) d name) (at_name (node (linked_nodes ls) d).place name) d name n
-    → (length vs ≡ length ls) × ((e : ℕ) (x : List ℕ) → (link vs n).stand ≡ In e x → e < length ls)
-way_tested ls vs n d name linked in_tree dir_linked other back empty way =
-    let allowed = rename_allowed (linked_nodes ls) n d name in_tree dir_linked other back empty in
-    (way_length ls vs n d name linked allowed other way, way_holder ls vs n d name linked allowed other way)
-
-pub renamed_tested : (ls vs us : List Link) (n d : ℕ) (name : List ℕ) → IsLinked ls → (node (linked_nodes ls) n).linked ≡ true → (node (linked_nodes ls) d).linked ≡ true → same_place (at_name (node (linked_nodes ls) d).place name) (node (linked_nodes ls) n).place ≡ false → begins (node (linked_nodes ls) n).place (node (linked_nodes ls) d).place ≡ false → has_below (linked_nodes ls) (at_name (node (linked_nodes ls) d).place name) ≡ false → vs ≡ way_made ls (child_of (linked_nodes ls) d name) (at_name (node (linked_nodes ls) d).place name) d name n
-    → (node (linked_nodes ls) d).kind ≡ Dir → is_name name ≡ true → Relinked vs us n d name
-    → (rename_fault (linked_nodes ls) n d name ≡ None) × IsLinked us × (linked_nodes us ≡ renamed (linked_nodes ls) n (at_name (node (linked_nodes ls) d).place name))
-renamed_tested ls vs us n d name linked in_tree dir_linked other back empty way directory named relinked =
-    let allowed = rename_allowed (linked_nodes ls) n d name in_tree dir_linked other back empty in
-    let done = renamed_linked ls vs n d name linked allowed other way us directory named relinked in
-    (allowed, done.0, done.1)
+      (renamed_fits t ls us n d stands.0 name stands.1 (child_of t d name) linked.tree linked.fits linked.filed may tested.other stands.2 filed_there shows)
+      (renamed_filed t ls us n d stands.0 name stands.1 (child_of t d name) linked.tree linked.fits linked.filed may tested.other stands.2 filed_there shows)

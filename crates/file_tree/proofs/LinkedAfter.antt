@@ -23,7 +23,8 @@ use Rattle.file_tree.proofs.LinkedByFill.{filled_fits, filled_filed}
 use Rattle.file_tree.proofs.LinkedByRemove.{removed_fits, removed_filed}
 
 -- a node is made
-pub created_linked : (ls : List Link) (d : ℕ) (name : List ℕ) (l : Link) → IsLinked ls → (node (linked_nodes ls) d).kind ≡ Dir → is_name name ≡ true → is_content l.kind l.content ≡ true → list_all is_byte l.content ≡ true → create_fault (linked_nodes ls) d name ≡ None → l.stand ≡ In d name → ((q : List ℕ) → l.child q ≡ None)
+pub created_linked : (ls : List Link) (d : ℕ) (name : List ℕ) (l : Link) → IsLinked ls → (node (linked_nodes ls) d).kind ≡ Dir → is_name name ≡ true → is_content l.kind l.content ≡ true
+    → list_all is_byte l.content ≡ true → create_fault (linked_nodes ls) d name ≡ None → l.stand ≡ In d name → ((q : List ℕ) → l.child q ≡ None)
     → IsLinked (filed (ls ++ l ∷ []) d name (Some (length ls))) × (linked_nodes (filed (ls ++ l ∷ []) d name (Some (length ls))) ≡ created (linked_nodes ls) d name l.kind l.content)
 created_linked ls d name l linked directory named content bytes allowed stand bare =
     let t = linked_nodes ls in
@@ -43,14 +44,17 @@ filled_linked ls n content linked there tree =
 pub same_content : (ls : List Link) (n : ℕ) → IsLinked ls → n < length (linked_nodes ls) → (link ls n).content ≡ (node (linked_nodes ls) n).content
 same_content ls n linked there = (linked.fits.each n there).content
 
-pub made_linked : (ls us : List Link) (d : ℕ) (name key : List ℕ) (l : Link) (kind : Kind) (content : List ℕ) → IsLinked ls → (node (linked_nodes ls) d).kind ≡ Dir → is_name name ≡ true → is_content kind content ≡ true → list_all is_byte content ≡ true → create_fault (linked_nodes ls) d name ≡ None → IsMade l d name kind content → key ≡ name → us ≡ filed (ls ++ l ∷ []) d key (Some (length ls))
+pub made_linked : (ls us : List Link) (d : ℕ) (name key : List ℕ) (l : Link) (kind : Kind) (content : List ℕ) → IsLinked ls → (node (linked_nodes ls) d).kind ≡ Dir → is_name name ≡ true
+    → is_content kind content ≡ true → list_all is_byte content ≡ true → create_fault (linked_nodes ls) d name ≡ None → IsMade l d name kind content → key ≡ name
+    → us ≡ filed (ls ++ l ∷ []) d key (Some (length ls))
     → IsLinked us × (linked_nodes us ≡ created (linked_nodes ls) d name kind content)
 made_linked ls us d name key l kind content linked directory named fits bytes allowed made same is =
     let after = created_linked ls d name l linked directory named (rw (made.kind_is, made.content_is) fits) (rw made.content_is bytes) allowed made.stand made.bare in
     let here : us ≡ filed (ls ++ l ∷ []) d name (Some (length ls)) = is ∙ ap (λ k. filed (ls ++ l ∷ []) d k (Some (length ls))) same in
     rw here (after.0, after.1 ∙ ap (λ k. created (linked_nodes ls) d name k l.content) made.kind_is ∙ ap (created (linked_nodes ls) d name kind) made.content_is)
 
-pub refilled_linked : (ls us : List Link) (n : ℕ) (f : List ℕ → List ℕ) → IsLinked ls → n < length (linked_nodes ls) → IsTree (filled (linked_nodes ls) n (f (node (linked_nodes ls) n).content)) → us ≡ refilled ls n (f (link ls n).content)
+pub refilled_linked : (ls us : List Link) (n : ℕ) (f : List ℕ → List ℕ) → IsLinked ls → n < length (linked_nodes ls) → IsTree (filled (linked_nodes ls) n (f (node (linked_nodes ls) n).content))
+    → us ≡ refilled ls n (f (link ls n).content)
     → IsLinked us × (linked_nodes us ≡ filled (linked_nodes ls) n (f (node (linked_nodes ls) n).content))
 refilled_linked ls us n f linked there tree is =
     let here : us ≡ refilled ls n (f (node (linked_nodes ls) n).content) = is ∙ ap (λ content. refilled ls n (f content)) (same_content ls n linked there) in
@@ -95,3 +99,16 @@ removed_linked ls us n p linked allowed place out = by_stand (stand_of t ls n li
         is_linked (removed t n) us (removed_is_tree t n linked.tree allowed)
         (removed_fits t ls us n d name linked.tree linked.fits linked.filed may stand here)
         (removed_filed t ls us n d name linked.tree linked.fits linked.filed may stand here)
+
+-- the same of what the code has tested and then done
+pub record Removed (ls us : List Link) (n : ℕ) : Type 0 where
+  pub allowed : remove_fault (linked_nodes ls) n ≡ None
+  pub linked : IsLinked us
+  pub tree : linked_nodes us ≡ removed (linked_nodes ls) n
+
+pub removed_tested : (ls us : List Link) (n : ℕ) (p : List (List ℕ)) → IsLinked ls → (node (linked_nodes ls) n).linked ≡ true → n ≢ 0
+    → has_below (linked_nodes ls) (node (linked_nodes ls) n).place ≡ false → p ≡ (node (linked_nodes ls) n).place → TakenOut ls us n p → Removed ls us n
+removed_tested ls us n p linked in_tree low empty place out =
+    let allowed = remove_allowed (linked_nodes ls) n linked.tree in_tree low empty in
+    let after = removed_linked ls us n p linked allowed place out in
+    record { allowed = allowed; linked = after.0; tree = after.1 }

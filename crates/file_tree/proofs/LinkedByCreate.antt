@@ -15,14 +15,16 @@ use Rattle.file_tree.proofs.LinkReads.{child_linked}
 use Rattle.file_tree.proofs.LinkChanges.{Shows, shows_more, shows_filed, more_link, put_here, put_other}
 
 -- a stand fits a node in another tree if the node is alike and what holds it stays
-pub stand_stays : (t u : List Node) (s : Stand) (m m' : Node) → StandFits t s m → m'.linked ≡ m.linked → m'.place ≡ m.place → ((d : ℕ) (name : List ℕ) → s ≡ In d name → (node t d).linked ≡ true → node u d ≡ node t d) → StandFits u s m'
+pub stand_stays : (t u : List Node) (s : Stand) (m m' : Node) → StandFits t s m → m'.linked ≡ m.linked → m'.place ≡ m.place
+    → ((d : ℕ) (name : List ℕ) → s ≡ In d name → (node t d).linked ≡ true → node u d ≡ node t d) → StandFits u s m'
 stand_stays t u Root m m' h linked place stays = (linked ∙ h.0, place ∙ h.1)
 stand_stays t u (In d name) m m' h linked place stays =
     let same : node u d ≡ node t d = stays d name refl h.1 in
     (linked ∙ h.0, ap (λ (x : Node). x.linked) same ∙ h.1, place ∙ h.2 ∙ ap (λ (x : Node). at_name x.place name) (sym same))
 stand_stays t u (Out p) m m' h linked place stays = (linked ∙ h.0, place ∙ h.1)
 
-module _ (t : List Node) (ls : List Link) (d : ℕ) (name : List ℕ) (l : Link) (tree : IsTree t) (fits : Fits ls t) (is_filed : IsFiled ls) (may : MayCreate t d name) (stand : l.stand ≡ In d name) (bare : (q : List ℕ) → l.child q ≡ None) where
+module _ (t : List Node) (ls : List Link) (d : ℕ) (name : List ℕ) (l : Link) (tree : IsTree t) (fits : Fits ls t) (is_filed : IsFiled ls) (may : MayCreate t d name) (stand : l.stand ≡ In d name)
+    (bare : (q : List ℕ) → l.child q ≡ None) where
   -- the directory is one of the links
   d_there : d < length (ls ++ l ∷ [])
   d_there = omega (arith, linked_there t d may.linked, fits.count, (shows_more ls l bare).count_is)
@@ -44,7 +46,8 @@ module _ (t : List Node) (ls : List Link) (d : ℕ) (name : List ℕ) (l : Link)
           let holder = old_holder d may.linked in
           (ap (λ (x : Node). x.linked) new, ap (λ (x : Node). x.linked) holder ∙ may.linked, ap (λ (x : Node). x.place) new ∙ ap (λ (x : Node). at_name x.place name) (sym holder))
 
-      by_link : ((length ls ≡ length ls) × (link (ls ++ l ∷ []) (length ls) ≡ l)) ⊎ ((length ls ≢ length ls) × (link (ls ++ l ∷ []) (length ls) ≡ link ls (length ls))) → LinkFits (created t d name l.kind l.content) (link (filed (ls ++ l ∷ []) d name (Some (length ls))) (length ls)) (node (created t d name l.kind l.content) (length t))
+      by_link : ((length ls ≡ length ls) × (link (ls ++ l ∷ []) (length ls) ≡ l)) ⊎ ((length ls ≢ length ls) × (link (ls ++ l ∷ []) (length ls) ≡ link ls (length ls)))
+          → LinkFits (created t d name l.kind l.content) (link (filed (ls ++ l ∷ []) d name (Some (length ls))) (length ls)) (node (created t d name l.kind l.content) (length t))
       by_link (inr other) = absurd (other.0 refl)
       by_link (inl same) = record {
         kind = shows.kind (length ls) ∙ ap (λ (x : Link). x.kind) same.1 ∙ sym (ap (λ (x : Node). x.kind) new);
@@ -64,7 +67,8 @@ module _ (t : List Node) (ls : List Link) (d : ℕ) (name : List ℕ) (l : Link)
       count : length ls ≡ length t
       count = fits.count
 
-      by_link : ((length ls ≡ k) × (link (ls ++ l ∷ []) k ≡ l)) ⊎ ((length ls ≢ k) × (link (ls ++ l ∷ []) k ≡ link ls k)) → LinkFits (created t d name l.kind l.content) (link (filed (ls ++ l ∷ []) d name (Some (length ls))) k) (node (created t d name l.kind l.content) k)
+      by_link : ((length ls ≡ k) × (link (ls ++ l ∷ []) k ≡ l)) ⊎ ((length ls ≢ k) × (link (ls ++ l ∷ []) k ≡ link ls k))
+          → LinkFits (created t d name l.kind l.content) (link (filed (ls ++ l ∷ []) d name (Some (length ls))) k) (node (created t d name l.kind l.content) k)
       by_link (inl same) = let number : length ls ≡ k = same.0 in absurd (omega arith)
       by_link (inr other) = record {
         kind = shows.kind k ∙ ap (λ (x : Link). x.kind) other.1 ∙ fit.kind ∙ sym (ap (λ (x : Node). x.kind) old);
@@ -79,7 +83,8 @@ module _ (t : List Node) (ls : List Link) (d : ℕ) (name : List ℕ) (l : Link)
     each = λ k there. by_number k there (more_link ls l k);
   }
     where
-      by_number : (k : ℕ) → k < length (created t d name l.kind l.content) → ((length ls ≡ k) × (link (ls ++ l ∷ []) k ≡ l)) ⊎ ((length ls ≢ k) × (link (ls ++ l ∷ []) k ≡ link ls k)) → LinkFits (created t d name l.kind l.content) (link (filed (ls ++ l ∷ []) d name (Some (length ls))) k) (node (created t d name l.kind l.content) k)
+      by_number : (k : ℕ) → k < length (created t d name l.kind l.content) → ((length ls ≡ k) × (link (ls ++ l ∷ []) k ≡ l)) ⊎ ((length ls ≢ k) × (link (ls ++ l ∷ []) k ≡ link ls k))
+          → LinkFits (created t d name l.kind l.content) (link (filed (ls ++ l ∷ []) d name (Some (length ls))) k) (node (created t d name l.kind l.content) k)
       by_number k there (inl same) =
           let P : ℕ → ℕ → Type 0 = λ i j. LinkFits (created t d name l.kind l.content) (link (filed (ls ++ l ∷ []) d name (Some (length ls))) i) (node (created t d name l.kind l.content) j) in
           subst (λ i. P i k) same.0 (subst (λ j. P (length ls) j) (sym fits.count ∙ same.0) new_fits)

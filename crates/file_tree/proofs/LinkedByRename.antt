@@ -23,12 +23,14 @@ use Rattle.file_tree.proofs.LinkChanges.{Shows, put_other}
 kind_stays : (p q : List (List ℕ)) (m : Node) → ((moved p q (replaced_at q m)).kind ≡ m.kind) × ((moved p q (replaced_at q m)).content ≡ m.content)
 kind_stays p q m = by_cases (cases_Bool (stands_at q m)) (cases_Bool (m.linked && begins p m.place))
   where
-    by_cases : (stands_at q m ≡ true) ⊎ (stands_at q m ≡ false) → ((m.linked && begins p m.place) ≡ true) ⊎ ((m.linked && begins p m.place) ≡ false) → ((moved p q (replaced_at q m)).kind ≡ m.kind) × ((moved p q (replaced_at q m)).content ≡ m.content)
+    by_cases : (stands_at q m ≡ true) ⊎ (stands_at q m ≡ false) → ((m.linked && begins p m.place) ≡ true) ⊎ ((m.linked && begins p m.place) ≡ false)
+        → ((moved p q (replaced_at q m)).kind ≡ m.kind) × ((moved p q (replaced_at q m)).content ≡ m.content)
     by_cases (inl at) front = let is = replaced p q m at in (ap (λ (x : Node). x.kind) is, ap (λ (x : Node). x.content) is)
     by_cases (inr off) (inl front) = let is = is_moved p q m off front in (ap (λ (x : Node). x.kind) is, ap (λ (x : Node). x.content) is)
     by_cases (inr off) (inr back) = let is = is_kept p q m off back in (ap (λ (x : Node). x.kind) is, ap (λ (x : Node). x.content) is)
 
-module _ (t : List Node) (ls : List Link) (n d : ℕ) (name : List ℕ) (tree : IsTree t) (fits : Fits ls t) (is_filed : IsFiled ls) (may : MayMove t n d (at_name (node t d).place name)) (elsewhere : same_place (at_name (node t d).place name) (node t n).place ≡ false) where
+module _ (t : List Node) (ls : List Link) (n d : ℕ) (name : List ℕ) (tree : IsTree t) (fits : Fits ls t) (is_filed : IsFiled ls) (may : MayMove t n d (at_name (node t d).place name))
+    (elsewhere : same_place (at_name (node t d).place name) (node t n).place ≡ false) where
   p : List (List ℕ)
   p = (node t n).place
 
@@ -44,7 +46,8 @@ module _ (t : List Node) (ls : List Link) (n d : ℕ) (name : List ℕ) (tree : 
   node_stays k off back = after k ∙ unaffected p q (node t k) off back
 
   -- and one that lies below the old one moves
-  place_moves : (k : ℕ) → (node t k).linked ≡ true → same_place q (node t k).place ≡ false → begins p (node t k).place ≡ true → ((node (renamed t n q) k).linked ≡ true) × ((node (renamed t n q) k).place ≡ q ++ drop (length p) (node t k).place)
+  place_moves : (k : ℕ) → (node t k).linked ≡ true → same_place q (node t k).place ≡ false → begins p (node t k).place ≡ true
+      → ((node (renamed t n q) k).linked ≡ true) × ((node (renamed t n q) k).place ≡ q ++ drop (length p) (node t k).place)
   place_moves k linked off front =
       let is = after k ∙ is_moved p q (node t k) (and_no (node t k).linked off) (both_true linked front) in
       (ap (λ (x : Node). x.linked) is ∙ linked, ap (λ (x : Node). x.place) is)
@@ -88,7 +91,8 @@ module _ (t : List Node) (ls : List Link) (n d : ℕ) (name : List ℕ) (tree : 
   back_root = false_from_ne_true _ (λ h. both_ways _ may.apart (begins_trans (node t n).place [] (at_name (node t d).place name) h refl))
 
   -- a node in a directory that moves moves along, and one in a directory that stays is left
-  along : (k e : ℕ) (x : List ℕ) → n ≢ k → same_place q (node t e).place ≡ false → StandFits t (In e x) (node t k) → same_place q (node t k).place ≡ false → begins p (node t k).place ≡ true → StandFits (renamed t n q) (In e x) (node (renamed t n q) k)
+  along : (k e : ℕ) (x : List ℕ) → n ≢ k → same_place q (node t e).place ≡ false → StandFits t (In e x) (node t k) → same_place q (node t k).place ≡ false → begins p (node t k).place ≡ true
+      → StandFits (renamed t n q) (In e x) (node (renamed t n q) k)
   unfolding p
   along k e x apart holder_at h off front =
       let other : same_place p (node t k).place ≡ false = false_from_ne_true _ (λ at. apart (tree.apart n k may.linked h.0 (same_place_is _ _ at))) in
@@ -100,7 +104,8 @@ module _ (t : List Node) (ls : List Link) (n d : ℕ) (name : List ℕ) (tree : 
       mine.1 ∙ ap (λ r. q ++ drop (length p) r) h.2 ∙ ap (λ r. q ++ r) rest ∙ sym (append_assoc q (drop (length p) (node t e).place) (x ∷ [])) ∙ ap (λ r. at_name r x) (sym its.1) in
       (mine.0, its.0, place)
 
-  left : (k e : ℕ) (x : List ℕ) → same_place q (node t e).place ≡ false → StandFits t (In e x) (node t k) → same_place q (node t k).place ≡ false → begins p (node t k).place ≡ false → StandFits (renamed t n q) (In e x) (node (renamed t n q) k)
+  left : (k e : ℕ) (x : List ℕ) → same_place q (node t e).place ≡ false → StandFits t (In e x) (node t k) → same_place q (node t k).place ≡ false → begins p (node t k).place ≡ false
+      → StandFits (renamed t n q) (In e x) (node (renamed t n q) k)
   left k e x holder_at h off back =
       let front : begins (node t e).place (node t k).place ≡ true = rw h.2 (begins_append (node t e).place (x ∷ [])) in
       let higher : begins p (node t e).place ≡ false = false_from_ne_true _ (λ yes. both_ways _ back (begins_trans p (node t e).place (node t k).place yes front)) in
@@ -127,7 +132,9 @@ abbrev pub with_out : (ℕ → Stand) → Option ℕ → List (List ℕ) → ℕ
 with_out S None q k = S k
 with_out S (Some r) q k = put S r (Out q) k
 
-module _ (t : List Node) (ls : List Link) (n d e : ℕ) (name x : List ℕ) (gone : Option ℕ) (tree : IsTree t) (fits : Fits ls t) (is_filed : IsFiled ls) (may : MayMove t n d (at_name (node t d).place name)) (elsewhere : same_place (at_name (node t d).place name) (node t n).place ≡ false) (stand : (link ls n).stand ≡ In e x) (child : (link ls d).child name ≡ gone) where
+module _ (t : List Node) (ls : List Link) (n d e : ℕ) (name x : List ℕ) (gone : Option ℕ) (tree : IsTree t) (fits : Fits ls t) (is_filed : IsFiled ls)
+    (may : MayMove t n d (at_name (node t d).place name)) (elsewhere : same_place (at_name (node t d).place name) (node t n).place ≡ false) (stand : (link ls n).stand ≡ In e x)
+    (child : (link ls d).child name ≡ gone) where
   -- a node at the new place is what was in the way
   in_the_way : (k : ℕ) → (node t k).linked ≡ true → same_place (at_name (node t d).place name) (node t k).place ≡ true → gone ≡ Some k
   in_the_way k linked at =
@@ -147,7 +154,8 @@ module _ (t : List Node) (ls : List Link) (n d e : ℕ) (name x : List ℕ) (gon
       none : gone ≡ None → (i : ℕ) (q : List ℕ) → put2 (λ k. (link ls k).child) d name None i q ≡ (link ls i).child q
       none is i q = elim (slot_cases d i name q) [ inl same ↦ rw same.0 (sym is ∙ sym child ∙ ap (λ k. (link ls k).child name) same.1 ∙ ap (λ r. (link ls i).child r) same.2) | inr other ↦ rw other.0 refl ]
 
-      by_gone : (o : Option ℕ) → gone ≡ o → Filed (with_out (λ k. (link ls k).stand) o (at_name (node t d).place name)) (put2 (λ k. (link ls k).child) d name None) × (with_out (λ k. (link ls k).stand) o (at_name (node t d).place name) n ≡ In e x)
+      by_gone : (o : Option ℕ) → gone ≡ o
+          → Filed (with_out (λ k. (link ls k).stand) o (at_name (node t d).place name)) (put2 (λ k. (link ls k).child) d name None) × (with_out (λ k. (link ls k).stand) o (at_name (node t d).place name) n ≡ In e x)
       by_gone None is = (filed_same (λ k. (link ls k).stand) _ (λ k. (link ls k).child) _ is_filed (λ k. refl) (none is), stand)
       by_gone (Some r) is =
           let stood = is_filed.holds d name r (child ∙ is) in
@@ -155,16 +163,21 @@ module _ (t : List Node) (ls : List Link) (n d e : ℕ) (name x : List ℕ) (gon
           let different : r ≢ n = λ same. both_ways _ elsewhere (same_place_from _ _ (sym h.place ∙ ap (λ k. (node t k).place) same)) in
           (filed_out (λ k. (link ls k).stand) (λ k. (link ls k).child) is_filed r d name (at_name (node t d).place name) stood, put_other (λ k. (link ls k).stand) r n (Out (at_name (node t d).place name)) different ∙ stand)
 
-module _ (t : List Node) (ls us : List Link) (n d e : ℕ) (name x : List ℕ) (gone : Option ℕ) (tree : IsTree t) (fits : Fits ls t) (is_filed : IsFiled ls) (may : MayMove t n d (at_name (node t d).place name)) (elsewhere : same_place (at_name (node t d).place name) (node t n).place ≡ false) (stand : (link ls n).stand ≡ In e x) (child : (link ls d).child name ≡ gone)
+module _ (t : List Node) (ls us : List Link) (n d e : ℕ) (name x : List ℕ) (gone : Option ℕ) (tree : IsTree t) (fits : Fits ls t) (is_filed : IsFiled ls)
+    (may : MayMove t n d (at_name (node t d).place name)) (elsewhere : same_place (at_name (node t d).place name) (node t n).place ≡ false) (stand : (link ls n).stand ≡ In e x)
+    (child : (link ls d).child name ≡ gone)
     (shows : Shows us (length ls) (λ k. (link ls k).kind) (λ k. (link ls k).content) (put (with_out (λ k. (link ls k).stand) gone (at_name (node t d).place name)) n (In d name)) (put2 (put2 (λ k. (link ls k).child) d name (Some n)) e x None)) where
-  other_stand : (k : ℕ) → n ≢ k → k < length t → StandFits (renamed t n (at_name (node t d).place name)) (with_out (λ i. (link ls i).stand) gone (at_name (node t d).place name) k) (node (renamed t n (at_name (node t d).place name)) k)
+  other_stand : (k : ℕ) → n ≢ k → k < length t
+      → StandFits (renamed t n (at_name (node t d).place name)) (with_out (λ i. (link ls i).stand) gone (at_name (node t d).place name) k) (node (renamed t n (at_name (node t d).place name)) k)
   unfolding q
   other_stand k different there = by_gone gone refl
     where
-      stays : ((node t k).linked ≡ true → same_place (at_name (node t d).place name) (node t k).place ≡ false) → StandFits (renamed t n (at_name (node t d).place name)) (link ls k).stand (node (renamed t n (at_name (node t d).place name)) k)
+      stays : ((node t k).linked ≡ true → same_place (at_name (node t d).place name) (node t k).place ≡ false)
+          → StandFits (renamed t n (at_name (node t d).place name)) (link ls k).stand (node (renamed t n (at_name (node t d).place name)) k)
       stays off = other_fits t ls n d name tree fits is_filed may elsewhere k different (link ls k).stand refl (fits.each k there).stand off
 
-      by_gone : (o : Option ℕ) → gone ≡ o → StandFits (renamed t n (at_name (node t d).place name)) (with_out (λ i. (link ls i).stand) o (at_name (node t d).place name) k) (node (renamed t n (at_name (node t d).place name)) k)
+      by_gone : (o : Option ℕ) → gone ≡ o
+          → StandFits (renamed t n (at_name (node t d).place name)) (with_out (λ i. (link ls i).stand) o (at_name (node t d).place name) k) (node (renamed t n (at_name (node t d).place name)) k)
       by_gone None is = stays (λ linked. false_from_ne_true _ (λ at. let no : None ≡ Some k = sym is ∙ in_the_way t ls n d e name x gone tree fits is_filed may elsewhere stand child k linked at in cc))
       by_gone (Some r) is = elim (eqb_tells r k) [
         | inl same ↦ let h = held t ls r d name fits (is_filed.holds d name r (child ∙ is)) in
@@ -183,7 +196,8 @@ module _ (t : List Node) (ls us : List Link) (n d e : ℕ) (name x : List ℕ) (
         stand = rw (shows.stand k) (by_number number);
       }
     where
-      by_number : ((eqb n k ≡ true) × (n ≡ k)) ⊎ ((eqb n k ≡ false) × (n ≢ k)) → StandFits (renamed t n (at_name (node t d).place name)) (put (with_out (λ i. (link ls i).stand) gone (at_name (node t d).place name)) n (In d name) k) (node (renamed t n (at_name (node t d).place name)) k)
+      by_number : ((eqb n k ≡ true) × (n ≡ k)) ⊎ ((eqb n k ≡ false) × (n ≢ k))
+          → StandFits (renamed t n (at_name (node t d).place name)) (put (with_out (λ i. (link ls i).stand) gone (at_name (node t d).place name)) n (In d name) k) (node (renamed t n (at_name (node t d).place name)) k)
       by_number (inl same) = rw (same.0, ← same.1) (itself_fits t ls n d name tree fits is_filed may elsewhere)
       by_number (inr other) = rw other.0 (other_stand k other.1 there)
 

@@ -40,7 +40,8 @@ some_left names p rest left y is first = false_from_ne_true _ (λ front.
 pub decided : (names p : List (List ℕ)) (b : Bool) → ((more : List (List ℕ)) → begins names (p ++ more) ≡ b) → b ≡ begins names p
 decided names p b h = sym (h []) ∙ ap (begins names) (append-nil p)
 
-pub all_or_some : {A : Type 0} (o : Option A) (b : Bool) (first : A → List ℕ) (left : A → List (List ℕ)) (names p rest : List (List ℕ)) → is_some o ≡ not b → MatchOption o (rest ≡ []) (λ a. rest ≡ first a ∷ left a) → names ≡ p ++ rest → b ≡ begins names p
+pub all_or_some : {A : Type 0} (o : Option A) (b : Bool) (first : A → List ℕ) (left : A → List (List ℕ)) (names p rest : List (List ℕ)) → is_some o ≡ not b
+    → MatchOption o (rest ≡ []) (λ a. rest ≡ first a ∷ left a) → names ≡ p ++ rest → b ≡ begins names p
 all_or_some None true first left names p rest test h is = sym (all_taken names p rest is h)
 all_or_some None false first left names p rest test h is = cc
 all_or_some (Some a) true first left names p rest test h is = cc

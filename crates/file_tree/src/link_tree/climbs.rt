@@ -55,7 +55,7 @@ pub(crate) fn is_above(entries: &[Link], n: usize, dir: usize) -> bool
 }
 
 /// What a place leaves of a path.
-pub(crate) enum Match<'a> {
+enum Match<'a> {
     /// The names of the place are the first of the path, and these are left.
     Left(&'a [u8]),
     /// Whether the place, and all below it, begins with the names of the path.

@@ -10,4 +10,5 @@ returns-in-Decided c = decided (path_components c.args.path.now) (node (linked_n
 
 pub returns-in-Left : goal.returns-in-Left
 returns-in-Left c =
-    all_or_some c.first_name.result c.is_none.result (λ p. p.0.now) (λ p. path_components p.1.now) (path_components c.args.path.now) (node (linked_nodes (links_of c.args.entries.now)) c.args.n).place (path_components c.in-Left.rest.now) c.is_none.ensures c.first_name.ensures c.in-Left.ensures
+    all_or_some c.first_name.result c.is_none.result (λ p. p.0.now) (λ p. path_components p.1.now) (path_components c.args.path.now) (node (linked_nodes (links_of c.args.entries.now)) c.args.n).place (path_components c.in-Left.rest.now)
+    c.is_none.ensures c.first_name.ensures c.in-Left.ensures

@@ -11,4 +11,12 @@ pub unfile-requires : goal.unfile-requires
 unfile-requires c =
     let before : (link (links_of c.args.entries.now.items) c.args.n).stand ≡ In c.in-In.parent c.in-In.name.items = sym c.in-In.ensures.before in
     let h = held (linked_nodes (links_of c.args.entries.now.items)) (links_of c.args.entries.now.items) c.args.n c.in-In.parent c.in-In.name.items c.requires.linked.fits before in
-    omega (arith, linked_there (linked_nodes (links_of c.args.entries.now.items)) c.in-In.parent h.holder, count_nodes c.args.entries.now.items c.requires.linked, count_links c.args.entries.now.items, count_links c.replace_stand-before.new.entries.items, ap length c.in-In.ensures.changed ∙ stood_length (links_of c.args.entries.now.items) c.args.n _, c.replace_stand-before.new.entries.ok.0)
+    omega (
+      arith,
+      linked_there (linked_nodes (links_of c.args.entries.now.items)) c.in-In.parent h.holder,
+      count_nodes c.args.entries.now.items c.requires.linked,
+      count_links c.args.entries.now.items,
+      count_links c.replace_stand-before.new.entries.items,
+      ap length c.in-In.ensures.changed ∙ stood_length (links_of c.args.entries.now.items) c.args.n _,
+      c.replace_stand-before.new.entries.ok.0,
+    )
