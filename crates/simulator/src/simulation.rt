@@ -12,15 +12,16 @@ ghost use Rattle.simulator.specs.Views.{line_of};
 
 use crate::lines::Line;
 use crate::machine::Machine;
-use crate::trace::text_of_line;
+use crate::trace::push_line;
 use file_tree::LinkTree;
 use rights::{Out, Stop, write_all};
 use std::alloc::Global;
 use syscalls::Event;
 use task::Task;
 
-/// Writes a line. After a failure of the writer or a refused growth a beginning of it is written.
-fn write_line<W: Out>(alloc: Global, task: &Task, line: &Line, out: &mut W) -> Result<(), Stop>
+/// Writes a line; what was in `text` is its room alone. After a failure of the writer or a refused growth a beginning of it is
+/// written.
+fn write_line<W: Out>(text: &mut Vec<u8>, task: &Task, line: &Line, out: &mut W) -> Result<(), Stop>
     requires { W.faults out.old < 2 ^ 64 - 1 }
     ensures ok { OnOk result (Took (W.taken out.old) (W.taken out.new) (line_text task.now (line_of line.now))) }
     ensures err { OnErr result (TookFront (W.taken out.old) (W.taken out.new) (line_text task.now (line_of line.now))) }
@@ -28,8 +29,9 @@ fn write_line<W: Out>(alloc: Global, task: &Task, line: &Line, out: &mut W) -> R
     ensures device { IsErrOf result Stop.Device → W.faults out.old < W.faults out.new }
     ensures not_spent { IsErrOf result Stop.Spent → ⊥ }
 {
-    let text = text_of_line(alloc, task, line)?;
-    write_all(out, &text)
+    text.clear();
+    push_line(text, task, line)?;
+    write_all(out, text)
 }
 
 /// Runs the task over the events, and writes a line for each. `Device` is answered only after a
@@ -54,9 +56,10 @@ pub fn simulate<W: Out>(
     ensures gains { NeverGains (programs_of_plan task.now) (first_world task.now) (map event_of events.now) }
 {
     let mut machine: Machine<'_, LinkTree> = Machine::start(alloc, task)?;
+    let mut text = Vec::new(alloc);
     for event in events {
         let line = machine.step(*event)?;
-        write_line(alloc, task, &line, out)?;
+        write_line(&mut text, task, &line, out)?;
     }
     Ok(())
 }

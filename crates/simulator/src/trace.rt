@@ -1,6 +1,6 @@
 //! The text of a trace.
 
-ghost use Rattle.std.specs.Prelude.{◌≡◌, ◌++◌, IfOk, OnOk, Some};
+ghost use Rattle.std.specs.Prelude.{◌≡◌, ◌++◌, OnOk, Some};
 ghost use Rattle.std.specs.Fmt.{decimal};
 ghost use Rattle.std.specs.List.{flat_map};
 ghost use Rattle.syscalls.specs.Views.{effect_of, effects_of};
@@ -9,20 +9,21 @@ ghost use Rattle.simulator.specs.Traces.{acted_text, effect_text, line_text, res
 ghost use Rattle.simulator.specs.Views.{acted_of, line_of, result_of};
 
 use crate::lines::{Acted, Line, LineResult};
-use std::alloc::{AllocError, Global};
+use std::alloc::AllocError;
 use syscalls::Effect;
 use task::Task;
+use texts::Decimal;
 
 /// Appends a number in decimal.
-fn push_number(text: &mut Vec<u8>, alloc: Global, number: u32) -> Result<(), AllocError>
+fn push_number(text: &mut Vec<u8>, number: u32) -> Result<(), AllocError>
     ensures { OnOk result (text.new.items ≡ text.old.items ++ decimal number) }
 {
-    let digits = number.to_string(alloc)?;
+    let digits = Decimal::new(number);
     text.extend_from_slice(digits.as_bytes())
 }
 
 /// Appends what a step came to.
-fn push_result(text: &mut Vec<u8>, alloc: Global, outcome: LineResult) -> Result<(), AllocError>
+fn push_result(text: &mut Vec<u8>, outcome: LineResult) -> Result<(), AllocError>
     ensures { OnOk result (text.new.items ≡ text.old.items ++ result_text (result_of outcome)) }
 {
     match outcome {
@@ -30,7 +31,7 @@ fn push_result(text: &mut Vec<u8>, alloc: Global, outcome: LineResult) -> Result
         LineResult::Halted => text.extend_from_slice(b"halt"),
         LineResult::Value(value) => {
             text.extend_from_slice(b"= ")?;
-            push_number(text, alloc, value)
+            push_number(text, value)
         }
         LineResult::Failed(errno, cause) => {
             text.extend_from_slice(b"! ")?;
@@ -65,34 +66,27 @@ fn push_effects(text: &mut Vec<u8>, effects: &[Effect]) -> Result<(), AllocError
 }
 
 /// Appends what a process that was made did.
-fn push_acted(
-    text: &mut Vec<u8>,
-    alloc: Global,
-    task: &Task,
-    acted: &Acted,
-) -> Result<(), AllocError>
+fn push_acted(text: &mut Vec<u8>, task: &Task, acted: &Acted) -> Result<(), AllocError>
     ensures { OnOk result (text.new.items
         ≡ text.old.items ++ acted_text task.now (Some (acted_of acted.now))) }
 {
     text.extend_from_slice(b" ")?;
     text.extend_from_slice(task.program_name(acted.program))?;
     text.extend_from_slice(b":")?;
-    push_number(text, alloc, u32::from(acted.point))?;
+    push_number(text, u32::from(acted.point))?;
     text.extend_from_slice(b" ")?;
-    push_result(text, alloc, acted.outcome)?;
+    push_result(text, acted.outcome)?;
     push_effects(text, &acted.effects)
 }
 
-/// The text of a line, with its line feed.
-pub(crate) fn text_of_line(alloc: Global, task: &Task, line: &Line) -> Result<Vec<u8>, AllocError>
-    ensures { IfOk result (λ text. text.items ≡ line_text task.now (line_of line.now)) }
+/// Appends the text of a line, with its line feed.
+pub(crate) fn push_line(text: &mut Vec<u8>, task: &Task, line: &Line) -> Result<(), AllocError>
+    ensures { OnOk result (text.new.items ≡ text.old.items ++ line_text task.now (line_of line.now)) }
 {
-    let mut text = Vec::new(alloc);
-    push_number(&mut text, alloc, u32::from(line.process))?;
+    push_number(text, u32::from(line.process))?;
     match &line.acted {
         None => text.extend_from_slice(b" - none")?,
-        Some(acted) => push_acted(&mut text, alloc, task, acted)?,
+        Some(acted) => push_acted(text, task, acted)?,
     }
-    text.extend_from_slice(b"\n")?;
-    Ok(text)
+    text.extend_from_slice(b"\n")
 }
