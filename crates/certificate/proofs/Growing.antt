@@ -55,6 +55,16 @@ pub taken-back : (c : Certificate) (line : Line) (d : Certificate) → taken c l
 unfolding taken
 taken-back c line d took = taken_cases c line d (has_room c line) (stands c line) refl refl took
 
+-- a line that is taken keeps the version
+line_keeps : (c : Certificate) (line : Line) → (with_line c line).version ≡ c.version
+line_keeps c (Begins_block program point mode) = refl
+line_keeps c (Bounds_register register interval) = refl
+line_keeps c (Bounds_slot number slot) = refl
+line_keeps c (Bounds_channel channel) = refl
+
+pub taken_keeps : (c d : Certificate) (line : Line) → taken c line ≡ Ok d → d.version ≡ c.version
+taken_keeps c d line took = ap (λ (e : Certificate). e.version) (sym (taken-back c line d took).made) ∙ line_keeps c line
+
 -- room, by what is listed of it
 abbrev few_programs : Certificate → Line → Bool
 few_programs c line = nat_le (length (distinct bytes_eq (programs_of c ++ programs_in_line line))) most_programs
@@ -136,7 +146,7 @@ le_true m n is = grind (arith, nat_tests, is)
 -- a certificate's channels are of 32 classes at most
 pub classes_few : (c : Certificate) → IsCertificate c → length (distinct same_class (classes_of c)) ≤ most_classes
 unfolding distinct_behind
-classes_few c begins = omega arith
+classes_few _ (begins version) = omega arith
 classes_few _ (grows {c} {d} valid line proper took) =
     let is = taken-back c line d took in
     let few = le_true _ _ (and_right (few_programs c line) (few_classes c line) is.room) in

@@ -1,5 +1,6 @@
 pub mod Smaller
 pub mod Joining
+pub mod JoinTwice
 pub mod Ranges
 pub mod Rows
 pub mod JoinRows

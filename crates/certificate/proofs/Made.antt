@@ -38,7 +38,7 @@ rows-made c (Bounds_slot number slot) rows = rows-on_last (λ b. with_slot b num
 rows-made c (Bounds_channel channel) rows = rows
 
 rows : (c : Certificate) → IsCertificate c → AreRows c.points
-rows _ begins = tt
+rows _ (begins version) = tt
 rows _ (grows {c} {d} valid line proper took) =
     let is = taken-back c line d took in subst (λ (e : Certificate). AreRows e.points) is.made (rows-made c line (rows c valid))
 

@@ -79,7 +79,7 @@ rises_made c (Bounds_slot number slot) place up = ap rises (places_kept (λ b. w
 rises_made c (Bounds_channel channel) place up = up
 
 pub certificates_rise : (c : Certificate) → IsCertificate c → rises (places_of c.points) ≡ true
-certificates_rise _ begins = refl
+certificates_rise _ (begins version) = refl
 certificates_rise _ (grows {c} {d} valid line proper took) =
     let is = taken-back c line d took in
     subst (λ (e : Certificate). rises (places_of e.points) ≡ true) is.made (rises_made c line is.place (certificates_rise c valid))

@@ -56,7 +56,13 @@ pub record ChannelBound : Type 0 where
   pub side : ℕ
   pub sends : Option Held
 
+-- In version 1 each bound is written; in version 2 bounds are carried along between points where ways meet.
+pub data Version : Type 0 where
+  One : Version
+  Two : Version
+
 pub record Certificate : Type 0 where
+  pub version : Version
   pub points : List PointBound
   pub channels : List ChannelBound
 

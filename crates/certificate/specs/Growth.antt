@@ -8,7 +8,7 @@ use Rattle.std.specs.Cmp.Lexicographic.{slice_cmp}
 use Rattle.std.specs.Str.{bytes_eq}
 use Rattle.rights.specs.Classes.{Class, Initial, Made_at}
 use Rattle.rights.specs.Limits.{most_descriptors, most_programs, register_count}
-use Rattle.certificate.specs.Bounds.{ModeBound, Target, In_grant, Any_node, Socket, Unknown, Held, Slot, Closed, Bound, PointBound, ChannelBound, Certificate, full_interval, held_in, with_interval, with_slot}
+use Rattle.certificate.specs.Bounds.{ModeBound, Target, In_grant, Any_node, Socket, Unknown, Held, Slot, Closed, Bound, PointBound, ChannelBound, Version, Certificate, full_interval, held_in, with_interval, with_slot}
 use Rattle.certificate.specs.Order.{same_class}
 use Rattle.certificate.specs.Lines.{Line, Begins_block, Bounds_register, Bounds_slot, Bounds_channel, is_closed, is_full, is_line}
 
@@ -160,10 +160,10 @@ pub data Refused : Type 0 where
 unfoldable pub taken : Certificate → Line → Result Certificate Refused
 taken c line = if has_room c line then (if stands c line then Ok (with_line c line) else Err Out_of_order) else Err No_room
 
-abbrev pub nothing : Certificate
-nothing = record { points = []; channels = [] }
+abbrev pub nothing : Version → Certificate
+nothing version = record { version = version; points = []; channels = [] }
 
--- A certificate is what lines make of nothing, each taken by what the lines before it made.
+-- A certificate of a version is what lines make of nothing, each taken by what the lines before it made.
 pub data IsCertificate : Certificate → Type 0 where
-  begins : IsCertificate nothing
+  begins : (version : Version) → IsCertificate (nothing version)
   grows : {c : Certificate} {d : Certificate} → IsCertificate c → (line : Line) → is_line line ≡ true → taken c line ≡ Ok d → IsCertificate d

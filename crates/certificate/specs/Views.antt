@@ -15,11 +15,13 @@ use Rattle.certificate.specs.declared.bounds.Slot.{Slot as SlotCode}
 use Rattle.certificate.specs.declared.bounds.Slot.TheVariants as slots
 use Rattle.certificate.specs.declared.bounds.Bound.{Bound as BoundCode}
 use Rattle.certificate.specs.declared.bounds.Point.{Point as PointCode}
+use Rattle.certificate.specs.declared.certs.Version.{Version as VersionCode}
+use Rattle.certificate.specs.declared.certs.Version.TheVariants as version
 use Rattle.certificate.specs.declared.lines.Channel.{Channel as ChannelCode}
 use Rattle.certificate.specs.declared.lines.Line.{Line as LineCode}
 use Rattle.certificate.specs.declared.lines.Line.TheVariants as line
 use Rattle.rights.specs.Classes.{Class, Initial, Made_at}
-use Rattle.certificate.specs.Bounds.{ModeBound, Off, On, Either, Interval, Target, In_grant, Any_node, Socket, Unknown, Held, Slot, Closed, Open, Maybe, Bound, PointBound, ChannelBound, Certificate}
+use Rattle.certificate.specs.Bounds.{ModeBound, Off, On, Either, Interval, Target, In_grant, Any_node, Socket, Unknown, Held, Slot, Closed, Open, Maybe, Bound, PointBound, ChannelBound, Version, One, Two, Certificate}
 use Rattle.certificate.specs.Lines.{Line, Begins_block, Bounds_register, Bounds_slot, Bounds_channel}
 
 abbrev pub name_of : NameCode → List ℕ
@@ -77,8 +79,12 @@ channel_of c = record { class = class_of c.class; side = side_of c.side; sends =
 abbrev pub channels_of : List ChannelCode → List ChannelBound
 channels_of channels = map channel_of channels
 
-abbrev pub certificate_with : List PointCode → List ChannelCode → Certificate
-certificate_with points channels = record { points = points_of points; channels = channels_of channels }
+abbrev pub version_of : VersionCode → Version
+version_of version.One = One
+version_of version.Two = Two
+
+abbrev pub certificate_with : Version → List PointCode → List ChannelCode → Certificate
+certificate_with v points channels = record { version = v; points = points_of points; channels = channels_of channels }
 
 abbrev pub line_of : LineCode → Line
 line_of (line.Block name number m) = Begins_block (name_of name) number (mode_of m)

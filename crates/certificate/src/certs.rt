@@ -13,10 +13,20 @@ use std::alloc::Global;
 use std::cmp::Ordering;
 use std::marker::Model;
 
+/// What a certificate leaves to be carried along. (own)
+#[derive(Clone, Copy, Debug, PartialEq, Eq)]
+pub enum Version {
+    /// Nothing: each bound is written.
+    One,
+    /// Bounds between points where ways meet.
+    Two,
+}
+
 /// A certificate, valid by construction: it is what lines make of nothing, each taken in its place and within the limits. A
 /// point that is not listed is claimed not to be reached. (own)
 #[derive(Drop)]
 pub struct Cert {
+    version: Version,
     points: Vec<Point>,
     channels: Vec<Channel>,
     programs: ProgramNames,
@@ -32,14 +42,14 @@ impl Model for Cert {
     ghost use Rattle.std.specs.Str.{bytes_eq};
     ghost use Rattle.certificate.specs.Order.{same_class};
     ghost use Rattle.certificate.specs.Growth.{IsCertificate, classes_of, distinct, programs_of};
-    ghost use Rattle.certificate.specs.Views.{certificate_with};
+    ghost use Rattle.certificate.specs.Views.{certificate_with, version_of};
     ghost use Rattle.certificate.specs.CountViews.{programs_listed};
 
-    ghost view = { λ c. certificate_with c.points.items c.channels.items };
+    ghost view = { λ c. certificate_with (version_of c.version) c.points.items c.channels.items };
 
-    ghost invariant = { λ c. IsCertificate (certificate_with c.points.items c.channels.items)
-        × (programs_listed c.programs ≡ distinct bytes_eq (programs_of (certificate_with c.points.items c.channels.items)))
-        × (c.classes ≡ length (distinct same_class (classes_of (certificate_with c.points.items c.channels.items)))) };
+    ghost invariant = { λ c. IsCertificate (certificate_with (version_of c.version) c.points.items c.channels.items)
+        × (programs_listed c.programs ≡ distinct bytes_eq (programs_of (certificate_with (version_of c.version) c.points.items c.channels.items)))
+        × (c.classes ≡ length (distinct same_class (classes_of (certificate_with (version_of c.version) c.points.items c.channels.items)))) };
 }
 
 /// The bound of a point among some that rise, by halving them.
@@ -65,13 +75,14 @@ impl Cert {
     ghost use Rattle.certificate.specs.Lines.{is_line};
     ghost use Rattle.certificate.specs.Growth.{IsCertificate, nothing, taken};
     ghost use Rattle.certificate.specs.GrowthViews.{Takes};
-    ghost use Rattle.certificate.specs.Views.{bound_of, channels_of, line_of, points_of};
+    ghost use Rattle.certificate.specs.Views.{bound_of, channels_of, line_of, points_of, version_of};
 
-    /// The certificate without lines. Takes no memory.
-    pub fn new(alloc: Global) -> Cert
-        ensures { result ≡ nothing }
+    /// The certificate of this version without lines. Takes no memory.
+    pub fn new(alloc: Global, version: Version) -> Cert
+        ensures { result ≡ nothing (version_of version) }
     {
         Cert {
+            version,
             points: Vec::new(alloc),
             channels: Vec::new(alloc),
             programs: ProgramNames::new(),
@@ -79,7 +90,8 @@ impl Cert {
         }
     }
 
-    /// Takes a line. Where it is refused the certificate stays as it was: `Limit` comes before `Order`, and `Memory` last.
+    /// Takes a line; the version stays. Where the line is refused the certificate stays as it was: `Limit` comes before `Order`,
+    /// and `Memory` last.
     pub fn push(&mut self, line: &Line) -> Result<(), Refusal>
         requires { is_line (line_of line.now) ≡ true }
         ensures { Takes result self.old self.new (taken self.old (line_of line.now)) }
@@ -97,6 +109,13 @@ impl Cert {
         self.programs = programs;
         self.classes = classes;
         Ok(())
+    }
+
+    /// Its version.
+    pub fn version(&self) -> Version
+        ensures { version_of result ≡ self.now.version }
+    {
+        self.version
     }
 
     /// Its points, rising. Who asks for them learns that it is a certificate.

@@ -5,7 +5,7 @@ ghost use Rattle.std.specs.List.{list_any};
 ghost use Rattle.std.specs.Str.{bytes_eq};
 ghost use Rattle.rights.specs.Limits.{most_programs};
 ghost use Rattle.certificate.specs.Order.{same_class};
-ghost use Rattle.certificate.specs.Bounds.{with_interval, with_slot};
+ghost use Rattle.certificate.specs.Bounds.{Version, with_interval, with_slot};
 ghost use Rattle.certificate.specs.Lines.{is_closed, is_full};
 ghost use Rattle.certificate.specs.Growth.{above_blocks, above_channels, all_from, classes_in, classes_in_line, distinct, may_bound_register, may_bound_slot, most_classes, on_last, programs_in_line, programs_of_class, programs_of_held, stands, with_line};
 ghost use Rattle.certificate.specs.Room.{listed_with};
@@ -164,9 +164,9 @@ fn may_bound_slot(points: &[Point], number: u8) -> bool
     }
 }
 
-/// Whether the line stands in its place behind those that made these points and channels.
+/// Whether the line stands in its place behind those that made these points and channels, in either version.
 pub(crate) fn stands(points: &[Point], channels: &[Channel], line: &Line) -> bool
-    ensures { result ≡ stands (certificate_with points.now channels.now) (line_of line.now) }
+    ensures { (version : Version) → result ≡ stands (certificate_with version points.now channels.now) (line_of line.now) }
 {
     match line {
         Line::Block { program, point, .. } => {
@@ -201,16 +201,16 @@ fn bound_slot(points: &mut [Point], number: u8, slot: Slot)
     }
 }
 
-/// Adds what the line says. A refused growth changes nothing.
+/// Adds what the line says, in either version. A refused growth changes nothing.
 pub(crate) fn extend(
     points: &mut Vec<Point>,
     channels: &mut Vec<Channel>,
     line: &Line,
 ) -> Result<(), Refusal>
-    ensures ok { OnOk result (certificate_with points.new.items channels.new.items
-        ≡ with_line (certificate_with points.old.items channels.old.items) (line_of line.now)) }
-    ensures err { OnErr result (certificate_with points.new.items channels.new.items
-        ≡ certificate_with points.old.items channels.old.items) }
+    ensures ok { OnOk result ((version : Version) → certificate_with version points.new.items channels.new.items
+        ≡ with_line (certificate_with version points.old.items channels.old.items) (line_of line.now)) }
+    ensures err { OnErr result ((version : Version) → certificate_with version points.new.items channels.new.items
+        ≡ certificate_with version points.old.items channels.old.items) }
     ensures memory { IfErr result (λ reason. reason ≡ refusal.Memory) }
 {
     match line {

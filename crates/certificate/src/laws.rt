@@ -1,8 +1,10 @@
-//! Laws of bounds. Each is the contract of a function that does nothing.
+//! Laws of bounds and certificates. Each is the contract of a function that does nothing.
 
-ghost use Rattle.std.specs.Prelude.{◌≡◌, true, length, Bool, ℕ, List, Option};
-ghost use Rattle.certificate.specs.Bounds.{Bound, Held, Interval, Slot};
+ghost use Rattle.std.specs.Prelude.{◌≡◌, true, length, Bool, ℕ, List, Ok, Option};
+ghost use Rattle.certificate.specs.Bounds.{Bound, Certificate, Held, Interval, Slot};
+ghost use Rattle.certificate.specs.Growth.{taken};
 ghost use Rattle.certificate.specs.Joins.{bound_join};
+ghost use Rattle.certificate.specs.Lines.{Line};
 ghost use Rattle.certificate.specs.Order.{bound_within, interval_within, sends_within, slot_within};
 ghost use Rattle.certificate.specs.Describes.{Holds, Seen, describes, interval_describes, sends_describes, slot_describes};
 
@@ -21,6 +23,11 @@ pub fn parts_within_describe_no_more()
         → slot_describes holds a seen ≡ true → slot_describes holds b seen ≡ true }
     ensures channels { (holds : Holds) (a b : Option Held) (seen : Seen) → sends_within a b ≡ true
         → sends_describes holds a seen ≡ true → sends_describes holds b seen ≡ true }
+{}
+
+/// What a line makes of a certificate has its version.
+pub fn lines_keep_the_version()
+    ensures { (c d : Certificate) (line : Line) → taken c line ≡ Ok d → d.version ≡ c.version }
 {}
 
 /// The order of bounds is reflexive and transitive, and the join of two with rows of one length is above both.

@@ -14,7 +14,7 @@ pub mod order;
 mod program_names;
 
 pub use bounds::{Bound, FcntlsRange, Held, Interval, ModeBound, Point, RightsRange, Slot, Target};
-pub use certs::Cert;
+pub use certs::{Cert, Version};
 pub use classes::{Class, Pair, Side};
 pub use domain::Domain;
 pub use lines::{Channel, Line, Refusal};

@@ -31,9 +31,17 @@ end_missing : certificate_of_text (codes "capcert 1" ++ 10 ∷ []) ≡ fails Syn
 unfolding certificate_of_text read_behind line_of_text taken distinct_behind above_blocks above_channels may_bound_register may_bound_slot all_from on_last
 end_missing = refl
 
-another_version : certificate_of_text (text (codes "capcert 2" ∷ codes "end" ∷ [])) ≡ fails Syntax 0
+-- a first line that tells no version
+abbrev of_first : List ℕ → Reading
+of_first line = certificate_of_text (text (line ∷ codes "end" ∷ []))
+
+no_version :
+    (of_first (codes "capcert 3") ≡ fails Syntax 0) × (of_first (codes "capcert 0") ≡ fails Syntax 0) × (of_first (codes "capcert 02") ≡ fails Syntax 0)
+    × (of_first (codes "capcert 2x") ≡ fails Syntax 0) × (of_first (codes "capcert 12") ≡ fails Syntax 0) × (of_first (codes "capcert 1 ") ≡ fails Syntax 0)
+    × (of_first (codes "capcert  2") ≡ fails Syntax 0) × (of_first (codes "capcert 2 1") ≡ fails Syntax 0) × (of_first (codes "capcert") ≡ fails Syntax 0)
+    × (of_first (codes "Capcert 2") ≡ fails Syntax 0) × (of_first [] ≡ fails Syntax 0) × (certificate_of_text (codes "capcert 2") ≡ fails Syntax 0)
 unfolding certificate_of_text read_behind line_of_text taken distinct_behind above_blocks above_channels may_bound_register may_bound_slot all_from on_last
-another_version = refl
+no_version = (refl, refl, refl, refl, refl, refl, refl, refl, refl, refl, refl, refl)
 
 -- the lines behind the first one
 abbrev of_lines : List (List ℕ) → Reading
@@ -42,6 +50,14 @@ of_lines lines = certificate_of_text (text (codes "capcert 1" ∷ (lines ++ code
 first_line_again : of_lines (codes "capcert 1" ∷ []) ≡ fails Syntax 10
 unfolding certificate_of_text read_behind line_of_text taken distinct_behind above_blocks above_channels may_bound_register may_bound_slot all_from on_last
 first_line_again = refl
+
+-- and where version 2 is told, before it or again
+both_versions :
+    (of_lines (codes "capcert 2" ∷ []) ≡ fails Syntax 10)
+    × (certificate_of_text (text (codes "capcert 2" ∷ codes "capcert 1" ∷ codes "end" ∷ [])) ≡ fails Syntax 10)
+    × (certificate_of_text (text (codes "capcert 2" ∷ codes "capcert 2" ∷ codes "end" ∷ [])) ≡ fails Syntax 10)
+unfolding certificate_of_text read_behind line_of_text taken distinct_behind above_blocks above_channels may_bound_register may_bound_slot all_from on_last
+both_versions = (refl, refl, refl)
 
 -- a line of a block that begins at 10; the line's offset is 24
 abbrev in_block : List ℕ → Reading

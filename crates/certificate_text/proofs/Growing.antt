@@ -52,7 +52,7 @@ whole-with c (Bounds_channel channel) whole = whole
 -- All blocks of a certificate are whole.
 whole : (c : Certificate) → IsCertificate c → AreWhole c.points
 unfolding AreWhole
-whole c begins = tt
+whole _ (begins version) = tt
 whole d (grows {c = c} is line proper take) =
     let made = (taken-is c d line take).1 in
     subst (λ e. AreWhole e.points) made (whole-with c line (whole c is))

@@ -1,6 +1,6 @@
 -- A certificate has one spelling: its text is read as it, and bytes that are read as it are its text.
 use Rattle.std.proofs.Common.{◌≡◌, ℕ, ◌+◌, Bool, true, false, cond, List, [], ◌∷◌, ◌++◌, length, refl, ap, sym, ◌∙◌, subst, append_assoc, append-nil}
-use Rattle.std.specs.Prelude.{◌==◌, Result, Ok, Err}
+use Rattle.std.specs.Prelude.{◌==◌, Option, Some, None, Result, Ok, Err}
 use Rattle.std.specs.List.{flat_map}
 use Rattle.std.specs.Str.{bytes_eq}
 use Rattle.std.proofs.lemmas.Grind.{flat_map-append}
@@ -8,11 +8,12 @@ use Rattle.rights.proofs.Words.{same_bytes}
 use Rattle.texts.specs.Lines.{Line as TextLine, lines_from}
 use Rattle.texts.specs.Parts.{joined, lacks, parts, parts_from}
 use Rattle.texts.proofs.WordLaws.{joined-parts, parts-more}
-use Rattle.certificate.specs.Bounds.{Certificate}
+use Rattle.certificate.specs.Bounds.{Version, One, Two, Certificate}
 use Rattle.certificate.specs.Growth.{IsCertificate, begins, grows, nothing, No_room, Out_of_order, Refused, taken}
 use Rattle.certificate.specs.Lines.{Line, is_line, lines_of}
+use Rattle.certificate.proofs.Growing.{taken_keeps}
 use Rattle.certificate_text.specs.Faults.{Fault, Syntax}
-use Rattle.certificate_text.specs.Readings.{answered, certificate_of_text, closed, fails, going_on, grown, line_of_text, read_behind, read_lines}
+use Rattle.certificate_text.specs.Readings.{answered, certificate_of_text, closed, fails, going_on, grown, line_of_text, read_behind, read_lines, read_versioned, version_of_line}
 use Rattle.certificate_text.specs.Texts.{certificate_text, ended, first_line, last_line, line_text}
 use Rattle.certificate_text.proofs.Growing.{lines-grow}
 use Rattle.certificate_text.proofs.LineBack.{line-back, text-goes-on, text-lacks}
@@ -78,13 +79,14 @@ one-line c d line offset lines proper take =
 
 -- the lines of a certificate are read as it, whatever follows them
 read-body : (c : Certificate) → IsCertificate c → (offset : ℕ) (rest : List ℕ)
-    → (behind : ℕ) × (read_behind nothing (lines_from offset (parts 10 (body (lines_of c) ++ rest))) ≡ read_behind c (lines_from behind (parts 10 rest)))
-read-body c begins offset rest = (offset, refl)
+    → (behind : ℕ) × (read_behind (nothing c.version) (lines_from offset (parts 10 (body (lines_of c) ++ rest))) ≡ read_behind c (lines_from behind (parts 10 rest)))
+read-body _ (begins version) offset rest = (offset, refl)
 read-body d (grows {c = c} is line proper take) offset rest =
     let before = read-body c is offset (ended (line_text line) ++ rest) in
     let text = ap (λ lines. body lines ++ rest) (lines-grow c d line is proper take) ∙ body-more (lines_of c) line rest in (
       before.0 + length (line_text line) + 1,
-      ap (λ t. read_behind nothing (lines_from offset (parts 10 t))) text ∙ before.1
+      ap (λ version. read_behind (nothing version) (lines_from offset (parts 10 (body (lines_of d) ++ rest)))) (taken_keeps c d line take)
+          ∙ ap (λ t. read_behind (nothing c.version) (lines_from offset (parts 10 t))) text ∙ before.1
           ∙ ap (read_behind c) (first-line before.0 (line_text line) rest (text-lacks line proper))
           ∙ one-line c d line before.0 (lines_from (before.0 + length (line_text line) + 1) (parts 10 rest)) proper take,
     )
@@ -93,18 +95,31 @@ at-end : (c : Certificate) (offset : ℕ) → read_behind c (lines_from offset (
 unfolding read_behind
 at-end c offset = refl
 
+-- the first line of each version is read as it
+version-back : (version : Version) (lines : List TextLine) → read_versioned 0 (version_of_line (first_line version)) lines ≡ read_behind (nothing version) lines
+version-back One lines = refl
+version-back Two lines = refl
+
+version-lacks : (version : Version) → lacks 10 (first_line version) ≡ true
+version-lacks One = refl
+version-lacks Two = refl
+
 -- The text of a certificate is read as that certificate.
 pub text-back : (c : Certificate) → IsCertificate c → certificate_of_text (certificate_text c) ≡ Ok c
 unfolding certificate_of_text
 text-back c is =
-    let read = read-body c is (0 + 9 + 1) (ended last_line) in
-    ap (λ text. read_lines (lines_from 0 (parts 10 text))) (append_assoc (ended first_line) (body (lines_of c)) (ended last_line))
-    ∙ ap read_lines (first-line 0 first_line (body (lines_of c) ++ ended last_line) refl) ∙ read.1 ∙ at-end c read.0
+    let first = first_line c.version in
+    let behind = 0 + length first + 1 in
+    let read = read-body c is behind (ended last_line) in
+    ap (λ text. read_lines (lines_from 0 (parts 10 text))) (append_assoc (ended first) (body (lines_of c)) (ended last_line))
+    ∙ ap read_lines (first-line 0 first (body (lines_of c) ++ ended last_line) (version-lacks c.version))
+    ∙ version-back c.version (lines_from behind (parts 10 (body (lines_of c) ++ ended last_line))) ∙ read.1 ∙ at-end c read.0
 
 -- A READING IS OF A TEXT
 
--- a certificate of which these bytes are the lines and the last line
-record Spelled (bytes : List ℕ) (c : Certificate) : Type 0 where
+-- a certificate of this version of which these bytes are the lines and the last line
+record Spelled (version : Version) (bytes : List ℕ) (c : Certificate) : Type 0 where
+  same : c.version ≡ version
   text : body (lines_of c) ++ ended last_line ≡ bytes
   made : IsCertificate c
 
@@ -120,45 +135,47 @@ closed-is c d next (text ∷ more ∷ texts) offset is = absurd cc
 
 -- the last line
 end-line : (c d : Certificate) (first next : List ℕ) (texts : List (List ℕ)) (offset : ℕ) → IsCertificate c → bytes_eq first last_line ≡ true
-    → closed c (lines_from offset (next ∷ texts)) ≡ Ok d → Spelled (body (lines_of c) ++ joined 10 (first ∷ next ∷ texts)) d
+    → closed c (lines_from offset (next ∷ texts)) ≡ Ok d → Spelled c.version (body (lines_of c) ++ joined 10 (first ∷ next ∷ texts)) d
 end-line c d first next texts offset is last closes =
     let rest = closed-is c d next texts offset closes in
     let first_is = same_bytes first last_line last in
     record {
+      same = ap (λ (e : Certificate). e.version) (sym rest.1);
       text = λ i. body (lines_of (sym rest.1 i)) ++ joined 10 (sym first_is i ∷ sym rest.0 i);
       made = subst IsCertificate rest.1 is;
     }
 
 -- a line that the certificate takes
 taken-line : (c d e : Certificate) (line : Line) (first rest : List ℕ) → IsCertificate c → line_of_text first ≡ Ok line → taken c line ≡ Ok e
-    → (IsCertificate e → Spelled (body (lines_of e) ++ rest) d) → Spelled (body (lines_of c) ++ (first ++ 10 ∷ rest)) d
+    → (IsCertificate e → Spelled e.version (body (lines_of e) ++ rest) d) → Spelled c.version (body (lines_of c) ++ (first ++ 10 ∷ rest)) d
 taken-line c d e line first rest is read take more =
     let fact = line-text first line read in
     let bytes =
     ap (λ lines. body lines ++ rest) (lines-grow c e line is fact.1 take) ∙ body-more (lines_of c) line rest
     ∙ ap (λ text. body (lines_of c) ++ (ended text ++ rest)) fact.0 ∙ ap (λ text. body (lines_of c) ++ text) (append_assoc first (10 ∷ []) rest)
     in
-    subst (λ text. Spelled text d) bytes (more (grows is line fact.1 take))
+    subst (λ version. Spelled version (body (lines_of c) ++ (first ++ 10 ∷ rest)) d) (taken_keeps c e line take)
+    (subst (λ text. Spelled e.version text d) bytes (more (grows is line fact.1 take)))
 
 -- a line that isn't the last one
 next-line : (c d : Certificate) (first rest : List ℕ) (offset : ℕ) (lines : List TextLine) → IsCertificate c
-    → ((e : Certificate) → IsCertificate e → read_behind e lines ≡ Ok d → Spelled (body (lines_of e) ++ rest) d)
-    → going_on offset (λ e. read_behind e lines) (grown c (line_of_text first)) ≡ Ok d → Spelled (body (lines_of c) ++ (first ++ 10 ∷ rest)) d
+    → ((e : Certificate) → IsCertificate e → read_behind e lines ≡ Ok d → Spelled e.version (body (lines_of e) ++ rest) d)
+    → going_on offset (λ e. read_behind e lines) (grown c (line_of_text first)) ≡ Ok d → Spelled c.version (body (lines_of c) ++ (first ++ 10 ∷ rest)) d
 next-line c d first rest offset lines is more reads = go (line_of_text first) refl reads
   where
     grow : (line : Line) → line_of_text first ≡ Ok line → (after : Result Certificate Refused) → taken c line ≡ after
-        → going_on offset (λ e. read_behind e lines) (answered after) ≡ Ok d → Spelled (body (lines_of c) ++ (first ++ 10 ∷ rest)) d
+        → going_on offset (λ e. read_behind e lines) (answered after) ≡ Ok d → Spelled c.version (body (lines_of c) ++ (first ++ 10 ∷ rest)) d
     grow line read (Ok e) take reads = taken-line c d e line first rest is read take (λ made. more e made reads)
     grow line read (Err No_room) take reads = absurd cc
     grow line read (Err Out_of_order) take reads = absurd cc
 
-    go : (read : Result Line Fault) → line_of_text first ≡ read → going_on offset (λ e. read_behind e lines) (grown c read) ≡ Ok d → Spelled (body (lines_of c) ++ (first ++ 10 ∷ rest)) d
+    go : (read : Result Line Fault) → line_of_text first ≡ read → going_on offset (λ e. read_behind e lines) (grown c read) ≡ Ok d → Spelled c.version (body (lines_of c) ++ (first ++ 10 ∷ rest)) d
     go (Ok line) read reads = grow line read (taken c line) refl reads
     go (Err fault) read reads = absurd cc
 
 -- the lines behind those that made a certificate
 read-texts : (c d : Certificate) (first : List ℕ) (texts : List (List ℕ)) (offset : ℕ) → IsCertificate c → read_behind c (lines_from offset (first ∷ texts)) ≡ Ok d
-    → Spelled (body (lines_of c) ++ joined 10 (first ∷ texts)) d
+    → Spelled c.version (body (lines_of c) ++ joined 10 (first ∷ texts)) d
 unfolding read_behind
 read-texts c d first [] offset is reads = absurd cc
 read-texts c d first (next ∷ texts) offset is reads =
@@ -168,29 +185,39 @@ read-texts c d first (next ∷ texts) offset is reads =
     lines = lines_from (offset + length first + 1) (next ∷ texts)
 
     go : (last : Bool) → bytes_eq first last_line ≡ last
-        → ((e : Certificate) → IsCertificate e → read_behind e lines ≡ Ok d → Spelled (body (lines_of e) ++ joined 10 (next ∷ texts)) d)
+        → ((e : Certificate) → IsCertificate e → read_behind e lines ≡ Ok d → Spelled e.version (body (lines_of e) ++ joined 10 (next ∷ texts)) d)
         → cond last (closed c lines) (going_on offset (λ e. read_behind e lines) (grown c (line_of_text first))) ≡ Ok d
-        → Spelled (body (lines_of c) ++ joined 10 (first ∷ next ∷ texts)) d
+        → Spelled c.version (body (lines_of c) ++ joined 10 (first ∷ next ∷ texts)) d
     go true last more reads = end-line c d first next texts (offset + length first + 1) is last reads
     go false last more reads = next-line c d first (joined 10 (next ∷ texts)) offset lines is more reads
+
+-- a line that tells a version is that version's first one
+version-line : (text : List ℕ) (version : Version) → version_of_line text ≡ Some version → text ≡ first_line version
+version-line text version tells = go (bytes_eq text (first_line One)) (bytes_eq text (first_line Two)) refl refl tells
+  where
+    go : (first second : Bool) → bytes_eq text (first_line One) ≡ first → bytes_eq text (first_line Two) ≡ second
+        → cond first (Some One) (cond second (Some Two) None) ≡ Some version → text ≡ first_line version
+    go true second one two tells = let is : One ≡ version = cc in same_bytes text (first_line One) one ∙ ap first_line is
+    go false true one two tells = let is : Two ≡ version = cc in same_bytes text (first_line Two) two ∙ ap first_line is
+    go false false one two tells = absurd cc
 
 -- the lines of a text, from the first one on
 whole-text : (c : Certificate) (texts : List (List ℕ)) → is_some_text texts ≡ true → read_lines (lines_from 0 texts) ≡ Ok c → (certificate_text c ≡ joined 10 texts) × IsCertificate c
 unfolding is_some_text
 whole-text c [] some reads = absurd cc
 whole-text c (first ∷ []) some reads = absurd cc
-whole-text c (first ∷ next ∷ texts) some reads = go (bytes_eq first first_line) refl reads
+whole-text c (first ∷ next ∷ texts) some reads = go (version_of_line first) refl reads
   where
-    go : (same : Bool) → bytes_eq first first_line ≡ same → cond same (read_behind nothing (lines_from (0 + length first + 1) (next ∷ texts))) (fails Syntax 0) ≡ Ok c
+    go : (told : Option Version) → version_of_line first ≡ told → read_versioned 0 told (lines_from (0 + length first + 1) (next ∷ texts)) ≡ Ok c
         → (certificate_text c ≡ joined 10 (first ∷ next ∷ texts)) × IsCertificate c
-    go true same reads =
-        let rest = read-texts nothing c next texts (0 + length first + 1) begins reads in
-        let first_is = same_bytes first first_line same in (
-          append_assoc (ended first_line) (body (lines_of c)) (ended last_line) ∙ ap (λ text. ended first_line ++ text) rest.text
-              ∙ append_assoc first_line (10 ∷ []) (joined 10 (next ∷ texts)) ∙ ap (λ line. line ++ 10 ∷ joined 10 (next ∷ texts)) (sym first_is),
+    go (Some version) tells reads =
+        let rest = read-texts (nothing version) c next texts (0 + length first + 1) (begins version) reads in
+        let first_is : first_line c.version ≡ first = ap first_line rest.same ∙ sym (version-line first version tells) in (
+          append_assoc (ended (first_line c.version)) (body (lines_of c)) (ended last_line) ∙ ap (λ text. ended (first_line c.version) ++ text) rest.text
+              ∙ append_assoc (first_line c.version) (10 ∷ []) (joined 10 (next ∷ texts)) ∙ ap (λ line. line ++ 10 ∷ joined 10 (next ∷ texts)) first_is,
           rest.made,
         )
-    go false same reads = absurd cc
+    go None tells reads = absurd cc
 
 -- Bytes that are read as a certificate are its text, and it is one that lines make.
 pub text-read : (text : List ℕ) (c : Certificate) → certificate_of_text text ≡ Ok c → (certificate_text c ≡ text) × IsCertificate c

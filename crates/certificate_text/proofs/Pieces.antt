@@ -2,7 +2,7 @@
 use Rattle.std.proofs.Common.{◌≡◌, ℕ, ◌+◌, Bool, true, false, cond, List, [], ◌∷◌, ◌++◌, map, refl, ap, sym, ◌∙◌, append_assoc}
 use Rattle.std.specs.List.{flat_map}
 use Rattle.certificate.specs.Bounds.{Interval, Slot, PointBound, ChannelBound, Certificate}
-use Rattle.certificate.specs.Lines.{Begins_block, Bounds_channel, Bounds_register, Bounds_slot, block_lines, is_closed, is_full, register_lines, slot_lines}
+use Rattle.certificate.specs.Lines.{Begins_block, Bounds_channel, Bounds_register, Bounds_slot, block_lines, is_closed, is_full, lines_of, register_lines, slot_lines}
 use Rattle.certificate_text.specs.Pieces.{block_text, channel_text, in_order, line_ended, register_text, slot_text}
 use Rattle.certificate_text.specs.Texts.{certificate_text, ended, first_line, last_line}
 
@@ -45,10 +45,11 @@ unfolding in_order
 channels-text n [] = refl
 channels-text n (channel ∷ channels) = ap (λ rest. channel_text channel ++ rest) (channels-text (n + 1) channels)
 
-pub whole-text : (c : Certificate) → ended first_line ++ (in_order (λ n. block_text) 0 c.points ++ (in_order (λ n. channel_text) 0 c.channels ++ ended last_line)) ≡ certificate_text c
+pub whole-text : (c : Certificate) → ended (first_line c.version) ++ (in_order (λ n. block_text) 0 c.points ++ (in_order (λ n. channel_text) 0 c.channels ++ ended last_line)) ≡ certificate_text c
 whole-text c =
-    ap (λ rest. ended first_line ++ rest)
+    ap (λ rest. ended (first_line c.version) ++ rest)
     (ap (λ text. text ++ (in_order (λ n. channel_text) 0 c.channels ++ ended last_line)) (blocks-text 0 c.points)
     ∙ ap (λ text. flat_map line_ended (flat_map block_lines c.points) ++ (text ++ ended last_line)) (channels-text 0 c.channels)
     ∙ sym (append_assoc (flat_map line_ended (flat_map block_lines c.points)) (flat_map line_ended (map Bounds_channel c.channels)) (ended last_line))
     ∙ ap (λ text. text ++ ended last_line) (sym (flat-more line_ended (flat_map block_lines c.points) (map Bounds_channel c.channels))))
+    ∙ sym (append_assoc (ended (first_line c.version)) (flat_map line_ended (lines_of c)) (ended last_line))

@@ -2,7 +2,7 @@
 use Rattle.std.specs.Prelude.{ℕ, List, [], ◌∷◌, ◌++◌, codes, Some, None}
 use Rattle.std.specs.List.{flat_map}
 use Rattle.rights.specs.Classes.{Initial, Made_at}
-use Rattle.certificate.specs.Bounds.{ModeBound, Off, On, Either, In_grant, Socket, Unknown, Held, Open, Maybe, Bound, PointBound, Certificate, with_interval, with_slot}
+use Rattle.certificate.specs.Bounds.{ModeBound, Off, On, Either, In_grant, Socket, Unknown, Held, Open, Maybe, Bound, PointBound, One, Certificate, with_interval, with_slot}
 use Rattle.certificate.specs.Growth.{open_bound}
 use Rattle.certificate_text.specs.Texts.{ended}
 
@@ -21,7 +21,7 @@ at_main point bound = record { program = codes "main"; point = point; bound = bo
 
 -- three points of one program, with two directories open
 abbrev pub three_points : Certificate
-three_points = record { points = at_main 0 (two_grants Off) ∷ at_main 1 (two_grants On) ∷ at_main 2 (two_grants On) ∷ []; channels = [] }
+three_points = record { version = One; points = at_main 0 (two_grants Off) ∷ at_main 1 (two_grants On) ∷ at_main 2 (two_grants On) ∷ []; channels = [] }
 
 abbrev pub work_line : List ℕ
 work_line = codes "fd 0 open grant work 3fff 3fff 3 3"
@@ -53,6 +53,7 @@ anything = record { target = Unknown; least = 0; greatest = 0x3fff; least_fcntls
 
 abbrev pub with_channels : Certificate
 with_channels = record {
+  version = One;
   points =
       at_main 255
       (with_slot (with_slot (with_slot (with_interval (open_bound Either) 7 (record { low = 1; high = 4294967295 })) 0 (Maybe one_end)) 3 (Open made_end)) 15 (Maybe anything))

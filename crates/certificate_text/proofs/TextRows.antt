@@ -1,7 +1,8 @@
 -- Certificates have their texts, and these are read as them, by computation.
-use Rattle.std.proofs.Common.{◌≡◌, refl}
+use Rattle.std.proofs.Common.{◌≡◌, ap, arith, refl}
+use Rattle.std.specs.List.{slice_index_or}
 use Rattle.std.specs.Prelude.{[], ◌∷◌, codes, length, Ok}
-use Rattle.certificate.specs.Bounds.{Off, Certificate}
+use Rattle.certificate.specs.Bounds.{Off, Version, One, Two, Certificate}
 use Rattle.certificate.specs.Growth.{nothing, open_bound, taken, distinct_behind, above_blocks, above_channels, may_bound_register, may_bound_slot, all_from, on_last}
 use Rattle.certificate.specs.Lines.{register_lines, slot_lines}
 use Rattle.std.specs.Fmt.{digits}
@@ -28,18 +29,37 @@ with_channels_read : certificate_of_text (text channel_lines) ≡ Ok with_channe
 unfolding certificate_of_text read_behind line_of_text taken distinct_behind above_blocks above_channels may_bound_register may_bound_slot all_from on_last
 with_channels_read = refl
 
-nothing_read : certificate_of_text (text (codes "capcert 1" ∷ codes "end" ∷ [])) ≡ Ok nothing
+nothing_read : certificate_of_text (text (codes "capcert 1" ∷ codes "end" ∷ [])) ≡ Ok (nothing One)
 unfolding certificate_of_text read_behind line_of_text taken distinct_behind above_blocks above_channels may_bound_register may_bound_slot all_from on_last
 nothing_read = refl
 
--- a block without lines is another certificate than none
-abbrev empty_block : Certificate
-empty_block = record { points = at_main 0 (open_bound Off) ∷ []; channels = [] }
+nothing_of_version_2_read : certificate_of_text (text (codes "capcert 2" ∷ codes "end" ∷ [])) ≡ Ok (nothing Two)
+unfolding certificate_of_text read_behind line_of_text taken distinct_behind above_blocks above_channels may_bound_register may_bound_slot all_from on_last
+nothing_of_version_2_read = refl
 
-empty_block_text : certificate_text empty_block ≡ text (codes "capcert 1" ∷ codes "at main 0 off" ∷ codes "end" ∷ [])
+-- a block without lines is another certificate than none
+abbrev empty_block : Version → Certificate
+empty_block version = record { version = version; points = at_main 0 (open_bound Off) ∷ []; channels = [] }
+
+empty_block_text : certificate_text (empty_block One) ≡ text (codes "capcert 1" ∷ codes "at main 0 off" ∷ codes "end" ∷ [])
 unfolding digits line_text register_lines slot_lines
 empty_block_text = refl
 
-empty_block_read : certificate_of_text (text (codes "capcert 1" ∷ codes "at main 0 off" ∷ codes "end" ∷ [])) ≡ Ok empty_block
+empty_block_read : certificate_of_text (text (codes "capcert 1" ∷ codes "at main 0 off" ∷ codes "end" ∷ [])) ≡ Ok (empty_block One)
 unfolding certificate_of_text read_behind line_of_text taken distinct_behind above_blocks above_channels may_bound_register may_bound_slot all_from on_last
 empty_block_read = refl
+
+-- the same block in version 2
+block_of_version_2_text : certificate_text (empty_block Two) ≡ text (codes "capcert 2" ∷ codes "at main 0 off" ∷ codes "end" ∷ [])
+unfolding digits line_text register_lines slot_lines
+block_of_version_2_text = refl
+
+block_of_version_2_read : certificate_of_text (text (codes "capcert 2" ∷ codes "at main 0 off" ∷ codes "end" ∷ [])) ≡ Ok (empty_block Two)
+unfolding certificate_of_text read_behind line_of_text taken distinct_behind above_blocks above_channels may_bound_register may_bound_slot all_from on_last
+block_of_version_2_read = refl
+
+-- Certificates that differ in their version alone have different texts.
+versions_differ : (c : Certificate) → certificate_text (record c { version = One }) ≡ certificate_text (record c { version = Two }) → ⊥
+versions_differ c same =
+    let ninth : 49 ≡ 50 = ap (λ text. slice_index_or text 8 0) same in
+    absurd (omega (arith, ninth))

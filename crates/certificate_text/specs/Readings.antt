@@ -1,10 +1,10 @@
 -- The certificate that bytes stand for, or the fault of the first faulty line. (own)
-use Rattle.std.specs.Prelude.{◌&&◌, ℕ, List, [], ◌∷◌, Result, Ok, Err, if◌then◌else◌}
+use Rattle.std.specs.Prelude.{ℕ, List, [], ◌∷◌, Option, Some, None, Result, Ok, Err, if◌then◌else◌}
 use Rattle.std.specs.Str.{bytes_eq}
 use Rattle.texts.specs.Bytes.{space}
 use Rattle.texts.specs.Lines.{Line as TextLine, lines_of}
 use Rattle.texts.specs.Parts.{parts}
-use Rattle.certificate.specs.Bounds.{Certificate}
+use Rattle.certificate.specs.Bounds.{Version, One, Two, Certificate}
 use Rattle.certificate.specs.Growth.{Refused, No_room, Out_of_order, nothing, taken}
 use Rattle.certificate.specs.Lines.{Line}
 use Rattle.certificate_text.specs.Faults.{Fault, Syntax, Limit, Order, Faulty}
@@ -52,10 +52,22 @@ read_behind c (line ∷ lines) =
     then (if bytes_eq line.text last_line then closed c lines else going_on line.offset (λ d. read_behind d lines) (grown c (line_of_text line.text)))
     else fails Syntax line.offset
 
+-- the version that a first line tells, if it is one
+abbrev pub version_of_line : List ℕ → Option Version
+version_of_line text =
+    if bytes_eq text (first_line One) then Some One
+    else if bytes_eq text (first_line Two) then Some Two
+    else None
+
+-- The lines behind the first one, which begins there and may tell a version.
+abbrev pub read_versioned : ℕ → Option Version → List TextLine → Reading
+read_versioned offset (Some version) lines = read_behind (nothing version) lines
+read_versioned offset None lines = fails Syntax offset
+
 abbrev pub read_lines : List TextLine → Reading
 read_lines [] = fails Syntax 0
 read_lines (line ∷ lines) =
-    if line.is_ended && bytes_eq line.text first_line then read_behind nothing lines else fails Syntax line.offset
+    if line.is_ended then read_versioned line.offset (version_of_line line.text) lines else fails Syntax line.offset
 
 unfoldable pub certificate_of_text : List ℕ → Reading
 certificate_of_text text = read_lines (lines_of text)

@@ -1,4 +1,4 @@
--- The text of a certificate, version 1: a line of each kind, one space between words, each line with its line feed. (own)
+-- The text of a certificate: its version, a line of each kind, one space between words, each line with its line feed. (own)
 use Rattle.std.specs.Prelude.{ℕ, zero, suc, List, [], ◌∷◌, ◌++◌, codes, Option, Some, None}
 use Rattle.std.specs.Fmt.{decimal}
 use Rattle.std.specs.List.{flat_map}
@@ -6,7 +6,7 @@ use Rattle.rights.specs.Classes.{Class, Initial, Made_at}
 use Rattle.texts.specs.Bytes.{colon, line_feed, space}
 use Rattle.texts.specs.Hex.{hex_text}
 use Rattle.texts.specs.Parts.{joined}
-use Rattle.certificate.specs.Bounds.{ModeBound, Off, On, Either, Target, In_grant, Any_node, Socket, Unknown, Held, Slot, Closed, Open, Maybe, Certificate}
+use Rattle.certificate.specs.Bounds.{ModeBound, Off, On, Either, Target, In_grant, Any_node, Socket, Unknown, Held, Slot, Closed, Open, Maybe, Version, One, Two, Certificate}
 use Rattle.certificate.specs.Lines.{Line, Begins_block, Bounds_register, Bounds_slot, Bounds_channel, lines_of}
 
 -- the bytes `@` and `r`
@@ -61,8 +61,10 @@ line_words (Bounds_channel channel) = codes "chan" ∷ class_word channel.class 
 unfoldable pub line_text : Line → List ℕ
 line_text line = joined space (line_words line)
 
-abbrev pub first_line : List ℕ
-first_line = codes "capcert 1"
+-- the first line tells the version
+abbrev pub first_line : Version → List ℕ
+first_line One = codes "capcert 1"
+first_line Two = codes "capcert 2"
 
 abbrev pub last_line : List ℕ
 last_line = codes "end"
@@ -71,4 +73,4 @@ abbrev pub ended : List ℕ → List ℕ
 ended text = text ++ line_feed ∷ []
 
 abbrev pub certificate_text : Certificate → List ℕ
-certificate_text c = ended first_line ++ flat_map (λ line. ended (line_text line)) (lines_of c) ++ ended last_line
+certificate_text c = ended (first_line c.version) ++ flat_map (λ line. ended (line_text line)) (lines_of c) ++ ended last_line

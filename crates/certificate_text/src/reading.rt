@@ -1,13 +1,14 @@
 //! How a certificate is read.
 
-ghost use Rattle.std.specs.Prelude.{◌≡◌, IfOk};
-ghost use Rattle.certificate_text.specs.Readings.{certificate_of_text, closed, grown, line_of_text, read_behind, read_lines};
+ghost use Rattle.std.specs.Prelude.{◌≡◌, IfOk, option_map};
+ghost use Rattle.certificate.specs.Views.{version_of};
+ghost use Rattle.certificate_text.specs.Readings.{certificate_of_text, closed, grown, line_of_text, read_behind, read_lines, version_of_line};
 ghost use Rattle.certificate_text.specs.Texts.{certificate_text};
 ghost use Rattle.certificate_text.specs.Views.{ReadsCert, TakesLine};
 
 use crate::faults::CertFault;
 use crate::lines::read_line;
-use certificate::{Cert, Refusal};
+use certificate::{Cert, Refusal, Version};
 use std::alloc::Global;
 use texts::Lines;
 
@@ -57,6 +58,19 @@ fn read_body(mut cert: Cert, mut lines: Lines<'_>) -> Result<Cert, CertFault>
     Err(CertFault::Syntax(0))
 }
 
+/// The version that a first line tells, if it is one.
+fn read_version(text: &[u8]) -> Option<Version>
+    ensures { option_map version_of result ≡ version_of_line text.now }
+{
+    if text == b"capcert 1".as_slice() {
+        Some(Version::One)
+    } else if text == b"capcert 2".as_slice() {
+        Some(Version::Two)
+    } else {
+        None
+    }
+}
+
 /// Reads all lines.
 fn read_lines(alloc: Global, mut lines: Lines<'_>) -> Result<Cert, CertFault>
     ensures { ReadsCert result (read_lines lines.entry) }
@@ -64,14 +78,17 @@ fn read_lines(alloc: Global, mut lines: Lines<'_>) -> Result<Cert, CertFault>
     let Some(first) = lines.next() else {
         return Err(CertFault::Syntax(0));
     };
-    if !first.is_ended || first.text != b"capcert 1".as_slice() {
+    if !first.is_ended {
         return Err(CertFault::Syntax(first.offset));
     }
-    read_body(Cert::new(alloc), lines)
+    let Some(version) = read_version(first.text) else {
+        return Err(CertFault::Syntax(first.offset));
+    };
+    read_body(Cert::new(alloc, version), lines)
 }
 
-/// Reads a certificate, version 1: the one whose text the bytes are, or the fault of their first faulty line, and of that
-/// line's faults the first of `Syntax`, `Limit` and `Order`, with where the line begins. Only want of memory may come
+/// Reads a certificate of either version: the one whose text the bytes are, or the fault of their first faulty line, and of
+/// that line's faults the first of `Syntax`, `Limit` and `Order`, with where the line begins. Only want of memory may come
 /// instead. No other bytes are read as that certificate. (own)
 #[tactic(auto, unfolding(crate::specs::Readings::certificate_of_text))]
 pub fn read_cert(alloc: Global, bytes: &[u8]) -> Result<Cert, CertFault>

@@ -5,8 +5,8 @@ ghost use Rattle.std.specs.Fmt.{decimal};
 ghost use Rattle.texts.specs.Bytes.{colon, space};
 ghost use Rattle.texts.specs.Parts.{joined};
 ghost use Rattle.certificate.specs.Lines.{Begins_block};
-ghost use Rattle.certificate.specs.Views.{bound_of, channel_of, channels_of, class_of, interval_of, line_of, point_of, points_of, slot_of};
-ghost use Rattle.certificate_text.specs.Texts.{certificate_text, class_word, ended, last_line, line_text};
+ghost use Rattle.certificate.specs.Views.{bound_of, channel_of, channels_of, class_of, interval_of, line_of, point_of, points_of, slot_of, version_of};
+ghost use Rattle.certificate_text.specs.Texts.{certificate_text, class_word, ended, first_line, last_line, line_text};
 ghost use Rattle.certificate_text.specs.Readings.{certificate_of_text};
 ghost use Rattle.certificate_text.specs.Pieces.{block_text, channel_text, in_order, register_text, slot_text};
 ghost use Rattle.certificate_text.specs.WordViews.{word_text};
@@ -14,7 +14,7 @@ ghost use Rattle.certificate_text.specs.Writings.{Writes};
 
 use crate::line_words::{Word, words_of_line};
 use bitflags::Flags;
-use certificate::{Bound, Cert, Channel, Class, Interval, Line, Point, Slot};
+use certificate::{Bound, Cert, Channel, Class, Interval, Line, Point, Slot, Version};
 use rights::{Out, Stop, write_all};
 use texts::{Decimal, four_digits};
 
@@ -267,9 +267,19 @@ fn write_body<W: Out>(out: &mut W, points: &[Point], channels: &[Channel]) -> Re
     write_end(out, channels)
 }
 
-/// Writes the text of a certificate. `Device` is answered only after a failure of the writer, and what it took then is a
-/// beginning of the text; nothing else is answered, since it takes no memory. That text is read as this certificate, and
-/// no other is. (own)
+/// The first line of a certificate of this version, with its line feed.
+fn version_line(version: Version) -> &'static [u8]
+    ensures { result.now ≡ ended (first_line (version_of version)) }
+{
+    match version {
+        Version::One => b"capcert 1\n",
+        Version::Two => b"capcert 2\n",
+    }
+}
+
+/// Writes the text of a certificate of either version. `Device` is answered only after a failure of the writer, and what it
+/// took then is a beginning of the text; nothing else is answered, since it takes no memory. That text is read as this
+/// certificate, and no other is. (own)
 pub fn write_cert<W: Out>(cert: &Cert, out: &mut W) -> Result<(), Stop>
     requires { W.faults out.old < 2 ^ 64 - 1 }
     ensures written { Writes result (W.taken out.old) (W.taken out.new) (W.faults out.old) (W.faults out.new)
@@ -278,6 +288,6 @@ pub fn write_cert<W: Out>(cert: &Cert, out: &mut W) -> Result<(), Stop>
     ensures alone { (text : List ℕ) → certificate_of_text text ≡ Ok cert.now → text ≡ certificate_text cert.now }
 {
     let (points, channels) = (cert.points(), cert.channels());
-    write_bytes(out, b"capcert 1\n")?;
+    write_bytes(out, version_line(cert.version()))?;
     write_body(out, points, channels)
 }

@@ -1,2 +1,4 @@
 pub mod PastEnds
 pub mod Named
+pub mod Standing
+pub mod KnownLimits

@@ -17,7 +17,7 @@ use Rattle.rules.specs.Points.{instruction_at}
 use Rattle.task.specs.Plans.{program_name}
 use Rattle.rules.specs.Verdicts.{MeetsRules, found_with, found_at}
 
-no_instruction : (plan : Plan) (certificate : Certificate) (program point : ℕ) → instruction_at plan program point ≡ None → found_at plan certificate program point ≡ None
+pub no_instruction : (plan : Plan) (certificate : Certificate) (program point : ℕ) → instruction_at plan program point ≡ None → found_at plan certificate program point ≡ None
 unfolding found_at found_with
 no_instruction plan certificate program point none =
     ap (λ o. found_with plan certificate program point o (bound_at certificate (program_name plan program) point)) none
@@ -27,7 +27,7 @@ past_programs plan certificate program point past =
     no_instruction plan certificate program point (ap (λ p. slice_get (code_in p) point) (slice_get_past plan.programs program past))
 
 -- the code of a program at a place of the list
-program_here : (plan : Plan) (items : List NamedProgramCode) (n : ℕ) (x : NamedProgramCode) → programs_of items ≡ plan.programs → n < length items → x ≡ slice_index_or items n x → programs_of_plan plan n ≡ x.program
+pub program_here : (plan : Plan) (items : List NamedProgramCode) (n : ℕ) (x : NamedProgramCode) → programs_of items ≡ plan.programs → n < length items → x ≡ slice_index_or items n x → programs_of_plan plan n ≡ x.program
 program_here plan items n x same below is =
     ap (λ programs. code_in (slice_get programs n)) (sym same)
     ∙ ap code_in (slice_get-map program_of items n)

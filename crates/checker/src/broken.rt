@@ -1,17 +1,21 @@
 //! The rules at a point of a program, in the order of their numbers.
 
-ghost use Rattle.std.specs.Prelude.{◌≡◌, ℕ, IfSome, None, drop, not, take};
+ghost use Rattle.std.specs.Prelude.{◌≡◌, ◌+◌, ℕ, IfSome, None, drop, not, option_map, take, true};
 ghost use Rattle.certificate.specs.Views.{bound_of, name_of};
+ghost use Rattle.checker.specs.Sites.{CarriesOn, StandsAt, expansion_at, tests_at};
 ghost use Rattle.prog_asm.specs.Views.{instruction_of};
 ghost use Rattle.rules.specs.Channels.{all_have_channels};
 ghost use Rattle.rules.specs.Demands.{demands, keeps_beneath, keeps_numbers, keeps_single};
+ghost use Rattle.rules.specs.Expansions.{carried_to, expansion};
 ghost use Rattle.rules.specs.Points.{instruction_at};
-ghost use Rattle.rules.specs.Rules.{least_broken, of_call, tests};
+ghost use Rattle.rules.specs.Rules.{least_broken, of_call};
 ghost use Rattle.rules.specs.Uses.{uses};
 ghost use Rattle.rules.specs.Verdicts.{found_at, found_with};
 ghost use Rattle.task.specs.Plans.{program_name};
+ghost use Rattle.transfer.specs.Limits.{leaves_known};
 
 use crate::arrivals::{failure_there, failure_within, successes_there, successes_within};
+use crate::carrying::bound_with;
 use crate::points::instruction_at;
 use crate::starts::{is_started, starts_within};
 use crate::uses::{
@@ -64,30 +68,41 @@ fn keeps_global_names(instruction: &Instruction) -> bool
 }
 
 /// Whether the channels are known that a call uses.
-fn all_have_channels(cert: &Cert, bound: &Bound, instruction: &Instruction) -> bool
-    ensures { result ≡ of_call (λ call. all_have_channels cert.now (uses (bound_of bound.now) call)) (instruction_of instruction.now) }
+#[tactic(auto, using(rules::proofs::Channelled::expansion_channels))]
+fn all_have_channels(site: &Site<'_>, instruction: &Instruction) -> bool
+    ensures { result ≡ of_call (λ call. all_have_channels (expansion_at site.now) (uses (bound_of site.now.bound.now) call))
+        (instruction_of instruction.now) }
 {
     match instruction {
-        Instruction::Invoke { call, .. } => transfer::all_have_channels(cert, bound, call),
+        Instruction::Invoke { call, .. } => {
+            transfer::all_have_channels(site.cert, site.bound, call)
+        }
         _ => true,
     }
 }
 
-/// The least of the rules 1 to 8 that is broken at a point with a bound.
+/// The least of the rules 1 to 8 that is broken at a point with a bound, which carries this on.
 #[tactic(auto, unfolding(rules::specs::Rules::tests))]
-fn broken_first(site: &Site<'_>, program: u8, instruction: &Instruction) -> Option<u8>
-    requires { name_of site.now.name.now ≡ program_name site.now.task.now program }
-    ensures { result ≡ least_broken (take 8 (tests site.now.task.now site.now.cert.now program site.now.point
-        (instruction_of instruction.now) (bound_of site.now.bound.now))) }
+fn broken_first(
+    site: &Site<'_>,
+    program: u8,
+    carried: &Option<Bound>,
+    instruction: &Instruction,
+) -> Option<u8>
+    requires name { name_of site.now.name.now ≡ program_name site.now.task.now program }
+    requires stands { StandsAt site.now (instruction_of instruction.now) }
+    requires carries { CarriesOn site.now carried.now }
+    requires known { leaves_known (instruction_of instruction.now) ≡ true }
+    ensures { result ≡ least_broken (take 8 (tests_at site.now program (instruction_of instruction.now))) }
 {
     let bound = site.bound;
     if !starts_within(site.task, program, site.point, bound) {
         return Some(1);
     }
-    if !successes_within(site, instruction) {
+    if !successes_within(site, carried, instruction) {
         return Some(2);
     }
-    if !failure_within(site, instruction) {
+    if !failure_within(site, carried, instruction) {
         return Some(3);
     }
     if !keeps_single(bound, instruction) {
@@ -110,10 +125,17 @@ fn broken_first(site: &Site<'_>, program: u8, instruction: &Instruction) -> Opti
 
 /// The least of the rules 9 to 16.
 #[tactic(auto, unfolding(rules::specs::Rules::tests))]
-fn broken_last(site: &Site<'_>, program: u8, instruction: &Instruction) -> Option<u8>
-    requires { name_of site.now.name.now ≡ program_name site.now.task.now program }
-    ensures { result ≡ least_broken (drop 8 (tests site.now.task.now site.now.cert.now program site.now.point
-        (instruction_of instruction.now) (bound_of site.now.bound.now))) }
+fn broken_last(
+    site: &Site<'_>,
+    program: u8,
+    carried: &Option<Bound>,
+    instruction: &Instruction,
+) -> Option<u8>
+    requires name { name_of site.now.name.now ≡ program_name site.now.task.now program }
+    requires stands { StandsAt site.now (instruction_of instruction.now) }
+    requires carries { CarriesOn site.now carried.now }
+    requires known { leaves_known (instruction_of instruction.now) ≡ true }
+    ensures { result ≡ least_broken (drop 8 (tests_at site.now program (instruction_of instruction.now))) }
 {
     let (task, cert, bound) = (site.task, site.cert, site.bound);
     if !each_use(bound, instruction, &KeepsLimit) {
@@ -131,32 +153,39 @@ fn broken_last(site: &Site<'_>, program: u8, instruction: &Instruction) -> Optio
     if !each_use(bound, instruction, &MovesWithin) {
         return Some(13);
     }
-    if !each_use(bound, instruction, &KeepsChannelBound { cert }) {
+    if !each_use(bound, instruction, &KeepsChannelBound { task, cert }) {
         return Some(14);
     }
-    if !all_have_channels(cert, bound, instruction) {
+    if !all_have_channels(site, instruction) {
         return Some(15);
     }
-    if !(successes_there(site, instruction) && failure_there(site, instruction)) {
+    if !(successes_there(site, carried, instruction) && failure_there(site, carried, instruction)) {
         return Some(16);
     }
     None
 }
 
-/// The least rule that is broken at a point with a bound.
-fn broken_with(site: &Site<'_>, program: u8, instruction: &Instruction) -> Option<u8>
-    requires { name_of site.now.name.now ≡ program_name site.now.task.now program }
-    ensures { result ≡ least_broken (tests site.now.task.now site.now.cert.now program site.now.point
-        (instruction_of instruction.now) (bound_of site.now.bound.now)) }
+/// The least rule that is broken at a point with a bound, which carries this on.
+fn broken_with(
+    site: &Site<'_>,
+    program: u8,
+    carried: &Option<Bound>,
+    instruction: &Instruction,
+) -> Option<u8>
+    requires name { name_of site.now.name.now ≡ program_name site.now.task.now program }
+    requires stands { StandsAt site.now (instruction_of instruction.now) }
+    requires carries { CarriesOn site.now carried.now }
+    requires known { leaves_known (instruction_of instruction.now) ≡ true }
+    ensures { result ≡ least_broken (tests_at site.now program (instruction_of instruction.now)) }
 {
-    match broken_first(site, program, instruction) {
-        None => broken_last(site, program, instruction),
+    match broken_first(site, program, carried, instruction) {
+        None => broken_last(site, program, carried, instruction),
         Some(rule) => Some(rule),
     }
 }
 
 /// The name of a program of the task; where it has none, it has no instructions.
-fn name_at(task: &Task, program: u8) -> Option<Name>
+pub(crate) fn name_at(task: &Task, program: u8) -> Option<Name>
     ensures some { IfSome result (λ name. name_of name ≡ program_name task.now program) }
     ensures none { result ≡ None → (point : ℕ) → instruction_at task.now program point ≡ None }
 {
@@ -164,16 +193,27 @@ fn name_at(task: &Task, program: u8) -> Option<Name>
     Name::read(task.program_name(program))
 }
 
-/// The least rule that is broken at a point of a program, if one is. At a point that isn't one there is nothing to find.
+/// The least rule that is broken at a point of a program, if one is, where these bounds are carried to it and on from it. At a
+/// point that isn't one there is nothing to find.
 #[tactic(auto, unfolding(rules::specs::Verdicts::found_at, rules::specs::Verdicts::found_with, rules::specs::Rules::tests_without))]
-pub(crate) fn found_at(task: &Task, cert: &Cert, program: u8, point: u8) -> Option<u8>
-    ensures { result ≡ found_at task.now cert.now program point }
+pub(crate) fn found_at(
+    task: &Task,
+    cert: &Cert,
+    name: &Name,
+    program: u8,
+    point: u8,
+    carried: &Option<Bound>,
+    next: &Option<Bound>,
+) -> Option<u8>
+    requires name { name_of name.now ≡ program_name task.now program }
+    requires carried { option_map bound_of carried.now ≡ carried_to task.now cert.now (name_of name.now) point }
+    requires next { option_map bound_of next.now ≡ carried_to task.now cert.now (name_of name.now) (point + 1) }
+    ensures { result ≡ found_at task.now (expansion task.now cert.now) program point }
 {
-    let Some(name) = &name_at(task, program) else {
-        return None;
-    };
+    let _programs = task.programs();
+    let _points = cert.points();
     let instruction = instruction_at(task, program, point)?;
-    match cert.bound_at(name.as_bytes(), point as usize) {
+    match bound_with(cert, name, point, carried) {
         Some(bound) => {
             let site = Site {
                 task,
@@ -182,7 +222,7 @@ pub(crate) fn found_at(task: &Task, cert: &Cert, program: u8, point: u8) -> Opti
                 point,
                 bound,
             };
-            broken_with(&site, program, instruction)
+            broken_with(&site, program, next, instruction)
         }
         None => {
             if point == 0 && is_started(task, program) {

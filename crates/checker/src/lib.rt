@@ -4,6 +4,7 @@
 
 mod arrivals;
 mod broken;
+mod carrying;
 mod points;
 mod starts;
 mod uses;

@@ -1,18 +1,79 @@
 //! The points of a task's programs.
 
-ghost use Rattle.std.specs.Prelude.{◌≡◌, option_map};
+ghost use Rattle.std.specs.Prelude.{◌≡◌, IfSome, option_map, true};
+ghost use Rattle.std.specs.List.{list_any, slice_get};
+ghost use Rattle.certificate.specs.Views.{version_of};
+ghost use Rattle.rules.specs.Expansions.{is_named, may_carry, names_point};
 ghost use Rattle.rules.specs.Points.{instruction_at};
-ghost use Rattle.prog_asm.specs.Views.{instruction_of};
+ghost use Rattle.prog_asm.specs.Views.{code_of, instruction_of};
+ghost use Rattle.transfer.specs.Limits.{leaves_known};
 
+use certificate::Version;
 use prog_asm::Instruction;
 use task::Task;
 
+/// The instruction at a point of this code, if it is there.
+pub(crate) fn instruction_in(code: &[Instruction], point: u8) -> Option<&Instruction>
+    ensures { option_map (λ i. instruction_of i.now) result ≡ slice_get (code_of code.now) point }
+{
+    code.get(point as usize)
+}
+
 /// The instruction at a point of a program, by its place in the task, if both are there.
 pub(crate) fn instruction_at(task: &Task, program: u8, point: u8) -> Option<&Instruction>
-    ensures { option_map (λ i. instruction_of i.now) result ≡ instruction_at task.now program point }
+    ensures there { option_map (λ i. instruction_of i.now) result ≡ instruction_at task.now program point }
+    ensures known { IfSome result (λ i. leaves_known (instruction_of i.now) ≡ true) }
 {
     match task.programs().get(program as usize) {
         None => None,
-        Some(program) => program.program.code().get(point as usize),
+        Some(program) => instruction_in(program.program.code(), point),
+    }
+}
+
+/// Whether an instruction names the point as one to go to, by a jump or an `else`.
+fn names_point(instruction: &Instruction, point: usize) -> bool
+    ensures { result ≡ names_point point (instruction_of instruction.now) }
+{
+    match instruction {
+        Instruction::Jmp { target }
+        | Instruction::Jeq { target, .. }
+        | Instruction::Jlt { target, .. }
+        | Instruction::Invoke {
+            otherwise: target,
+            ..
+        } => *target as usize == point,
+        Instruction::Set { .. }
+        | Instruction::Mov { .. }
+        | Instruction::Add { .. }
+        | Instruction::In { .. }
+        | Instruction::Halt => false,
+    }
+}
+
+/// Whether one of these does.
+fn one_names(code: &[Instruction], point: usize) -> bool
+    ensures { result ≡ list_any (names_point point) (code_of code.now) }
+{
+    match code {
+        [] => false,
+        [first, rest @ ..] => names_point(first, point) || one_names(rest, point),
+    }
+}
+
+/// Whether a point of this code is named: point 0, or one that a jump or an `else` goes to, whether or not it ever does. A
+/// certificate of version 2 bounds these, and the others get the bounds that are carried to them.
+pub(crate) fn is_named(code: &[Instruction], point: usize) -> bool
+    ensures { result ≡ is_named (code_of code.now) point }
+{
+    point == 0 || one_names(code, point)
+}
+
+/// Whether a bound may be carried to a point of this program.
+pub(crate) fn may_carry(version: Version, code: &[Instruction], point: usize) -> bool
+    ensures { result ≡ may_carry (version_of version) (code_of code.now) point }
+{
+    match version {
+        Version::One => false,
+        Version::Two => point < code.len() && !is_named(code, point),
     }
 }

@@ -6,6 +6,7 @@ ghost use Rattle.rights.specs.Views.{operation_of};
 ghost use Rattle.certificate.specs.Order.{held_within};
 ghost use Rattle.certificate.specs.Views.{bound_of, held_of, target_of};
 ghost use Rattle.prog_asm.specs.Views.{instruction_of, operand_of};
+ghost use Rattle.rules.specs.Expansions.{expansion};
 ghost use Rattle.rules.specs.Channels.{keeps_channel_bound, sends_into};
 ghost use Rattle.rules.specs.Rules.{each_use, in_the_mode, is_known, keeps_commands, keeps_limit, keeps_policy, keeps_rights, moves_within, names_known, same_grant, target_lists, works_on_known};
 ghost use Rattle.rules.specs.Slots.{slots_in};
@@ -205,12 +206,14 @@ fn sends_into(cert: &Cert, bound: &Bound, target: &Target, sent: Operand) -> boo
 /// The test whether what is sent lies within its channel. (sendmsg(2))
 #[derive(Clone, Copy)]
 pub(crate) struct KeepsChannelBound<'a> {
+    pub task: &'a Task,
     pub cert: &'a Cert,
 }
 
 impl<'a> UseTest for KeepsChannelBound<'a> {
-    ghost passes = { λ t u. keeps_channel_bound t.cert.now u u.passing };
+    ghost passes = { λ t u. keeps_channel_bound (expansion t.task.now t.cert.now) u u.passing };
 
+    #[tactic(auto, using(rules::proofs::Channelled::expansion_keeps))]
     fn asks(&self, bound: &Bound, need: &Need, _number: u8, held: &Held) -> bool {
         match need.passed {
             Passed::Nothing | Passed::Received => true,

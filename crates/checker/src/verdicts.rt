@@ -1,13 +1,20 @@
 //! The verdict.
 
-ghost use Rattle.std.specs.Prelude.{◌≡◌, ◌<◌, ◌≤◌, ℕ, None, Some, MatchOption};
+ghost use Rattle.std.specs.Prelude.{◌≡◌, ◌<◌, ◌≤◌, ℕ, None, Some, MatchOption, length, true};
+ghost use Rattle.std.specs.List.{list_all};
+ghost use Rattle.prog_asm.specs.Views.{code_of};
+ghost use Rattle.rules.specs.Expansions.{expansion};
 ghost use Rattle.rules.specs.Verdicts.{found_at};
 ghost use Rattle.checker.specs.Verdicts.{IsVerdict, Yes};
 ghost use Rattle.checker.specs.Views.{verdict_of};
+ghost use Rattle.task.specs.Plans.{programs_of_plan};
 ghost use Rattle.task.specs.Sandboxed.{IsSandboxed};
+ghost use Rattle.transfer.specs.Limits.{leaves_known};
 
-use crate::broken::found_at;
+use crate::broken::{found_at, name_at};
+use crate::carrying::carried_past;
 use certificate::Cert;
+use prog_asm::Instruction;
 use task::Task;
 
 /// What the checker answers.
@@ -32,25 +39,34 @@ struct Found {
     rule: u8,
 }
 
-/// The first of so many points of a program where a rule is broken.
-fn first_found(task: &Task, cert: &Cert, program: u8, points: usize) -> Option<Found>
-    requires { points ≤ 256 }
+/// The first point of a program with this code where a rule is broken. One bound is kept, which is carried along.
+fn first_found(task: &Task, cert: &Cert, program: u8, code: &[Instruction]) -> Option<Found>
+    requires program { program < length task.now.programs }
+    requires code { code_of code.now ≡ programs_of_plan task.now program }
+    requires few { length code.now ≤ 256 }
+    requires known { list_all leaves_known (code_of code.now) ≡ true }
     ensures { MatchOption result
-        ((point : ℕ) → point < points → found_at task.now cert.now program point ≡ None)
-        (λ found. (found_at task.now cert.now program found.point ≡ Some found.rule)
-        × ((point : ℕ) → point < found.point → found_at task.now cert.now program point ≡ None)) }
+        ((point : ℕ) → point < length code.now → found_at task.now (expansion task.now cert.now) program point ≡ None)
+        (λ found. (found_at task.now (expansion task.now cert.now) program found.point ≡ Some found.rule)
+        × ((point : ℕ) → point < found.point → found_at task.now (expansion task.now cert.now) program point ≡ None)) }
 {
-    for point in 0..points {
+    let _programs = task.programs();
+    let name = &name_at(task, program)?;
+    let mut carried = None;
+    for point in 0..code.len() {
         let point = point as u8;
-        if let Some(rule) = found_at(task, cert, program, point) {
+        let next = carried_past(task, cert, name, code, point, &carried);
+        if let Some(rule) = found_at(task, cert, name, program, point, &carried, &next) {
             return Some(Found { point, rule });
         }
+        carried = next;
     }
     None
 }
 
 /// Whether the certificate meets the rules at every point of every program of the task; else the first program, by
-/// its place in the task, and the first point there where it doesn't, with the least rule that is broken there.
+/// its place in the task, and the first point there where it doesn't, with the least rule that is broken there. A certificate of
+/// version 2 is judged as its expansion: bounds are carried along each program, one at a time.
 ///
 /// A yes means that every run of the task is sandboxed: whatever list of events, inputs, schedules and
 /// refusals, no process in capability mode does to the tree what the policy doesn't allow, no call is
@@ -62,7 +78,7 @@ pub fn check(task: &Task, cert: &Cert) -> Verdict
 {
     for (number, program) in task.programs().iter().enumerate() {
         let number = number as u8;
-        if let Some(found) = first_found(task, cert, number, program.program.code().len()) {
+        if let Some(found) = first_found(task, cert, number, program.program.code()) {
             return Verdict::No {
                 program: number,
                 point: found.point,

@@ -1,15 +1,21 @@
 -- What the grammar's fields and forms give is valid.
 use Rattle.std.proofs.Common.{◌≡◌, ◌-◌, ◌<◌, ◌≤◌, ℕ, Bool, true, false, List, [], ◌∷◌, refl, ap, ◌∙◌, subst, arith}
-use Rattle.std.specs.Prelude.{◌&&◌, Option, Some, None, cond, nat_lt, nat_le, option_map, option_and_then, ◌==◌}
+use Rattle.std.specs.Prelude.{◌&&◌, bit_or, codes, Option, Some, None, cond, nat_lt, nat_le, option_map, option_and_then, ◌==◌}
 use Rattle.std.proofs.lemmas.Bool.{ltb-true, lt-ltb, leb-true}
+use Rattle.std.specs.List.{list_all}
+use Rattle.std.specs.Str.{bytes_eq}
+use Rattle.rights.proofs.Subsets.{is_within-none, is_within-or}
 use Rattle.rights.proofs.Tests.{both_left, both_right}
 use Rattle.rights.specs.Calls.{Call}
 use Rattle.rights.specs.Calls as calls
 use Rattle.rights.specs.Opens.{OpenRequest, is_valid}
+use Rattle.rights.specs.Sets.{is_within, all_rights, all_commands, right_names, command_names}
+use Rattle.texts.specs.Bytes.{comma}
+use Rattle.texts.specs.Parts.{parts}
 use Rattle.texts.specs.Numbers.{at_most, number_of}
 use Rattle.prog_asm.specs.Programs.{Instruction, Operand, Register, Number, Syscall, is_instruction, is_operand, is_path, is_register, is_syscall, is_value}
 use Rattle.prog_asm.specs.Programs as programs
-use Rattle.prog_asm.specs.Fields.{before_last, flags_of, operand_from, operand_of, path_in, path_of, register_of, request_of, set_of, flag_names, valid_request, value_of}
+use Rattle.prog_asm.specs.Fields.{before_last, commands_of, flags_of, is_among, named, rights_of, union_from, operand_from, operand_of, path_in, path_of, register_of, request_of, set_of, flag_names, valid_request, value_of}
 use Rattle.prog_asm.specs.Forms.{Field, Always, If_equal, If_less, After_error, Mnemonic, Set, Mov, Add, In, Jmp, Jeq, Jlt, Halt, Make, Written, Alone, Leading, commands_at, directory_at, else_at, flags_at, four, label_at, led, nothing, number_at, one, operand_at, path_at, register_at, rights_at, syscall_at, three, two, whole, word_at, written_at, written_of, ◌>>=◌}
 
 -- what is read fulfils this
@@ -84,6 +90,42 @@ flags-good word f h = go (set_of flag_names word) h
     go None h = absurd cc
     go (Some flags) h = let found = chosen (is_valid (request_of flags)) (request_of flags) f h in subst (λ f. is_valid f ≡ true) found.1 found.0
 
+-- THE SETS that lists name are within those that there are.
+abbrev AllWithin : ℕ → List (List ℕ × ℕ) → Type 0
+AllWithin all rows = list_all (λ (row : List ℕ × ℕ). is_within row.1 all) rows ≡ true
+
+named-first : (all : ℕ) (row : List ℕ × ℕ) (other : Option ℕ) (set : ℕ) (is : Bool) → is_within row.1 all ≡ true → (other ≡ Some set → is_within set all ≡ true)
+    → cond is (Some row.1) other ≡ Some set → is_within set all ≡ true
+named-first all row other set true first behind h = let same : row.1 ≡ set = cc in subst (λ n. is_within n all ≡ true) same first
+named-first all row other set false first behind h = behind h
+
+named-good : (all : ℕ) (rows : List (List ℕ × ℕ)) (word : List ℕ) (set : ℕ) → AllWithin all rows → named rows word ≡ Some set → is_within set all ≡ true
+named-good all [] word set each h = absurd cc
+named-good all (row ∷ rows) word set each h =
+    named-first all row (named rows word) set (bytes_eq word row.0) (both_left (is_within row.1 all) _ each)
+    (named-good all rows word set (both_right (is_within row.1 all) _ each)) h
+
+next-good : (all begun set : ℕ) (next : Option ℕ) (behind : ℕ → Option ℕ) (twice : Bool)
+    → ((n : ℕ) → next ≡ Some n → behind (bit_or begun n) ≡ Some set → is_within set all ≡ true)
+    → cond twice None (option_and_then (λ n. behind (bit_or begun n)) next) ≡ Some set → is_within set all ≡ true
+next-good all begun set next behind true rest h = absurd cc
+next-good all begun set None behind false rest h = absurd cc
+next-good all begun set (Some n) behind false rest h = rest n refl h
+
+union-good : (all : ℕ) (rows : List (List ℕ × ℕ)) → AllWithin all rows → (words : List (List ℕ)) (begun set : ℕ)
+    → is_within begun all ≡ true → union_from rows begun words ≡ Some set → is_within set all ≡ true
+union-good all rows each [] begun set within h = let same : begun ≡ set = cc in subst (λ n. is_within n all ≡ true) same within
+union-good all rows each (word ∷ words) begun set within h =
+    next-good all begun set (named rows word) (λ union. union_from rows union words) (is_among word words)
+    (λ n is more. union-good all rows each words (bit_or begun n) set (is_within-or begun n all within (named-good all rows word n each is)) more) h
+
+set-good : (all : ℕ) (rows : List (List ℕ × ℕ)) → AllWithin all rows → (word : List ℕ) (set : ℕ) → set_of rows word ≡ Some set → is_within set all ≡ true
+set-good all rows each word set h = go (bytes_eq word (codes "none")) h
+  where
+    go : (is : Bool) → cond is (Some 0) (union_from rows 0 (parts comma word)) ≡ Some set → is_within set all ≡ true
+    go true h = let same : 0 ≡ set = cc in subst (λ n. is_within n all ≡ true) same (is_within-none all)
+    go false h = union-good all rows each (parts comma word) 0 set (is_within-none all) h
+
 register_at-good : Gives register_at (λ r. is_register r ≡ true)
 unfolding register_at
 register_at-good = word-good register_of (λ r. is_register r ≡ true) register-good
@@ -103,6 +145,14 @@ path_at-good = word-good path_of (λ p. is_path p ≡ true) path-good
 flags_at-good : Gives flags_at (λ f. is_valid f ≡ true)
 unfolding flags_at
 flags_at-good = word-good flags_of (λ f. is_valid f ≡ true) flags-good
+
+rights_at-good : Gives rights_at (λ rights. is_within rights all_rights ≡ true)
+unfolding rights_at
+rights_at-good = word-good rights_of (λ rights. is_within rights all_rights ≡ true) (set-good all_rights right_names refl)
+
+commands_at-good : Gives commands_at (λ commands. is_within commands all_commands ≡ true)
+unfolding commands_at
+commands_at-good = word-good commands_of (λ commands. is_within commands all_commands ≡ true) (set-good all_commands command_names refl)
 
 -- a field that may be anything
 any_field : {A : Type 0} (field : Field A) → Gives field (λ _. Unit {0})
@@ -172,8 +222,8 @@ syscall-good calls.Unlink = two-good path_at directory_at programs.Unlink (λ p.
 syscall-good calls.Renameat = four-good operand_at path_at operand_at path_at programs.Renameat (λ o. is_operand o ≡ true) (λ p. is_path p ≡ true) (λ o. is_operand o ≡ true) (λ p. is_path p ≡ true) GoodCall operand_at-good path_at-good operand_at-good path_at-good (λ o p t q a b c d. both _ _ (both _ _ (both _ _ a b) c) d)
 syscall-good calls.Dup = D programs.Dup (λ o a. a)
 syscall-good calls.Close = D programs.Close (λ o a. a)
-syscall-good calls.Cap_rights_limit = two-good operand_at rights_at programs.Cap_rights_limit (λ o. is_operand o ≡ true) (λ _. Unit {0}) GoodCall operand_at-good (any_field rights_at) (λ o r a b. a)
-syscall-good calls.Cap_fcntls_limit = two-good operand_at commands_at programs.Cap_fcntls_limit (λ o. is_operand o ≡ true) (λ _. Unit {0}) GoodCall operand_at-good (any_field commands_at) (λ o r a b. a)
+syscall-good calls.Cap_rights_limit = two-good operand_at rights_at programs.Cap_rights_limit (λ o. is_operand o ≡ true) (λ r. is_within r all_rights ≡ true) GoodCall operand_at-good rights_at-good (λ o r a b. both _ _ a b)
+syscall-good calls.Cap_fcntls_limit = two-good operand_at commands_at programs.Cap_fcntls_limit (λ o. is_operand o ≡ true) (λ r. is_within r all_commands ≡ true) GoodCall operand_at-good commands_at-good (λ o r a b. both _ _ a b)
 syscall-good calls.Cap_enter = nothing-good programs.Cap_enter GoodCall refl
 syscall-good calls.Cap_getmode = nothing-good programs.Cap_getmode GoodCall refl
 syscall-good calls.Socketpair = nothing-good programs.Socketpair GoodCall refl

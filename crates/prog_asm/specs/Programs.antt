@@ -5,6 +5,7 @@ use Rattle.rights.specs.Limits.{most_instructions, register_count}
 use Rattle.std.proofs.Math.Bool.{not}
 use Rattle.texts.specs.Bytes.{quote, backslash}
 use Rattle.rights.specs.Opens.{OpenRequest, is_valid}
+use Rattle.rights.specs.Sets.{is_within, all_rights, all_commands}
 use Rattle.rights.specs.Calls.{Call}
 use Rattle.rights.specs.Calls as calls
 
@@ -107,7 +108,7 @@ is_path_byte byte = nat_le 33 byte && nat_le byte 126 && not (byte == quote) && 
 abbrev pub is_path : List ℕ → Bool
 is_path path = list_all is_path_byte path
 
--- each operand is one, each path a path, and each open's flags are valid
+-- each operand is one, each path a path, each open's flags are valid, and limits leave rights and commands that there are
 abbrev pub is_syscall : Syscall → Bool
 is_syscall (Open path flags) = is_path path && is_valid flags
 is_syscall (Openat descriptor path flags) = is_operand descriptor && is_path path && is_valid flags
@@ -130,8 +131,8 @@ is_syscall (Unlink path directory) = is_path path
 is_syscall (Renameat descriptor path target new_path) = is_operand descriptor && is_path path && is_operand target && is_path new_path
 is_syscall (Dup descriptor) = is_operand descriptor
 is_syscall (Close descriptor) = is_operand descriptor
-is_syscall (Cap_rights_limit descriptor rights) = is_operand descriptor
-is_syscall (Cap_fcntls_limit descriptor commands) = is_operand descriptor
+is_syscall (Cap_rights_limit descriptor rights) = is_operand descriptor && is_within rights all_rights
+is_syscall (Cap_fcntls_limit descriptor commands) = is_operand descriptor && is_within commands all_commands
 is_syscall Cap_enter = true
 is_syscall Cap_getmode = true
 is_syscall Socketpair = true

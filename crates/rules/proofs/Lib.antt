@@ -48,3 +48,8 @@ pub mod NameCalls
 pub mod MoveCalls
 pub mod Step
 pub mod Sound
+pub mod Expanded
+pub mod Channelled
+pub mod Goes
+pub mod Arriving
+pub mod ExpansionRows

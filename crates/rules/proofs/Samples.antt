@@ -5,7 +5,7 @@ use Rattle.rights.specs.Classes.{Initial}
 use Rattle.rights.specs.Opens.{OpenRequest, open_request}
 use Rattle.rights.specs.Operations.{Operation, Look, Read as Reads, Write as Writes, Create as Creates, Remove as Removes}
 use Rattle.prog_asm.specs.Programs.{Instruction, Halt, Invoke, Jmp, Jeq, Number, Cap_enter, Open, Openat, Read, Renameat, Sendfd, Recvfd, Fork, Cap_rights_limit}
-use Rattle.certificate.specs.Bounds.{ModeBound, Off, On, Target, In_grant, Any_node, Socket, Held, Slot, Closed, Maybe, Bound, with_interval, PointBound, ChannelBound, Certificate}
+use Rattle.certificate.specs.Bounds.{ModeBound, Off, On, Target, In_grant, Any_node, Socket, Held, Slot, Closed, Maybe, Bound, with_interval, PointBound, ChannelBound, One, Certificate}
 use Rattle.certificate.specs.Bounds as bounds
 use Rattle.kernel.proofs.Samples.{base}
 use Rattle.task.specs.Plans.{Grant, NamedProgram, FirstObject, On_node, On_end, FirstDescriptor, Start, Plan}
@@ -141,7 +141,7 @@ abbrev pub main_blocks : List Bound → List PointBound
 main_blocks bounds = blocks_from (codes "main") 0 bounds
 
 abbrev pub certificate_of : List PointBound → List ChannelBound → Certificate
-certificate_of points channels = record { points = points; channels = channels }
+certificate_of points channels = record { version = One; points = points; channels = channels }
 
 -- at a point of `main`: the directories of both grants, and what more there is
 abbrev pub at_main : ModeBound → List Slot → Bound

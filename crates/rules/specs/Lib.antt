@@ -5,6 +5,8 @@ pub mod Uses
 pub mod Demands
 pub mod Channels
 pub mod Outcomes
+pub mod Carrying
+pub mod Expansions
 pub mod Rules
 pub mod Verdicts
 pub mod Probes

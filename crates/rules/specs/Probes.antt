@@ -4,7 +4,7 @@ use Rattle.rights.specs.Limits.{most_descriptors}
 use Rattle.rights.specs.Classes.{Initial}
 use Rattle.rights.specs.Operations.{Look, Read as Reads, Create as Creates}
 use Rattle.prog_asm.specs.Programs.{Syscall, Instruction, Halt, Invoke}
-use Rattle.certificate.specs.Bounds.{ModeBound, Off, Either, Target, In_grant, Any_node, Socket, Held, Slot, Closed, Maybe, Bound, PointBound, ChannelBound, Certificate}
+use Rattle.certificate.specs.Bounds.{ModeBound, Off, Either, Target, In_grant, Any_node, Socket, Held, Slot, Closed, Maybe, Bound, PointBound, ChannelBound, One, Certificate}
 use Rattle.certificate.specs.Bounds as bounds
 use Rattle.certificate.specs.Growth.{copies, open_bound}
 use Rattle.task.specs.Plans.{Plan}
@@ -74,6 +74,7 @@ block_if program point (Some bound) = block program point bound ∷ []
 
 abbrev pub probed_certificate : Probe → Certificate
 probed_certificate p = record {
+  version = One;
   points = block (codes "main") 0 p.main ∷ block (codes "probe") 0 p.here ∷ block_if (codes "probe") 1 p.next;
   channels = p.channels;
 }

@@ -1,5 +1,6 @@
 //! Laws of the rules. Each is the contract of a function that does nothing.
 
+ghost use Rattle.rules.specs.Expansions.{ExpansionBounds};
 ghost use Rattle.rules.specs.Refusals.{EachRuleIsBroken, EachRuleIsKept, LeastIsTold};
 ghost use Rattle.rules.specs.Verdicts.{FirstIsFound, IsSound};
 
@@ -22,6 +23,12 @@ pub fn each_rule_is_kept()
 /// Where two rules are broken at one point, the lesser is told: of each two neighbours that one instruction can break. (own)
 pub fn the_least_is_told()
     ensures { LeastIsTold }
+{}
+
+/// The expansion of a certificate bounds each point by the bound that is given there, or else by the one that is carried there from
+/// point to point. (own)
+pub fn the_expansion_bounds_each_point()
+    ensures { ExpansionBounds }
 {}
 
 /// Soundness: where a certificate meets the rules, no run of the task, whatever its events, inputs, schedule and refusals, does

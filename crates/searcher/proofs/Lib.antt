@@ -4,3 +4,4 @@ pub mod Behind
 pub mod Valid
 pub mod Taken
 pub mod FlatGrows
+pub mod KnownLimits

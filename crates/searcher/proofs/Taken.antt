@@ -12,7 +12,7 @@ use Rattle.std.proofs.Math.Seq.{set-append_seam}
 use Rattle.std.proofs.lemmas.Slice.Eq.{bytes_eq-Decides}
 use Rattle.std.specs.Cmp.{nat_cmp_is}
 use Rattle.std.specs.Cmp.Lexicographic.{slice_cmp}
-use Rattle.certificate.specs.Bounds.{ModeBound, Slot, Closed, Open, Maybe, Bound, PointBound, Certificate, full_interval, with_slot}
+use Rattle.certificate.specs.Bounds.{ModeBound, Slot, Closed, Open, Maybe, Bound, PointBound, One, Certificate, full_interval, with_slot}
 use Rattle.certificate.specs.Growth.{above_blocks, all_from, copies, distinct, distinct_behind, has_room, on_last, programs_of_block, programs_of_slot, stands, taken, with_line, No_room, Out_of_order}
 use Rattle.certificate.specs.Order.{same_class}
 use Rattle.certificate.specs.Lines.{Line, Begins_block, Bounds_slot, block_lines, is_closed, register_lines, slot_lines}
@@ -24,7 +24,7 @@ use Rattle.prog_asm.specs.Programs.{Instruction}
 
 -- a certificate without channels
 abbrev pub of_points : List PointBound → Certificate
-of_points points = record { points = points; channels = [] }
+of_points points = record { version = One; points = points; channels = [] }
 
 abbrev pub names : List PointBound → List (List ℕ)
 names points = flat_map programs_of_block points

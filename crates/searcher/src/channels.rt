@@ -5,7 +5,7 @@ ghost use Rattle.certificate.specs.Lines.{Bounds_channel, is_line};
 ghost use Rattle.certificate.specs.Views.{channel_of, line_of};
 
 use certificate::{
-    Bound, Cert, Channel, Class, Domain, Held, Interval, Line, Refusal, Side, Target,
+    Bound, Cert, Channel, Class, Domain, Held, Interval, Line, Refusal, Side, Target, Version,
 };
 use prog_asm::{Instruction, Operand, Syscall};
 use std::alloc::{AllocError, Global};
@@ -116,7 +116,7 @@ impl Channels {
     pub(crate) fn new(alloc: Global) -> Channels {
         Channels {
             lines: Vec::new(alloc),
-            cert: Cert::new(alloc),
+            cert: Cert::new(alloc, Version::One),
             changed: false,
         }
     }
@@ -212,7 +212,7 @@ impl Channels {
             return Err(Refusal::Memory);
         }
         if self.changed {
-            let mut cert = Cert::new(alloc);
+            let mut cert = Cert::new(alloc, Version::One);
             push_channels(&mut cert, &self.lines)?;
             self.cert = cert;
         }

@@ -17,7 +17,7 @@ ghost use Rattle.searcher.specs.Flat.{enters, first_held, first_target, flat, fl
 use crate::growing::push_block;
 use certificate::{
     Bound, Cert, Class, FcntlsRange, Held, ModeBound, Name, Pair, Refusal, RightsRange, Side, Slot,
-    Target,
+    Target, Version,
 };
 use file_tree::is_front;
 use prog_asm::{Instruction, Syscall};
@@ -265,7 +265,7 @@ pub(crate) fn flat(alloc: Global, task: &Task) -> Result<Option<Cert>, AllocErro
         return Ok(None);
     }
     let _programs = task.programs();
-    let mut cert = Cert::new(alloc);
+    let mut cert = Cert::new(alloc, Version::One);
     match push_behind(&mut cert, task, task.starts(), b"") {
         Ok(()) => Ok(Some(cert)),
         Err(Refusal::Memory) => Err(AllocError),

@@ -2,8 +2,10 @@
 
 ghost use Rattle.std.specs.Prelude.{◌≡◌, length, map, true};
 ghost use Rattle.std.specs.List.{list_all};
+ghost use Rattle.prog_asm.specs.Views.{code_of, instruction_of};
 ghost use Rattle.task.specs.Limits.{is_start};
 ghost use Rattle.task.specs.Views.{start_of, starts_of};
+ghost use Rattle.transfer.specs.Limits.{leaves_known};
 
 use crate::channels::Channels;
 use crate::flat::with_first;
@@ -83,7 +85,9 @@ fn take_outcomes(
     point: u8,
     bound: &Bound,
     instruction: &Instruction,
-) {
+)
+    requires { leaves_known (instruction_of instruction.now) ≡ true }
+{
     let name = way.name;
     let site = Site {
         task,
@@ -105,7 +109,9 @@ fn take_waiting(
     channels: &mut Channels,
     way: &mut Way,
     code: &[Instruction],
-) -> Result<bool, Refusal> {
+) -> Result<bool, Refusal>
+    requires { list_all leaves_known (code_of code.now) ≡ true }
+{
     let mut any = false;
     for (point, instruction) in code.iter().enumerate() {
         if point < 256 {

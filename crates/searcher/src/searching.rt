@@ -2,7 +2,7 @@
 
 ghost use Rattle.std.specs.Prelude.{◌≡◌, true, false, IfOk, IfSome};
 ghost use Rattle.certificate.specs.Bounds.{Certificate};
-ghost use Rattle.rules.specs.Verdicts.{MeetsRules};
+ghost use Rattle.checker.specs.Verdicts.{IsAccepted};
 ghost use Rattle.searcher.specs.Flat.{flat};
 
 use crate::channels::Channels;
@@ -17,15 +17,15 @@ use task::Task;
 
 /// Whether the checker accepts a certificate.
 fn is_accepted(task: &Task, cert: &Cert) -> bool
-    ensures yes { result ≡ true → MeetsRules task.now cert.now }
-    ensures no { result ≡ false → MeetsRules task.now cert.now → ⊥ }
+    ensures yes { result ≡ true → IsAccepted task.now cert.now }
+    ensures no { result ≡ false → IsAccepted task.now cert.now → ⊥ }
 {
     check(task, cert) == Verdict::Yes
 }
 
 /// A certificate that was proposed, if the checker accepts it.
 fn accepted(task: &Task, proposed: Option<Cert>) -> Option<Cert>
-    ensures { IfSome result (λ cert. MeetsRules task.now cert) }
+    ensures { IfSome result (λ cert. IsAccepted task.now cert) }
 {
     let cert = proposed?;
     if is_accepted(task, &cert) {
@@ -56,12 +56,12 @@ fn proposed(alloc: Global, task: &Task) -> Result<Option<Cert>, AllocError> {
     }
 }
 
-/// A certificate of a task that meets the rules, if the search finds one: that of what it finds point by point, or the flat
-/// one. Where the flat certificate meets the rules, it finds one. Want of memory may come in place of any answer. It always
+/// A certificate of a task that the checker accepts, if the search finds one: that of what it finds point by point, or the flat
+/// one. Where the flat certificate is accepted, it finds one. Want of memory may come in place of any answer. It always
 /// ends. (own)
 pub fn search(alloc: Global, task: &Task) -> Result<Option<Cert>, AllocError>
-    ensures accepted { IfOk result (λ found. IfSome found (λ cert. MeetsRules task.now cert)) }
-    ensures flat { result ≡ Ok None → (certificate : Certificate) → flat task.now ≡ Some certificate → MeetsRules task.now certificate → ⊥ }
+    ensures accepted { IfOk result (λ found. IfSome found (λ cert. IsAccepted task.now cert)) }
+    ensures flat { result ≡ Ok None → (certificate : Certificate) → flat task.now ≡ Some certificate → IsAccepted task.now certificate → ⊥ }
 {
     if let Some(cert) = accepted(task, proposed(alloc, task)?) {
         return Ok(Some(cert));

@@ -1,6 +1,6 @@
 //! What is known of the points of a program: a bound at each that is reached, which grows as outcomes come to it.
 
-ghost use Rattle.std.specs.Prelude.{◌≡◌, true};
+ghost use Rattle.std.specs.Prelude.{◌≡◌, None, true};
 
 use certificate::{Bound, Domain, Interval, Name};
 use prog_asm::Instruction;
@@ -100,20 +100,17 @@ impl Spot {
         }
     }
 
-    /// Takes an outcome: the bound grows to hold it. One that leaves what no bound has is left out, as a rule is broken there.
+    /// Takes an outcome: the bound grows to hold it.
     fn take(&mut self, outcome: &Outcome<'_>, constants: &[u32]) {
         let Some(there) = self.bound else {
-            self.bound = outcome.bound_there();
+            self.bound = Some(outcome.bound_there());
             self.waits = true;
             return;
         };
         if outcome.is_within(&there) {
             return;
         }
-        let Some(next) = outcome.bound_there() else {
-            return;
-        };
-        let joined = there.join(&next);
+        let joined = there.join(&outcome.bound_there());
         self.changes = self.changes.saturating_add(1);
         let grown = if self.changes > FEW_CHANGES {
             widened(&there, joined, constants, self.changes > MANY_CHANGES)
@@ -183,6 +180,10 @@ impl Way {
 
 impl OutcomeTest for Way {
     ghost passes = { λ t o. true };
+
+    ghost joins = { λ t. None };
+
+    ghost kept = { λ t. None };
 
     /// Takes the outcome, and goes on to the next.
     fn asks(&mut self, outcome: &Outcome<'_>) -> bool {

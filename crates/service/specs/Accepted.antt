@@ -6,7 +6,7 @@ use Rattle.rights.specs.Opens.{OpenRequest, open_request}
 use Rattle.rights.specs.Operations.{Operation, Look, Read as Reads, Write as Writes, Create as Creates, Remove as Removes}
 use Rattle.file_tree.specs.Nodes.{Kind, File, Dir, Link, Node}
 use Rattle.prog_asm.specs.Programs.{Instruction, Halt, Invoke, Jmp, Jeq, Number, Cap_enter, Openat, Read, Renameat, Sendfd, Recvfd, Fork, Cap_rights_limit}
-use Rattle.certificate.specs.Bounds.{ModeBound, Off, On, Held, Slot, Open, Maybe, Bound, with_interval, PointBound, Certificate}
+use Rattle.certificate.specs.Bounds.{ModeBound, Off, On, Held, Slot, Open, Maybe, Bound, with_interval, PointBound, One, Certificate}
 use Rattle.kernel.specs.Answers.{Event}
 use Rattle.kernel.specs.Steps.{Acted}
 use Rattle.task.specs.Plans.{Grant, NamedProgram, FirstObject, On_node, On_end, FirstDescriptor, Start, Plan}
@@ -120,6 +120,7 @@ few_at_least = record in_work { least = few_rights }
 
 abbrev pub passing_certificate : Certificate
 passing_certificate = record {
+  version = One;
   points =
       blocks (codes "child") 0
       (bound_with On (Open side_b ∷ []) ∷ bound_with On (Open side_b ∷ Open few ∷ [])
@@ -132,6 +133,7 @@ passing_certificate = record {
 
 abbrev pub forking_certificate : Certificate
 forking_certificate = record {
+  version = One;
   points =
       blocks (codes "main") 0
       (at_main Off [] ∷ at_main On [] ∷ with_interval (at_main On []) 0 (from_to 0 15) ∷ at_main On [] ∷ at_main On []
@@ -141,6 +143,7 @@ forking_certificate = record {
 
 abbrev pub renaming_certificate : Certificate
 renaming_certificate = record {
+  version = One;
   points = blocks (codes "main") 0 (at_main Off [] ∷ at_main On [] ∷ at_main On [] ∷ []);
   channels = [];
 }

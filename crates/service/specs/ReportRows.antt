@@ -1,7 +1,7 @@
 -- A small task with a certificate, of which the report is told. (own)
 use Rattle.std.specs.Prelude.{true, false, [], ◌∷◌, codes}
 use Rattle.rights.specs.Sets.{all_commands}
-use Rattle.certificate.specs.Bounds.{Certificate, Held, In_grant, Off, Open, with_slot}
+use Rattle.certificate.specs.Bounds.{One, Certificate, Held, In_grant, Off, Open, with_slot}
 use Rattle.certificate.specs.Growth.{open_bound}
 use Rattle.prog_asm.specs.Programs.{Halt}
 use Rattle.task.specs.Breaches.{small_tree}
@@ -35,6 +35,7 @@ few = record { target = In_grant (codes "work"); least = 0x0081; greatest = 0x00
 
 abbrev pub halting_certificate : Certificate
 halting_certificate = record {
+  version = One;
   points = record { program = codes "main"; point = 0; bound = with_slot (open_bound Off) 0 (Open few) } ∷ [];
   channels = [];
 }

@@ -4,24 +4,24 @@ use Rattle.rights.specs.Output.{Took}
 use Rattle.certificate.specs.Bounds.{Certificate}
 use Rattle.certificate_text.specs.Readings.{certificate_of_text}
 use Rattle.certificate_text.specs.Texts.{certificate_text}
-use Rattle.rules.specs.Verdicts.{MeetsRules}
+use Rattle.checker.specs.Verdicts.{IsAccepted}
 use Rattle.searcher.specs.Flat.{flat}
 use Rattle.task.specs.Plans.{Plan}
 use Rattle.task.specs.Sandboxed.{IsSandboxed}
 use Rattle.task_reader.specs.Reading.{task_of}
 use Rattle.service.specs.Files.{Files, IsFile}
 
--- A certificate that meets the rules, so that every run of the task is sandboxed, is written as a text that is read as it again.
+-- A certificate that is accepted, so that every run of the task is sandboxed, is written as a text that is read as it again.
 pub record Proposes (plan : Plan) (before after : Option (List ℕ)) : Type 0 where
   pub bounds : Certificate
-  pub meets : MeetsRules plan bounds
+  pub accepted : IsAccepted plan bounds
   pub sandboxed : IsSandboxed plan
   pub reads_back : certificate_of_text (certificate_text bounds) ≡ Ok bounds
   pub writes : Took before after (certificate_text bounds)
 
--- None is found; then the flat certificate, if there is one, doesn't meet the rules either.
+-- None is found; then the flat certificate, if there is one, isn't accepted either.
 pub record FindsNone (plan : Plan) (before after : Option (List ℕ)) : Type 0 where
-  pub flat_fails : (bounds : Certificate) → flat plan ≡ Some bounds → MeetsRules plan bounds → ⊥
+  pub flat_fails : (bounds : Certificate) → flat plan ≡ Some bounds → IsAccepted plan bounds → ⊥
   pub writes : Took before after (codes "none\n")
 
 -- The status is 0 where a certificate is proposed, and else 1.

@@ -1,9 +1,10 @@
 -- Where a call leads from a point of the code.
-use Rattle.std.specs.Prelude.{ℕ, List}
+use Rattle.std.specs.Prelude.{ℕ, List, Option}
 use Rattle.certificate.specs.Bounds.{Held, Bound}
 use Rattle.certificate.specs.Views.{bound_of, name_of}
 use Rattle.prog_asm.specs.Programs.{Syscall, Instruction}
 use Rattle.rules.specs.Outcomes.{Outcome, new_end, with_pair, successes_of, successes}
+use Rattle.rules.specs.Carrying.{carried_on}
 use Rattle.transfer.specs.declared.successes.Site.{Site}
 
 abbrev pub end_at : Site → ℕ → Held
@@ -17,3 +18,6 @@ call_at s call = successes_of s.task.now.grants s.cert.now (name_of s.name.now) 
 
 abbrev pub successes_at : Site → Instruction → List Outcome
 successes_at s i = successes s.task.now.grants s.cert.now (name_of s.name.now) s.point (bound_of s.bound.now) i
+
+abbrev pub carried_at : Site → Instruction → Option Bound
+carried_at s i = carried_on s.task.now.grants s.cert.now (name_of s.name.now) s.point (bound_of s.bound.now) i

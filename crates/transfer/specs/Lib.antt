@@ -1,5 +1,7 @@
 pub mod Calls
 pub mod Given
+pub mod Kept
+pub mod Limits
 pub mod Needs
 pub mod OutcomeViews
 pub mod Sites

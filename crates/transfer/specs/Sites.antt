@@ -6,10 +6,11 @@ use Rattle.certificate.specs.Views.{bound_of, name_of}
 use Rattle.rules.specs.Intervals.{only}
 use Rattle.rules.specs.Slots.{OpenSlot}
 use Rattle.rules.specs.Outcomes.{Outcome, beneath_target, goes_on, takes, opens_beneath, receives_at}
-use Rattle.transfer.specs.OutcomeViews.{limited}
 use Rattle.transfer.specs.declared.successes.Site.{Site}
 use Rattle.transfer.specs.declared.successes.Act.{Act}
 use Rattle.transfer.specs.declared.successes.Act.TheVariants as act
+use Rattle.transfer.specs.declared.successes.Limit.{Limit}
+use Rattle.transfer.specs.declared.successes.Limit.TheVariants as limits
 
 abbrev pub taken_at : Site → Held → List Outcome
 taken_at s h = takes s.task.now.grants s.cert.now (name_of s.name.now) s.point (bound_of s.bound.now) h
@@ -20,6 +21,11 @@ received_at s t = receives_at s.task.now.grants s.cert.now (name_of s.name.now) 
 -- on to the next point, with register 0 at 0
 abbrev pub to_next : Site → Bound → List Outcome
 to_next s after = goes_on s.task.now.grants s.cert.now (name_of s.name.now) s.point (bound_of s.bound.now) after (only 0)
+
+-- with what a limit leaves
+abbrev pub limited : Held → Limit → Held
+limited h (limits.Rights left) = record h { least = left.least.0; greatest = left.greatest.0 }
+limited h (limits.Commands left) = record h { least_fcntls = left.least.0; greatest_fcntls = left.greatest.0 }
 
 -- what a call does with a slot
 abbrev pub acted : Site → Act → OpenSlot → List Outcome

@@ -1,25 +1,31 @@
 //! Where each call may lead, but for errors.
 
-ghost use Rattle.std.specs.Prelude.{◌≡◌, ◌-◌};
+ghost use Rattle.std.specs.Prelude.{◌≡◌, ◌-◌, true};
 ghost use Rattle.std.specs.List.{list_all};
 ghost use Rattle.rights.specs.Limits.{most_bytes, most_processes};
+ghost use Rattle.rights.specs.Sets.{all_commands, all_rights, is_within};
 ghost use Rattle.certificate.specs.Views.{bound_of, held_of, interval_of, mode_of, name_of, side_of};
-ghost use Rattle.prog_asm.specs.Programs.{Cap_enter, Fork, Socketpair};
-ghost use Rattle.prog_asm.specs.Views.{syscall_of};
+ghost use Rattle.prog_asm.specs.Programs.{Cap_enter, Cap_fcntls_limit, Cap_rights_limit, Fork, Socketpair};
+ghost use Rattle.prog_asm.specs.Views.{operand_of, syscall_of};
 ghost use Rattle.rules.specs.Outcomes.{from_to, is_formed, is_surely_on, mode_interval};
 ghost use Rattle.transfer.specs.Calls.{call_at, end_at, paired};
+ghost use Rattle.transfer.specs.Kept.{kept_all};
+ghost use Rattle.transfer.specs.Limits.{has_known_limit};
 
 use crate::channels::all_have_channels;
 use crate::demands::{demanded, keeps_single};
 use crate::given::{Kind, both_given_pass, given_passes, step_passes};
 use crate::intervals::only;
-use crate::outcomes::{Change, Limit};
+use crate::outcomes::Change;
 use crate::slots::{FreeNumbers, Takes, free_numbers};
-use crate::successes::{Act, OutcomeTest, Site, all_pass, next_passes, taken_passes};
+use crate::successes::{Act, Limit, OutcomeTest, Site, all_pass, next_passes, taken_passes};
 use crate::targets::{all_held, target_of_path};
-use certificate::{Bound, Class, Held, Interval, ModeBound, Side, Slot, Target};
-use prog_asm::Syscall;
+use certificate::{
+    Bound, Class, FcntlsRange, Held, Interval, ModeBound, RightsRange, Side, Slot, Target,
+};
+use prog_asm::{Operand, Syscall};
 use rights::limits::{MAX_BYTES, MAX_PROCESSES};
+use rights::{Fcntls, Rights};
 
 /// Whether a process is surely in capability mode.
 fn is_surely_on(mode: ModeBound) -> bool
@@ -73,6 +79,9 @@ fn paired(site: &Site<'_>, first: u8, second: u8) -> Bound
 fn pair_passes<T: OutcomeTest>(site: &Site<'_>, test: &mut T) -> bool
     ensures value { result ≡ list_all (T.passes test.old) (call_at site.now Socketpair) }
     ensures same { T.passes test.new ≡ T.passes test.old }
+    ensures same_point { T.joins test.new ≡ T.joins test.old }
+    ensures kept { result ≡ true → T.kept test.new ≡ kept_all (T.joins test.old) (T.kept test.old)
+        (call_at site.now Socketpair) }
 {
     match free_numbers(Takes::Two, site.bound) {
         None | Some(FreeNumbers::None | FreeNumbers::One(_)) => true,
@@ -90,6 +99,9 @@ fn pair_passes<T: OutcomeTest>(site: &Site<'_>, test: &mut T) -> bool
 fn entered_passes<T: OutcomeTest>(site: &Site<'_>, test: &mut T) -> bool
     ensures value { result ≡ list_all (T.passes test.old) (call_at site.now Cap_enter) }
     ensures same { T.passes test.new ≡ T.passes test.old }
+    ensures same_point { T.joins test.new ≡ T.joins test.old }
+    ensures kept { result ≡ true → T.kept test.new ≡ kept_all (T.joins test.old) (T.kept test.old)
+        (call_at site.now Cap_enter) }
 {
     let change = Change::Register {
         register: 0,
@@ -102,15 +114,60 @@ fn entered_passes<T: OutcomeTest>(site: &Site<'_>, test: &mut T) -> bool
 fn forked_pass<T: OutcomeTest>(site: &Site<'_>, test: &mut T) -> bool
     ensures value { result ≡ list_all (T.passes test.old) (call_at site.now Fork) }
     ensures same { T.passes test.new ≡ T.passes test.old }
+    ensures same_point { T.joins test.new ≡ T.joins test.old }
+    ensures kept { result ≡ true → T.kept test.new ≡ kept_all (T.joins test.old) (T.kept test.old)
+        (call_at site.now Fork) }
 {
     step_passes(site, only(0), test)
         && step_passes(site, Interval::new(1, MAX_PROCESSES as u32 - 1), test)
 }
 
+/// Whether the outcomes pass of leaving these rights alone.
+fn rights_limited_pass<T: OutcomeTest>(
+    site: &Site<'_>,
+    operand: Operand,
+    rights: Rights,
+    test: &mut T,
+) -> bool
+    requires { is_within rights.0 all_rights ≡ true }
+    ensures value { result ≡ list_all (T.passes test.old)
+        (call_at site.now (Cap_rights_limit (operand_of operand) rights.0)) }
+    ensures same { T.passes test.new ≡ T.passes test.old }
+    ensures same_point { T.joins test.new ≡ T.joins test.old }
+    ensures kept { result ≡ true → T.kept test.new ≡ kept_all (T.joins test.old) (T.kept test.old)
+        (call_at site.now (Cap_rights_limit (operand_of operand) rights.0)) }
+{
+    let left = RightsRange::new(rights, rights);
+    all_pass(site, Act::Limits(Limit::Rights(left)), operand, test)
+}
+
+/// Whether the outcomes pass of leaving these commands alone.
+fn commands_limited_pass<T: OutcomeTest>(
+    site: &Site<'_>,
+    operand: Operand,
+    commands: Fcntls,
+    test: &mut T,
+) -> bool
+    requires { is_within commands.0 all_commands ≡ true }
+    ensures value { result ≡ list_all (T.passes test.old)
+        (call_at site.now (Cap_fcntls_limit (operand_of operand) commands.0)) }
+    ensures same { T.passes test.new ≡ T.passes test.old }
+    ensures same_point { T.joins test.new ≡ T.joins test.old }
+    ensures kept { result ≡ true → T.kept test.new ≡ kept_all (T.joins test.old) (T.kept test.old)
+        (call_at site.now (Cap_fcntls_limit (operand_of operand) commands.0)) }
+{
+    let left = FcntlsRange::new(commands, commands);
+    all_pass(site, Act::Limits(Limit::Commands(left)), operand, test)
+}
+
 /// Whether each success of a call passes, where it is looked at.
 pub(crate) fn call_passes<T: OutcomeTest>(site: &Site<'_>, call: &Syscall, test: &mut T) -> bool
+    requires { has_known_limit (syscall_of call.now) ≡ true }
     ensures value { result ≡ list_all (T.passes test.old) (call_at site.now (syscall_of call.now)) }
     ensures same { T.passes test.new ≡ T.passes test.old }
+    ensures same_point { T.joins test.new ≡ T.joins test.old }
+    ensures kept { result ≡ true → T.kept test.new ≡ kept_all (T.joins test.old) (T.kept test.old)
+        (call_at site.now (syscall_of call.now)) }
 {
     match call {
         Syscall::Open { path, .. } => {
@@ -122,16 +179,12 @@ pub(crate) fn call_passes<T: OutcomeTest>(site: &Site<'_>, call: &Syscall, test:
         Syscall::Dup { descriptor } => all_pass(site, Act::Copies, *descriptor, test),
         Syscall::Close { descriptor } => all_pass(site, Act::Closes, *descriptor, test),
         Syscall::CapRightsLimit { descriptor, rights } => {
-            let act = Act::Limits(Limit::Rights(*rights));
-            all_pass(site, act, *descriptor, test)
+            rights_limited_pass(site, *descriptor, *rights, test)
         }
         Syscall::CapFcntlsLimit {
             descriptor,
             commands,
-        } => {
-            let act = Act::Limits(Limit::Commands(*commands));
-            all_pass(site, act, *descriptor, test)
-        }
+        } => commands_limited_pass(site, *descriptor, *commands, test),
         Syscall::CapEnter => entered_passes(site, test),
         Syscall::Socketpair => pair_passes(site, test),
         Syscall::Fork => forked_pass(site, test),

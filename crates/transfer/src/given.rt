@@ -1,13 +1,14 @@
 //! Where calls lead that leave all slots as they are: the outcome is the same whatever slot they go through, so it is asked
 //! about once.
 
-ghost use Rattle.std.specs.Prelude.{◌≡◌, not};
+ghost use Rattle.std.specs.Prelude.{◌≡◌, not, true};
 ghost use Rattle.std.specs.List.{flat_map, list_all};
 ghost use Rattle.certificate.specs.Views.{bound_of, interval_of, target_of};
 ghost use Rattle.prog_asm.specs.Views.{operand_of};
 ghost use Rattle.rules.specs.Outcomes.{goes_on};
 ghost use Rattle.rules.specs.Slots.{slots_in};
 ghost use Rattle.transfer.specs.Given.{both_given, given_at, may_be, stays};
+ghost use Rattle.transfer.specs.Kept.{kept_all};
 
 use crate::asks::{SlotTest, all_slots_pass};
 use crate::outcomes::Change;
@@ -61,6 +62,9 @@ fn none_is(bound: &Bound, operand: Operand, kind: Kind) -> bool
 pub(crate) fn step_passes<T: OutcomeTest>(site: &Site<'_>, given: Interval, test: &mut T) -> bool
     ensures value { result ≡ list_all (T.passes test.old) (stays site.now (interval_of given)) }
     ensures same { T.passes test.new ≡ T.passes test.old }
+    ensures same_point { T.joins test.new ≡ T.joins test.old }
+    ensures kept { result ≡ true → T.kept test.new ≡ kept_all (T.joins test.old) (T.kept test.old)
+        (stays site.now (interval_of given)) }
 {
     let change = Change::Register {
         register: 0,
@@ -79,6 +83,9 @@ pub(crate) fn given_passes<T: OutcomeTest>(
 ) -> bool
     ensures value { result ≡ list_all (T.passes test.old) (given_at site.now (operand_of operand) kind (interval_of given)) }
     ensures same { T.passes test.new ≡ T.passes test.old }
+    ensures same_point { T.joins test.new ≡ T.joins test.old }
+    ensures kept { result ≡ true → T.kept test.new ≡ kept_all (T.joins test.old) (T.kept test.old)
+        (given_at site.now (operand_of operand) kind (interval_of given)) }
 {
     none_is(site.bound, operand, kind) || step_passes(site, given, test)
 }
@@ -94,6 +101,9 @@ pub(crate) fn both_given_pass<T: OutcomeTest>(
     ensures value { result ≡ list_all (T.passes test.old)
         (both_given site.now (operand_of first.0) first.1 (operand_of second.0) second.1 (interval_of given)) }
     ensures same { T.passes test.new ≡ T.passes test.old }
+    ensures same_point { T.joins test.new ≡ T.joins test.old }
+    ensures kept { result ≡ true → T.kept test.new ≡ kept_all (T.joins test.old) (T.kept test.old)
+        (both_given site.now (operand_of first.0) first.1 (operand_of second.0) second.1 (interval_of given)) }
 {
     let (operand, kind) = first;
     let (other, its) = second;

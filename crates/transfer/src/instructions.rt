@@ -1,11 +1,13 @@
 //! Where an instruction may lead.
 
-ghost use Rattle.std.specs.Prelude.{◌≡◌, option_map};
+ghost use Rattle.std.specs.Prelude.{◌≡◌, true, option_map};
 ghost use Rattle.std.specs.List.{list_all};
 ghost use Rattle.certificate.specs.Views.{bound_of, interval_of};
 ghost use Rattle.prog_asm.specs.Views.{instruction_of};
 ghost use Rattle.rules.specs.Outcomes.{equal_outcomes, error_interval, error_outcomes, less_outcomes, outcomes_in};
 ghost use Rattle.transfer.specs.Calls.{successes_at};
+ghost use Rattle.transfer.specs.Kept.{kept_all};
+ghost use Rattle.transfer.specs.Limits.{leaves_known};
 ghost use Rattle.transfer.specs.OutcomeViews.{outcomes_of};
 
 use crate::calls::{call_passes, is_formed};
@@ -27,6 +29,9 @@ fn part_passes<T: OutcomeTest>(
     ensures value { result ≡ list_all (T.passes test.old)
         (outcomes_in point (bound_of site.now.bound.now) register (option_map interval_of part)) }
     ensures same { T.passes test.new ≡ T.passes test.old }
+    ensures same_point { T.joins test.new ≡ T.joins test.old }
+    ensures kept { result ≡ true → T.kept test.new ≡ kept_all (T.joins test.old) (T.kept test.old)
+        (outcomes_in point (bound_of site.now.bound.now) register (option_map interval_of part)) }
 {
     match part {
         None => true,
@@ -52,6 +57,9 @@ fn equal_pass<T: OutcomeTest>(
     ensures value { result ≡ list_all (T.passes test.old)
         (equal_outcomes site.now.point (bound_of site.now.bound.now) register value target) }
     ensures same { T.passes test.new ≡ T.passes test.old }
+    ensures same_point { T.joins test.new ≡ T.joins test.old }
+    ensures kept { result ≡ true → T.kept test.new ≡ kept_all (T.joins test.old) (T.kept test.old)
+        (equal_outcomes site.now.point (bound_of site.now.bound.now) register value target) }
 {
     let interval = site.bound.interval(register.number());
     let equal = equal_part(interval, value);
@@ -72,6 +80,9 @@ fn less_pass<T: OutcomeTest>(
     ensures value { result ≡ list_all (T.passes test.old)
         (less_outcomes site.now.point (bound_of site.now.bound.now) register value target) }
     ensures same { T.passes test.new ≡ T.passes test.old }
+    ensures same_point { T.joins test.new ≡ T.joins test.old }
+    ensures kept { result ≡ true → T.kept test.new ≡ kept_all (T.joins test.old) (T.kept test.old)
+        (less_outcomes site.now.point (bound_of site.now.bound.now) register value target) }
 {
     let interval = site.bound.interval(register.number());
     let lower = lower_part(interval, value);
@@ -89,8 +100,12 @@ pub fn successes_pass<T: OutcomeTest>(
     instruction: &Instruction,
     test: &mut T,
 ) -> bool
+    requires { leaves_known (instruction_of instruction.now) ≡ true }
     ensures value { result ≡ list_all (T.passes test.old) (successes_at site.now (instruction_of instruction.now)) }
     ensures same { T.passes test.new ≡ T.passes test.old }
+    ensures same_point { T.joins test.new ≡ T.joins test.old }
+    ensures kept { result ≡ true → T.kept test.new ≡ kept_all (T.joins test.old) (T.kept test.old)
+        (successes_at site.now (instruction_of instruction.now)) }
 {
     let bound = site.bound;
     let (register, interval) = match instruction {

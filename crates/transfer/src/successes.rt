@@ -1,35 +1,45 @@
 //! Where an instruction may lead from a point with a bound, but for errors: each outcome is asked about, and none is kept.
 
-ghost use Rattle.std.specs.Prelude.{◌≡◌, ◌+◌, ◌≤◌, Bool, length, map, option_map};
+ghost use Rattle.std.specs.Prelude.{◌≡◌, ◌+◌, ◌≤◌, ℕ, Bool, Option, true, length, map, option_map};
 ghost use Rattle.std.specs.List.{flat_map, list_all};
-ghost use Rattle.certificate.specs.Bounds.{with_interval, with_slot};
+ghost use Rattle.certificate.specs.Bounds.{Bound as BoundSeen, with_interval, with_slot};
 ghost use Rattle.certificate.specs.Views.{bound_of, held_of, interval_of, slot_of, target_of};
 ghost use Rattle.prog_asm.specs.Views.{instruction_of, operand_of, syscall_of};
 ghost use Rattle.rules.specs.Outcomes.{Outcome as OutcomeSeen, outcome_to};
 ghost use Rattle.rules.specs.Intervals.{only};
 ghost use Rattle.rules.specs.Slots.{slots_from, slots_in};
-ghost use Rattle.transfer.specs.OutcomeViews.{changed, content_of, outcome_of};
-ghost use Rattle.transfer.specs.Sites.{acted, received_at, taken_at};
+ghost use Rattle.transfer.specs.Kept.{kept_all, kept_with};
+ghost use Rattle.transfer.specs.OutcomeViews.{changed, outcome_of};
+ghost use Rattle.transfer.specs.Sites.{acted, limited, received_at, taken_at};
 ghost use Rattle.transfer.specs.Tested.{slot_at};
 
 use crate::channels::{channel_at, other};
 use crate::intervals::only;
-use crate::outcomes::{Change, Content, Limit, Outcome};
+use crate::outcomes::{Change, Outcome};
 use crate::slots::{FreeNumbers, Takes, free_numbers, holds_number, operand_interval};
 use crate::targets::{beneath_target, unknown_held, with_target};
-use certificate::{Bound, Cert, Held, Interval, Name, Slot, Target};
+use certificate::{Bound, Cert, FcntlsRange, Held, Interval, Name, RightsRange, Slot, Target};
 use prog_asm::Operand;
 use task::Task;
 
-/// A test of outcomes. It may keep what it learns of each, but what passes stays the same.
+/// A test of outcomes. It may keep what it learns of each, but what passes stays the same. It may join those that go to a
+/// point of its own.
 pub trait OutcomeTest {
     /// Which outcomes pass it.
     ghost passes: { Self → OutcomeSeen → Bool };
 
+    /// The point whose outcomes it joins, if it does.
+    ghost joins: { Self → Option ℕ };
+
+    /// Their join so far, if there were any.
+    ghost kept: { Self → Option BoundSeen };
+
     /// Whether the outcome passes.
     fn asks(&mut self, outcome: &Outcome<'_>) -> bool
         ensures value { result ≡ passes self.old (outcome_of outcome.now) }
-        ensures same { passes self.new ≡ passes self.old };
+        ensures same { passes self.new ≡ passes self.old }
+        ensures same_point { joins self.new ≡ joins self.old }
+        ensures kept { kept self.new ≡ kept_with (joins self.old) (kept self.old) (outcome_of outcome.now) };
 }
 
 /// A point of a program, and its bound in a certificate.
@@ -41,6 +51,13 @@ pub struct Site<'a> {
     pub name: &'a Name,
     pub point: u8,
     pub bound: &'a Bound,
+}
+
+/// What a limit leaves: rights, or commands.
+#[derive(Clone, Copy)]
+pub(crate) enum Limit {
+    Rights(RightsRange),
+    Commands(FcntlsRange),
 }
 
 /// What a call does with a slot that it goes through.
@@ -68,6 +85,9 @@ pub(crate) fn next_passes<T: OutcomeTest>(
     ensures value { result ≡ list_all (T.passes test.old)
         (outcome_to (site.now.point + 1) (changed (bound_of bound.now) change)) }
     ensures same { T.passes test.new ≡ T.passes test.old }
+    ensures same_point { T.joins test.new ≡ T.joins test.old }
+    ensures kept { result ≡ true → T.kept test.new ≡ kept_all (T.joins test.old) (T.kept test.old)
+        (outcome_to (site.now.point + 1) (changed (bound_of bound.now) change)) }
 {
     let point = site.point as usize + 1;
     test.asks(&Outcome {
@@ -81,13 +101,16 @@ pub(crate) fn next_passes<T: OutcomeTest>(
 pub(crate) fn taken_passes<T: OutcomeTest>(site: &Site<'_>, held: &Held, test: &mut T) -> bool
     ensures value { result ≡ list_all (T.passes test.old) (taken_at site.now (held_of held.now)) }
     ensures same { T.passes test.new ≡ T.passes test.old }
+    ensures same_point { T.joins test.new ≡ T.joins test.old }
+    ensures kept { result ≡ true → T.kept test.new ≡ kept_all (T.joins test.old) (T.kept test.old)
+        (taken_at site.now (held_of held.now)) }
 {
     match free_numbers(Takes::One, site.bound) {
         None | Some(FreeNumbers::None) => true,
         Some(FreeNumbers::One(number) | FreeNumbers::Two(number, _)) => {
             let change = Change::Slot {
                 number,
-                content: Content::Open(*held),
+                slot: Slot::Open(*held),
                 given: only(number as u32),
             };
             next_passes(site, site.bound, change, test)
@@ -96,14 +119,18 @@ pub(crate) fn taken_passes<T: OutcomeTest>(site: &Site<'_>, held: &Held, test: &
 }
 
 /// Whether the outcome passes where a slot is otherwise and register 0 is 0.
-fn slot_passes<T: OutcomeTest>(site: &Site<'_>, number: u8, content: Content, test: &mut T) -> bool
+fn slot_passes<T: OutcomeTest>(site: &Site<'_>, number: u8, slot: Slot, test: &mut T) -> bool
     ensures value { result ≡ list_all (T.passes test.old) (outcome_to (site.now.point + 1)
-        (with_interval (with_slot (bound_of site.now.bound.now) number (content_of content)) 0 (only 0))) }
+        (with_interval (with_slot (bound_of site.now.bound.now) number (slot_of slot)) 0 (only 0))) }
     ensures same { T.passes test.new ≡ T.passes test.old }
+    ensures same_point { T.joins test.new ≡ T.joins test.old }
+    ensures kept { result ≡ true → T.kept test.new ≡ kept_all (T.joins test.old) (T.kept test.old)
+        (outcome_to (site.now.point + 1)
+        (with_interval (with_slot (bound_of site.now.bound.now) number (slot_of slot)) 0 (only 0))) }
 {
     let change = Change::Slot {
         number,
-        content,
+        slot,
         given: only(0),
     };
     next_passes(site, site.bound, change, test)
@@ -113,6 +140,9 @@ fn slot_passes<T: OutcomeTest>(site: &Site<'_>, number: u8, content: Content, te
 fn received_passes<T: OutcomeTest>(site: &Site<'_>, target: &Target, test: &mut T) -> bool
     ensures value { result ≡ list_all (T.passes test.old) (received_at site.now (target_of target.now)) }
     ensures same { T.passes test.new ≡ T.passes test.old }
+    ensures same_point { T.joins test.new ≡ T.joins test.old }
+    ensures kept { result ≡ true → T.kept test.new ≡ kept_all (T.joins test.old) (T.kept test.old)
+        (received_at site.now (target_of target.now)) }
 {
     match target {
         Target::InGrant(_) | Target::AnyNode => true,
@@ -127,6 +157,16 @@ fn received_passes<T: OutcomeTest>(site: &Site<'_>, target: &Target, test: &mut 
     }
 }
 
+/// The same held, with what a limit leaves.
+fn limited(held: &Held, limit: Limit) -> Held
+    ensures { held_of result ≡ limited (held_of held.now) limit }
+{
+    match limit {
+        Limit::Rights(left) => Held::new(held.target(), left, held.fcntls()),
+        Limit::Commands(left) => Held::new(held.target(), held.rights(), left),
+    }
+}
+
 /// Whether the outcome passes of what a call does with this slot.
 fn acted_passes<T: OutcomeTest>(
     site: &Site<'_>,
@@ -138,6 +178,9 @@ fn acted_passes<T: OutcomeTest>(
     ensures value { result ≡ list_all (T.passes test.old)
         (acted site.now act (record { number = number; held = held_of held.now })) }
     ensures same { T.passes test.new ≡ T.passes test.old }
+    ensures same_point { T.joins test.new ≡ T.joins test.old }
+    ensures kept { result ≡ true → T.kept test.new ≡ kept_all (T.joins test.old) (T.kept test.old)
+        (acted site.now act (record { number = number; held = held_of held.now })) }
 {
     match act {
         Act::Opens => match beneath_target(&held.target()) {
@@ -146,8 +189,11 @@ fn acted_passes<T: OutcomeTest>(
         },
         Act::Receives => received_passes(site, &held.target(), test),
         Act::Copies => taken_passes(site, held, test),
-        Act::Closes => slot_passes(site, number, Content::Closed, test),
-        Act::Limits(limit) => slot_passes(site, number, Content::Limited(*held, limit), test),
+        Act::Closes => slot_passes(site, number, Slot::Closed, test),
+        Act::Limits(limit) => {
+            let slot = Slot::Open(limited(held, limit));
+            slot_passes(site, number, slot, test)
+        }
     }
 }
 
@@ -163,6 +209,9 @@ fn one_passes<T: OutcomeTest>(
     ensures value { result ≡ list_all (T.passes test.old)
         (flat_map (acted site.now act) (slot_at number (interval_of interval) (slot_of slot.now))) }
     ensures same { T.passes test.new ≡ T.passes test.old }
+    ensures same_point { T.joins test.new ≡ T.joins test.old }
+    ensures kept { result ≡ true → T.kept test.new ≡ kept_all (T.joins test.old) (T.kept test.old)
+        (flat_map (acted site.now act) (slot_at number (interval_of interval) (slot_of slot.now))) }
 {
     match slot {
         Slot::Closed => true,
@@ -185,6 +234,9 @@ fn rest_pass<T: OutcomeTest>(
     ensures value { result ≡ list_all (T.passes test.old)
         (flat_map (acted site.now act) (slots_from number (interval_of interval) (map slot_of slots.now))) }
     ensures same { T.passes test.new ≡ T.passes test.old }
+    ensures same_point { T.joins test.new ≡ T.joins test.old }
+    ensures kept { result ≡ true → T.kept test.new ≡ kept_all (T.joins test.old) (T.kept test.old)
+        (flat_map (acted site.now act) (slots_from number (interval_of interval) (map slot_of slots.now))) }
 {
     match slots {
         [] => true,
@@ -206,6 +258,9 @@ pub(crate) fn all_pass<T: OutcomeTest>(
     ensures value { result ≡ list_all (T.passes test.old)
         (flat_map (acted site.now act) (slots_in (bound_of site.now.bound.now) (operand_of operand))) }
     ensures same { T.passes test.new ≡ T.passes test.old }
+    ensures same_point { T.joins test.new ≡ T.joins test.old }
+    ensures kept { result ≡ true → T.kept test.new ≡ kept_all (T.joins test.old) (T.kept test.old)
+        (flat_map (acted site.now act) (slots_in (bound_of site.now.bound.now) (operand_of operand))) }
 {
     let interval = operand_interval(site.bound, operand);
     rest_pass(site, act, site.bound.slots(), 0, interval, test)

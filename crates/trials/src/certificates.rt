@@ -110,6 +110,12 @@ chan @0 a grant work 0081 0081 3 3
 end
 ";
 
+/// A point of a program, in version 2.
+const ONE_POINT: &str = "capcert 2
+at main 0 off
+end
+";
+
 /// Lines that begin a block.
 const BLOCK: &str = "at main 0 off\n";
 
@@ -144,7 +150,13 @@ fn is_written_back(alloc: Global, bytes: &[u8]) -> bool {
 
 #[test]
 fn texts_are_written_back(rt: HostRuntime) {
-    for text in [THREE_POINTS, SIX_POINTS, SENDS_ANYTHING, SENDS_NARROWED] {
+    for text in [
+        THREE_POINTS,
+        SIX_POINTS,
+        SENDS_ANYTHING,
+        SENDS_NARROWED,
+        ONE_POINT,
+    ] {
         assert!(rt; is_written_back(rt.alloc(), text.as_bytes()), "{text}");
     }
 }
@@ -398,7 +410,8 @@ fn faulty_ends_and_orders_are_told(rt: HostRuntime) -> Result<(), Fail> {
     let rows = [
         ("", CertFault::Syntax(0)),
         ("capcert 1\n", CertFault::Syntax(10)),
-        ("capcert 2\nend\n", CertFault::Syntax(0)),
+        ("capcert 3\nend\n", CertFault::Syntax(0)),
+        ("capcert 02\nend\n", CertFault::Syntax(0)),
         ("capcert 1\ncapcert 1\nend\n", CertFault::Syntax(10)),
         (more.as_str(), CertFault::Syntax(261)),
         (empty_line.as_str(), CertFault::Syntax(261)),

@@ -53,4 +53,6 @@ mod trees;
 #[cfg(test)]
 mod verdicts;
 #[cfg(test)]
+mod versions;
+#[cfg(test)]
 mod writers;

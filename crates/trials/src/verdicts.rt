@@ -28,10 +28,10 @@ fn judges(
 }
 
 /// A certificate with changes, changes of the base task, and the line of the verdict.
-type Row<'a> = ((&'a str, Changes<'a>), Changes<'a>, &'a str);
+pub(super) type Row<'a> = ((&'a str, Changes<'a>), Changes<'a>, &'a str);
 
 /// Whether the row's line is printed, with the status 0 of a yes or 1 of a no.
-fn is_told(alloc: Global, row: &Row<'_>) -> Result<bool, AllocError> {
+pub(super) fn is_told(alloc: Global, row: &Row<'_>) -> Result<bool, AllocError> {
     let (cert, task, line) = row;
     match judges(alloc, *task, *cert)? {
         Some(said) => {

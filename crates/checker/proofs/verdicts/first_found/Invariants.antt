@@ -1,8 +1,12 @@
 use Rattle.std.proofs.Common.{◌≡◌, ◌<◌, ℕ}
-use Rattle.std.specs.Prelude.{None}
+use Rattle.std.specs.Prelude.{None, option_map}
+use Rattle.certificate.specs.Views.{bound_of, name_of}
+use Rattle.rules.specs.Expansions.{carried_to, expansion}
 use Rattle.rules.specs.Verdicts.{found_at}
 use Rattle.checker.proofs.verdicts.first_found.Given as goal
 
--- nothing is found at the points so far
+-- nothing is found at the points so far, and what is carried is what comes from them
 abbrev pub invariant-loop-point : goal.invariant-loop-point
-invariant-loop-point l = (k : ℕ) → k < l.point → found_at l.task l.cert l.program k ≡ None
+invariant-loop-point l =
+    ((k : ℕ) → k < l.point → found_at l.task (expansion l.task l.cert) l.program k ≡ None)
+    × (option_map bound_of l.carried ≡ carried_to l.task l.cert (name_of l.name) l.point)

@@ -1,7 +1,8 @@
 use Rattle.certificate.specs.Views.{bound_of, interval_of}
 use Rattle.prog_asm.specs.Views.{operand_of}
 use Rattle.rules.specs.Slots.{OpenSlot, slots_in}
-use Rattle.transfer.specs.Given.{may_be, given_at}
+use Rattle.transfer.specs.Given.{may_be, stays, given_at}
+use Rattle.transfer.proofs.Keeping.{one_settles, repeated_settle, none_kept, some_kept}
 use Rattle.transfer.proofs.Repeated.{none_passes, some_passes}
 use Rattle.transfer.proofs.given.both_given_pass.Goals as goal
 
@@ -18,3 +19,25 @@ returns-else-none_is-clause-value g c =
     (given_at c.args.site.now (operand_of c.args.second.0) c.args.second.1 (interval_of c.args.given))
     (λ (slot : OpenSlot). may_be c.args.first.1 slot.held.target) (slots_in (bound_of c.args.site.now.bound.now) (operand_of c.args.first.0))
     c.none_is.result c.given_passes.result c.none_is.ensures c.if-none_is.false c.given_passes.ensures.value
+
+pub returns-then-none_is-clause-kept : goal.returns-then-none_is-clause-kept
+returns-then-none_is-clause-kept g c passes =
+    none_kept
+    (g.T.OutcomeTest.joins c.args.test.now)
+    (given_at c.args.site.now (operand_of c.args.second.0) c.args.second.1 (interval_of c.args.given))
+    (repeated_settle (g.T.OutcomeTest.joins c.args.test.now) (stays c.args.site.now (interval_of c.args.given))
+    (one_settles (g.T.OutcomeTest.joins c.args.test.now) _) (λ (slot : OpenSlot). may_be c.args.second.1 slot.held.target)
+    (slots_in (bound_of c.args.site.now.bound.now) (operand_of c.args.second.0)))
+    (λ (slot : OpenSlot). may_be c.args.first.1 slot.held.target) (slots_in (bound_of c.args.site.now.bound.now) (operand_of c.args.first.0))
+    (g.T.OutcomeTest.kept c.args.test.now) c.none_is.result c.none_is.ensures c.if-none_is.true
+
+pub returns-else-none_is-clause-kept : goal.returns-else-none_is-clause-kept
+returns-else-none_is-clause-kept g c passes =
+    some_kept
+    (g.T.OutcomeTest.joins c.args.test.now)
+    (given_at c.args.site.now (operand_of c.args.second.0) c.args.second.1 (interval_of c.args.given))
+    (repeated_settle (g.T.OutcomeTest.joins c.args.test.now) (stays c.args.site.now (interval_of c.args.given))
+    (one_settles (g.T.OutcomeTest.joins c.args.test.now) _) (λ (slot : OpenSlot). may_be c.args.second.1 slot.held.target)
+    (slots_in (bound_of c.args.site.now.bound.now) (operand_of c.args.second.0)))
+    (λ (slot : OpenSlot). may_be c.args.first.1 slot.held.target) (slots_in (bound_of c.args.site.now.bound.now) (operand_of c.args.first.0))
+    (g.T.OutcomeTest.kept c.args.test.now) _ c.none_is.result c.none_is.ensures c.if-none_is.false (c.given_passes.ensures.kept passes)

@@ -2,17 +2,18 @@ use Rattle.std.proofs.Common.{◌≡◌, ◌∙◌, refl, List, [], length}
 use Rattle.std.specs.Str.{bytes_eq}
 use Rattle.certificate.specs.declared.bounds.Point.{Point}
 use Rattle.certificate.specs.declared.lines.Channel.{Channel}
+use Rattle.certificate.specs.Bounds.{Version}
 use Rattle.certificate.specs.Order.{same_class}
 use Rattle.certificate.specs.Growth.{IsCertificate, begins, classes_of, distinct, distinct_behind, programs_of}
-use Rattle.certificate.specs.Views.{certificate_with}
+use Rattle.certificate.specs.Views.{certificate_with, version_of}
 use Rattle.certificate.proofs.certs.Cert.new.Goals as goal
 
-empty : (points : List Point) (channels : List Channel) → points ≡ [] → channels ≡ [] → IsCertificate (certificate_with points channels)
-    × ([] ≡ distinct bytes_eq (programs_of (certificate_with points channels))) × (0 ≡ length (distinct same_class (classes_of (certificate_with points channels))))
+empty : (version : Version) (points : List Point) (channels : List Channel) → points ≡ [] → channels ≡ [] → IsCertificate (certificate_with version points channels)
+    × ([] ≡ distinct bytes_eq (programs_of (certificate_with version points channels))) × (0 ≡ length (distinct same_class (classes_of (certificate_with version points channels))))
 unfolding distinct_behind
-empty points channels no_points no_channels = rw (no_points, no_channels) (begins, refl, refl)
+empty version points channels no_points no_channels = rw (no_points, no_channels) (begins version, refl, refl)
 
 pub invariant_of-result : goal.invariant_of-result
 invariant_of-result c =
-    let is = empty c.new.result.items c.new-2.result.items c.new.ensures.items c.new-2.ensures.items in
+    let is = empty (version_of c.args.version) c.new.result.items c.new-2.result.items c.new.ensures.items c.new-2.ensures.items in
     (is.0, c.new-3.ensures ∙ is.1, is.2)

@@ -1,0 +1,14 @@
+-- Limits in the instructions of a valid program are known.
+use Rattle.std.proofs.Common.{◌≡◌, ℕ, true, List, sym}
+use Rattle.std.specs.Prelude.{Option, Some, None, IfSome, option_map}
+use Rattle.std.specs.List.{slice_get}
+use Rattle.rights.proofs.Lists.{list_all-slice_get}
+use Rattle.prog_asm.specs.Programs.{Instruction, is_program}
+use Rattle.transfer.specs.Limits.{leaves_known}
+use Rattle.transfer.proofs.Known.{program_known}
+
+-- of the instruction at a point, if there is one
+pub known_there : {A : Type 0} (seen : A → Instruction) (found : Option A) (code : List Instruction) (point : ℕ) → is_program code ≡ true
+    → option_map seen found ≡ slice_get code point → IfSome found (λ i. leaves_known (seen i) ≡ true)
+known_there seen None code point valid is = tt
+known_there seen (Some i) code point valid is = list_all-slice_get leaves_known code point (seen i) (program_known code valid) (sym is)

@@ -1,0 +1,14 @@
+use Rattle.std.proofs.Common.{◌∙◌}
+use Rattle.std.specs.Prelude.{option_map}
+use Rattle.certificate.specs.Views.{bound_of, name_of}
+use Rattle.prog_asm.specs.Views.{instruction_of}
+use Rattle.rules.proofs.Arriving.{successes_within}
+use Rattle.checker.proofs.arrivals.successes_within.Goals as goal
+
+pub returns : goal.returns
+returns c =
+    let s = c.args.site.now in
+    c.successes_pass.ensures.value
+    ∙ rw (c.of.ensures.cert, c.of.ensures.name, c.of.ensures.next, c.of.ensures.held)
+    (successes_within s.task.now s.cert.now c.programs-programs.ensures.valid c.points-points.ensures.valid (name_of s.name.now) s.point
+    (instruction_of c.args.instruction.now) (option_map bound_of c.args.carried.now) c.requires.stands c.requires.carries (bound_of s.bound.now))

@@ -1,0 +1,32 @@
+-- A point of the code, in the expansion of its certificate.
+use Rattle.std.specs.Prelude.{◌≡◌, ◌+◌, ℕ, List, Option, Some, option_map}
+use Rattle.std.specs.List.{slice_get}
+use Rattle.certificate.specs.Bounds.{Certificate}
+use Rattle.certificate.specs.Views.{bound_of, name_of}
+use Rattle.certificate.specs.declared.bounds.Bound.{Bound as BoundCode}
+use Rattle.prog_asm.specs.Programs.{Instruction}
+use Rattle.rules.specs.Expansions.{carried_to, code_named, expansion}
+use Rattle.rules.specs.Outcomes.{Outcome, successes}
+use Rattle.rules.specs.Rules.{Test, tests}
+use Rattle.transfer.specs.declared.successes.Site.{Site}
+
+abbrev pub name_at : Site → List ℕ
+name_at s = name_of s.name.now
+
+abbrev pub expansion_at : Site → Certificate
+expansion_at s = expansion s.task.now s.cert.now
+
+abbrev pub successes_in : Site → Instruction → List Outcome
+successes_in s i = successes s.task.now.grants (expansion_at s) (name_at s) s.point (bound_of s.bound.now) i
+
+-- the tests at the point, of a program by its number
+abbrev pub tests_at : Site → ℕ → Instruction → List Test
+tests_at s program i = tests s.task.now (expansion_at s) program s.point i (bound_of s.bound.now)
+
+-- its program has this instruction there
+abbrev pub StandsAt : Site → Instruction → Type 0
+StandsAt s i = slice_get (code_named s.task.now.programs (name_at s)) s.point ≡ Some i
+
+-- this is carried on from it
+abbrev pub CarriesOn : Site → Option BoundCode → Type 0
+CarriesOn s carried = option_map bound_of carried ≡ carried_to s.task.now s.cert.now (name_at s) (s.point + 1)

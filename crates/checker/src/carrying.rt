@@ -1,0 +1,61 @@
+//! What is carried from point to point along a program.
+
+ghost use Rattle.std.specs.Prelude.{◌≡◌, option_map, true};
+ghost use Rattle.std.specs.List.{list_all};
+ghost use Rattle.certificate.specs.Views.{bound_of, name_of};
+ghost use Rattle.prog_asm.specs.Views.{code_of};
+ghost use Rattle.certificate.specs.Bounds.{bound_at};
+ghost use Rattle.rules.specs.Expansions.{carried_past, code_named, or_carried};
+ghost use Rattle.transfer.specs.Limits.{leaves_known};
+
+use crate::points::{instruction_in, may_carry};
+use certificate::{Bound, Cert, Name};
+use prog_asm::Instruction;
+use task::Task;
+use transfer::{Site, carried_on};
+
+/// The bound of a point: the one that the certificate gives, or else what is carried there.
+pub(crate) fn bound_with<'a>(
+    cert: &'a Cert,
+    name: &Name,
+    point: u8,
+    carried: &'a Option<Bound>,
+) -> Option<&'a Bound>
+    ensures { option_map (λ b. bound_of b.now) result
+        ≡ or_carried (bound_at cert.now (name_of name.now) point) (option_map bound_of carried.now) }
+{
+    match cert.bound_at(name.as_bytes(), point as usize) {
+        Some(given) => Some(given),
+        None => carried.as_ref(),
+    }
+}
+
+/// What a point carries on to the next, where this is carried to it: in version 2, the join of the outcomes that go there, if
+/// it isn't named. Takes no memory.
+pub(crate) fn carried_past(
+    task: &Task,
+    cert: &Cert,
+    name: &Name,
+    code: &[Instruction],
+    point: u8,
+    carried: &Option<Bound>,
+) -> Option<Bound>
+    requires named { code_of code.now ≡ code_named task.now.programs (name_of name.now) }
+    requires known { list_all leaves_known (code_of code.now) ≡ true }
+    ensures { option_map bound_of result
+        ≡ carried_past task.now cert.now (name_of name.now) point (option_map bound_of carried.now) }
+{
+    let bound = bound_with(cert, name, point, carried)?;
+    let instruction = instruction_in(code, point)?;
+    if !may_carry(cert.version(), code, point as usize + 1) {
+        return None;
+    }
+    let site = Site {
+        task,
+        cert,
+        name,
+        point,
+        bound,
+    };
+    carried_on(&site, instruction)
+}

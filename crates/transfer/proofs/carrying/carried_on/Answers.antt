@@ -1,0 +1,24 @@
+use Rattle.std.proofs.Common.{◌+◌, Some, [], ◌∷◌, option_map, refl}
+use Rattle.certificate.specs.Views.{bound_of}
+use Rattle.prog_asm.specs.Views.{instruction_of}
+use Rattle.rules.specs.Outcomes.{error_outcomes}
+use Rattle.transfer.specs.Calls.{successes_at}
+use Rattle.transfer.specs.OutcomeViews.{outcome_of}
+use Rattle.transfer.proofs.Keeping.{kept-joined}
+use Rattle.transfer.proofs.carrying.carried_on.Goals as goal
+
+pub returns-in-Some : goal.returns-in-Some
+returns-in-Some c =
+    kept-joined (c.args.site.now.point + 1) (successes_at c.args.site.now (instruction_of c.args.instruction.now))
+    (error_outcomes (bound_of c.args.site.now.bound.now) (instruction_of c.args.instruction.now)) (outcome_of c.in-Some.outcome ∷ [])
+    (Some c.successes_pass.new.test.point) (option_map bound_of c.successes_pass.new.test.bound) (option_map bound_of c.asks.new.self.bound)
+    c.successes_pass.result c.successes_pass.ensures.value c.successes_pass.ensures.kept c.in-Some.ensures c.successes_pass.ensures.same_point
+    c.asks.ensures.kept
+
+pub returns-in_default : goal.returns-in_default
+returns-in_default c =
+    kept-joined (c.args.site.now.point + 1) (successes_at c.args.site.now (instruction_of c.args.instruction.now))
+    (error_outcomes (bound_of c.args.site.now.bound.now) (instruction_of c.args.instruction.now)) []
+    (Some c.successes_pass.new.test.point) (option_map bound_of c.successes_pass.new.test.bound)
+    (option_map bound_of c.successes_pass.new.test.bound) c.successes_pass.result c.successes_pass.ensures.value c.successes_pass.ensures.kept
+    c.in_default.ensures c.successes_pass.ensures.same_point refl
