@@ -1,8 +1,8 @@
 -- A place's text has the names of the place.
-use Rattle.std.proofs.Common.{◌≡◌, ◌++◌, ℕ, Bool, true, false, List, [], ◌∷◌, refl, ap, sym, ◌∙◌, append-nil, append_assoc}
-use Rattle.std.specs.Prelude.{◌&&◌, ◌||◌, not, nat_eq, length, nat_le}
+use Rattle.std.proofs.Common.{◌≡◌, ◌++◌, ℕ, Bool, true, false, List, [], ◌∷◌, Result, Ok, Err, refl, ap, sym, ◌∙◌, append-nil, append_assoc}
+use Rattle.std.specs.Prelude.{◌&&◌, ◌||◌, not, nat_eq, length, nat_le, OnOk}
 use Rattle.std.specs.List.{list_all}
-use Rattle.file_tree.specs.Places.{is_name, is_name_byte, is_dots, names_from, names_text, place_text, path_components, with_name}
+use Rattle.file_tree.specs.Places.{at_name, slash, is_name, is_name_byte, is_dots, names_from, names_text, place_text, path_components, with_name}
 use Rattle.file_tree.specs.Nodes.{Node, node}
 use Rattle.file_tree.specs.WellFormed.{is_content, is_byte, is_within_limits}
 
@@ -56,3 +56,16 @@ unfolding is_within_limits
 names_of_place t n is =
     let m = node t n in
     (both (list_all is_name m.place) (is_content m.kind m.content) (both (list_all is_name m.place && is_content m.kind m.content) (list_all is_byte m.content) is).0).0
+
+-- the text of a name's place is that of the directory's names, and the name after a `/`
+names_text_at : (p : List (List ℕ)) (x : List ℕ) → names_text (at_name p x) ≡ names_text p ++ (slash ∷ x)
+names_text_at [] x = append-nil (slash ∷ x)
+names_text_at (name ∷ p) x = ap (λ text. (slash ∷ name) ++ text) (names_text_at p x) ∙ sym (append_assoc (slash ∷ name) (names_text p) (slash ∷ x))
+
+-- so where the directory's names are told, and then a `/` and the name, the place is
+pub told_at : {A E : Type 0} (r : Result A E) (before between after : List ℕ) (p q : List (List ℕ)) (x y : List ℕ) → q ≡ at_name p x → y ≡ x
+    → between ≡ before ++ names_text p → OnOk r (after ≡ between ++ (slash ∷ y)) → OnOk r (after ≡ before ++ names_text q)
+told_at (Ok a) before between after p q x y place same told behind =
+    behind ∙ ap (λ text. text ++ (slash ∷ y)) told ∙ append_assoc before (names_text p) (slash ∷ y)
+    ∙ ap (λ text. before ++ text) (ap (λ z. names_text p ++ (slash ∷ z)) same ∙ sym (names_text_at p x) ∙ ap names_text (sym place))
+told_at (Err e) before between after p q x y place same told behind = tt

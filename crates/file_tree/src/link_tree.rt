@@ -9,9 +9,8 @@ mod renames;
 
 use crate::faults::TreeFault;
 use crate::nodes::{Kind, New, NodeId};
-use crate::places::append_text;
 use crate::tree::Tree;
-use climbs::{begins_in, place_in};
+use climbs::{append_place_in, begins_in};
 use creates::{create_in, put_in, truncate_in};
 use links::{Link, Stand, child_in, content_in, is_linked_in, kind_in, parent_in, target_in};
 use removes::remove_in;
@@ -95,8 +94,7 @@ impl Tree for LinkTree {
     }
 
     fn place_text(&self, n: NodeId, out: &mut Vec<u8>) -> Result<(), TreeFault> {
-        let place = place_in(self.alloc, self.entries.as_slice(), n.number())?;
-        append_text(place.as_slice(), out)?;
+        append_place_in(self.entries.as_slice(), n.number(), out)?;
         Ok(())
     }
 

@@ -1,15 +1,15 @@
 //! Places in a tree by links, found by going up from a node to the root.
 
-ghost use Rattle.std.specs.Prelude.{◌≡◌, ◌<◌, true, ◌∷◌, [], length, IfOk, MatchOption};
+ghost use Rattle.std.specs.Prelude.{◌≡◌, ◌<◌, ◌++◌, true, ◌∷◌, [], length, take, IfOk, OnOk, OnErr, MatchOption};
 ghost use Rattle.file_tree.specs.Nodes.{node};
-ghost use Rattle.file_tree.specs.Places.{begins, path_components};
+ghost use Rattle.file_tree.specs.Places.{begins, names_text, path_components, place_text, slash};
 ghost use Rattle.file_tree.specs.Links.{IsLinked, linked_nodes};
 ghost use Rattle.file_tree.specs.Views.{names_of};
 ghost use Rattle.file_tree.specs.LinkEntries.{links_of};
 ghost use Rattle.file_tree.specs.PathMatch.{Matches};
 
 use super::links::{Link, Stand};
-use crate::places::{begins_with_path, copy_of};
+use crate::places::{append_text, begins_with_path, copy_of};
 use std::alloc::{AllocError, Global};
 
 /// The place of a node, as a list of names of its own.
@@ -31,6 +31,64 @@ pub(crate) fn place_in(
             Ok(place)
         }
         Stand::Out { place } => copy_of(alloc, place.as_slice()),
+    }
+}
+
+/// Appends a name after a `/`, or leaves what is there as it was. It takes one growth at most.
+fn append_name(name: &[u8], out: &mut Vec<u8>) -> Result<(), AllocError>
+    ensures ok { OnOk result (out.new.items ≡ out.old.items ++ (slash ∷ name.now)) }
+    ensures err { OnErr result (out.new.items ≡ out.old.items) }
+{
+    out.reserve(1 + name.len())?;
+    out.push_reserved(b'/');
+    out.extend_from_slice(name)?;
+    Ok(())
+}
+
+/// Appends each name of a linked node's place after a `/`, or a beginning of that.
+fn append_linked_names(entries: &[Link], n: usize, out: &mut Vec<u8>) -> Result<(), AllocError>
+    requires linked { IsLinked (links_of entries.now) }
+    requires there { n < length entries.now }
+    requires n_linked { (node (linked_nodes (links_of entries.now)) n).linked ≡ true }
+    ensures ok { OnOk result (out.new.items ≡ out.old.items ++ names_text (node (linked_nodes (links_of entries.now)) n).place) }
+    ensures front { take (length out.old.items) out.new.items ≡ out.old.items }
+{
+    let entry = &entries[n];
+    match &entry.stand {
+        Stand::Root => Ok(()),
+        Stand::In { parent, name } => {
+            append_linked_names(entries, *parent, out)?;
+            append_name(name.as_slice(), out)
+        }
+        Stand::Out { .. } => Ok(()),
+    }
+}
+
+/// Appends the place of a node as text, or leaves what is there as it was.
+pub(crate) fn append_place_in(
+    entries: &[Link],
+    n: usize,
+    out: &mut Vec<u8>,
+) -> Result<(), AllocError>
+    requires linked { IsLinked (links_of entries.now) }
+    requires there { n < length entries.now }
+    ensures ok { OnOk result (out.new.items ≡ out.old.items ++ place_text (node (linked_nodes (links_of entries.now)) n).place) }
+    ensures err { OnErr result (out.new.items ≡ out.old.items) }
+{
+    let entry = &entries[n];
+    match &entry.stand {
+        Stand::Root => append_name(&[], out),
+        Stand::In { .. } => {
+            let before = out.len();
+            match append_linked_names(entries, n, out) {
+                Ok(()) => Ok(()),
+                Err(error) => {
+                    out.truncate(before);
+                    Err(error)
+                }
+            }
+        }
+        Stand::Out { place } => append_text(place.as_slice(), out),
     }
 }
 
