@@ -12,3 +12,8 @@ pub mod Growing
 pub mod Made
 pub mod Rising
 pub mod Halves
+pub mod Growths
+pub mod Fewer
+pub mod Fits
+pub mod Makes
+pub mod Whole

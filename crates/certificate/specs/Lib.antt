@@ -11,3 +11,4 @@ pub mod Room
 pub mod Views
 pub mod GrowthViews
 pub mod CountViews
+pub mod Growths

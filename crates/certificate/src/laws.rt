@@ -2,7 +2,8 @@
 
 ghost use Rattle.std.specs.Prelude.{◌≡◌, true, length, Bool, ℕ, List, Ok, Option};
 ghost use Rattle.certificate.specs.Bounds.{Bound, Certificate, Held, Interval, Slot};
-ghost use Rattle.certificate.specs.Growth.{taken};
+ghost use Rattle.certificate.specs.Growth.{IsCertificate, taken};
+ghost use Rattle.certificate.specs.Growths.{IsGrown};
 ghost use Rattle.certificate.specs.Joins.{bound_join};
 ghost use Rattle.certificate.specs.Lines.{Line};
 ghost use Rattle.certificate.specs.Order.{bound_within, interval_within, sends_within, slot_within};
@@ -28,6 +29,11 @@ pub fn parts_within_describe_no_more()
 /// What a line makes of a certificate has its version.
 pub fn lines_keep_the_version()
     ensures { (c d : Certificate) (line : Line) → taken c line ≡ Ok d → d.version ≡ c.version }
+{}
+
+/// A certificate is what its own lines make of nothing.
+pub fn its_lines_make_a_certificate()
+    ensures { (c : Certificate) → IsCertificate c → IsGrown c }
 {}
 
 /// The order of bounds is reflexive and transitive, and the join of two with rows of one length is above both.

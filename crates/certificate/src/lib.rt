@@ -2,6 +2,7 @@
 //! order of bounds.
 #![tactic(auto)]
 
+pub mod blocks;
 pub mod bounds;
 pub mod certs;
 pub mod classes;
@@ -13,6 +14,7 @@ pub mod names;
 pub mod order;
 mod program_names;
 
+pub use blocks::{push_block, push_channels};
 pub use bounds::{Bound, FcntlsRange, Held, Interval, ModeBound, Point, RightsRange, Slot, Target};
 pub use certs::{Cert, Version};
 pub use classes::{Class, Pair, Side};

@@ -2,3 +2,4 @@ pub mod PastEnds
 pub mod Named
 pub mod Standing
 pub mod KnownLimits
+pub mod Along

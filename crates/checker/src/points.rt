@@ -1,16 +1,17 @@
 //! The points of a task's programs.
 
 ghost use Rattle.std.specs.Prelude.{◌≡◌, IfSome, option_map, true};
-ghost use Rattle.std.specs.List.{list_any, slice_get};
+ghost use Rattle.std.specs.List.{list_all, list_any, slice_get};
 ghost use Rattle.certificate.specs.Views.{version_of};
-ghost use Rattle.rules.specs.Expansions.{is_named, may_carry, names_point};
+ghost use Rattle.rules.specs.Expansions.{code_named, is_named, may_carry, names_point};
 ghost use Rattle.rules.specs.Points.{instruction_at};
 ghost use Rattle.prog_asm.specs.Views.{code_of, instruction_of};
+ghost use Rattle.task.specs.Views.{programs_of};
 ghost use Rattle.transfer.specs.Limits.{leaves_known};
 
 use certificate::Version;
 use prog_asm::Instruction;
-use task::Task;
+use task::{NamedProgram, Task};
 
 /// The instruction at a point of this code, if it is there.
 pub(crate) fn instruction_in(code: &[Instruction], point: u8) -> Option<&Instruction>
@@ -28,6 +29,31 @@ pub(crate) fn instruction_at(task: &Task, program: u8, point: u8) -> Option<&Ins
         None => None,
         Some(program) => instruction_in(program.program.code(), point),
     }
+}
+
+/// The code of the program of this name, among these.
+#[tactic(auto, unfolding(rules::specs::Expansions::code_named))]
+fn code_among<'a>(programs: &'a [NamedProgram], name: &[u8]) -> &'a [Instruction]
+    ensures code { code_of result.now ≡ code_named (programs_of programs.now) name.now }
+    ensures known { list_all leaves_known (code_of result.now) ≡ true }
+{
+    match programs {
+        [] => &[],
+        [first, rest @ ..] => {
+            if first.name.as_bytes() == name {
+                return first.program.code();
+            }
+            code_among(rest, name)
+        }
+    }
+}
+
+/// The code of the task's program of this name; where it has none, there is no code.
+pub fn code_named<'a>(task: &'a Task, name: &[u8]) -> &'a [Instruction]
+    ensures code { code_of result.now ≡ code_named task.now.programs name.now }
+    ensures known { list_all leaves_known (code_of result.now) ≡ true }
+{
+    code_among(task.programs(), name)
 }
 
 /// Whether an instruction names the point as one to go to, by a jump or an `else`.
@@ -62,7 +88,7 @@ fn one_names(code: &[Instruction], point: usize) -> bool
 
 /// Whether a point of this code is named: point 0, or one that a jump or an `else` goes to, whether or not it ever does. A
 /// certificate of version 2 bounds these, and the others get the bounds that are carried to them.
-pub(crate) fn is_named(code: &[Instruction], point: usize) -> bool
+pub fn is_named(code: &[Instruction], point: usize) -> bool
     ensures { result ≡ is_named (code_of code.now) point }
 {
     point == 0 || one_names(code, point)

@@ -53,3 +53,7 @@ pub mod Channelled
 pub mod Goes
 pub mod Arriving
 pub mod ExpansionRows
+pub mod FitBounds
+pub mod FitOutcomes
+pub mod RisingPoints
+pub mod GrownExpansions

@@ -6,6 +6,7 @@ use Rattle.std.specs.Str.{bytes_eq}
 use Rattle.rights.specs.Limits.{most_instructions}
 use Rattle.certificate.specs.Bounds.{Bound, PointBound, Version, One, Two, Certificate, bound_at}
 use Rattle.certificate.specs.Growth.{IsCertificate}
+use Rattle.certificate.specs.Growths.{IsGrown}
 use Rattle.prog_asm.specs.Programs.{Instruction, Set, Mov, Add, In, Jmp, Jeq, Jlt, Halt, Invoke}
 use Rattle.task.specs.Limits.{is_plan}
 use Rattle.task.specs.Plans.{NamedProgram, Plan}
@@ -112,3 +113,7 @@ expansion plan c = expanded c.version plan c
 abbrev pub ExpansionBounds : Type 0
 ExpansionBounds = (plan : Plan) (c : Certificate) (name : List ℕ) (point : ℕ) → is_plan plan ≡ true → IsCertificate c
     → bound_at (expansion plan c) name point ≡ bound_there plan c name point
+
+-- It is what its own lines make of nothing.
+abbrev pub ExpansionIsGrown : Type 0
+ExpansionIsGrown = (plan : Plan) (c : Certificate) → IsCertificate c → IsGrown (expansion plan c)

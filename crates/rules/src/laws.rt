@@ -1,6 +1,6 @@
 //! Laws of the rules. Each is the contract of a function that does nothing.
 
-ghost use Rattle.rules.specs.Expansions.{ExpansionBounds};
+ghost use Rattle.rules.specs.Expansions.{ExpansionBounds, ExpansionIsGrown};
 ghost use Rattle.rules.specs.Refusals.{EachRuleIsBroken, EachRuleIsKept, LeastIsTold};
 ghost use Rattle.rules.specs.Verdicts.{FirstIsFound, IsSound};
 
@@ -29,6 +29,11 @@ pub fn the_least_is_told()
 /// point to point. (own)
 pub fn the_expansion_bounds_each_point()
     ensures { ExpansionBounds }
+{}
+
+/// The lines of the expansion, one after another, make it of nothing: each has room and stands in its place.
+pub fn the_expansion_is_what_its_lines_make()
+    ensures { ExpansionIsGrown }
 {}
 
 /// Soundness: where a certificate meets the rules, no run of the task, whatever its events, inputs, schedule and refusals, does

@@ -6,9 +6,9 @@ use Rattle.certificate.specs.Bounds.{Certificate}
 use Rattle.task.specs.declared.starts.Start.{Start as StartCode}
 use Rattle.task.specs.Plans.{Start, Plan}
 use Rattle.task.specs.Views.{starts_of}
-use Rattle.searcher.specs.Growths.{grown_by, then_grown}
+use Rattle.certificate.specs.Growths.{grown_by, then_grown}
 use Rattle.searcher.specs.Flat.{flat_points_of, name_of_start, next_behind, points_behind, with_next}
-use Rattle.searcher.proofs.Growths.{by_append}
+use Rattle.certificate.proofs.Growths.{by_append}
 
 pub next_grown : (plan : Plan) (turns : List StartCode) (name : List ℕ) (s : Start) (c d : Certificate) → 1 ≤ length turns
     → next_behind plan name plan.starts ≡ Some s → grown_by (flat_points_of plan s) c ≡ Some d

@@ -19,15 +19,15 @@ use Rattle.texts.specs.Names.{is_name}
 use Rattle.prog_asm.specs.Programs.{Instruction, ends_well, is_instruction, is_program}
 use Rattle.task.specs.Plans.{FirstDescriptor, FirstObject, On_node, On_end, Grant, NamedProgram, Start, Plan, code_in}
 use Rattle.task.specs.Limits.{all_apart, is_tree, are_grants, is_named, are_named_apart, is_start, are_descriptors, are_programs, are_starts, is_plan}
-use Rattle.certificate.specs.Bounds.{ModeBound, Target, In_grant, Slot, Open, Bound, PointBound, One, Certificate}
+use Rattle.certificate.specs.Bounds.{ModeBound, Target, In_grant, Slot, Open, Bound, PointBound, Two, Certificate}
 use Rattle.certificate.specs.Growth.{above_blocks, copies, distinct, distinct_behind, name_order, nothing, open_bound, programs_of_block, programs_of_slot, programs_of_target}
 use Rattle.certificate.proofs.Distinct.{behind-append}
 use Rattle.certificate.proofs.Last.{above_blocks-last, above_blocks-none}
-use Rattle.searcher.specs.Growths.{Grows, grown_by, then_grown}
+use Rattle.certificate.specs.Growths.{Grows, grown_by, then_grown}
 use Rattle.certificate.specs.declared.lines.Refusal.{Refusal}
 use Rattle.certificate.specs.declared.lines.Refusal.TheVariants.{Limit, Order, Memory}
 use Rattle.searcher.specs.Flat.{code_of, enters, first_held, first_target, flat, flat_bound, flat_points, flat_points_of, grant_target, have_own, mode_in, name_of_start, nearer, next_behind, points_behind, points_from, with_first, with_next}
-use Rattle.searcher.proofs.Growths.{by_append}
+use Rattle.certificate.proofs.Growths.{by_append}
 use Rattle.searcher.proofs.Taken.{AllPlain, flat_of, listed, names, of_points, one_more, plain_closed, points_grown, room_for, run_names}
 use Rattle.searcher.proofs.Valid.{programs_named, starts_valid}
 
@@ -264,14 +264,14 @@ few_starts plan valid own =
     omega (arith, few, most, same)
 
 pub flat_grows : (plan : Plan) → is_plan plan ≡ true → have_own plan.starts ≡ true
-    → grown_by (flat_points plan) (nothing One) ≡ Some (of_points (flat_points plan))
+    → grown_by (flat_points plan) (nothing Two) ≡ Some (of_points (flat_points plan))
 unfolding distinct_behind IsGrown
 flat_grows plan valid own =
     let few = few_starts plan valid own in
     turns_grown plan valid plan.starts [] [] (λ q less. above_blocks-none q 0) (omega (arith, few))
 
 -- what the code's growing comes to, then
-pub flat_taken : (plan : Plan) (starts others : List Start) (c : Certificate) (own : Bool) → starts ≡ plan.starts → others ≡ plan.starts → c ≡ nothing One
+pub flat_taken : (plan : Plan) (starts others : List Start) (c : Certificate) (own : Bool) → starts ≡ plan.starts → others ≡ plan.starts → c ≡ nothing Two
     → own ≡ have_own starts → own ≡ true → is_plan plan ≡ true → grown_by (points_behind plan others []) c ≡ Some (of_points (flat_points plan))
 flat_taken plan starts others c own same again new is owned valid =
     (λ k. grown_by (points_behind plan (again k) []) (new k))

@@ -6,7 +6,7 @@ use Rattle.rights.specs.Operations.{Look, Read as Reads}
 use Rattle.prog_asm.specs.Programs.{Instruction, Halt, Invoke, Cap_enter, Read, Number}
 use Rattle.task.specs.Breaches.{small_tree}
 use Rattle.task.specs.Plans.{On_node, NamedProgram, Plan, Start}
-use Rattle.certificate.specs.Bounds.{On, Either, In_grant, Slot, Closed, Bound, PointBound, One, Certificate, bound_in, full_interval}
+use Rattle.certificate.specs.Bounds.{On, Either, In_grant, Slot, Closed, Bound, PointBound, Two, Certificate, bound_in, full_interval}
 use Rattle.certificate.specs.Bounds as bounds
 use Rattle.certificate.specs.Growth.{copies, open_bound}
 use Rattle.task.specs.Policies.{grant_named}
@@ -55,7 +55,7 @@ bound_with rights = record {
 
 abbrev three_points : ℕ → Certificate
 three_points rights = record {
-  version = One;
+  version = Two;
   points =
       record { program = codes "main"; point = 0; bound = bound_with rights }
       ∷ record { program = codes "main"; point = 1; bound = bound_with rights }
@@ -103,6 +103,6 @@ none_of_one_program = refl
 abbrev at_its_start : List ℕ → PointBound
 at_its_start name = record { program = name; point = 0; bound = open_bound On }
 
-by_their_names : flat (of_two 0 1) ≡ Some (record { version = One; points = at_its_start (codes "child") ∷ at_its_start (codes "main") ∷ []; channels = [] })
+by_their_names : flat (of_two 0 1) ≡ Some (record { version = Two; points = at_its_start (codes "child") ∷ at_its_start (codes "main") ∷ []; channels = [] })
 unfolding flat grant_target points_from next_behind points_behind
 by_their_names = refl

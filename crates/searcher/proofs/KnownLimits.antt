@@ -5,17 +5,11 @@ use Rattle.std.specs.Option.{option_map}
 use Rattle.std.proofs.lemmas.Option.{slice_get_read, slice_get-map}
 use Rattle.rights.proofs.Lists.{list_all-slice_get}
 use Rattle.prog_asm.specs.declared.instructions.Instruction.{Instruction as InstructionCode}
-use Rattle.prog_asm.specs.Programs.{Instruction, is_program}
 use Rattle.prog_asm.specs.Views.{code_of, instruction_of}
 use Rattle.transfer.specs.Limits.{leaves_known}
-use Rattle.transfer.proofs.Known.{program_known}
 
 pub known_at : (code : List InstructionCode) (point : ℕ) (i : InstructionCode) → list_all leaves_known (code_of code) ≡ true
     → point < length code → i ≡ slice_index_or code point i → leaves_known (instruction_of i) ≡ true
 known_at code point i all below is =
     list_all-slice_get leaves_known (code_of code) point (instruction_of i) all
     (slice_get-map instruction_of code point ∙ ap (option_map instruction_of) (slice_get_read code (length code) point i refl below is))
-
-pub all_known : (code : List InstructionCode) {program : List Instruction} → code_of code ≡ program → is_program program ≡ true
-    → list_all leaves_known (code_of code) ≡ true
-all_known code {program} is valid = ap (list_all leaves_known) is ∙ program_known program valid

@@ -12,19 +12,20 @@ use Rattle.std.proofs.Math.Seq.{set-append_seam}
 use Rattle.std.proofs.lemmas.Slice.Eq.{bytes_eq-Decides}
 use Rattle.std.specs.Cmp.{nat_cmp_is}
 use Rattle.std.specs.Cmp.Lexicographic.{slice_cmp}
-use Rattle.certificate.specs.Bounds.{ModeBound, Slot, Closed, Open, Maybe, Bound, PointBound, One, Certificate, full_interval, with_slot}
+use Rattle.certificate.specs.Bounds.{ModeBound, Slot, Closed, Open, Maybe, Bound, PointBound, Two, Certificate, full_interval, with_slot}
 use Rattle.certificate.specs.Growth.{above_blocks, all_from, copies, distinct, distinct_behind, has_room, on_last, programs_of_block, programs_of_slot, stands, taken, with_line, No_room, Out_of_order}
 use Rattle.certificate.specs.Order.{same_class}
 use Rattle.certificate.specs.Lines.{Line, Begins_block, Bounds_slot, block_lines, is_closed, register_lines, slot_lines}
+use Rattle.certificate.proofs.Makes.{all_from_seam, last_changed}
 use Rattle.certificate.proofs.Distinct.{behind-append}
 use Rattle.certificate.proofs.Last.{above_blocks-last, may_bound_slot-last}
-use Rattle.searcher.specs.Growths.{grown, grown_behind, grown_by, then_grown}
+use Rattle.certificate.specs.Growths.{grown, grown_behind, grown_by, then_grown}
 use Rattle.searcher.specs.Flat.{points_from}
 use Rattle.prog_asm.specs.Programs.{Instruction}
 
 -- a certificate without channels
 abbrev pub of_points : List PointBound → Certificate
-of_points points = record { version = One; points = points; channels = [] }
+of_points points = record { version = Two; points = points; channels = [] }
 
 abbrev pub names : List PointBound → List (List ℕ)
 names points = flat_map programs_of_block points
@@ -102,21 +103,10 @@ is_taken c line room stand =
     ∙ ap (λ b. if b then Ok (with_line c line) else Err Out_of_order) stand
 
 -- SLOTS
-all_from_seam : {A : Type 0} (test : A → Bool) (xs ys : List A) → all_from test (length xs) (xs ++ ys) ≡ all_from test 0 ys
-unfolding all_from
-all_from_seam test [] ys = refl
-all_from_seam test (x ∷ xs) ys = all_from_seam test xs ys
-
 closed_copies : (n : ℕ) → all_from is_closed 0 (copies n Closed) ≡ true
 unfolding all_from
 closed_copies zero = refl
 closed_copies (suc n) = closed_copies n
-
-last_changed : (f : Bound → Bound) (points : List PointBound) (b : PointBound) → on_last f (points ++ b ∷ []) ≡ points ++ (record b { bound = f b.bound }) ∷ []
-unfolding on_last
-last_changed f [] b = refl
-last_changed f (a ∷ []) b = refl
-last_changed f (a ∷ c ∷ points) b = ap (λ rest. a ∷ rest) (last_changed f (c ∷ points) b)
 
 module _ (points : List PointBound) (program : List ℕ) (point : ℕ) (mode : ModeBound) (few : few_names (names points ++ program ∷ []) ≡ true) where
   abbrev state : List Slot → Certificate

@@ -6,7 +6,7 @@ use Rattle.std.specs.Ordering.{is_lt}
 use Rattle.rights.specs.Classes.{Initial}
 use Rattle.file_tree.specs.Nodes.{node}
 use Rattle.file_tree.specs.Places.{begins}
-use Rattle.certificate.specs.Bounds.{ModeBound, Off, On, Either, Target, In_grant, Any_node, Socket, Held, Bound, PointBound, One, Certificate, with_slot}
+use Rattle.certificate.specs.Bounds.{ModeBound, Off, On, Either, Target, In_grant, Any_node, Socket, Held, Bound, PointBound, Two, Certificate, with_slot}
 use Rattle.certificate.specs.Bounds as bounds
 use Rattle.certificate.specs.Growth.{name_order, open_bound}
 use Rattle.prog_asm.specs.Programs.{Syscall, Cap_enter, Instruction, Invoke}
@@ -97,6 +97,6 @@ flat_points plan = points_behind plan plan.starts []
 abbrev pub have_own : List Start → Bool
 have_own starts = all_apart (λ (s t : Start). not (s.program == t.program)) starts
 
--- THE FLAT CERTIFICATE. A task has none in which two of the first processes have one program.
+-- THE FLAT CERTIFICATE, of version 2. A task has none in which two of the first processes have one program.
 unfoldable pub flat : Plan → Option Certificate
-flat plan = if have_own plan.starts then Some (record { version = One; points = flat_points plan; channels = [] }) else None
+flat plan = if have_own plan.starts then Some (record { version = Two; points = flat_points plan; channels = [] }) else None

@@ -1,2 +1,1 @@
-pub mod Growths
 pub mod Flat

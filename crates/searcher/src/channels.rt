@@ -1,11 +1,10 @@
 //! What is known of what socket pairs carry: channels, which grow by what is sent.
 
-ghost use Rattle.std.specs.Prelude.{◌≡◌, ◌≤◌, length, true};
-ghost use Rattle.certificate.specs.Lines.{Bounds_channel, is_line};
-ghost use Rattle.certificate.specs.Views.{channel_of, line_of};
+ghost use Rattle.std.specs.Prelude.{◌≡◌, ◌≤◌, length};
 
 use certificate::{
-    Bound, Cert, Channel, Class, Domain, Held, Interval, Line, Refusal, Side, Target, Version,
+    Bound, Cert, Channel, Class, Domain, Held, Interval, Refusal, Side, Target, Version,
+    push_channels,
 };
 use prog_asm::{Instruction, Operand, Syscall};
 use std::alloc::{AllocError, Global};
@@ -25,22 +24,6 @@ pub(crate) struct Channels {
 struct End {
     class: Class,
     side: Side,
-}
-
-/// The line of a channel.
-fn channel_line(channel: Channel) -> Line
-    ensures value { line_of result ≡ Bounds_channel (channel_of channel) }
-    ensures valid { is_line (line_of result) ≡ true }
-{
-    Line::Channel(channel)
-}
-
-/// Adds channels to a certificate. Gives up at one that is refused.
-pub(crate) fn push_channels(cert: &mut Cert, channels: &[Channel]) -> Result<(), Refusal> {
-    for channel in channels {
-        cert.push(&channel_line(*channel))?;
-    }
-    Ok(())
 }
 
 /// The number of a side, by which channels stand.
@@ -116,7 +99,7 @@ impl Channels {
     pub(crate) fn new(alloc: Global) -> Channels {
         Channels {
             lines: Vec::new(alloc),
-            cert: Cert::new(alloc, Version::One),
+            cert: Cert::new(alloc, Version::Two),
             changed: false,
         }
     }
@@ -212,7 +195,7 @@ impl Channels {
             return Err(Refusal::Memory);
         }
         if self.changed {
-            let mut cert = Cert::new(alloc, Version::One);
+            let mut cert = Cert::new(alloc, Version::Two);
             push_channels(&mut cert, &self.lines)?;
             self.cert = cert;
         }

@@ -11,13 +11,12 @@ ghost use Rattle.task.specs.Limits.{is_descriptor, is_object, is_start};
 ghost use Rattle.task.specs.Plans.{programs_of_plan};
 ghost use Rattle.task.specs.Views.{first_descriptor_of, first_object_of, grants_of, nodes_of, start_of, starts_of};
 ghost use Rattle.transfer.specs.Tested.{has_name};
-ghost use Rattle.searcher.specs.Growths.{Grows, grown_by};
+ghost use Rattle.certificate.specs.Growths.{Grows, grown_by};
 ghost use Rattle.searcher.specs.Flat.{enters, first_held, first_target, flat, flat_bound, flat_points_of, grant_target, have_own, is_entering, mode_in, name_of_start, next_behind, points_behind, points_from, with_first};
 
-use crate::growing::push_block;
 use certificate::{
     Bound, Cert, Class, FcntlsRange, Held, ModeBound, Name, Pair, Refusal, RightsRange, Side, Slot,
-    Target, Version,
+    Target, Version, push_block,
 };
 use file_tree::is_front;
 use prog_asm::{Instruction, Syscall};
@@ -161,7 +160,7 @@ fn flat_bound(task: &Task, start: &Start) -> Bound
 }
 
 /// Adds a bound at each point from one on.
-#[tactic(auto, unfolding(crate::specs::Growths::grown_by, crate::specs::Flat::points_from))]
+#[tactic(auto, unfolding(certificate::specs::Growths::grown_by, crate::specs::Flat::points_from))]
 fn push_points(
     cert: &mut Cert,
     name: &Name,
@@ -217,7 +216,7 @@ fn push_start(cert: &mut Cert, task: &Task, start: &Start) -> Result<(), Refusal
 }
 
 /// Adds the points of the first processes behind a name, of as many as there are turns.
-#[tactic(auto, using(crate::proofs::Growths::by_append), unfolding(crate::specs::Growths::grown_by, crate::specs::Flat::points_behind))]
+#[tactic(auto, using(certificate::proofs::Growths::by_append), unfolding(certificate::specs::Growths::grown_by, crate::specs::Flat::points_behind))]
 fn push_behind(cert: &mut Cert, task: &Task, turns: &[Start], name: &[u8]) -> Result<(), Refusal>
     ensures { Grows result cert.new (grown_by (points_behind task.now (starts_of turns.now) name.now) cert.old) }
 {
@@ -265,7 +264,7 @@ pub(crate) fn flat(alloc: Global, task: &Task) -> Result<Option<Cert>, AllocErro
         return Ok(None);
     }
     let _programs = task.programs();
-    let mut cert = Cert::new(alloc, Version::One);
+    let mut cert = Cert::new(alloc, Version::Two);
     match push_behind(&mut cert, task, task.starts(), b"") {
         Ok(()) => Ok(Some(cert)),
         Err(Refusal::Memory) => Err(AllocError),

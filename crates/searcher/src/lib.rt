@@ -4,9 +4,9 @@
 mod channels;
 mod drawing;
 mod flat;
-mod growing;
 mod rounds;
 mod searching;
+mod shortening;
 mod spots;
 
 pub use searching::search;

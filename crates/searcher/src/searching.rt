@@ -9,6 +9,7 @@ use crate::channels::Channels;
 use crate::drawing::draw;
 use crate::flat::flat;
 use crate::rounds::{all_ways, settle};
+use crate::shortening::shortened;
 use crate::spots::Way;
 use certificate::{Cert, Refusal};
 use checker::{Verdict, check};
@@ -34,6 +35,17 @@ fn accepted(task: &Task, proposed: Option<Cert>) -> Option<Cert>
     None
 }
 
+/// A certificate in its shorter form, if the checker accepts that too; else as it is.
+fn preferred(alloc: Global, task: &Task, cert: Cert) -> Result<Cert, AllocError>
+    requires { IsAccepted task.now cert }
+    ensures { IfOk result (λ cert. IsAccepted task.now cert) }
+{
+    if let Some(short) = accepted(task, shortened(alloc, task, &cert)?) {
+        return Ok(short);
+    }
+    Ok(cert)
+}
+
 /// What is found point by point, where the search settles.
 fn settled(alloc: Global, task: &Task, mut ways: Vec<Way>) -> Result<Option<Cert>, Refusal> {
     let mut channels = Channels::new(alloc);
@@ -56,21 +68,22 @@ fn proposed(alloc: Global, task: &Task) -> Result<Option<Cert>, AllocError> {
     }
 }
 
-/// A certificate of a task that the checker accepts, if the search finds one: that of what it finds point by point, or the flat
-/// one. Where the flat certificate is accepted, it finds one. Want of memory may come in place of any answer. It always
+/// A certificate of a task, of version 2, that the checker accepts, if the search finds one: that of what it finds point by
+/// point, or the flat one; with bounds at named points alone where that is accepted too. Where the flat certificate is accepted,
+/// it finds one. Want of memory may come in place of any answer. It always
 /// ends. (own)
 pub fn search(alloc: Global, task: &Task) -> Result<Option<Cert>, AllocError>
     ensures accepted { IfOk result (λ found. IfSome found (λ cert. IsAccepted task.now cert)) }
     ensures flat { result ≡ Ok None → (certificate : Certificate) → flat task.now ≡ Some certificate → IsAccepted task.now certificate → ⊥ }
 {
     if let Some(cert) = accepted(task, proposed(alloc, task)?) {
-        return Ok(Some(cert));
+        return Ok(Some(preferred(alloc, task, cert)?));
     }
     let Some(cert) = flat(alloc, task)? else {
         return Ok(None);
     };
     if is_accepted(task, &cert) {
-        return Ok(Some(cert));
+        return Ok(Some(preferred(alloc, task, cert)?));
     }
     Ok(None)
 }

@@ -1,7 +1,7 @@
 -- When the program has which fault. (own)
 use Rattle.std.specs.Prelude.{◌≡◌, ◌<◌, ◌⊎◌, ℕ, List, Option, Ok, Err}
 use Rattle.rights.specs.Output.{Took, TookFront}
-use Rattle.words.specs.Orders.{Order, Example, Run, Check, Report, Search, AsksFor}
+use Rattle.words.specs.Orders.{Order, Example, Run, Check, Report, Search, Expand, AsksFor}
 use Rattle.task.specs.Plans.{Plan}
 use Rattle.task_reader.specs.Reading.{Mistake, task_of}
 use Rattle.certificate_text.specs.Faults.{Faulty}
@@ -53,7 +53,7 @@ pub record HasNoCertificate (files : Files) (task certificate : List ℕ) (why :
   pub is_task : task_of task_text ≡ Ok plan
   pub faulty : certificate_of_text certificate_text ≡ Err why
 
--- A check of these files, or a report on them, is refused so.
+-- A check of these files, a report on them, or an expansion, is refused so.
 abbrev pub IsCheckRefused : Files → List ℕ → List ℕ → Refusal → Type 0
 IsCheckRefused files task certificate Wrong_words = ⊥
 IsCheckRefused files task certificate (No_file name) =
@@ -82,6 +82,7 @@ IsRefused files (Run task schedule) refusal = IsRunRefused files task schedule r
 IsRefused files (Check task certificate) refusal = IsCheckRefused files task certificate refusal
 IsRefused files (Report task certificate) refusal = IsCheckRefused files task certificate refusal
 IsRefused files (Search task) refusal = IsSearchRefused files task refusal
+IsRefused files (Expand task certificate) refusal = IsCheckRefused files task certificate refusal
 
 -- What is asked for isn't done, for that fault: where it is refused nothing was written, and the output fails only where the
 -- writer did. `before` and `after` are what the output had taken, `failures` and `failed` how often it had failed.

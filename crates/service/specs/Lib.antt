@@ -1,5 +1,6 @@
 pub mod Accepted
 pub mod Examples
+pub mod Expanded
 pub mod Fails
 pub mod FaultViews
 pub mod Faults

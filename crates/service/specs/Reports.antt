@@ -10,6 +10,7 @@ use Rattle.certificate.specs.Bounds.{Target, In_grant, Any_node, Socket, Unknown
 use Rattle.certificate_text.specs.Pieces.{in_order}
 use Rattle.certificate_text.specs.Readings.{certificate_of_text}
 use Rattle.checker.specs.Verdicts.{Verdict, Yes, No, IsVerdict}
+use Rattle.rules.specs.Expansions.{expansion}
 use Rattle.prog_asm.specs.Programs.{Instruction}
 use Rattle.task.specs.Plans.{Grant, NamedProgram, Plan}
 use Rattle.task.specs.Sandboxed.{IsSandboxed}
@@ -84,9 +85,9 @@ abbrev pub report_text : Plan → Certificate → List ℕ
 report_text plan certificate = in_order (λ n. program_lines plan.grants certificate) 0 plan.programs
 
 -- ## What is written
--- the report where the certificate is accepted, and else the line of the verdict
+-- the report on the expansion where the certificate is accepted, and else the line of the verdict
 abbrev pub answer_text : Plan → Certificate → Verdict → List ℕ
-answer_text plan certificate Yes = report_text plan certificate
+answer_text plan certificate Yes = report_text plan (expansion plan certificate)
 answer_text plan certificate (No program point rule) = verdict_text plan (No program point rule)
 
 pub record Reports (plan : Plan) (bounds : Certificate) (status : ℕ) (before after : Option (List ℕ)) : Type 0 where

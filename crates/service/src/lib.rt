@@ -5,6 +5,7 @@
 
 pub mod console;
 pub mod example;
+pub mod expanding;
 mod faults;
 pub mod judging;
 pub mod laws;
@@ -16,6 +17,7 @@ pub mod statuses;
 
 pub use console::{Console, closed};
 pub use example::example_task;
+pub use expanding::write_expansion;
 pub use judging::judge;
 pub use proposing::propose;
 pub use reporting::{report, report_checked};

@@ -9,13 +9,14 @@ ghost use Rattle.certificate_text.specs.Writings.{Writes};
 ghost use Rattle.checker.specs.Views.{verdict_of};
 ghost use Rattle.rights.specs.Output.{Took};
 ghost use Rattle.service.specs.Reports.{Reports, answer_text, either_set, grant_line, greatest_in, names_in, own_names, parted, place_text, point_lines, program_lines, report_text, rights_in, rights_text};
+ghost use Rattle.rules.specs.Expansions.{expansion};
 ghost use Rattle.task.specs.Views.{grant_of, grants_of, program_of, programs_of};
 ghost use Rattle.prog_asm.specs.Views.{code_of};
 
 use crate::judging::{status_of_verdict, text_of_verdict};
 use bitflags::{Flag, Flags};
 use certificate::{Bound, Cert, Slot, Target};
-use checker::{Verdict, check};
+use checker::{Verdict, check, expand};
 use prog_asm::Instruction;
 use rights::{Out, Rights, Stop, write_all};
 use std::alloc::Global;
@@ -285,16 +286,27 @@ fn write_programs<W: Out>(
     Ok(())
 }
 
-/// Writes the report of a task and a certificate: for each point of the task's programs that has a bound, by the place of the
-/// program in the task, and for each grant of the task in which some slot may be open, the greatest rights of those slots.
-/// `Device` is answered only after a failure of the writer, and what it took then is a beginning of the text; nothing else is
-/// answered, since it takes no memory. (own)
-pub fn report<W: Out>(task: &Task, cert: &Cert, out: &mut W) -> Result<(), Stop>
+/// Writes the report of a task and a certificate in which all bounds are written.
+fn write_report<W: Out>(task: &Task, cert: &Cert, out: &mut W) -> Result<(), Stop>
     requires { W.faults out.old < 2 ^ 64 - 1 }
     ensures { Writes result (W.taken out.old) (W.taken out.new) (W.faults out.old) (W.faults out.new)
         (report_text task.now cert.now) }
 {
     write_programs(out, task.grants(), cert, task.programs())
+}
+
+/// Writes the report of a task and a certificate: for each point of the task's programs that has a bound, given or carried, by
+/// the place of the program in the task, and for each grant of the task in which some slot may be open, the greatest rights of
+/// those slots. Its errors are `Device`, after a failure of the writer, and `Memory`, before anything is written. (own)
+pub fn report<W: Out>(alloc: Global, task: &Task, cert: &Cert, out: &mut W) -> Result<(), Stop>
+    requires { W.faults out.old < 2 ^ 64 - 1 }
+    ensures written { OnOk result (Took (W.taken out.old) (W.taken out.new) (report_text task.now (expansion task.now cert.now))) }
+    ensures device { IsErrOf result Stop.Device → W.faults out.old < W.faults out.new }
+    ensures memory { IsErrOf result Stop.Memory → W.taken out.new ≡ W.taken out.old }
+    ensures not_spent { IsErrOf result Stop.Spent → ⊥ }
+{
+    let expanded = expand(alloc, task, cert)?;
+    write_report(task, &expanded, out)
 }
 
 /// Writes what is answered: the report, or the line of a no.
@@ -311,7 +323,7 @@ fn write_answer<W: Out>(
     ensures not_spent { IsErrOf result Stop.Spent → ⊥ }
 {
     match verdict {
-        Verdict::Yes => report(task, cert, out),
+        Verdict::Yes => report(alloc, task, cert, out),
         Verdict::No { .. } => {
             let text = text_of_verdict(alloc, task, verdict)?;
             write_all(out, &text)

@@ -1,6 +1,7 @@
 //! What the program does with its words, and with the files that they name.
 
 ghost use Rattle.std.specs.Prelude.{◌≡◌, ◌<◌, ◌⊎◌, ◌-◌, ◌^◌, IfErr, IfOk, IsTrue, None, OnOk, map, string_bytes};
+ghost use Rattle.service.specs.Expanded.{ExpandsFiles};
 ghost use Rattle.service.specs.Examples.{example_events, first_plan};
 ghost use Rattle.service.specs.Fails.{Fails, Refuses, WordsFail};
 ghost use Rattle.service.specs.Faults.{No_file, No_memory, Refused};
@@ -11,10 +12,11 @@ ghost use Rattle.service.specs.Reports.{ReportsFiles};
 ghost use Rattle.service.specs.Searched.{SearchesFile};
 ghost use Rattle.service.specs.Served.{Does, RunsFiles, Serves, is_done_status, is_fault_status, is_status};
 ghost use Rattle.simulator.specs.Simulations.{WritesTrace};
-ghost use Rattle.words.specs.Orders.{Check, Example, Report, Run, Search};
+ghost use Rattle.words.specs.Orders.{Check, Example, Expand, Report, Run, Search};
 ghost use Rattle.words.specs.OrderViews.{order_of};
 
 use crate::example::example_task;
+use crate::expanding::write_expansion;
 use crate::faults::{Fault, tell};
 use crate::judging::judge;
 use crate::proposing::propose;
@@ -147,6 +149,25 @@ fn search_file<'a, S: Source, W: Out>(
     Ok(propose(alloc, &plan, out)?)
 }
 
+/// Writes the expansion of the certificate of a file, by the task of another. Both files are fetched before either is read.
+fn expand_files<'a, S: Source, W: Out>(
+    alloc: Global,
+    task: &'a str,
+    cert: &'a str,
+    files: &mut S,
+    out: &mut W,
+) -> Result<(), Fault<'a>>
+    requires { W.faults out.old < 2 ^ 64 - 1 }
+    ensures done { OnOk result (ExpandsFiles (S.files files.old) task.now cert.now (W.taken out.old) (W.taken out.new)) }
+    ensures fails { IfErr result (λ fault. Fails (S.files files.old) (Expand task.now cert.now)
+        (W.taken out.old) (W.taken out.new) (W.faults out.old) (W.faults out.new) (fault_of fault)) }
+{
+    let task_source = fetch(files, task)?;
+    let cert_source = fetch(files, cert)?;
+    let claim = read_texts(alloc, &task_source, &cert_source)?;
+    Ok(write_expansion(alloc, &claim.task, &claim.cert, out)?)
+}
+
 /// Does what is asked for, and gives the status.
 fn perform<'a, S: Source, W: Out>(
     alloc: Global,
@@ -171,6 +192,10 @@ fn perform<'a, S: Source, W: Out>(
         Order::Check { task, cert } => check_files(alloc, task, cert, files, out),
         Order::Report { task, cert } => report_files(alloc, task, cert, files, out),
         Order::Search { task } => search_file(alloc, task, files, out),
+        Order::Expand { task, cert } => {
+            expand_files(alloc, task, cert, files, out)?;
+            Ok(DONE)
+        }
     }
 }
 

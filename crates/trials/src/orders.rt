@@ -15,7 +15,7 @@ fn texts(alloc: Global, words: &[&str]) -> Result<Vec<String>, AllocError> {
 
 #[test]
 fn right_lines_are_read(rt: HostRuntime) -> Result<(), Fail> {
-    let rows: [(&[&str], Order<'_>); 12] = [
+    let rows: [(&[&str], Order<'_>); 13] = [
         (&[], Order::Example),
         (
             &["run", "t.toml", "s.txt"],
@@ -34,6 +34,13 @@ fn right_lines_are_read(rt: HostRuntime) -> Result<(), Fail> {
         (
             &["report", "first", "good"],
             Order::Report {
+                task: "first",
+                cert: "good",
+            },
+        ),
+        (
+            &["expand", "first", "good"],
+            Order::Expand {
                 task: "first",
                 cert: "good",
             },

@@ -43,6 +43,21 @@ fd 0 open grant work 3fff 3fff 3 3
 end
 ";
 
+/// One descriptor, over three points that follow each other.
+const CARRIES: Changes<'_> = &[
+    (
+        "{number=0, path=\"/work\"}, {number=1, path=\"/log\"}",
+        "{number=0, path=\"/work\", rights=[\"LOOKUP\",\"READ\"]}",
+    ),
+    ("halt", "in r1\nset r1 0\nhalt"),
+];
+
+const CARRIED: &str = "capcert 2
+at main 0 off
+fd 0 open grant work 0081 0081 3 3
+end
+";
+
 /// The report on the changed base task with this certificate; nothing where a part of the task isn't there.
 fn reported(alloc: Global, task: Changes<'_>, cert: &str) -> Result<Option<Said>, AllocError> {
     match changed(alloc, BASE, task)? {
@@ -57,7 +72,7 @@ fn reported(alloc: Global, task: Changes<'_>, cert: &str) -> Result<Option<Said>
 #[test]
 fn accepted_certificates_are_reported(rt: HostRuntime) -> Result<(), Fail> {
     let none: Changes<'_> = &[("{number=0, path=\"/work\"}, {number=1, path=\"/log\"}", "")];
-    let rows: [(Changes<'_>, &str, &[u8]); 3] = [
+    let rows: [(Changes<'_>, &str, &[u8]); 4] = [
         (ONE, ONE_POINT, ONE_LINE),
         (
             TWO,
@@ -65,6 +80,11 @@ fn accepted_certificates_are_reported(rt: HostRuntime) -> Result<(), Fail> {
             b"main:0 work WRITE,SEEK,FSTAT,RENAMEAT_TARGET\nmain:0 log none\n",
         ),
         (none, "capcert 1\nat main 0 off\nend\n", b""),
+        (
+            CARRIES,
+            CARRIED,
+            b"main:0 work READ,LOOKUP\nmain:1 work READ,LOOKUP\nmain:2 work READ,LOOKUP\n",
+        ),
     ];
     for (task, cert, report) in rows {
         let Some(said) = reported(rt.alloc(), task, cert)? else {

@@ -73,6 +73,35 @@ fn certificates_are_found_and_accepted(rt: HostRuntime) -> Result<(), Fail> {
     Ok(())
 }
 
+/// How many blocks a certificate has, if it is of version 2.
+fn blocks(cert: &[u8]) -> Option<usize> {
+    if !cert.starts_with(b"capcert 2\n") {
+        return None;
+    }
+    let mut count = 0usize;
+    for at in 0..cert.len() {
+        if cert[at..].starts_with(b"\nat ") {
+            count = count.saturating_add(1);
+        }
+    }
+    Some(count)
+}
+
+#[test]
+fn points_where_no_ways_meet_are_left_out(rt: HostRuntime) -> Result<(), Fail> {
+    let rows: [(Changes<'_>, usize); 3] = [(ESCAPES, 2), (READS, 2), (FORKS, 3)];
+    for (changes, count) in rows {
+        match changed(rt.alloc(), BASE, changes)? {
+            Some(task) => {
+                let proposed = proposes(rt.alloc(), task.as_str())?;
+                assert!(rt; blocks(&proposed.out) == Some(count), "{task}");
+            }
+            None => panic!(rt; "no such part"),
+        }
+    }
+    Ok(())
+}
+
 #[test]
 fn none_is_found_where_a_number_is_not_determined(rt: HostRuntime) -> Result<(), Fail> {
     match changed(rt.alloc(), BASE, PARTS)? {

@@ -5,7 +5,7 @@ use Rattle.std.specs.List.{list_any}
 use Rattle.clap.proofs.OnLiterals.{clap_on_literals}
 use Rattle.clap.specs.Words.{takes, is_simple, subcommand_of}
 use Rattle.words.specs.Commands.{program, parsed_order}
-use Rattle.words.specs.Orders.{Order, Example, Run, Check, Report, Search, line_of, is_dashed}
+use Rattle.words.specs.Orders.{Order, Example, Run, Check, Report, Search, Expand, line_of, is_dashed}
 
 pub program_is_simple : is_simple program ≡ true
 unfolding clap_on_literals
@@ -55,6 +55,17 @@ unfolding clap_on_literals
 take_search [] none = refl
 take_search (a ∷ r) none = let e = (both_false (a == 45) false none).0 in simp e
 
+take_expand : (task cert : List ℕ) → list_any is_dashed (task ∷ cert ∷ []) ≡ false → takes program (codes "expand" ∷ task ∷ cert ∷ []) ≡ true
+unfolding clap_on_literals
+take_expand [] [] none = refl
+take_expand [] (b ∷ s) none = let e = (both_false false (b == 45) none).1 in simp e
+take_expand (a ∷ r) [] none = let e = (both_false (a == 45) false none).0 in simp e
+take_expand (a ∷ r) (b ∷ s) none =
+    let p = both_false (a == 45) (b == 45) none in
+    let d = p.0 in
+    let e = p.1 in
+    simp (d, e)
+
 give_run : (task schedule : List ℕ) → list_any is_dashed (task ∷ schedule ∷ []) ≡ false → parsed_order (subcommand_of program (codes "run" ∷ task ∷ schedule ∷ [])) ≡ Some (Run task schedule)
 unfolding clap_on_literals
 give_run [] [] none = refl
@@ -93,6 +104,17 @@ unfolding clap_on_literals
 give_search [] none = refl
 give_search (a ∷ r) none = let e = (both_false (a == 45) false none).0 in simp e
 
+give_expand : (task cert : List ℕ) → list_any is_dashed (task ∷ cert ∷ []) ≡ false → parsed_order (subcommand_of program (codes "expand" ∷ task ∷ cert ∷ [])) ≡ Some (Expand task cert)
+unfolding clap_on_literals
+give_expand [] [] none = refl
+give_expand [] (b ∷ s) none = let e = (both_false false (b == 45) none).1 in simp e
+give_expand (a ∷ r) [] none = let e = (both_false (a == 45) false none).0 in simp e
+give_expand (a ∷ r) (b ∷ s) none =
+    let p = both_false (a == 45) (b == 45) none in
+    let d = p.0 in
+    let e = p.1 in
+    simp (d, e)
+
 -- A line none of whose words begins with `-` is taken.
 pub takes_line : (order : Order) → list_any is_dashed (line_of order) ≡ false → takes program (line_of order) ≡ true
 unfolding clap_on_literals
@@ -101,6 +123,7 @@ takes_line (Run task schedule) none = take_run task schedule none
 takes_line (Check task cert) none = take_check task cert none
 takes_line (Report task cert) none = take_report task cert none
 takes_line (Search task) none = take_search task none
+takes_line (Expand task cert) none = take_expand task cert none
 
 -- And it gives the order.
 pub gives_line : (order : Order) → list_any is_dashed (line_of order) ≡ false → parsed_order (subcommand_of program (line_of order)) ≡ Some order
@@ -110,3 +133,4 @@ gives_line (Run task schedule) none = give_run task schedule none
 gives_line (Check task cert) none = give_check task cert none
 gives_line (Report task cert) none = give_report task cert none
 gives_line (Search task) none = give_search task none
+gives_line (Expand task cert) none = give_expand task cert none

@@ -2,7 +2,7 @@
 use Rattle.std.specs.Prelude.{ℕ, true, List, codes, Option, Some, None, option_map, option_and_then, if◌then◌else◌}
 use Rattle.std.specs.Str.{bytes_eq}
 use Rattle.clap.specs.Words.{App, Row, Rule, first_of, new_app, new_rule, with_rule, with_subcommand}
-use Rattle.words.specs.Orders.{Order, Example, Run, Check, Report, Search}
+use Rattle.words.specs.Orders.{Order, Example, Run, Check, Report, Search, Expand}
 
 -- an argument that has to be there
 abbrev pub required_rule : List ℕ → Rule
@@ -36,16 +36,18 @@ bare_program =
           };
     }
 
--- with no command the example, and the commands `run`, `check`, `report` and `search`
+-- with no command the example, and the commands `run`, `check`, `report`, `search` and `expand`
 abbrev pub program : App
 program =
     with_subcommand
     (with_subcommand
     (with_subcommand
+    (with_subcommand
     (with_subcommand bare_program (command_of_two (codes "run") (codes "TASK") (codes "SCHEDULE")).top)
     (command_of_two (codes "check") (codes "TASK") (codes "CERT")).top)
     (command_of_two (codes "report") (codes "TASK") (codes "CERT")).top)
-    (command_of_one (codes "search") (codes "TASK")).top
+    (command_of_one (codes "search") (codes "TASK")).top)
+    (command_of_two (codes "expand") (codes "TASK") (codes "CERT")).top
 
 -- the order of a command with these values
 abbrev pub command_order : List ℕ → List Row → List ℕ → Option Order
@@ -53,7 +55,8 @@ command_order name values task =
     if bytes_eq name (codes "run") then option_map (λ schedule. Run task schedule) (first_of (codes "SCHEDULE") values)
     else (if bytes_eq name (codes "check") then option_map (λ cert. Check task cert) (first_of (codes "CERT") values)
     else (if bytes_eq name (codes "report") then option_map (λ cert. Report task cert) (first_of (codes "CERT") values)
-    else (if bytes_eq name (codes "search") then Some (Search task) else None)))
+    else (if bytes_eq name (codes "search") then Some (Search task)
+    else (if bytes_eq name (codes "expand") then option_map (λ cert. Expand task cert) (first_of (codes "CERT") values) else None))))
 
 abbrev pub named_order : List ℕ → List Row → Option Order
 named_order name values = option_and_then (command_order name values) (first_of (codes "TASK") values)

@@ -4,7 +4,7 @@ use Rattle.words.specs.declared.faults.WordsFault.{WordsFault}
 use Rattle.words.specs.declared.faults.WordsFault.TheVariants.{Words, Memory}
 use Rattle.words.specs.declared.orders.Order.{Order as OrderCode}
 use Rattle.words.specs.declared.orders.Order.TheVariants as code
-use Rattle.words.specs.Orders.{Order, Example, Run, Check, Report, Search, AsksFor}
+use Rattle.words.specs.Orders.{Order, Example, Run, Check, Report, Search, Expand, AsksFor}
 
 abbrev pub order_of : OrderCode → Order
 order_of code.Example = Example
@@ -12,6 +12,7 @@ order_of (code.Run task schedule) = Run task.now schedule.now
 order_of (code.Check task cert) = Check task.now cert.now
 order_of (code.Report task cert) = Report task.now cert.now
 order_of (code.Search task) = Search task.now
+order_of (code.Expand task cert) = Expand task.now cert.now
 
 -- The words ask for the order that is read, and for none where the fault is theirs. Want of memory may come in place of
 -- any answer.

@@ -3,21 +3,23 @@ use Rattle.std.specs.Prelude.{◌≡◌, ◌==◌, ℕ, Bool, false, List, [], �
 use Rattle.std.specs.List.{list_any}
 
 -- the example; to run a task over a schedule; to check a task's certificate; to tell what it says of the task's grants; to
--- propose a certificate of a task
+-- propose a certificate of a task; to write out what a certificate leaves to be carried
 pub data Order : Type 0 where
   Example : Order
   Run : (task schedule : List ℕ) → Order
   Check : (task certificate : List ℕ) → Order
   Report : (task certificate : List ℕ) → Order
   Search : (task : List ℕ) → Order
+  Expand : (task certificate : List ℕ) → Order
 
--- the words that ask for it: none; `run TASK SCHEDULE`; `check TASK CERT`; `report TASK CERT`; `search TASK`
+-- the words that ask for it: none; `run TASK SCHEDULE`; `check TASK CERT`; `report TASK CERT`; `search TASK`; `expand TASK CERT`
 abbrev pub line_of : Order → List (List ℕ)
 line_of Example = []
 line_of (Run task schedule) = codes "run" ∷ task ∷ schedule ∷ []
 line_of (Check task certificate) = codes "check" ∷ task ∷ certificate ∷ []
 line_of (Report task certificate) = codes "report" ∷ task ∷ certificate ∷ []
 line_of (Search task) = codes "search" ∷ task ∷ []
+line_of (Expand task certificate) = codes "expand" ∷ task ∷ certificate ∷ []
 
 abbrev pub hyphen : ℕ
 hyphen = 45

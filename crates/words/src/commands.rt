@@ -70,7 +70,7 @@ fn with_short_command<'a>(
     program.subcommand(command)
 }
 
-/// The program: with no command the example, and the commands `run`, `check`, `report` and `search`. It has no help and no flags.
+/// The program: with no command the example, and the commands `run`, `check`, `report`, `search` and `expand`. It has no help and no flags.
 pub(crate) fn program<'a>(alloc: Global) -> Result<Command<'a>, AllocError>
     ensures { IfOk result (λ command. app_of command ≡ program) }
 {
@@ -82,5 +82,6 @@ pub(crate) fn program<'a>(alloc: Global) -> Result<Command<'a>, AllocError>
     let with_run = with_command(alloc, bare, "run", "TASK", "SCHEDULE")?;
     let with_check = with_command(alloc, with_run, "check", "TASK", "CERT")?;
     let with_report = with_command(alloc, with_check, "report", "TASK", "CERT")?;
-    with_short_command(alloc, with_report, "search", "TASK")
+    let with_search = with_short_command(alloc, with_report, "search", "TASK")?;
+    with_command(alloc, with_search, "expand", "TASK", "CERT")
 }

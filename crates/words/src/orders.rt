@@ -17,6 +17,8 @@ pub enum Order<'a> {
     Report { task: &'a str, cert: &'a str },
     /// `search TASK`: to propose a certificate of a task.
     Search { task: &'a str },
+    /// `expand TASK CERT`: to write out the bounds that a task's certificate leaves to be carried.
+    Expand { task: &'a str, cert: &'a str },
 }
 
 /// Whether two words are the line of this order.
@@ -25,7 +27,11 @@ fn is_search(command: &str, first: &str, order: Order<'_>) -> bool
 {
     match order {
         Order::Search { task } => command == "search" && first == task,
-        Order::Example | Order::Run { .. } | Order::Check { .. } | Order::Report { .. } => false,
+        Order::Example
+        | Order::Run { .. }
+        | Order::Check { .. }
+        | Order::Report { .. }
+        | Order::Expand { .. } => false,
     }
 }
 
@@ -38,6 +44,7 @@ fn is_command(command: &str, first: &str, second: &str, order: Order<'_>) -> boo
         Order::Run { task, schedule } => command == "run" && first == task && second == schedule,
         Order::Check { task, cert } => command == "check" && first == task && second == cert,
         Order::Report { task, cert } => command == "report" && first == task && second == cert,
+        Order::Expand { task, cert } => command == "expand" && first == task && second == cert,
     }
 }
 

@@ -51,6 +51,7 @@ fn named_order<'a>(command: &str, values: &ArgMatches<'a>) -> Option<Order<'a>>
         ("check", Some(task), _, Some(cert)) => Some(Order::Check { task, cert }),
         ("report", Some(task), _, Some(cert)) => Some(Order::Report { task, cert }),
         ("search", Some(task), _, _) => Some(Order::Search { task }),
+        ("expand", Some(task), _, Some(cert)) => Some(Order::Expand { task, cert }),
         _ => None,
     }
 }
@@ -65,8 +66,8 @@ fn parsed_order<'a>(matches: &ArgMatches<'a>) -> Option<Order<'a>>
     }
 }
 
-/// Reads the program's words: none at all is the example, `run TASK SCHEDULE`, `check TASK CERT`, `report TASK CERT` and
-/// `search TASK` are the commands. A name may be empty, and have any bytes but a leading `-`. (own)
+/// Reads the program's words: none at all is the example, `run TASK SCHEDULE`, `check TASK CERT`, `report TASK CERT`,
+/// `search TASK` and `expand TASK CERT` are the commands. A name may be empty, and have any bytes but a leading `-`. (own)
 ///
 /// # Errors
 ///

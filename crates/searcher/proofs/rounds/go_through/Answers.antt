@@ -1,4 +1,4 @@
-use Rattle.searcher.proofs.KnownLimits.{all_known}
+use Rattle.checker.proofs.KnownLimits.{all_known}
 use Rattle.searcher.proofs.rounds.go_through.Goals as goal
 
 pub take_waiting-requires : goal.take_waiting-requires

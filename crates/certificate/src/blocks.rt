@@ -1,11 +1,14 @@
-//! How a certificate grows by blocks.
+//! How a certificate grows by blocks and by channels.
 
 ghost use Rattle.std.specs.Prelude.{◌≡◌, ◌+◌, ◌≤◌, ◌<◌, length, map, true, false};
-ghost use Rattle.certificate.specs.Lines.{Bounds_register, Bounds_slot, block_lines, is_closed, is_full, is_line, register_lines, slot_lines};
-ghost use Rattle.certificate.specs.Views.{bound_of, interval_of, line_of, name_of, slot_of};
-ghost use Rattle.searcher.specs.Growths.{Grows, grown};
+ghost use Rattle.certificate.specs.Lines.{Bounds_channel, Bounds_register, Bounds_slot, block_lines, is_closed, is_full, is_line, register_lines, slot_lines};
+ghost use Rattle.certificate.specs.Views.{bound_of, channel_of, channels_of, interval_of, line_of, name_of, slot_of};
+ghost use Rattle.certificate.specs.Growths.{Grows, grown};
 
-use certificate::{Bound, Cert, Interval, Line, Name, Refusal, Slot};
+use crate::bounds::{Bound, Interval, Slot};
+use crate::certs::Cert;
+use crate::lines::{Channel, Line, Refusal};
+use crate::names::Name;
 
 /// The line of a register that isn't full.
 fn register_line(register: u8, interval: Interval) -> Line
@@ -28,7 +31,7 @@ fn slot_line(number: u8, slot: Slot) -> Line
 }
 
 /// Adds the registers from a number on that aren't full.
-#[tactic(auto, unfolding(certificate::specs::Lines::register_lines, crate::specs::Growths::grown))]
+#[tactic(auto, unfolding(crate::specs::Lines::register_lines, crate::specs::Growths::grown))]
 fn push_registers(cert: &mut Cert, number: u8, registers: &[Interval]) -> Result<(), Refusal>
     requires { number + length registers.now ≤ 8 }
     ensures { Grows result cert.new (grown (register_lines number (map interval_of registers.now)) cert.old) }
@@ -45,7 +48,7 @@ fn push_registers(cert: &mut Cert, number: u8, registers: &[Interval]) -> Result
 }
 
 /// Adds the slots from a number on that aren't closed.
-#[tactic(auto, unfolding(certificate::specs::Lines::slot_lines, crate::specs::Growths::grown))]
+#[tactic(auto, unfolding(crate::specs::Lines::slot_lines, crate::specs::Growths::grown))]
 fn push_slots(cert: &mut Cert, number: u8, slots: &[Slot]) -> Result<(), Refusal>
     requires { number + length slots.now ≤ 16 }
     ensures { Grows result cert.new (grown (slot_lines number (map slot_of slots.now)) cert.old) }
@@ -61,14 +64,10 @@ fn push_slots(cert: &mut Cert, number: u8, slots: &[Slot]) -> Result<(), Refusal
     }
 }
 
-/// Adds the block of a point.
+/// Adds the block of a point: its line, those of its registers that aren't full, and those of its slots that aren't closed. On an
+/// error, which is that of the first line that isn't taken, the lines before that one stay. (own)
 #[tactic(auto, using(crate::proofs::Growths::grown_append), unfolding(crate::specs::Growths::grown))]
-pub(crate) fn push_block(
-    cert: &mut Cert,
-    program: &Name,
-    point: u8,
-    bound: &Bound,
-) -> Result<(), Refusal>
+pub fn push_block(cert: &mut Cert, program: &Name, point: u8, bound: &Bound) -> Result<(), Refusal>
     ensures { Grows result cert.new (grown (block_lines (record { program = name_of program.now; point = point; bound = bound_of bound.now })) cert.old) }
 {
     cert.push(&Line::Block {
@@ -78,4 +77,26 @@ pub(crate) fn push_block(
     })?;
     push_registers(cert, 0, bound.registers())?;
     push_slots(cert, 0, bound.slots())
+}
+
+/// The line of a channel.
+fn channel_line(channel: Channel) -> Line
+    ensures value { line_of result ≡ Bounds_channel (channel_of channel) }
+    ensures valid { is_line (line_of result) ≡ true }
+{
+    Line::Channel(channel)
+}
+
+/// Adds channels. On an error, which is that of the first one that isn't taken, those before it stay. (own)
+#[tactic(auto, unfolding(crate::specs::Growths::grown))]
+pub fn push_channels(cert: &mut Cert, channels: &[Channel]) -> Result<(), Refusal>
+    ensures { Grows result cert.new (grown (map Bounds_channel (channels_of channels.now)) cert.old) }
+{
+    match channels {
+        [] => Ok(()),
+        [first, rest @ ..] => {
+            cert.push(&channel_line(*first))?;
+            push_channels(cert, rest)
+        }
+    }
 }

@@ -3,8 +3,8 @@ use Rattle.std.specs.Prelude.{◌≡◌, List, [], ◌∷◌, Option, Some, None
 use Rattle.certificate.specs.declared.lines.Refusal.{Refusal}
 use Rattle.certificate.specs.declared.lines.Refusal.TheVariants.{Limit, Order, Memory}
 use Rattle.certificate.specs.Bounds.{PointBound, Certificate}
-use Rattle.certificate.specs.Growth.{Refused, taken}
-use Rattle.certificate.specs.Lines.{Line, block_lines}
+use Rattle.certificate.specs.Growth.{Refused, nothing, taken}
+use Rattle.certificate.specs.Lines.{Line, block_lines, lines_of}
 
 abbrev pub grown_behind : (Certificate → Option Certificate) → Result Certificate Refused → Option Certificate
 grown_behind rest (Ok c) = rest c
@@ -23,6 +23,10 @@ then_grown rest (Some c) = rest c
 unfoldable pub grown_by : List PointBound → Certificate → Option Certificate
 grown_by [] c = Some c
 grown_by (b ∷ points) c = then_grown (grown_by points) (grown (block_lines b) c)
+
+-- A certificate is what its own lines make of nothing.
+abbrev pub IsGrown : Certificate → Type 0
+IsGrown c = grown (lines_of c) (nothing c.version) ≡ Some c
 
 -- What the code's growing comes to: the certificate, or that a line is refused; unless memory is wanting.
 abbrev pub Grows : Result (Unit {0}) Refusal → Certificate → Option Certificate → Type 0

@@ -4,7 +4,7 @@ use Rattle.std.specs.Prelude.{Option, Some, None, Result, Ok, Err}
 use Rattle.certificate.specs.Bounds.{PointBound, Certificate}
 use Rattle.certificate.specs.Growth.{Refused, taken}
 use Rattle.certificate.specs.Lines.{Line, block_lines}
-use Rattle.searcher.specs.Growths.{grown, grown_behind, grown_by, then_grown}
+use Rattle.certificate.specs.Growths.{grown, grown_behind, grown_by, then_grown}
 
 behind : (lines more : List Line) → ((d : Certificate) → grown (lines ++ more) d ≡ then_grown (grown more) (grown lines d))
     → (r : Result Certificate Refused) → grown_behind (grown (lines ++ more)) r ≡ then_grown (grown more) (grown_behind (grown lines) r)

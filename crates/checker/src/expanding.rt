@@ -1,0 +1,140 @@
+//! The expansion of a certificate: the one of version 1 in which each carried bound is written.
+
+ghost use Rattle.std.specs.Prelude.{◌≡◌, ◌↔◌, None, IfOk, option_map};
+ghost use Rattle.std.specs.List.{flat_map};
+ghost use Rattle.certificate.specs.Growths.{Grows, grown, grown_by};
+ghost use Rattle.certificate.specs.Lines.{lines_of};
+ghost use Rattle.certificate.specs.Views.{bound_of, name_of, points_of};
+ghost use Rattle.checker.specs.Verdicts.{Verdict, IsVerdict};
+ghost use Rattle.rights.specs.Limits.{most_instructions};
+ghost use Rattle.rules.specs.Expansions.{expanded_points, expansion, points_along, programs_behind, with_bound};
+
+use crate::carrying::{bound_with, carried_past};
+use crate::points::code_named;
+use certificate::{Bound, Cert, Name, Point, Refusal, Version, push_block, push_channels};
+use std::alloc::{AllocError, Global};
+use task::Task;
+
+/// The points of a program.
+const POINTS: usize = 256;
+
+/// Adds a point, if it has a bound.
+#[tactic(auto, unfolding(certificate::specs::Growths::grown_by))]
+fn push_point(
+    expanded: &mut Cert,
+    name: &Name,
+    point: u8,
+    bound: Option<&Bound>,
+) -> Result<(), Refusal>
+    ensures { Grows result expanded.new (grown_by (with_bound (name_of name.now) point (option_map (λ b. bound_of b.now) bound.entry)) expanded.old) }
+{
+    match bound {
+        None => Ok(()),
+        Some(bound) => push_block(expanded, name, point, bound),
+    }
+}
+
+/// Adds the points of a program that are given a bound, or to which one is carried.
+fn push_program(expanded: &mut Cert, task: &Task, cert: &Cert, name: &Name) -> Result<(), Refusal>
+    ensures { Grows result expanded.new (grown_by (points_along task.now cert.now (name_of name.now) None 0 most_instructions) expanded.old) }
+{
+    let code = code_named(task, name.as_bytes());
+    let mut carried = None;
+    for point in 0..POINTS {
+        let point = point as u8;
+        push_point(
+            expanded,
+            name,
+            point,
+            bound_with(cert, name, point, &carried),
+        )?;
+        carried = carried_past(task, cert, name, code, point, &carried);
+    }
+    Ok(())
+}
+
+/// Adds the programs of these points, behind the program of this name.
+#[tactic(auto, using(certificate::proofs::Growths::by_append), unfolding(certificate::specs::Growths::grown_by, rules::specs::Expansions::programs_behind))]
+fn push_behind(
+    expanded: &mut Cert,
+    task: &Task,
+    cert: &Cert,
+    last: &Name,
+    points: &[Point],
+) -> Result<(), Refusal>
+    ensures { Grows result expanded.new
+        (grown_by (flat_map (λ name. points_along task.now cert.now name None 0 most_instructions) (programs_behind (name_of last.now) (points_of points.now))) expanded.old) }
+{
+    match points {
+        [] => Ok(()),
+        [first, rest @ ..] => {
+            if first.program().as_bytes() == last.as_bytes() {
+                return push_behind(expanded, task, cert, last, rest);
+            }
+            push_program(expanded, task, cert, first.program())?;
+            push_behind(expanded, task, cert, first.program(), rest)
+        }
+    }
+}
+
+/// Adds the points of the expansion of a certificate of version 2.
+#[tactic(auto, using(certificate::proofs::Growths::by_append), unfolding(certificate::specs::Growths::grown_by))]
+fn push_programs(expanded: &mut Cert, task: &Task, cert: &Cert) -> Result<(), Refusal>
+    ensures { Grows result expanded.new (grown_by (expanded_points task.now cert.now) expanded.old) }
+{
+    match cert.points() {
+        [] => Ok(()),
+        [first, rest @ ..] => {
+            push_program(expanded, task, cert, first.program())?;
+            push_behind(expanded, task, cert, first.program(), rest)
+        }
+    }
+}
+
+/// Adds points as they are.
+#[tactic(auto, unfolding(certificate::specs::Growths::grown_by))]
+fn push_points(expanded: &mut Cert, points: &[Point]) -> Result<(), Refusal>
+    ensures { Grows result expanded.new (grown_by (points_of points.now) expanded.old) }
+{
+    match points {
+        [] => Ok(()),
+        [first, rest @ ..] => {
+            push_block(expanded, first.program(), first.point(), first.bound())?;
+            push_points(expanded, rest)
+        }
+    }
+}
+
+/// Adds the points of the expansion.
+fn push_expanded(expanded: &mut Cert, task: &Task, cert: &Cert) -> Result<(), Refusal>
+    ensures { Grows result expanded.new (grown_by (expansion task.now cert.now).points expanded.old) }
+{
+    match cert.version() {
+        Version::One => push_points(expanded, cert.points()),
+        Version::Two => push_programs(expanded, task, cert),
+    }
+}
+
+/// Adds the lines of the expansion.
+fn push_expansion(expanded: &mut Cert, task: &Task, cert: &Cert) -> Result<(), Refusal>
+    ensures { Grows result expanded.new (grown (lines_of (expansion task.now cert.now)) expanded.old) }
+{
+    push_expanded(expanded, task, cert)?;
+    push_channels(expanded, cert.channels())
+}
+
+/// The expansion of a certificate: that of version 1 with all bounds that it gives and all that are carried, and the same
+/// channels. `check` gives both the same verdict. Its one error is want of memory. (own)
+pub fn expand(alloc: Global, task: &Task, cert: &Cert) -> Result<Cert, AllocError>
+    ensures value { IfOk result (λ expanded. expanded ≡ expansion task.now cert.now) }
+    ensures same { IfOk result (λ expanded. (verdict : Verdict) → IsVerdict task.now expanded verdict ↔ IsVerdict task.now cert.now verdict) }
+{
+    let _points = cert.points();
+    let mut expanded = Cert::new(alloc, Version::One);
+    match push_expansion(&mut expanded, task, cert) {
+        Ok(()) => Ok(expanded),
+        Err(Refusal::Memory) => Err(AllocError),
+        Err(Refusal::Limit) => unreachable!(),
+        Err(Refusal::Order) => unreachable!(),
+    }
+}
