@@ -1,0 +1,26 @@
+"""What the files of examples/ ask of the program: which words, and of which files."""
+
+import glob
+import os
+
+TOP = os.path.dirname(os.path.dirname(os.path.abspath(__file__)))
+
+
+def task_of(name):
+    """The task of an example: NAME.toml, or the file beside it that NAME.task names, or task.toml."""
+    if os.path.exists(name + ".toml"):
+        return name + ".toml"
+    other = "task.toml"
+    if os.path.exists(name + ".task"):
+        with open(name + ".task", encoding="ascii") as line:
+            other = line.read().strip()
+    return os.path.join(os.path.dirname(name), other)
+
+
+def asked():
+    """The words of each line that the examples ask for."""
+    for kind, commands in (("schedule", ["run"]), ("cert", ["check", "report", "expand"]), ("search", ["search"])):
+        for path in sorted(glob.glob(os.path.join(TOP, f"examples/*/*.{kind}"))):
+            task = task_of(path[: -len(kind) - 1])
+            for command in commands:
+                yield [command, task] + ([path] if command != "search" else [])
