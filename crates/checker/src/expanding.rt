@@ -12,11 +12,9 @@ ghost use Rattle.rules.specs.Expansions.{expanded_points, expansion, points_alon
 use crate::carrying::{bound_with, carried_past};
 use crate::points::code_named;
 use certificate::{Bound, Cert, Name, Point, Refusal, Version, push_block, push_channels};
+use rights::limits::MAX_INSTRUCTIONS;
 use std::alloc::{AllocError, Global};
 use task::Task;
-
-/// The points of a program.
-const POINTS: usize = 256;
 
 /// Adds a point, if it has a bound.
 #[tactic(auto, unfolding(certificate::specs::Growths::grown_by))]
@@ -40,7 +38,7 @@ fn push_program(expanded: &mut Cert, task: &Task, cert: &Cert, name: &Name) -> R
 {
     let code = code_named(task, name.as_bytes());
     let mut carried = None;
-    for point in 0..POINTS {
+    for point in 0..MAX_INSTRUCTIONS {
         let point = point as u8;
         push_point(
             expanded,
