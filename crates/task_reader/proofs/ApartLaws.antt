@@ -1,7 +1,8 @@
 -- Places are apart where, in their order, none begins with the one before it.
-use Rattle.std.proofs.Common.{◌≡◌, ◌+◌, ◌<◌, ◌≤◌, ℕ, suc, List, [], ◌∷◌, Bool, true, false, length, map, refl, ap, sym, ◌∙◌, arith, get_or, inl, inr}
-use Rattle.std.specs.Prelude.{◌==◌, ◌&&◌, not, if◌then◌else◌}
+use Rattle.std.proofs.Common.{◌≡◌, ◌+◌, ◌<◌, ◌≤◌, ℕ, suc, List, [], ◌∷◌, Bool, true, false, length, map, Option, Some, None, option_map, refl, ap, sym, subst, ◌∙◌, arith, get_or, inl, inr}
+use Rattle.std.specs.Prelude.{◌==◌, ◌&&◌, not, option_and_then, if◌then◌else◌}
 use Rattle.std.specs.List.{list_all, sum_by}
+use Rattle.std.specs.Result.{IsOk}
 use Rattle.std.specs.List.Sorted.{IsPermutation, IsSorted, IsSortedBy}
 use Rattle.std.specs.Ordering.{is_lt, is_eq, nat_cmp, ordering_then, ordering_reverse}
 use Rattle.std.specs.declared.cmp.Ordering.{Ordering}
@@ -12,7 +13,7 @@ use Rattle.std.proofs.lemmas.Map.Text.{is_eq-slice_cmp}
 use Rattle.rights.proofs.Words.{same_bytes}
 use Rattle.rights.proofs.Tests.{both_left, both_right}
 use Rattle.file_tree.specs.Places.{begins}
-use Rattle.task_reader.specs.Apart.{none_begins_so}
+use Rattle.task_reader.specs.Apart.{granted_places, none_begins_so}
 use Rattle.std.specs.Cmp.{IsTotalOrder, IsStrictWeakOrder}
 use Rattle.std.specs.Cmp.Lexicographic.{slice_cmp}
 use Rattle.std.proofs.lemmas.Bool.{cases_Bool, eqb-true}
@@ -21,7 +22,10 @@ use Rattle.std.proofs.lemmas.List.Folds.{sum_by-zero}
 use Rattle.std.proofs.lemmas.List.Sorted.{sum_by-IsPermutation, length_permutation, sorted_far}
 use Rattle.task.specs.Limits.{all_apart}
 use Rattle.task.specs.Plans.{Grant}
-use Rattle.task_reader.specs.Reading.{are_disjoint}
+use Rattle.task_reader.specs.Reading.{Wrong_grant, are_disjoint, are_separate, disjoint, grant_at, granted_place, grants_placed, or_mistake, policy_of}
+use Rattle.task_reader.specs.Written.{WrittenGrant}
+use Rattle.task_reader.proofs.WrittenLaws.{and_then-some, if-some, map-some}
+use Rattle.file_tree.specs.Nodes.{Node}
 use Rattle.std.proofs.lemmas.List.{get_or-map, length-map}
 
 -- the sum of what is the same at each element is the same
@@ -102,17 +106,14 @@ permuted-apart apart self turned xs ys permuted =
     sym (no-clash apart xs) ∙ ap (λ n. n == 0) same ∙ no-clash apart ys
 
 -- Two places are apart where neither begins with the other.
-abbrev pub disjoint : List (List ℕ) → List (List ℕ) → Bool
-disjoint p q = not (begins p q) && not (begins q p)
-
-pub never-apart-from-itself : (p : List (List ℕ)) → disjoint p p ≡ false
+pub never-apart-from-itself : (p : List (List ℕ)) → are_separate p p ≡ false
 never-apart-from-itself p = ap (λ b. not b && not b) (begins-itself p)
   where
     begins-itself : (p : List (List ℕ)) → begins p p ≡ true
     begins-itself [] = refl
     begins-itself (x ∷ p) = ap (λ b. b && begins p p) (nat_list_eq_equiv.refl x) ∙ begins-itself p
 
-pub apart-either-way : (p q : List (List ℕ)) → disjoint p q ≡ disjoint q p
+pub apart-either-way : (p q : List (List ℕ)) → are_separate p q ≡ are_separate q p
 apart-either-way p q = turned (begins p q) (begins q p)
   where
     turned : (a b : Bool) → (not a && not b) ≡ (not b && not a)
@@ -196,7 +197,7 @@ front-first (x ∷ r) (y ∷ p) front high =
     equal-from Greater is = absurd cc
 
 -- places behind two in order are apart from the first where the second is
-apart-behind : (p q r : List (List ℕ)) → begins p q ≡ false → is_lt (place_cmp q p) ≡ false → is_lt (place_cmp r q) ≡ false → is_lt (place_cmp r p) ≡ false → disjoint p r ≡ true
+apart-behind : (p q r : List (List ℕ)) → begins p q ≡ false → is_lt (place_cmp q p) ≡ false → is_lt (place_cmp r q) ≡ false → is_lt (place_cmp r p) ≡ false → are_separate p r ≡ true
 apart-behind p q r other first second third =
     elim (cases_Bool (begins p r)) [
       | inl front ↦ let wrong : begins p q ≡ true = between p r q front first second in cc
@@ -216,22 +217,22 @@ sorted-rest p places sorted k d low high =
     ap (λ n. is_lt (place_cmp (get_or (p ∷ places) n d) (get_or places k d))) (sym next) ∙ sorted (suc k) d (omega arith) (omega arith)
 
 -- In the order of places none begins with the one before it exactly if none begins with another.
-pub sorted-apart : (places : List (List (List ℕ))) → IsSortedBy (λ p q. is_lt (place_cmp p q)) places → all_apart disjoint places ≡ none_begins_so places
+pub sorted-apart : (places : List (List (List ℕ))) → IsSortedBy (λ p q. is_lt (place_cmp p q)) places → all_apart are_separate places ≡ none_begins_so places
 sorted-apart [] sorted = refl
 sorted-apart (p ∷ []) sorted = refl
 sorted-apart (p ∷ q ∷ places) sorted =
-    ap (λ b. b && all_apart disjoint (q ∷ places)) (first (begins p q) refl) ∙ ap (λ b. not (begins p q) && b) (sorted-apart (q ∷ places) (sorted-rest p (q ∷ places) sorted))
+    ap (λ b. b && all_apart are_separate (q ∷ places)) (first (begins p q) refl) ∙ ap (λ b. not (begins p q) && b) (sorted-apart (q ∷ places) (sorted-rest p (q ∷ places) sorted))
   where
-    far : (k : ℕ) (d : List (List ℕ)) → begins p q ≡ false → k < length (q ∷ places) → disjoint p (get_or (q ∷ places) k d) ≡ true
+    far : (k : ℕ) (d : List (List ℕ)) → begins p q ≡ false → k < length (q ∷ places) → are_separate p (get_or (q ∷ places) k d) ≡ true
     far k d other within =
         apart-behind p q (get_or (q ∷ places) k d) other
         (sorted_far (λ p q. is_lt (place_cmp p q)) place-order (p ∷ q ∷ places) sorted 0 1 d (omega arith) (omega arith))
         (sorted_far (λ p q. is_lt (place_cmp p q)) place-order (p ∷ q ∷ places) sorted 1 (suc k) d (omega arith) (omega arith))
         (sorted_far (λ p q. is_lt (place_cmp p q)) place-order (p ∷ q ∷ places) sorted 0 (suc k) d (omega arith) (omega arith))
 
-    first : (b : Bool) → begins p q ≡ b → list_all (disjoint p) (q ∷ places) ≡ not (begins p q)
-    first true is = ap (λ b. not b && not (begins q p) && list_all (disjoint p) places) is ∙ ap not (sym is)
-    first false is = all-by-index (disjoint p) (q ∷ places) (λ k d within. far k d is within) ∙ ap not (sym is)
+    first : (b : Bool) → begins p q ≡ b → list_all (are_separate p) (q ∷ places) ≡ not (begins p q)
+    first true is = ap (λ b. not b && not (begins q p) && list_all (are_separate p) places) is ∙ ap not (sym is)
+    first false is = all-by-index (are_separate p) (q ∷ places) (λ k d within. far k d is within) ∙ ap not (sym is)
 
 all_apart-map : {X Y : Type 0} (f : X → Y) (apart : Y → Y → Bool) (xs : List X) → all_apart apart (map f xs) ≡ all_apart (λ x y. apart (f x) (f y)) xs
 all_apart-map {X = X} f apart [] = refl
@@ -260,17 +261,64 @@ slice_cmp-map f cmp (x ∷ xs) (y ∷ ys) = ap (λ o. ordering_then (cmp (f x) (
 
 -- What has places is apart exactly if, once it is sorted by them, none begins with the one before it.
 pub sorted-places : {X : Type 0} (place : X → List (List ℕ)) (cmp : X → X → Ordering) → ((x y : X) → cmp x y ≡ place_cmp (place x) (place y)) → (before after : List X)
-    → IsPermutation before after → IsSorted cmp after → all_apart disjoint (map place before) ≡ none_begins_so (map place after)
+    → IsPermutation before after → IsSorted cmp after → all_apart are_separate (map place before) ≡ none_begins_so (map place after)
 sorted-places place cmp agree before after permuted sorted =
-    all_apart-map place disjoint before
-    ∙ permuted-apart (λ x y. disjoint (place x) (place y)) (λ x. never-apart-from-itself (place x)) (λ x y. apart-either-way (place x) (place y)) before after permuted
-    ∙ sym (all_apart-map place disjoint after)
+    all_apart-map place are_separate before
+    ∙ permuted-apart (λ x y. are_separate (place x) (place y)) (λ x. never-apart-from-itself (place x)) (λ x y. apart-either-way (place x) (place y)) before after permuted
+    ∙ sym (all_apart-map place are_separate after)
     ∙ sorted-apart (map place after) (sorted-by place cmp agree after sorted)
 
-pub apart-grants : (grants : List Grant) → all_apart are_disjoint grants ≡ all_apart disjoint (map (λ g. g.path) grants)
-apart-grants grants = sym (all_apart-map (λ g. g.path) disjoint grants)
+pub apart-grants : (grants : List Grant) → all_apart are_disjoint grants ≡ all_apart are_separate (map (λ g. g.path) grants)
+apart-grants grants = sym (all_apart-map (λ g. g.path) are_separate grants)
 
 pub at-most-one : (places : List (List (List ℕ))) → length places ≤ 1 → none_begins_so places ≡ true
 at-most-one [] few = refl
 at-most-one (p ∷ []) few = refl
 at-most-one (p ∷ q ∷ places) few = absurd (omega arith)
+
+-- the places of grants are those of the grants that are made
+pub places-of : (tree : List Node) (grants : List WrittenGrant) → granted_places tree grants ≡ option_map (map (λ (g : Grant). g.path)) (grants_placed tree grants)
+places-of tree [] = refl
+places-of tree (g ∷ grants) = more (granted_place tree g.path) (grants_placed tree grants) (places-of tree grants)
+  where
+    more : (place : Option (List (List ℕ))) (rest : Option (List Grant)) → granted_places tree grants ≡ option_map (map (λ (g : Grant). g.path)) rest
+        → option_and_then (λ p. option_map (λ rest. p ∷ rest) (granted_places tree grants)) place
+        ≡ option_map (map (λ (g : Grant). g.path)) (option_and_then (λ x. option_map (λ rest. x ∷ rest) rest) (option_map (grant_at g) place))
+    more None rest is = refl
+    more (Some p) None is = ap (option_map (λ rest. p ∷ rest)) is
+    more (Some p) (Some rest) is = ap (option_map (λ rest. p ∷ rest)) is
+
+-- Grants without places are no policy, and with places they are one exactly if these are apart.
+pub no-policy : (tree : List Node) (grants : List WrittenGrant) → granted_places tree grants ≡ None → policy_of tree grants ≡ None
+no-policy tree grants is = none (grants_placed tree grants) refl
+  where
+    none : (placed : Option (List Grant)) → grants_placed tree grants ≡ placed → policy_of tree grants ≡ None
+    none None placed = ap (option_and_then disjoint) placed
+    none (Some gs) placed =
+        let wrong : Some (map (λ (g : Grant). g.path) gs) ≡ None = sym (places-of tree grants ∙ ap (option_map (map (λ (g : Grant). g.path))) placed) ∙ is in
+        absurd cc
+
+pub record IsPolicy (tree : List Node) (grants : List WrittenGrant) (apart : Bool) : Type 0 where
+  pub made : List Grant
+  pub placed : grants_placed tree grants ≡ Some made
+  pub policy : policy_of tree grants ≡ (if apart then Some made else None)
+
+pub policy-if : (tree : List Node) (grants : List WrittenGrant) (places : List (List (List ℕ))) (apart : Bool) → granted_places tree grants ≡ Some places
+    → apart ≡ all_apart are_separate places → IsPolicy tree grants apart
+policy-if tree grants places apart is same =
+    let p = map-some (map (λ (g : Grant). g.path)) (grants_placed tree grants) places (sym (places-of tree grants) ∙ is) in
+    let clear : all_apart are_disjoint p.0 ≡ apart = apart-grants p.0 ∙ ap (all_apart are_separate) p.2 ∙ sym same in
+    record { made = p.0; placed = p.1; policy = ap (option_and_then disjoint) p.1 ∙ ap (λ b. if b then Some p.0 else None) clear }
+
+-- a policy that passed its check is of the grants that can be placed
+pub checked-policy : (tree : List Node) (grants : List WrittenGrant) → IsOk (or_mistake Wrong_grant (policy_of tree grants))
+    → (made : List Grant) × (policy_of tree grants ≡ Some made) × (grants_placed tree grants ≡ Some made)
+checked-policy tree grants ok = from (policy_of tree grants) refl
+  where
+    from : (policy : Option (List Grant)) → policy_of tree grants ≡ policy
+        → (made : List Grant) × (policy_of tree grants ≡ Some made) × (grants_placed tree grants ≡ Some made)
+    from None is = let wrong : IsOk {T = List Grant} (or_mistake Wrong_grant None) = subst (λ p. IsOk (or_mistake Wrong_grant p)) is ok in absurd cc
+    from (Some made) is =
+        let p = and_then-some disjoint (grants_placed tree grants) made is in
+        let q = if-some (all_apart are_disjoint p.0) (Some p.0) made p.2 in
+        (made, is, p.1 ∙ q.1)

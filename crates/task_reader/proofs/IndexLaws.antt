@@ -22,7 +22,7 @@ use Rattle.file_tree.proofs.NodeLaws.{linked_there, node_at_found, node_at_none,
 use Rattle.texts.specs.Parts.{parts}
 use Rattle.task_reader.specs.Indexes.{number_in, is_directory, IsIndex, IsPath}
 use Rattle.task_reader.specs.Paths.{is_path_name, path_names, names_behind, place_of}
-use Rattle.task_reader.specs.Reading.{can_stand, node_behind, node_made, node_placed, number_of_path}
+use Rattle.task_reader.specs.Reading.{can_grant, can_stand, granted_place, node_behind, node_made, node_placed, number_of_path}
 use Rattle.task_reader.specs.Written.{WrittenNode}
 use Rattle.task_reader.proofs.Stages.{ap2}
 use Rattle.task_reader.proofs.PathTexts.{path-text, text-path}
@@ -259,3 +259,35 @@ made-so made n m is =
     let p = if-some (can_stand made q.0) (Some (node_placed n q.0)) m q.2 in
     let same : node_placed n q.0 ≡ m = some-equal (node_placed n q.0) m p.1 in
     subst (λ x. IsMade made n.path x) same (record { at_path = q.1; linked = refl; free = stands-free made q.0 p.0 })
+
+-- what is at a path that is numbered
+pub record IsAt (made : List Node) (path : List ℕ) (n : ℕ) : Type 0 where
+  pub at_path : IsPath path (node made n).place
+  pub found : node_at made (node made n).place ≡ Some n
+
+pub numbered-at : (made : List Node) (path : List ℕ) (n : ℕ) → number_of_path made path ≡ Some n → IsAt made path n
+numbered-at made path n is =
+    let q = and_then-some (node_at made) (place_of path) n is in
+    let same : q.0 ≡ (node made n).place = (stands_is q.0 (node made n) (node_at_found made q.0 n q.2)).1 in
+    record { at_path = q.1 ∙ ap Some same; found = ap (node_at made) (sym same) ∙ q.2 }
+
+-- A place that is numbered can be granted exactly if a directory is there, and one that isn't can't.
+pub granted-there : {S : Type 0} (numbers : IndexMap (Bor (List ℕ)) ℕ S) (made : List Node) (path : List ℕ) (n : ℕ) (b : Bool) → IsIndex numbers made
+    → number_of_path made path ≡ Some n → is_dir (node made n).kind ≡ b → granted_place made path ≡ (if b then Some (node made n).place else None)
+unfolding can_grant
+granted-there numbers made path n b index is kind =
+    let at = numbered-at made path n is in
+    ap (option_and_then (λ place. if has_directory made place then Some place else None)) at.at_path
+    ∙ ap (λ b. if b then Some (node made n).place else None) (index.apart (node made n).place ∙ ap (is_directory made) at.found ∙ kind)
+
+pub granted-nowhere : {S : Type 0} (numbers : IndexMap (Bor (List ℕ)) ℕ S) (made : List Node) (path : List ℕ) → IsIndex numbers made
+    → number_of_path made path ≡ None → granted_place made path ≡ None
+unfolding can_grant
+granted-nowhere numbers made path index is = at (place_of path) refl
+  where
+    at : (read : Option (List (List ℕ))) → place_of path ≡ read → granted_place made path ≡ None
+    at None read = ap (option_and_then (λ place. if has_directory made place then Some place else None)) read
+    at (Some place) read =
+        let free : node_at made place ≡ None = sym (ap (option_and_then (node_at made)) read) ∙ is in
+        ap (option_and_then (λ place. if has_directory made place then Some place else None)) read
+        ∙ ap (λ b. if b then Some place else None) (index.apart place ∙ ap (is_directory made) free)

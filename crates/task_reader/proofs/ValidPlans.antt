@@ -1,10 +1,10 @@
 -- A plan that is read is valid.
-use Rattle.std.proofs.Common.{◌≡◌, ℕ, suc, ◌<◌, List, [], ◌∷◌, ◌++◌, Option, Some, None, Result, Ok, Err, option_map, Bool, true, false, cond, length, map, refl, ap, sym, subst, ◌∙◌, arith, append_assoc, append-nil, ℤ, pos, negsuc}
-use Rattle.std.specs.Prelude.{◌&&◌, ◌||◌, not, nat_le, nat_lt}
+use Rattle.std.proofs.Common.{◌≡◌, ℕ, suc, ◌<◌, ◌≤◌, List, [], ◌∷◌, ◌++◌, Option, Some, None, Result, Ok, Err, option_map, Bool, true, false, cond, length, map, take, refl, ap, sym, subst, ◌∙◌, arith, append_assoc, append-nil, ℤ, pos, negsuc}
+use Rattle.std.specs.Prelude.{◌&&◌, ◌||◌, not, nat_le, nat_lt, if◌then◌else◌}
 use Rattle.std.specs.List.{list_all, list_any}
 use Rattle.std.specs.Str.{bytes_eq}
 use Rattle.std.specs.Cmp.Derive.{both_true}
-use Rattle.std.proofs.lemmas.List.{length-map}
+use Rattle.std.proofs.lemmas.List.{length-map, take_all}
 use Rattle.std.proofs.lemmas.Bool.{lt-ltb, leb-true}
 use Rattle.rights.specs.Sets.{is_within, all_rights, all_commands}
 use Rattle.rights.proofs.Tests.{both_left, both_right}
@@ -20,10 +20,11 @@ use Rattle.toml.specs.Data.{Members}
 use Rattle.task.specs.Plans.{Grant, NamedProgram, FirstObject, On_node, On_end, FirstDescriptor, Start, Plan}
 use Rattle.texts.specs.Names.{is_name}
 use Rattle.task.specs.Limits.{all_apart, can_follow, are_made, is_tree, is_grant, are_apart, are_grants, is_named, are_named_apart, are_programs, is_object, is_descriptor, are_numbered_apart, are_descriptors, is_start, are_starts, is_plan}
+use Rattle.task_reader.specs.Apart.{first_assembled}
 use Rattle.task_reader.specs.Documents.{is_among, are_once}
 use Rattle.task_reader.specs.Paths.{place_of}
 use Rattle.task_reader.specs.Written.{WrittenNode, WrittenGrant, WrittenProgram, WrittenObject, By_path, By_pair, WrittenDescriptor, WrittenStart, WrittenTask, names_of_grants, names_of_programs, written_task}
-use Rattle.task_reader.specs.Reading.{Mistake, Wrong_field, Wrong_node, Wrong_grant, Wrong_descriptor, ◌>>=◌, or_mistake, can_stand, node_placed, node_behind, node_made, tree_from, tree_of, can_grant, grant_at, grant_placed, grants_placed, are_disjoint, disjoint, policy_of, number_below, can_open, number_of_path, opened, object_placed, descriptor_at, descriptor_placed, descriptors_placed, numbered_apart, table_of, start_from, start_placed, starts_placed, program_from, assembled, all_assembled, is_short, keeps_limits, plan_of, plan_in}
+use Rattle.task_reader.specs.Reading.{Mistake, Wrong_field, Wrong_node, Wrong_grant, Wrong_descriptor, ◌>>=◌, or_mistake, can_stand, node_placed, node_behind, node_made, tree_from, tree_of, can_grant, grant_at, grant_placed, granted_place, grants_placed, are_disjoint, disjoint, policy_of, number_below, can_open, number_of_path, opened, object_placed, descriptor_at, descriptor_placed, descriptors_placed, numbered_apart, table_of, start_from, start_placed, starts_placed, program_from, assembled, all_assembled, is_short, keeps_limits, plan_of, plan_in}
 use Rattle.task_reader.proofs.WrittenLaws.{some-equal, and_then-some, map-some, if-some, is_named_grant, is_named_program, has_side, is_bounded, is_given, IsWritten, task-written}
 
 ok-equal : {A : Type 0} (x y : A) → or_mistake Wrong_field (Some x) ≡ Ok y → x ≡ y
@@ -33,7 +34,7 @@ pub ok-some : {A : Type 0} {B : Type 0} (m : Mistake) (o : Option A) (f : A → 
 ok-some m None f y is = absurd cc
 ok-some m (Some x) f y is = (x, refl, is)
 
-ok-then : {A : Type 0} {B : Type 0} (r : Result A Mistake) (f : A → Result B Mistake) (y : B) → (r >>= f) ≡ Ok y → (x : A) × (r ≡ Ok x) × (f x ≡ Ok y)
+pub ok-then : {A : Type 0} {B : Type 0} (r : Result A Mistake) (f : A → Result B Mistake) (y : B) → (r >>= f) ≡ Ok y → (x : A) × (r ≡ Ok x) × (f x ≡ Ok y)
 ok-then (Ok x) f y is = (x, refl, is)
 ok-then (Err m) f y is = absurd cc
 
@@ -90,11 +91,11 @@ tree-valid nodes tree is within few =
 grant-is : (tree : List Node) (g : WrittenGrant) (x : Grant) → grant_placed tree g ≡ Some x → (x.name ≡ g.name) × (has_directory tree x.path ≡ true)
 unfolding can_grant
 grant-is tree g x is =
-    let p = and_then-some (grant_at tree g) (place_of g.path) x is in
-    let made : Grant = record { name = g.name; path = p.0; operations = g.operations } in
-    let q = if-some (can_grant tree p.0) (Some made) x p.2 in
-    let same : made ≡ x = some-equal made x q.1 in
-    (ap (λ (y : Grant). y.name) (sym same), subst (λ (y : Grant). has_directory tree y.path ≡ true) same q.0)
+    let p = map-some (grant_at g) (granted_place tree g.path) x is in
+    let q = and_then-some (λ place. if can_grant tree place then Some place else None) (place_of g.path) p.0 p.1 in
+    let r = if-some (can_grant tree q.0) (Some q.0) p.0 q.2 in
+    let there : has_directory tree p.0 ≡ true = subst (λ place. has_directory tree place ≡ true) (some-equal q.0 p.0 r.1) r.0 in
+    (ap (λ (y : Grant). y.name) (sym p.2), subst (λ (y : Grant). has_directory tree y.path ≡ true) p.2 there)
 
 abbrev names : List Grant → List (List ℕ)
 names grants = map (λ (g : Grant). g.name) grants
@@ -327,6 +328,15 @@ limited task tree keeps =
 if-ok : {A : Type 0} (m : Mistake) (b : Bool) (x y : A) → cond b (Ok x) (Err m) ≡ Ok y → (b ≡ true) × (x ≡ y)
 if-ok m true x y is = (refl, ok-equal x y is)
 if-ok m false x y is = absurd cc
+
+-- all programs are kept where there are no more than a task may have
+pub all-kept : (task : WrittenTask) (tree : List Node) (kept : List NamedProgram) → first_assembled task.programs ≡ Ok kept → keeps_limits task tree ≡ true → all_assembled task.programs ≡ Ok kept
+all-kept task tree kept is keeps =
+    let q = ok-then (all_assembled task.programs) (λ all. Ok (take most_programs all)) kept is in
+    let few : length task.programs ≤ most_programs = leb-true (length task.programs) most_programs (limited task tree keeps).programs in
+    let count : length q.0 ≡ length task.programs = programs-count task.programs q.0 q.1 in
+    let short : length q.0 ≤ most_programs = omega arith in
+    q.1 ∙ ap Ok (sym (take_all most_programs q.0 short) ∙ ok-equal (take most_programs q.0) kept q.2)
 
 pub plan-valid : (task : WrittenTask) (plan : Plan) → IsWritten task → plan_of task ≡ Ok plan → is_plan plan ≡ true
 unfolding plan_of

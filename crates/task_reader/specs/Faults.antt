@@ -1,6 +1,6 @@
 -- The faults of the reader: their numbers, and what its answers say of a definition's. Want of memory may come in place of
 -- any answer.
-use Rattle.std.specs.Prelude.{◌≡◌, ℕ, List, Option, Some, None, Result, Ok, Err, codes, string_bytes}
+use Rattle.std.specs.Prelude.{◌≡◌, ℕ, List, Option, Some, None, Result, Ok, Err, IsOk, codes, string_bytes}
 use Rattle.prog_asm.specs.declared.faults.AsmFault.{AsmFault}
 use Rattle.prog_asm.specs.declared.faults.AsmFault.TheVariants as asm
 use Rattle.prog_asm.specs.Assembly.{Fault, fault}
@@ -57,3 +57,8 @@ FaultIs code.Memory read = Unit {0}
 abbrev pub ReadsTask : {X Y : Type 0} → (X → Y) → Result X TaskFault → Result Y Mistake → Type 0
 ReadsTask view (Ok x) read = read ≡ Ok (view x)
 ReadsTask view (Err error) read = FaultIs error read
+
+-- What passes a check is what the definition gives something for, and what doesn't is its mistake.
+abbrev pub Checks : {X Y : Type 0} → Result X TaskFault → Result Y Mistake → Type 0
+Checks (Ok x) read = IsOk read
+Checks (Err error) read = FaultIs error read

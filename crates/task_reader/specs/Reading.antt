@@ -60,20 +60,25 @@ tree_of nodes = tree_from new_tree nodes
 unfoldable pub can_grant : List Node → List (List ℕ) → Bool
 can_grant tree place = has_directory tree place
 
-abbrev pub grant_at : List Node → WrittenGrant → List (List ℕ) → Option Grant
-grant_at tree g place =
-    if can_grant tree place then Some (record { name = g.name; path = place; operations = g.operations }) else None
+abbrev pub granted_place : List Node → List ℕ → Option (List (List ℕ))
+granted_place tree path = option_and_then (λ place. if can_grant tree place then Some place else None) (place_of path)
+
+abbrev pub grant_at : WrittenGrant → List (List ℕ) → Grant
+grant_at g place = record { name = g.name; path = place; operations = g.operations }
 
 abbrev pub grant_placed : List Node → WrittenGrant → Option Grant
-grant_placed tree g = option_and_then (grant_at tree g) (place_of g.path)
+grant_placed tree g = option_map (grant_at g) (granted_place tree g.path)
 
 abbrev pub grants_placed : List Node → List WrittenGrant → Option (List Grant)
 grants_placed tree [] = Some []
 grants_placed tree (g ∷ grants) =
     option_and_then (λ x. option_map (λ rest. x ∷ rest) (grants_placed tree grants)) (grant_placed tree g)
 
+abbrev pub are_separate : List (List ℕ) → List (List ℕ) → Bool
+are_separate p q = not (begins p q) && not (begins q p)
+
 abbrev pub are_disjoint : Grant → Grant → Bool
-are_disjoint g h = not (begins g.path h.path) && not (begins h.path g.path)
+are_disjoint g h = are_separate g.path h.path
 
 abbrev pub disjoint : List Grant → Option (List Grant)
 disjoint grants = if all_apart are_disjoint grants then Some grants else None

@@ -45,11 +45,22 @@ fn is_path_name(name: &[u8]) -> bool
     !name.is_empty() && has_name_bytes && !is_dot_name
 }
 
+/// How many parts a text has between each `/`.
+fn count_parts(text: &[u8]) -> usize {
+    let mut count = 1usize;
+    for byte in text {
+        if *byte == b'/' {
+            count = count.saturating_add(1);
+        }
+    }
+    count
+}
+
 /// The names that a `/` parts, if each is one.
 fn read_names(alloc: Global, text: &[u8]) -> Result<Option<Vec<Vec<u8>>>, AllocError>
     ensures { IfOk result (λ place. option_map (λ p. names_of p.items) place ≡ path_names (parts 47 text.now)) }
 {
-    let mut names = Vec::new(alloc);
+    let mut names = Vec::with_capacity(alloc, count_parts(text))?;
     let mut text = text;
     loop {
         let (name, behind) = first_part(text, b'/');

@@ -2,20 +2,20 @@
 
 ghost use Rattle.std.specs.Prelude.{◌≡◌, IfErr, IfOk, map, option_map};
 ghost use Rattle.file_tree.specs.Views.{names_of};
-ghost use Rattle.task_reader.specs.Faults.{ReadsTask};
+ghost use Rattle.task_reader.specs.Faults.{Checks, ReadsTask};
 ghost use Rattle.task_reader.specs.Indexes.{IsIndex, IsPath};
 ghost use Rattle.task.specs.Limits.{all_apart};
-ghost use Rattle.task_reader.specs.Reading.{Wrong_grant, are_disjoint, can_grant, grant_placed, grants_placed, or_mistake, policy_of};
+ghost use Rattle.task_reader.specs.Reading.{Wrong_grant, are_separate, can_grant, grant_placed, granted_place, grants_placed, or_mistake, policy_of};
 ghost use Rattle.task.specs.Views.{grant_of, grants_of, nodes_of};
 ghost use Rattle.task_reader.specs.WrittenViews.{grant_seen, grants_seen};
-ghost use Rattle.task_reader.specs.Apart.{none_begins_so};
+ghost use Rattle.task_reader.specs.Apart.{granted_places, none_begins_so};
 ghost use Rattle.task_reader.specs.declared.faults.TaskFault.TheVariants as fault;
 
 use crate::faults::TaskFault;
-use crate::indexes::{IndexedNodes, has_directory};
+use crate::indexes::{IndexedNodes, has_directory, number_at};
 use crate::paths::read_place;
 use crate::written::WrittenGrant;
-use file_tree::is_front;
+use file_tree::{Kind, is_front};
 use std::alloc::{AllocError, Global};
 use task::Grant;
 
@@ -52,36 +52,37 @@ fn place_grant(
     }))
 }
 
-/// The grants, if a directory stands at the path of each.
-fn place_grants(
-    alloc: Global,
-    tree: &IndexedNodes<'_>,
-    written: &[WrittenGrant<'_>],
-) -> Result<Option<Vec<Grant>>, AllocError>
+/// The place of a path, if a directory stands there.
+fn directory_at<'t>(tree: &'t IndexedNodes<'_>, path: &str) -> Option<&'t [Vec<u8>]>
     requires { IsIndex tree.now.numbers (nodes_of tree.now.nodes.items) }
-    ensures { IfOk result (λ placed. option_map (λ grants. grants_of grants.items) placed
-        ≡ grants_placed (nodes_of tree.now.nodes.items) (grants_seen written.now)) }
+    ensures { option_map (λ p. names_of p.now) result ≡ granted_place (nodes_of tree.now.nodes.items) path.now }
 {
-    let mut grants = Vec::with_capacity(alloc, written.len())?;
+    let number = number_at(tree, path.as_bytes())?;
+    let node = &tree.nodes[number];
+    match node.kind {
+        Kind::Dir => Some(&node.place),
+        Kind::File | Kind::Link => None,
+    }
+}
+
+/// The places of the grants, if a directory stands at each.
+fn grant_places<'t>(
+    alloc: Global,
+    tree: &'t IndexedNodes<'_>,
+    written: &[WrittenGrant<'_>],
+) -> Result<Option<Vec<&'t [Vec<u8>]>>, AllocError>
+    requires { IsIndex tree.now.numbers (nodes_of tree.now.nodes.items) }
+    ensures { IfOk result (λ places. option_map (λ places. map (λ p. names_of p.now) places.items) places
+        ≡ granted_places (nodes_of tree.now.nodes.items) (grants_seen written.now)) }
+{
+    let mut places = Vec::with_capacity(alloc, written.len())?;
     for grant in written {
-        match place_grant(alloc, tree, grant)? {
-            Some(placed) => grants.push(placed)?,
+        match directory_at(tree, grant.path) {
+            Some(place) => places.push(place)?,
             None => return Ok(None),
         }
     }
-    Ok(Some(grants))
-}
-
-/// The places of some grants.
-fn grant_places<'g>(alloc: Global, grants: &'g [Grant]) -> Result<Vec<&'g [Vec<u8>]>, TaskFault>
-    ensures places { IfOk result (λ places. map (λ p. names_of p.now) places.items ≡ map (λ g. g.path) (grants_of grants.now)) }
-    ensures memory { IfErr result (λ error. error ≡ fault.Memory) }
-{
-    let mut places = Vec::with_capacity(alloc, grants.len())?;
-    for grant in grants {
-        places.push(grant.path.as_slice())?;
-    }
-    Ok(places)
+    Ok(Some(places))
 }
 
 /// Whether no place begins with the one before it.
@@ -96,31 +97,51 @@ fn none_begins_so(places: &[&[Vec<u8>]]) -> bool
     true
 }
 
-/// Whether no place is in two grants. In the order of places, what begins with a place stands right behind it.
-fn are_apart(alloc: Global, grants: &[Grant]) -> Result<bool, TaskFault>
-    ensures apart { IfOk result (λ apart. apart ≡ all_apart are_disjoint (grants_of grants.now)) }
+/// Whether none of some places begins with another. In the order of places, what begins with a place stands right behind it.
+fn are_apart(places: Vec<&[Vec<u8>]>) -> Result<bool, TaskFault>
+    ensures apart { IfOk result (λ apart. apart ≡ all_apart are_separate (map (λ p. names_of p.now) places.entry.items)) }
     ensures memory { IfErr result (λ error. error ≡ fault.Memory) }
 {
-    let mut places = grant_places(alloc, grants)?;
+    let mut places = places;
     places.sort()?;
     Ok(none_begins_so(&places))
 }
 
-/// The policy of some grants: each is of a directory, and no place is in two. (own)
-pub(crate) fn make_policy(
+/// Checks the policy of some grants, and makes none of them yet, as there may be too many: each is of a directory, and no place is
+/// in two. (own)
+pub(crate) fn check_policy(
+    alloc: Global,
+    tree: &IndexedNodes<'_>,
+    written: &[WrittenGrant<'_>],
+) -> Result<(), TaskFault>
+    requires { IsIndex tree.now.numbers (nodes_of tree.now.nodes.items) }
+    ensures { Checks result (or_mistake Wrong_grant (policy_of (nodes_of tree.now.nodes.items) (grants_seen written.now))) }
+{
+    let Some(places) = grant_places(alloc, tree, written)? else {
+        return Err(TaskFault::Grant);
+    };
+    if !are_apart(places)? {
+        return Err(TaskFault::Grant);
+    }
+    Ok(())
+}
+
+/// The grants, each of a directory. (own)
+pub(crate) fn make_grants(
     alloc: Global,
     tree: &IndexedNodes<'_>,
     written: &[WrittenGrant<'_>],
 ) -> Result<Vec<Grant>, TaskFault>
     requires { IsIndex tree.now.numbers (nodes_of tree.now.nodes.items) }
     ensures { ReadsTask (λ grants. grants_of grants.items) result
-        (or_mistake Wrong_grant (policy_of (nodes_of tree.now.nodes.items) (grants_seen written.now))) }
+        (or_mistake Wrong_grant (grants_placed (nodes_of tree.now.nodes.items) (grants_seen written.now))) }
 {
-    let Some(grants) = place_grants(alloc, tree, written)? else {
-        return Err(TaskFault::Grant);
-    };
-    if !are_apart(alloc, &grants)? {
-        return Err(TaskFault::Grant);
+    let mut grants = Vec::with_capacity(alloc, written.len())?;
+    for grant in written {
+        match place_grant(alloc, tree, grant)? {
+            Some(placed) => grants.push(placed)?,
+            None => return Err(TaskFault::Grant),
+        }
     }
     Ok(grants)
 }

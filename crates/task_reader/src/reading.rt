@@ -14,7 +14,7 @@ use crate::assembling::assemble_all;
 use crate::documents::read_document;
 use crate::faults::TaskFault;
 use crate::limits::keeps_limits;
-use crate::placed_grants::make_policy;
+use crate::placed_grants::{check_policy, make_grants};
 use crate::placed_starts::{PlacedDescriptor, PlacedObject, PlacedStart, place_starts};
 use crate::readers::read_written;
 use crate::trees::make_tree;
@@ -86,12 +86,13 @@ fn make_task(alloc: Global, written: &WrittenTask<'_>) -> Result<Task, TaskFault
     ensures { ReadsTask (λ task. task) result (plan_of (task_seen written.now)) }
 {
     let tree = make_tree(alloc, &written.nodes)?;
-    let grants = make_policy(alloc, &tree, &written.grants)?;
+    check_policy(alloc, &tree, &written.grants)?;
     let placed = place_starts(alloc, &tree, &written.starts)?;
     let programs = assemble_all(alloc, &written.programs)?;
     if !keeps_limits(written, &tree.nodes) {
         return Err(TaskFault::Limit);
     }
+    let grants = make_grants(alloc, &tree, &written.grants)?;
     let starts = kept_starts(alloc, &placed)?;
     Ok(Task::new(tree.nodes, grants, programs, starts))
 }

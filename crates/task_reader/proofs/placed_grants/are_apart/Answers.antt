@@ -1,15 +1,12 @@
 use Rattle.std.proofs.Common.{map, sym, ap, ◌∙◌}
 use Rattle.std.specs.Cmp.Lexicographic.{slice_cmp}
 use Rattle.file_tree.specs.Views.{names_of}
-use Rattle.task.specs.Limits.{all_apart}
-use Rattle.task.specs.Views.{grants_of}
 use Rattle.task_reader.specs.Apart.{none_begins_so}
-use Rattle.task_reader.proofs.ApartLaws.{apart-grants, disjoint, name_cmp, slice_cmp-map, sorted-places}
+use Rattle.task_reader.proofs.ApartLaws.{name_cmp, slice_cmp-map, sorted-places}
 use Rattle.task_reader.proofs.placed_grants.are_apart.Goals as goal
 
 pub returns-clause-apart : goal.returns-clause-apart
 returns-clause-apart c =
-    let places = c.in_ok-places.places.items in
+    let places = c.args.places.items in
     let sorted = sorted-places (λ p. names_of p.now) (λ x y. slice_cmp (λ v w. name_cmp v.items w.items) x.now y.now) (λ x y. slice_cmp-map (λ v. v.items) name_cmp x.now y.now) places c.sort.new.self.items c.sort.ensures.permutation c.in_ok-sort.ensures.sorted in
-    c.none_begins_so.ensures ∙ ap (λ ps. none_begins_so (map (λ p. names_of p.now) ps)) c.deref.ensures.value
-    ∙ sym (apart-grants (grants_of c.args.grants.now) ∙ ap (all_apart disjoint) (sym c.in_ok-places.ensures.places) ∙ sorted)
+    c.none_begins_so.ensures ∙ ap (λ ps. none_begins_so (map (λ p. names_of p.now) ps)) c.deref.ensures.value ∙ sym sorted

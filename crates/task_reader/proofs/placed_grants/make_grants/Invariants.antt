@@ -2,7 +2,7 @@ use Rattle.std.proofs.Common.{◌≡◌, ◌++◌, drop, option_map}
 use Rattle.task_reader.specs.Reading.{grants_placed}
 use Rattle.task.specs.Views.{grants_of, nodes_of}
 use Rattle.task_reader.specs.WrittenViews.{grants_seen}
-use Rattle.task_reader.proofs.placed_grants.place_grants.Given as goal
+use Rattle.task_reader.proofs.placed_grants.make_grants.Given as goal
 
 -- the grants so far, and then those that are left
 abbrev pub invariant-loop-grant : goal.invariant-loop-grant

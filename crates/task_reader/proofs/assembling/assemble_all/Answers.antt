@@ -1,0 +1,39 @@
+use Rattle.std.proofs.Common.{◌≡◌, ◌+◌, ◌++◌, ◌∷◌, [], ◌≤◌, length, drop, sym, ap, ◌∙◌, arith}
+use Rattle.std.proofs.lemmas.List.{length-append, length-map, map-append}
+use Rattle.rights.specs.Limits.{most_programs}
+use Rattle.task.specs.Views.{program_of, programs_of}
+use Rattle.task_reader.specs.Reading.{all_assembled}
+use Rattle.task_reader.specs.WrittenViews.{programs_seen}
+use Rattle.task_reader.proofs.Passing.{after, few, few-more, few-past}
+use Rattle.task_reader.proofs.assembling.assemble_all.Goals.{then-len-lt-MAX_PROGRAMS+in_ok-push, else-len-lt-MAX_PROGRAMS}
+use Rattle.task_reader.proofs.assembling.assemble_all.Goals as goal
+
+pub loop-program-preserved : goal.loop-program-preserved
+loop-program-preserved c =
+    let before = c.loop-program.programs.items in
+    let at = c.loop-program.program-index in
+    let program = c.in_ok-assembled.assembled in
+    let rest = all_assembled (programs_seen (drop (at + 1) c.args.written.now)) in
+    let count = c.len.ensures ∙ c.loop-program.programs.ok.0 in
+    elim c.if-len-lt-MAX_PROGRAMS.branch [
+      | then-len-lt-MAX_PROGRAMS+in_ok-push w ↦
+          let items : c.if-len-lt-MAX_PROGRAMS.programs.items ≡ before ++ program ∷ [] = ap (λ v. v.items) w.programs-is ∙ w.in_ok-push.ensures.items in
+          let below = w.if-len-lt-MAX_PROGRAMS.true in
+          let long = ap length items ∙ length-append before (program ∷ []) in (
+            c.loop-program.invariant.0
+                ∙ few-more c.args.written.now at _ (programs_of before) (program_of program) c.loop-program-test.true c.in_ok-assembled.ensures
+                ∙ ap (λ ps. few (after ps rest)) (sym (ap programs_of items ∙ map-append program_of before (program ∷ []))),
+            omega arith,
+          )
+      | else-len-lt-MAX_PROGRAMS w ↦
+          let full = w.if-len-lt-MAX_PROGRAMS.false in
+          let same : length (programs_of before) ≡ length before = length-map before program_of in
+          let enough : most_programs ≤ length (programs_of before) = omega arith in
+          let kept = ap (λ v. v.items) w.programs-is in
+          let long = ap length kept in (
+            c.loop-program.invariant.0
+                ∙ few-past c.args.written.now at _ (programs_of before) (program_of program) c.loop-program-test.true enough c.in_ok-assembled.ensures
+                ∙ ap (λ ps. few (after (programs_of ps) rest)) (sym kept),
+            (let few_still = c.loop-program.invariant.1 in omega arith),
+          )
+    ]
