@@ -12,7 +12,7 @@ use crate::flat::with_first;
 use crate::spots::Way;
 use certificate::{Bound, Interval, ModeBound, Name, Refusal, Slot};
 use prog_asm::{Instruction, Syscall};
-use rights::limits::{MAX_DESCRIPTORS, REGISTERS};
+use rights::limits::{MAX_DESCRIPTORS, MAX_INSTRUCTIONS, REGISTERS};
 use std::alloc::{AllocError, Global};
 use task::{Start, Task};
 use transfer::{Change, Outcome, OutcomeTest, Site, failure, successes_pass};
@@ -114,7 +114,7 @@ fn take_waiting(
 {
     let mut any = false;
     for (point, instruction) in code.iter().enumerate() {
-        if point < 256 {
+        if point < MAX_INSTRUCTIONS {
             if let Some(bound) = way.next_at(point) {
                 any = true;
                 channels.learn(alloc, &bound, instruction)?;

@@ -11,6 +11,7 @@ use Rattle.task_reader.specs.Apart.{first_assembled}
 use Rattle.task_reader.specs.Faults.{FaultIs}
 use Rattle.task_reader.specs.Placed.{is_small, placed_starts}
 use Rattle.task_reader.specs.Reading.{Wrong_node, Wrong_grant, Wrong_descriptor, or_mistake, tree_of, policy_of, grants_placed, starts_placed, all_assembled, keeps_limits, plan_of}
+use Rattle.task_reader.specs.Written.{WrittenTask}
 use Rattle.task_reader.specs.declared.written.WrittenNode.{WrittenNode as NodeCode}
 use Rattle.task_reader.specs.declared.written.WrittenGrant.{WrittenGrant as GrantCode}
 use Rattle.task_reader.specs.declared.written.WrittenProgram.{WrittenProgram as ProgramCode}
@@ -47,6 +48,24 @@ same-grants : (w : TaskCode) (gs : List GrantCode) (nodes : List Node) (grants m
     → or_mistake Wrong_grant (grants_placed nodes (grants_seen gs)) ≡ Ok made → grants_placed nodes (task_seen w).grants ≡ Some grants → grants ≡ made
 same-grants w gs nodes grants made same is placed =
     some-equal grants made (sym placed ∙ ap (λ xs. grants_placed nodes (grants_seen xs)) (sym same) ∙ some_from Wrong_grant _ _ is)
+
+-- what the task stands for, once nothing is wrong with it
+record Planned (task : WrittenTask) (nodes : List Node) (programs : List NamedProgram) (starts : List Start) : Type 0 where
+  grants : List Grant
+  placed : grants_placed nodes task.grants ≡ Some grants
+  reads : plan_of task ≡ Ok (plan_with nodes grants programs starts)
+
+planned : (w : TaskCode) (nodes : List Node) (programs : List NamedProgram) (starts : List Start) → tree_of (task_seen w).nodes ≡ Some nodes
+    → (grants : List Grant) × (policy_of nodes (task_seen w).grants ≡ Some grants) × (grants_placed nodes (task_seen w).grants ≡ Some grants)
+    → starts_placed nodes (task_seen w).starts ≡ Some starts → first_assembled (task_seen w).programs ≡ Ok programs → keeps_limits (task_seen w) nodes ≡ true
+    → Planned (task_seen w) nodes programs starts
+planned w nodes programs starts made granted started kept keeps =
+    let assembled : all_assembled (task_seen w).programs ≡ Ok programs = all-kept (task_seen w) nodes programs kept keeps in
+    record {
+      grants = granted.0;
+      placed = granted.2;
+      reads = reads-plan (task_seen w) nodes made granted.0 granted.1 starts started programs assembled keeps;
+    }
 
 -- a mistake of a stage is the task's
 pub returns-in_err-tree : goal.returns-in_err-tree
@@ -131,57 +150,48 @@ returns-in_err-grants c =
 pub kept_starts-requires : goal.kept_starts-requires
 kept_starts-requires c =
     let w = c.args.written.now in
-    let task = task_seen w in
     let nodes = nodes_of c.in_ok-tree.tree.nodes.items in
-    let made = tree-made w _ nodes c.deref.ensures.value c.in_ok-tree.ensures.tree in
-    let granted = policy-made w _ nodes c.deref-2.ensures.value c.in_ok-check_policy.ensures in
     let starts = placed_starts c.in_ok-placed.placed.items in
-    let started = starts-made w _ nodes starts c.deref-3.ensures.value c.in_ok-placed.ensures in
     let programs = programs_of c.in_ok-programs.programs.items in
-    let kept = programs-made w _ programs c.deref-4.ensures.value c.in_ok-programs.ensures in
-    let keeps = ap (λ ns. keeps_limits task (nodes_of ns)) (sym c.deref-5.ensures.value) ∙ sym c.keeps_limits.ensures ∙ c.if-not-keeps_limits.false in
-    let assembled = all-kept task nodes programs kept keeps in
-    let reads = reads-plan task nodes made granted.0 granted.1 starts started programs assembled keeps in
-    let plan : Plan = plan_with nodes granted.0 programs starts in
-    let valid : is_plan plan ≡ true = plan-valid task plan (task-written c.requires.0 task c.requires.1) reads in
-    subst (λ ss. list_all is_small (placed_starts ss) ≡ true) (sym c.deref-7.ensures.value) (plan-small plan valid)
+    let plan =
+    planned w nodes programs starts (tree-made w _ nodes c.deref.ensures.value c.in_ok-tree.ensures.tree)
+    (policy-made w _ nodes c.deref-2.ensures.value c.in_ok-check_policy.ensures) (starts-made w _ nodes starts c.deref-3.ensures.value c.in_ok-placed.ensures)
+    (programs-made w _ programs c.deref-4.ensures.value c.in_ok-programs.ensures)
+    (ap (λ ns. keeps_limits (task_seen w) (nodes_of ns)) (sym c.deref-5.ensures.value) ∙ sym c.keeps_limits.ensures ∙ c.if-not-keeps_limits.false) in
+    let valid : is_plan (plan_with nodes plan.grants programs starts) ≡ true =
+    plan-valid (task_seen w) (plan_with nodes plan.grants programs starts) (task-written c.requires.0 (task_seen w) c.requires.1) plan.reads in
+    subst (λ ss. list_all is_small (placed_starts ss) ≡ true) (sym c.deref-7.ensures.value) (plan-small (plan_with nodes plan.grants programs starts) valid)
 
 pub new-requires : goal.new-requires
 new-requires c =
     let w = c.args.written.now in
-    let task = task_seen w in
     let nodes = nodes_of c.in_ok-tree.tree.nodes.items in
-    let made = tree-made w _ nodes c.deref.ensures.value c.in_ok-tree.ensures.tree in
-    let granted = policy-made w _ nodes c.deref-2.ensures.value c.in_ok-check_policy.ensures in
     let starts = placed_starts c.in_ok-placed.placed.items in
-    let started = starts-made w _ nodes starts c.deref-3.ensures.value c.in_ok-placed.ensures in
     let programs = programs_of c.in_ok-programs.programs.items in
-    let kept = programs-made w _ programs c.deref-4.ensures.value c.in_ok-programs.ensures in
-    let keeps = ap (λ ns. keeps_limits task (nodes_of ns)) (sym c.deref-5.ensures.value) ∙ sym c.keeps_limits.ensures ∙ c.if-not-keeps_limits.false in
-    let assembled = all-kept task nodes programs kept keeps in
-    let reads = reads-plan task nodes made granted.0 granted.1 starts started programs assembled keeps in
-    let plan : Plan = plan_with nodes granted.0 programs starts in
-    let valid : is_plan plan ≡ true = plan-valid task plan (task-written c.requires.0 task c.requires.1) reads in
-    let same = same-grants w _ nodes granted.0 (grants_of c.in_ok-grants.grants.items) c.deref-6.ensures.value c.in_ok-grants.ensures granted.2 in
-    let kept_starts : starts_of c.in_ok-starts.starts.items ≡ starts = c.in_ok-starts.ensures ∙ ap placed_starts c.deref-7.ensures.value in
+    let plan =
+    planned w nodes programs starts (tree-made w _ nodes c.deref.ensures.value c.in_ok-tree.ensures.tree)
+    (policy-made w _ nodes c.deref-2.ensures.value c.in_ok-check_policy.ensures) (starts-made w _ nodes starts c.deref-3.ensures.value c.in_ok-placed.ensures)
+    (programs-made w _ programs c.deref-4.ensures.value c.in_ok-programs.ensures)
+    (ap (λ ns. keeps_limits (task_seen w) (nodes_of ns)) (sym c.deref-5.ensures.value) ∙ sym c.keeps_limits.ensures ∙ c.if-not-keeps_limits.false) in
+    let valid : is_plan (plan_with nodes plan.grants programs starts) ≡ true =
+    plan-valid (task_seen w) (plan_with nodes plan.grants programs starts) (task-written c.requires.0 (task_seen w) c.requires.1) plan.reads in
+    let same = same-grants w _ nodes plan.grants (grants_of c.in_ok-grants.grants.items) c.deref-6.ensures.value c.in_ok-grants.ensures plan.placed in
+    let kept : starts_of c.in_ok-starts.starts.items ≡ starts = c.in_ok-starts.ensures ∙ ap placed_starts c.deref-7.ensures.value in
     subst (λ gs. is_plan (plan_with nodes gs programs (starts_of c.in_ok-starts.starts.items)) ≡ true) same
-    (subst (λ ss. is_plan (plan_with nodes granted.0 programs ss) ≡ true) (sym kept_starts) valid)
+    (subst (λ ss. is_plan (plan_with nodes plan.grants programs ss) ≡ true) (sym kept) valid)
 
 pub returns : goal.returns
 returns c =
     let w = c.args.written.now in
-    let task = task_seen w in
     let nodes = nodes_of c.in_ok-tree.tree.nodes.items in
-    let made = tree-made w _ nodes c.deref.ensures.value c.in_ok-tree.ensures.tree in
-    let granted = policy-made w _ nodes c.deref-2.ensures.value c.in_ok-check_policy.ensures in
     let starts = placed_starts c.in_ok-placed.placed.items in
-    let started = starts-made w _ nodes starts c.deref-3.ensures.value c.in_ok-placed.ensures in
     let programs = programs_of c.in_ok-programs.programs.items in
-    let kept = programs-made w _ programs c.deref-4.ensures.value c.in_ok-programs.ensures in
-    let keeps = ap (λ ns. keeps_limits task (nodes_of ns)) (sym c.deref-5.ensures.value) ∙ sym c.keeps_limits.ensures ∙ c.if-not-keeps_limits.false in
-    let assembled = all-kept task nodes programs kept keeps in
-    let reads = reads-plan task nodes made granted.0 granted.1 starts started programs assembled keeps in
-    let same = same-grants w _ nodes granted.0 (grants_of c.in_ok-grants.grants.items) c.deref-6.ensures.value c.in_ok-grants.ensures granted.2 in
-    let kept_starts : starts_of c.in_ok-starts.starts.items ≡ starts = c.in_ok-starts.ensures ∙ ap placed_starts c.deref-7.ensures.value in
-    reads
-    ∙ ap Ok (ap (λ gs. plan_with nodes gs programs starts) same ∙ ap (λ ss. plan_with nodes (grants_of c.in_ok-grants.grants.items) programs ss) (sym kept_starts) ∙ sym c.new.ensures)
+    let plan =
+    planned w nodes programs starts (tree-made w _ nodes c.deref.ensures.value c.in_ok-tree.ensures.tree)
+    (policy-made w _ nodes c.deref-2.ensures.value c.in_ok-check_policy.ensures) (starts-made w _ nodes starts c.deref-3.ensures.value c.in_ok-placed.ensures)
+    (programs-made w _ programs c.deref-4.ensures.value c.in_ok-programs.ensures)
+    (ap (λ ns. keeps_limits (task_seen w) (nodes_of ns)) (sym c.deref-5.ensures.value) ∙ sym c.keeps_limits.ensures ∙ c.if-not-keeps_limits.false) in
+    let same = same-grants w _ nodes plan.grants (grants_of c.in_ok-grants.grants.items) c.deref-6.ensures.value c.in_ok-grants.ensures plan.placed in
+    let kept : starts_of c.in_ok-starts.starts.items ≡ starts = c.in_ok-starts.ensures ∙ ap placed_starts c.deref-7.ensures.value in
+    plan.reads
+    ∙ ap Ok (ap (λ gs. plan_with nodes gs programs starts) same ∙ ap (λ ss. plan_with nodes (grants_of c.in_ok-grants.grants.items) programs ss) (sym kept) ∙ sym c.new.ensures)
