@@ -197,7 +197,8 @@ front-first (x ∷ r) (y ∷ p) front high =
     equal-from Greater is = absurd cc
 
 -- places behind two in order are apart from the first where the second is
-apart-behind : (p q r : List (List ℕ)) → begins p q ≡ false → is_lt (place_cmp q p) ≡ false → is_lt (place_cmp r q) ≡ false → is_lt (place_cmp r p) ≡ false → are_separate p r ≡ true
+apart-behind : (p q r : List (List ℕ)) → begins p q ≡ false → is_lt (place_cmp q p) ≡ false → is_lt (place_cmp r q) ≡ false → is_lt (place_cmp r p) ≡ false
+    → are_separate p r ≡ true
 apart-behind p q r other first second third =
     elim (cases_Bool (begins p r)) [
       | inl front ↦ let wrong : begins p q ≡ true = between p r q front first second in cc

@@ -111,7 +111,8 @@ pub few-whole : (so_far : List NamedProgram) → length so_far ≤ most_programs
 few-whole so_far short = ap (λ all. Ok (take most_programs all)) (append-nil so_far) ∙ ap Ok (take_all most_programs so_far short)
 
 -- A mistake behind what can't fail is the first part's.
-fault-before-program : {A : Type 0} {B : Type 0} (name : List ℕ) (why : Option Fault) (r : Result A Mistake) (f : A → B) → IsProgramFault name why (r >>= (λ a. Ok (f a))) → IsProgramFault name why r
+fault-before-program : {A : Type 0} {B : Type 0} (name : List ℕ) (why : Option Fault) (r : Result A Mistake) (f : A → B)
+    → IsProgramFault name why (r >>= (λ a. Ok (f a))) → IsProgramFault name why r
 fault-before-program name None r f is = is
 fault-before-program name (Some why) (Ok a) f is = absurd cc
 fault-before-program name (Some why) (Err mistake) f is = let same : mistake ≡ Wrong_program name why = cc in ap Err same

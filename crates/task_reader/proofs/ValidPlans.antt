@@ -330,7 +330,8 @@ if-ok m true x y is = (refl, ok-equal x y is)
 if-ok m false x y is = absurd cc
 
 -- all programs are kept where there are no more than a task may have
-pub all-kept : (task : WrittenTask) (tree : List Node) (kept : List NamedProgram) → first_assembled task.programs ≡ Ok kept → keeps_limits task tree ≡ true → all_assembled task.programs ≡ Ok kept
+pub all-kept : (task : WrittenTask) (tree : List Node) (kept : List NamedProgram) → first_assembled task.programs ≡ Ok kept → keeps_limits task tree ≡ true
+    → all_assembled task.programs ≡ Ok kept
 all-kept task tree kept is keeps =
     let q = ok-then (all_assembled task.programs) (λ all. Ok (take most_programs all)) kept is in
     let few : length task.programs ≤ most_programs = leb-true (length task.programs) most_programs (limited task tree keeps).programs in

@@ -33,5 +33,6 @@ returns-in-File c =
     let n = c.in_ok-number.number in
     let there : number_of_path made path ≡ Some n = ap (number_of_path made) (sym c.as_bytes.ensures.value) ∙ sym c.in_ok-number.ensures.value in
     let is : node made n ≡ node_of c.index-node.result.now = get_or-map node_of nodes n c.index-node.result.now nowhere c.in_ok-number.ensures.within ∙ ap node_of (sym c.index-node.ensures) in
-    let kind : is_dir (node made n).kind ≡ false = ap (λ m. is_dir m.kind) is ∙ elim c.in-File.is [ inl file ↦ ap (λ k. is_dir (kind_of k)) file | inr link ↦ ap (λ k. is_dir (kind_of k)) link ] in
+    let kind : is_dir (node made n).kind ≡ false =
+    ap (λ m. is_dir m.kind) is ∙ elim c.in-File.is [ inl file ↦ ap (λ k. is_dir (kind_of k)) file | inr link ↦ ap (λ k. is_dir (kind_of k)) link ] in
     sym (granted-there c.args.tree.now.numbers made path n false c.requires there kind)
