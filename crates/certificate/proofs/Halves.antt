@@ -12,7 +12,7 @@ use Rattle.std.proofs.lemmas.Bool.{eqb-false}
 use Rattle.std.proofs.lemmas.Cmp.{alike_right}
 use Rattle.std.proofs.lemmas.Map.Text.{is_eq-slice_cmp}
 use Rattle.std.proofs.lemmas.List.{drop_more, map-append, take-append-drop}
-use Rattle.certificate.specs.declared.bounds.Point.{Point}
+use Rattle.certificate.specs.declared.points.Point.{Point}
 use Rattle.certificate.specs.Bounds.{Bound, PointBound, bound_in}
 use Rattle.certificate.specs.Growth.{point_order}
 use Rattle.certificate.specs.Rising.{places_of, precedes, rises}

@@ -1,13 +1,12 @@
 -- What is asked of the last one of a list, and how it is changed.
 use Rattle.std.proofs.Common.{◌≡◌, ◌<◌, ◌≤◌, ◌+◌, ◌-◌, ◌&&◌, ◌++◌, ◌∷◌, [], ℕ, zero, suc, Bool, true, false, List, length, map, refl, ap, sym, ◌∙◌, get_or, set, subst, add-one, arith}
 use Rattle.std.specs.Ordering.{is_lt}
-use Rattle.std.proofs.lemmas.List.{get_or_default, get_or-map, length-map, map-append, map-set, nil_from_length}
-use Rattle.certificate.specs.declared.bounds.Bound.{Bound as BoundCode}
-use Rattle.certificate.specs.declared.bounds.Point.{Point}
+use Rattle.std.proofs.lemmas.List.{get_or-map, length-map, map-append, map-set, nil_from_length}
+use Rattle.certificate.specs.declared.points.Point.{Point}
 use Rattle.certificate.specs.Bounds.{Bound, PointBound, ChannelBound}
 use Rattle.certificate.specs.Lines.{is_closed, is_full}
 use Rattle.certificate.specs.Growth.{above_blocks, above_channels, all_from, channel_order, may_bound_register, may_bound_slot, on_last, point_order}
-use Rattle.certificate.specs.Views.{bound_of, point_of, points_of}
+use Rattle.certificate.specs.Views.{point_of, points_of}
 
 -- a function of the last one of a list, where the list is seen by a view
 pub at_last : {A B C : Type 0} (view : A → B) (of : List B → C) (last : B → C) → ((rest : List B) (x : B) → of (rest ++ x ∷ []) ≡ last x)
@@ -111,18 +110,14 @@ on_last-set f (suc n) (b ∷ c ∷ points) d long =
     ap (λ rest. b ∷ rest) (on_last-set f n (c ∷ points) d shorter)
 
 -- the last point of the code, with another bound
-pub last_set : (f : Bound → Bound) (points : List Point) (r d : Point) (w : BoundCode) → 0 < length points
-    → bound_of w ≡ f (bound_of (get_or points (length points - 1) d).bound)
-    → points_of (set points (length points - 1) (record (get_or points (length points - 1) r) { bound = w })) ≡ on_last f (points_of points)
-last_set f points r d w some is =
+pub last_set : (f : Bound → Bound) (points : List Point) (d w : Point) → 0 < length points
+    → point_of w ≡ record (point_of (get_or points (length points - 1) d)) { bound = f (point_of (get_or points (length points - 1) d)).bound }
+    → points_of (set points (length points - 1) w) ≡ on_last f (points_of points)
+last_set f points d w some is =
     let n = length points - 1 in
     let within : n < length points = omega arith in
     let long : length (points_of points) ≡ suc n = length-map points point_of ∙ omega arith in
-    let old = get_or points n r in
-    let same : get_or points n d ≡ old = get_or_default points n d r within in
-    let bounded : bound_of w ≡ f (bound_of old.bound) = is ∙ ap (λ p. f (bound_of p.bound)) same in
-    let seen : get_or (points_of points) n (point_of r) ≡ point_of old = get_or-map point_of points n r (point_of r) within in
-    let new : point_of (record old { bound = w }) ≡ record (point_of old) { bound = f (bound_of old.bound) } = λ i. record (point_of old) { bound = bounded i } in
-    map-set point_of points n (record old { bound = w })
-    ∙ ap (set (points_of points) n) (new ∙ ap (λ (p : PointBound). record p { bound = f p.bound }) (sym seen))
-    ∙ sym (on_last-set f n (points_of points) (point_of r) long)
+    let seen : get_or (points_of points) n (point_of d) ≡ point_of (get_or points n d) = get_or-map point_of points n d (point_of d) within in
+    map-set point_of points n w
+    ∙ ap (set (points_of points) n) (is ∙ ap (λ (p : PointBound). record p { bound = f p.bound }) (sym seen))
+    ∙ sym (on_last-set f n (points_of points) (point_of d) long)

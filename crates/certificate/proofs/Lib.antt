@@ -4,6 +4,7 @@ pub mod JoinTwice
 pub mod Ranges
 pub mod Rows
 pub mod JoinRows
+pub mod Kept
 pub mod Last
 pub mod Distinct
 pub mod ClassLaws

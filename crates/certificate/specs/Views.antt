@@ -1,5 +1,5 @@
 -- What the values of the code stand for.
-use Rattle.std.specs.Prelude.{ℕ, List, map, option_map, take}
+use Rattle.std.specs.Prelude.{ℕ, List, [], ◌∷◌, map, option_map, slice_set, take}
 use Rattle.certificate.specs.declared.names.Name.{Name as NameCode}
 use Rattle.certificate.specs.declared.classes.Class.{Class as ClassCode}
 use Rattle.certificate.specs.declared.classes.Class.TheVariants as class
@@ -14,14 +14,17 @@ use Rattle.certificate.specs.declared.bounds.Held.{Held as HeldCode}
 use Rattle.certificate.specs.declared.bounds.Slot.{Slot as SlotCode}
 use Rattle.certificate.specs.declared.bounds.Slot.TheVariants as slots
 use Rattle.certificate.specs.declared.bounds.Bound.{Bound as BoundCode}
-use Rattle.certificate.specs.declared.bounds.Point.{Point as PointCode}
+use Rattle.certificate.specs.declared.points.NumberedSlot.{NumberedSlot}
+use Rattle.certificate.specs.declared.points.Point.{Point as PointCode}
 use Rattle.certificate.specs.declared.certs.Version.{Version as VersionCode}
 use Rattle.certificate.specs.declared.certs.Version.TheVariants as version
 use Rattle.certificate.specs.declared.lines.Channel.{Channel as ChannelCode}
 use Rattle.certificate.specs.declared.lines.Line.{Line as LineCode}
 use Rattle.certificate.specs.declared.lines.Line.TheVariants as line
 use Rattle.rights.specs.Classes.{Class, Initial, Made_at}
+use Rattle.rights.specs.Limits.{most_descriptors}
 use Rattle.certificate.specs.Bounds.{ModeBound, Off, On, Either, Interval, Target, In_grant, Any_node, Socket, Unknown, Held, Slot, Closed, Open, Maybe, Bound, PointBound, ChannelBound, Version, One, Two, Certificate}
+use Rattle.certificate.specs.Growth.{copies}
 use Rattle.certificate.specs.Lines.{Line, Begins_block, Bounds_register, Bounds_slot, Bounds_channel}
 
 abbrev pub name_of : NameCode → List ℕ
@@ -67,8 +70,17 @@ slot_of (slots.Maybe held) = Maybe (held_of held)
 abbrev pub bound_of : BoundCode → Bound
 bound_of b = record { mode = mode_of b.mode; registers = map interval_of b.registers; slots = map slot_of b.slots }
 
+-- slots, of which some are what they may be, one after another
+unfoldable pub slots_with : List Slot → List NumberedSlot → List Slot
+slots_with slots [] = slots
+slots_with slots (k ∷ kept) = slots_with (slice_set slots k.number (slot_of k.slot)) kept
+
 abbrev pub point_of : PointCode → PointBound
-point_of p = record { program = name_of p.program; point = p.point; bound = bound_of p.bound }
+point_of p = record {
+  program = name_of p.program;
+  point = p.point;
+  bound = record { mode = mode_of p.mode; registers = map interval_of p.registers; slots = slots_with (copies most_descriptors Closed) p.slots.items };
+}
 
 abbrev pub points_of : List PointCode → List PointBound
 points_of points = map point_of points

@@ -83,14 +83,6 @@ pub struct Bound {
     pub(crate) slots: [Slot; MAX_DESCRIPTORS],
 }
 
-/// The bound of a point of the program of a name.
-#[derive(Clone, Copy)]
-pub struct Point {
-    pub(crate) program: Name,
-    pub(crate) point: u8,
-    pub(crate) bound: Bound,
-}
-
 impl Interval {
     /// All values of a register.
     pub const FULL: Interval = Interval {
@@ -371,42 +363,5 @@ impl Bound {
             next.slots[number] = slot;
         }
         next
-    }
-}
-
-impl Point {
-    ghost use Rattle.certificate.specs.Views.{bound_of, name_of, point_of};
-
-    /// The bound of this point of the program of this name.
-    pub fn new(program: Name, point: u8, bound: Bound) -> Point
-        ensures { point_of result
-            ≡ record { program = name_of program; point = point; bound = bound_of bound } }
-    {
-        Point {
-            program,
-            point,
-            bound,
-        }
-    }
-
-    /// The name of its program.
-    pub fn program(&self) -> &Name
-        ensures { name_of result.now ≡ (point_of self.now).program }
-    {
-        &self.program
-    }
-
-    /// Its number in the program.
-    pub fn point(&self) -> u8
-        ensures { result ≡ (point_of self.now).point }
-    {
-        self.point
-    }
-
-    /// The bound on the process there.
-    pub fn bound(&self) -> &Bound
-        ensures { bound_of result.now ≡ (point_of self.now).bound }
-    {
-        &self.bound
     }
 }

@@ -5,9 +5,10 @@ ghost use Rattle.certificate.specs.Bounds.{bound_in};
 ghost use Rattle.certificate.specs.Rising.{places_of, rises};
 ghost use Rattle.certificate.specs.Views.{bound_of, points_of};
 
-use crate::bounds::{Bound, Point};
+use crate::bounds::Bound;
 use crate::growth::{classes_with, extend, programs_with, stands};
 use crate::lines::{Channel, Line, Refusal};
+use crate::points::Point;
 use crate::program_names::ProgramNames;
 use std::alloc::Global;
 use std::cmp::Ordering;
@@ -53,9 +54,9 @@ impl Model for Cert {
 }
 
 /// The bound of a point among some that rise, by halving them.
-fn bound_among<'a>(points: &'a [Point], program: &[u8], point: usize) -> Option<&'a Bound>
+fn bound_among(points: &[Point], program: &[u8], point: usize) -> Option<Bound>
     requires { rises (places_of (points_of points.now)) ≡ true }
-    ensures { option_map (λ b. bound_of b.now) result ≡ bound_in (points_of points.now) program.now point }
+    ensures { option_map bound_of result ≡ bound_in (points_of points.now) program.now point }
 {
     if points.is_empty() {
         return None;
@@ -64,7 +65,7 @@ fn bound_among<'a>(points: &'a [Point], program: &[u8], point: usize) -> Option<
     let found = &points[middle];
     match found.program.compare_point(found.point, program, point) {
         Ordering::Less => bound_among(&points[middle + 1..], program, point),
-        Ordering::Equal => Some(&found.bound),
+        Ordering::Equal => Some(found.bound()),
         Ordering::Greater => bound_among(&points[..middle], program, point),
     }
 }
@@ -135,8 +136,8 @@ impl Cert {
     }
 
     /// The bound of a point of the program of this name, if it has one.
-    pub fn bound_at(&self, program: &[u8], point: usize) -> Option<&Bound>
-        ensures { option_map (λ b. bound_of b.now) result ≡ bound_at self.now program.now point }
+    pub fn bound_at(&self, program: &[u8], point: usize) -> Option<Bound>
+        ensures { option_map bound_of result ≡ bound_at self.now program.now point }
     {
         bound_among(&self.points, program, point)
     }

@@ -13,10 +13,11 @@ ghost use Rattle.certificate.specs.CountViews.{programs_listed};
 ghost use Rattle.certificate.specs.Views.{certificate_with, channel_of, channels_of, class_of, held_of, interval_of, line_of, name_of, points_of, slot_of};
 ghost use Rattle.certificate.specs.declared.lines.Refusal.TheVariants as refusal;
 
-use crate::bounds::{Bound, Held, Interval, Point, Slot, Target};
+use crate::bounds::{Held, Interval, Slot, Target};
 use crate::classes::Class;
 use crate::lines::{Channel, Line, Refusal};
 use crate::names::Name;
+use crate::points::Point;
 use crate::program_names::ProgramNames;
 
 /// The classes that a certificate's channels may be of.
@@ -149,7 +150,8 @@ fn may_bound_register(points: &[Point], register: u8) -> bool
     match points.split_last() {
         None => false,
         Some((last, _)) => {
-            are_full(&last.bound.registers, register as usize) && are_closed(&last.bound.slots, 0)
+            let bound = last.bound();
+            are_full(bound.registers(), register as usize) && are_closed(bound.slots(), 0)
         }
     }
 }
@@ -160,7 +162,7 @@ fn may_bound_slot(points: &[Point], number: u8) -> bool
 {
     match points.split_last() {
         None => false,
-        Some((last, _)) => are_closed(&last.bound.slots, number as usize),
+        Some((last, _)) => are_closed(last.bound().slots(), number as usize),
     }
 }
 
@@ -185,20 +187,21 @@ fn bound_register(points: &mut [Point], register: u8, interval: Interval)
     ensures { points_of points.new
         ≡ on_last (λ b. with_interval b register (interval_of interval)) (points_of points.old) }
 {
-    let count = points.len();
-    if count > 0 {
-        points[count - 1].bound = points[count - 1].bound.with_interval(register, interval);
+    if let Some(last) = points.last_mut() {
+        last.bound_register(register, interval);
     }
 }
 
-/// Bounds a slot of the last block.
-fn bound_slot(points: &mut [Point], number: u8, slot: Slot)
-    ensures { points_of points.new ≡ on_last (λ b. with_slot b number (slot_of slot)) (points_of points.old) }
+/// Bounds a slot of the last block. A refused growth changes nothing.
+fn bound_slot(points: &mut [Point], number: u8, slot: Slot) -> Result<(), Refusal>
+    ensures ok { OnOk result (points_of points.new ≡ on_last (λ b. with_slot b number (slot_of slot)) (points_of points.old)) }
+    ensures err { OnErr result (points_of points.new ≡ points_of points.old) }
+    ensures memory { IfErr result (λ reason. reason ≡ refusal.Memory) }
 {
-    let count = points.len();
-    if count > 0 {
-        points[count - 1].bound = points[count - 1].bound.with_slot(number, slot);
+    if let Some(last) = points.last_mut() {
+        last.bound_slot(number, slot)?;
     }
+    Ok(())
 }
 
 /// Adds what the line says, in either version. A refused growth changes nothing.
@@ -218,15 +221,14 @@ pub(crate) fn extend(
             program,
             point,
             mode,
-        } => points.push(Point {
-            program: *program,
-            point: *point,
-            bound: Bound::begins(*mode),
-        })?,
+        } => {
+            let alloc = *points.allocator();
+            points.push(Point::begins(alloc, *program, *point, *mode))?
+        }
         Line::Register { register, interval } => {
             bound_register(points.as_mut_slice(), *register, *interval);
         }
-        Line::Slot { number, slot } => bound_slot(points.as_mut_slice(), *number, *slot),
+        Line::Slot { number, slot } => bound_slot(points.as_mut_slice(), *number, *slot)?,
         Line::Channel(channel) => channels.push(*channel)?,
     }
     Ok(())

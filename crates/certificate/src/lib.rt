@@ -12,13 +12,15 @@ pub mod laws;
 pub mod lines;
 pub mod names;
 pub mod order;
+pub mod points;
 mod program_names;
 
 pub use blocks::{push_block, push_channels};
-pub use bounds::{Bound, FcntlsRange, Held, Interval, ModeBound, Point, RightsRange, Slot, Target};
+pub use bounds::{Bound, FcntlsRange, Held, Interval, ModeBound, RightsRange, Slot, Target};
 pub use certs::{Cert, Version};
 pub use classes::{Class, Pair, Side};
 pub use domain::Domain;
 pub use lines::{Channel, Line, Refusal};
 pub use names::Name;
 pub use order::slots_within;
+pub use points::Point;

@@ -10,7 +10,7 @@ use texts::is_name;
 /// A name of a program or a grant: a letter from a to z, and up to 15 of a to z, 0 to 9 and `_`. (own)
 #[derive(Clone, Copy)]
 pub struct Name {
-    length: usize,
+    length: u8,
     bytes: [u8; MAX_WORD],
     pub ghost few: { length ≤ 16 },
     pub ghost word: { is_name (take length bytes) ≡ true },
@@ -29,7 +29,7 @@ impl Name {
         let mut bytes = [0; MAX_WORD];
         bytes[..text.len()].copy_from_slice(text);
         Name {
-            length: text.len(),
+            length: text.len() as u8,
             bytes,
         }
     }
@@ -50,7 +50,7 @@ impl Name {
         ensures bytes { result.now ≡ name_of self.now }
         ensures word { is_name result.now ≡ true }
     {
-        &self.bytes[..self.length]
+        &self.bytes[..self.length as usize]
     }
 
     /// How a point of the program of this name stands to a point of another: by name and then by point.

@@ -210,7 +210,7 @@ fn write_block<W: Out>(out: &mut W, point: &Point) -> Result<(), Stop>
         (block_text (point_of point.now)) }
 {
     write_line(out, &first_line(point))?;
-    write_bound(out, point.bound())
+    write_bound(out, &point.bound())
 }
 
 /// Writes the blocks of points, one after another.

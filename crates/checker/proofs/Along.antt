@@ -6,7 +6,7 @@ use Rattle.std.specs.List.{flat_map, slice_index_or}
 use Rattle.std.specs.Str.{bytes_eq}
 use Rattle.std.proofs.lemmas.List.{take_rest}
 use Rattle.certificate.specs.Bounds.{Bound, PointBound, Version, One, Two, Certificate}
-use Rattle.certificate.specs.declared.bounds.Point.{Point as PointCode}
+use Rattle.certificate.specs.declared.points.Point.{Point as PointCode}
 use Rattle.certificate.specs.declared.lines.Refusal.{Refusal}
 use Rattle.certificate.specs.declared.lines.Refusal.TheVariants.{Limit, Order, Memory}
 use Rattle.certificate.specs.Growths.{Grows, grown, grown_by, then_grown}

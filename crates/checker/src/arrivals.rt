@@ -41,15 +41,15 @@ impl<'a> Met<'a> {
     }
 
     /// The bound at a point, if there is one.
-    fn bound_at(&self, point: usize) -> Option<&Bound>
-        ensures { option_map (λ b. bound_of b.now) result
+    fn bound_at(&self, point: usize) -> Option<Bound>
+        ensures { option_map bound_of result
             ≡ bound_met self.now.cert.now (name_of self.now.name.now) self.now.next (option_map bound_of self.now.carried.now) point }
     {
         match self.cert.bound_at(self.name.as_bytes(), point) {
             Some(given) => Some(given),
             None => {
                 if point == self.next {
-                    return self.carried.as_ref();
+                    return *self.carried;
                 }
                 None
             }
@@ -74,7 +74,7 @@ impl<'a> OutcomeTest for IsWithin<'a> {
     fn asks(&mut self, outcome: &Outcome<'_>) -> bool {
         match self.met.bound_at(outcome.point) {
             None => true,
-            Some(there) => outcome.is_within(there),
+            Some(there) => outcome.is_within(&there),
         }
     }
 }

@@ -220,7 +220,7 @@ pub(crate) fn found_at(
                 cert,
                 name,
                 point,
-                bound,
+                bound: &bound,
             };
             broken_with(&site, program, next, instruction)
         }

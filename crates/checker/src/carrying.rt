@@ -15,18 +15,18 @@ use task::Task;
 use transfer::{Site, carried_on};
 
 /// The bound of a point: the one that the certificate gives, or else what is carried there.
-pub(crate) fn bound_with<'a>(
-    cert: &'a Cert,
+pub(crate) fn bound_with(
+    cert: &Cert,
     name: &Name,
     point: u8,
-    carried: &'a Option<Bound>,
-) -> Option<&'a Bound>
-    ensures { option_map (λ b. bound_of b.now) result
+    carried: &Option<Bound>,
+) -> Option<Bound>
+    ensures { option_map bound_of result
         ≡ or_carried (bound_at cert.now (name_of name.now) point) (option_map bound_of carried.now) }
 {
     match cert.bound_at(name.as_bytes(), point as usize) {
         Some(given) => Some(given),
-        None => carried.as_ref(),
+        None => *carried,
     }
 }
 
@@ -55,7 +55,7 @@ pub(crate) fn carried_past(
         cert,
         name,
         point,
-        bound,
+        bound: &bound,
     };
     carried_on(&site, instruction)
 }

@@ -22,13 +22,13 @@ fn push_point(
     expanded: &mut Cert,
     name: &Name,
     point: u8,
-    bound: Option<&Bound>,
+    bound: Option<Bound>,
 ) -> Result<(), Refusal>
-    ensures { Grows result expanded.new (grown_by (with_bound (name_of name.now) point (option_map (λ b. bound_of b.now) bound.entry)) expanded.old) }
+    ensures { Grows result expanded.new (grown_by (with_bound (name_of name.now) point (option_map bound_of bound)) expanded.old) }
 {
     match bound {
         None => Ok(()),
-        Some(bound) => push_block(expanded, name, point, bound),
+        Some(bound) => push_block(expanded, name, point, &bound),
     }
 }
 
@@ -97,7 +97,7 @@ fn push_points(expanded: &mut Cert, points: &[Point]) -> Result<(), Refusal>
     match points {
         [] => Ok(()),
         [first, rest @ ..] => {
-            push_block(expanded, first.program(), first.point(), first.bound())?;
+            push_block(expanded, first.program(), first.point(), &first.bound())?;
             push_points(expanded, rest)
         }
     }

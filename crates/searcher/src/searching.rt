@@ -52,7 +52,7 @@ fn settled(alloc: Global, task: &Task, mut ways: Vec<Way>) -> Result<Option<Cert
     if !settle(alloc, task, &mut channels, &mut ways)? {
         return Ok(None);
     }
-    let cert = draw(alloc, &ways, &channels)?;
+    let cert = draw(alloc, ways, &channels)?;
     Ok(Some(cert))
 }
 

@@ -10,7 +10,7 @@ fn push_named(short: &mut Cert, task: &Task, points: &[Point]) -> Result<(), Ref
     for point in points {
         let code = code_named(task, point.program().as_bytes());
         if is_named(code, point.point() as usize) {
-            push_block(short, point.program(), point.point(), point.bound())?;
+            push_block(short, point.program(), point.point(), &point.bound())?;
         }
     }
     Ok(())

@@ -149,7 +149,7 @@ impl Way {
     /// The points of a program, none of them reached.
     pub(crate) fn new(alloc: Global, name: Name, code: &[Instruction]) -> Result<Way, AllocError> {
         let constants = constants_of(alloc, code)?;
-        let mut spots = Vec::new(alloc);
+        let mut spots = Vec::with_capacity(alloc, code.len())?;
         for _ in code {
             spots.push(Spot::new())?;
         }

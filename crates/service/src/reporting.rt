@@ -226,7 +226,7 @@ fn write_point<W: Out>(
 {
     match cert.bound_at(program, point as usize) {
         None => Ok(()),
-        Some(bound) => write_bound(out, grants, program, point, bound),
+        Some(bound) => write_bound(out, grants, program, point, &bound),
     }
 }
 

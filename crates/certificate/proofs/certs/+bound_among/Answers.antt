@@ -1,4 +1,5 @@
 use Rattle.std.proofs.Common.{◌≡◌, ◌+◌, ◌/◌, true, length, ap, sym, ◌∙◌, subst, refl, arith}
+use Rattle.std.specs.Prelude.{Some}
 use Rattle.std.proofs.lemmas.Bool.{eqb-true}
 use Rattle.std.proofs.lemmas.List.{length-drop, length-take, nil_from_length, take_rest}
 use Rattle.certificate.specs.Bounds.{bound_in}
@@ -42,7 +43,7 @@ pub returns-in-Equal : goal.returns-in-Equal
 returns-in-Equal t c =
     let points = c.args.points.now in
     let split = halves points c.index-points-middle.result (c.args.program.now, c.args.point) (sym c.is_empty.ensures ∙ c.if-is_empty.false) c.index-points-middle.is c.requires in
-    sym (split.equal (sym c.in-Equal.ensures))
+    ap Some c.bound.ensures ∙ sym (split.equal (sym c.in-Equal.ensures))
 
 pub returns-in-Greater : goal.returns-in-Greater
 returns-in-Greater t c =

@@ -18,7 +18,7 @@ pub returns : goal.returns
 returns g c =
     let b = point_of c.args.point.now in
     written-as _ _ _ _ _ _ _
-    (ap (λ line. line_ended line ++ (in_order register_text 0 (bound_of c.bound.result.now).registers ++ in_order slot_text 0 (bound_of c.bound.result.now).slots)) c.first_line.ensures
+    (ap (λ line. line_ended line ++ (in_order register_text 0 (bound_of c.bound.result).registers ++ in_order slot_text 0 (bound_of c.bound.result).slots)) c.first_line.ensures
     ∙ ap (λ (bound : Bound). line_ended (Begins_block b.program b.point b.bound.mode) ++ (in_order register_text 0 bound.registers ++ in_order slot_text 0 bound.slots)) c.bound.ensures
     ∙ block-text b)
     (written-both _ _ _ _ _ _ _ _ _ _ c.in_ok-write_line.ensures c.write_bound.ensures)

@@ -24,7 +24,7 @@ returns-in-Some c =
     c.broken_with.ensures
     ∙ sym (found_is plan cert c.args.program c.args.point (name_of c.args.name.now) (option_map bound_of c.args.carried.now)
     c.programs-programs.ensures.valid c.points-points.ensures.valid c.requires.name c.requires.carried
-    (instruction_of c.in_ok-instruction.instruction.now) (Some (bound_of c.in-Some.bound.now)) (sym c.in_ok-instruction.ensures.there) c.in-Some.ensures)
+    (instruction_of c.in_ok-instruction.instruction.now) (Some (bound_of c.in-Some.bound)) (sym c.in_ok-instruction.ensures.there) c.in-Some.ensures)
 
 pub returns-then-is_started : goal.returns-then-is_started
 unfolding found_with

@@ -17,5 +17,5 @@ pub returns : goal.returns
 returns c =
     c.carried_on.ensures
     ∙ carried_is c.args.task.now c.args.cert.now (name_of c.args.name.now) c.args.point (option_map bound_of c.args.carried.now) (code_of c.args.code.now)
-    (instruction_of c.in_ok-instruction.instruction.now) (bound_of c.in_ok-bound.bound.now) c.requires.named (sym c.in_ok-instruction.ensures)
+    (instruction_of c.in_ok-instruction.instruction.now) (bound_of c.in_ok-bound.bound) c.requires.named (sym c.in_ok-instruction.ensures)
     c.in_ok-bound.ensures (ap (λ v. may_carry v (code_of c.args.code.now) (c.args.point + 1)) (sym c.version.ensures) ∙ sym c.may_carry.ensures ∙ c.if-not-may_carry.false)

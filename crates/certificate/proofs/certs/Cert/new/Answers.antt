@@ -1,6 +1,6 @@
 use Rattle.std.proofs.Common.{◌≡◌, ◌∙◌, refl, List, [], length}
 use Rattle.std.specs.Str.{bytes_eq}
-use Rattle.certificate.specs.declared.bounds.Point.{Point}
+use Rattle.certificate.specs.declared.points.Point.{Point}
 use Rattle.certificate.specs.declared.lines.Channel.{Channel}
 use Rattle.certificate.specs.Bounds.{Version}
 use Rattle.certificate.specs.Order.{same_class}

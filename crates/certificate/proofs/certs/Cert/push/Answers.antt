@@ -1,7 +1,7 @@
 use Rattle.std.proofs.Common.{◌≡◌, ◌≤◌, ◌∙◌, ap, sym, refl, subst, length, ℕ, List, rules}
 use Rattle.std.specs.Prelude.{Option, Some, None, Ok, option_map}
 use Rattle.std.specs.Str.{bytes_eq}
-use Rattle.certificate.specs.declared.bounds.Point.{Point}
+use Rattle.certificate.specs.declared.points.Point.{Point}
 use Rattle.certificate.specs.declared.lines.Channel.{Channel}
 use Rattle.certificate.specs.Bounds.{ChannelBound}
 use Rattle.certificate.specs.Lines.{Line}
