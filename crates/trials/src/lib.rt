@@ -15,8 +15,6 @@ mod instructions;
 #[cfg(test)]
 mod lookups;
 #[cfg(test)]
-mod machines;
-#[cfg(test)]
 mod open_files;
 #[cfg(test)]
 mod orders;

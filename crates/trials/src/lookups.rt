@@ -175,52 +175,14 @@ fn rows<T: Tree>(rt: &impl Abort, alloc: Global) -> Result<(), TreeFault> {
     lengths::<T>(rt, alloc)
 }
 
-/// A lookup that takes memory for names, for directories walked and for a link's target. Where a growth is refused it
-/// answers `Memory`, and else what it answers with ample memory: so this passes whichever allocation fails.
-fn growths<T: Tree>(rt: &impl Abort, alloc: Global) {
-    let Ok(grown) = base::<T>(rt, alloc) else {
-        return;
-    };
-    let rows: [(usize, &[u8], Way, Last, Result<Found, PathFault>); 2] = [
-        (
-            1,
-            b"out/../same",
-            Way::Beneath,
-            Last::Follow,
-            Ok(Found::Node(node(rt, &grown, 2))),
-        ),
-        (
-            0,
-            b"/log/../etc/../work/up/x",
-            Way::Global,
-            Last::Keep,
-            Err(PathFault::NotDir),
-        ),
-    ];
-    for (start, path, way, last, wanted) in rows {
-        let led = look(rt, alloc, &grown, start, path, way, last);
-        assert!(rt; led == wanted || led == Err(PathFault::Memory));
-    }
-}
-
 #[test]
 fn place_tree_has_the_rows(rt: HostRuntime) -> Result<(), Fail> {
     Ok(rows::<PlaceTree>(&rt, rt.alloc())?)
 }
 
 #[test]
-fn place_tree_meets_refused_growths(rt: HostRuntime) {
-    growths::<PlaceTree>(&rt, rt.alloc())
-}
-
-#[test]
 fn link_tree_has_the_rows(rt: HostRuntime) -> Result<(), Fail> {
     Ok(rows::<LinkTree>(&rt, rt.alloc())?)
-}
-
-#[test]
-fn link_tree_meets_refused_growths(rt: HostRuntime) {
-    growths::<LinkTree>(&rt, rt.alloc())
 }
 
 #[test]

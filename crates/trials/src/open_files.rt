@@ -1,14 +1,12 @@
-//! What no clause says: that each call succeeds where memory is there, and that its answer is what the worked
-//! example says. The helpers ask first for what a call requires.
+//! What no trace shows of what is open: how many descriptions there are, and that an end is open as long as one holds it. All
+//! calls succeed, since memory is there. The helpers ask first for what a call requires.
 
 ghost use Rattle.std.specs.Prelude.{◌≡◌};
 ghost use Rattle.fd_table.specs.Filled.{IsEndThere, IsNamed};
 ghost use Rattle.fd_table.specs.Kept.{open_files};
 ghost use Rattle.fd_table.specs.Views.{descriptor_seen, side_seen};
 
-use fd_table::{
-    Access, Class, Descriptor, End, Entry, Files, Front, Object, SendFault, Side, Status,
-};
+use fd_table::{Class, Descriptor, End, Entry, Files, Object, SendFault, Side, Status};
 use file_tree::{NodeId, PlaceTree, Tree};
 use rights::{Fcntls, Memory, OpenFlags, Rights};
 use std::alloc::Global;
@@ -61,13 +59,6 @@ fn share(rt: &impl Abort, files: &mut Files, p: u8, n: u8, q: u8, m: u8) {
     files.share(p, n, q, m);
 }
 
-fn fork(rt: &impl Abort, files: &mut Files, p: u8, q: u8) {
-    assert!(rt; p < 16);
-    assert!(rt; q < 16);
-    files.close_all(q);
-    files.copy_table(p, q);
-}
-
 fn limit(rt: &impl Abort, files: &mut Files, p: u8, n: u8, rights: Rights, fcntls: Fcntls) {
     let descriptor = files.get(p, n).expect(rt, "an entry");
     assert!(rt; descriptor.rights.contains(rights));
@@ -105,28 +96,6 @@ fn pass(rt: &impl Abort, files: &mut Files, p: u8, n: u8, m: u8) -> Result<(), S
     files.send(from, 0, Some(passed))
 }
 
-fn receive(rt: &impl Abort, files: &mut Files, p: u8, n: u8) -> Option<u8> {
-    let to = end(rt, files, p, n);
-    files.receive(to)
-}
-
-fn take(rt: &impl Abort, files: &mut Files, p: u8, n: u8, m: u8) {
-    let to = end(rt, files, p, n);
-    let same = End {
-        pair: to.pair,
-        side: to.side,
-    };
-    let carries = match files.front(same) {
-        Some(front) => front.carries,
-        None => false,
-    };
-    assert!(rt; carries);
-    assert!(rt; p < 16);
-    assert!(rt; m < 16);
-    assert!(rt; files.get(p, m).is_none());
-    files.receive_to(to, p, m);
-}
-
 /// A file's node, and the flags to read, write and append.
 fn root(alloc: Global) -> Result<NodeId, Fail> {
     let tree = PlaceTree::new(alloc)?;
@@ -135,34 +104,6 @@ fn root(alloc: Global) -> Result<NodeId, Fail> {
 
 fn to_append(rt: &impl Abort) -> OpenFlags {
     OpenFlags::new(true, true, true, false, false).expect(rt, "valid flags")
-}
-
-#[test]
-fn what_is_opened(rt: HostRuntime) -> Result<(), Fail> {
-    let node = root(rt.alloc())?;
-    let mut files = Files::new(rt.alloc())?;
-    assert!(rt; files.lowest_free(3) == Some(0));
-    assert!(rt; files.count() == 0);
-    open(&rt, &mut files, 3, 0, node, to_append(&rt))?;
-    let descriptor = entry(&rt, &files, 3, 0);
-    assert!(rt; descriptor.rights == Rights::all());
-    assert!(rt; descriptor.fcntls == Fcntls::all());
-    let description = files.what(descriptor.description);
-    let access = Access {
-        readable: true,
-        writable: true,
-    };
-    assert!(rt; description.object == Object::Node { node, access });
-    assert!(rt; description.offset == 0);
-    assert!(rt; description.status.append == true);
-    assert!(rt; description.status.nonblock == false);
-    assert!(rt; files.lowest_free(3) == Some(1));
-    assert!(rt; files.next_free(3, 0) == Some(1));
-    assert!(rt; files.next_free(3, 15) == None);
-    assert!(rt; files.lowest_free(2) == Some(0));
-    assert!(rt; files.get(16, 0) == None);
-    assert!(rt; files.count() == 1);
-    Ok(())
 }
 
 #[test]
@@ -191,109 +132,6 @@ fn two_entries_share_a_description(rt: HostRuntime) -> Result<(), Fail> {
     assert!(rt; files.count() == 1);
     close(&rt, &mut files, 4, 5);
     assert!(rt; files.count() == 0);
-    Ok(())
-}
-
-#[test]
-fn a_fork_copies_the_table(rt: HostRuntime) -> Result<(), Fail> {
-    let node = root(rt.alloc())?;
-    let mut files = Files::new(rt.alloc())?;
-    open(&rt, &mut files, 0, 1, node, to_append(&rt))?;
-    open(&rt, &mut files, 0, 15, node, to_append(&rt))?;
-    limit(&rt, &mut files, 0, 15, Rights::LOOKUP, Fcntls::empty());
-    fork(&rt, &mut files, 0, 9);
-    assert!(rt; files.get(9, 15) == files.get(0, 15));
-    assert!(rt; files.get(9, 1) == files.get(0, 1));
-    assert!(rt; files.lowest_free(9) == Some(0));
-    assert!(rt; files.count() == 2);
-    files.close_all(0);
-    assert!(rt; files.get(0, 15) == None);
-    assert!(rt; entry(&rt, &files, 9, 15).rights == Rights::LOOKUP);
-    assert!(rt; files.count() == 2);
-    Ok(())
-}
-
-#[test]
-fn bytes_come_in_order(rt: HostRuntime) -> Result<(), Fail> {
-    let mut files = Files::new(rt.alloc())?;
-    pair(&rt, &mut files, 1, 3, 2, 4)?;
-    assert!(rt; files.count() == 2);
-    let (a, b) = (end(&rt, &files, 1, 3), end(&rt, &files, 2, 4));
-    assert!(rt; a.pair == b.pair);
-    assert!(rt; (a.side, b.side) == (Side::A, Side::B));
-    assert!(rt; entry(&rt, &files, 2, 4).rights == Rights::all());
-    send(&rt, &mut files, 1, 3, 65)?;
-    send(&rt, &mut files, 1, 3, 66)?;
-    assert!(rt; files.front(a) == None);
-    assert!(rt;
-        files.front(b)
-            == Some(Front {
-                byte: 65,
-                carries: false
-            })
-    );
-    assert!(rt; receive(&rt, &mut files, 2, 4) == Some(65));
-    assert!(rt; receive(&rt, &mut files, 2, 4) == Some(66));
-    assert!(rt; receive(&rt, &mut files, 2, 4) == None);
-    Ok(())
-}
-
-#[test]
-fn a_queue_holds_sixteen(rt: HostRuntime) -> Result<(), Fail> {
-    let mut files = Files::new(rt.alloc())?;
-    pair(&rt, &mut files, 1, 3, 2, 4)?;
-    for byte in 0..16 {
-        send(&rt, &mut files, 2, 4, byte)?;
-    }
-    assert!(rt; send(&rt, &mut files, 2, 4, 16) == Err(SendFault::Full));
-    assert!(rt; receive(&rt, &mut files, 1, 3) == Some(0));
-    send(&rt, &mut files, 2, 4, 16)?;
-    close(&rt, &mut files, 1, 3);
-    assert!(rt; send(&rt, &mut files, 2, 4, 17) == Err(SendFault::Closed));
-    Ok(())
-}
-
-#[test]
-fn a_descriptor_on_its_way_keeps_its_description(rt: HostRuntime) -> Result<(), Fail> {
-    let node = root(rt.alloc())?;
-    let mut files = Files::new(rt.alloc())?;
-    pair(&rt, &mut files, 1, 3, 2, 4)?;
-    open(&rt, &mut files, 1, 0, node, to_append(&rt))?;
-    limit(&rt, &mut files, 1, 0, Rights::READ, Fcntls::all());
-    pass(&rt, &mut files, 1, 3, 0)?;
-    close(&rt, &mut files, 1, 0);
-    assert!(rt; files.count() == 3);
-    open(&rt, &mut files, 1, 0, node, to_append(&rt))?;
-    assert!(rt;
-        files.front(end(&rt, &files, 2, 4))
-            == Some(Front {
-                byte: 0,
-                carries: true
-            })
-    );
-    take(&rt, &mut files, 2, 4, 9);
-    assert!(rt; entry(&rt, &files, 2, 9).rights == Rights::READ);
-    assert!(rt; entry(&rt, &files, 2, 9).description != entry(&rt, &files, 1, 0).description);
-    assert!(rt; files.front(end(&rt, &files, 2, 4)) == None);
-    Ok(())
-}
-
-#[test]
-fn an_end_on_its_way_is_open(rt: HostRuntime) -> Result<(), Fail> {
-    let mut files = Files::new(rt.alloc())?;
-    pair(&rt, &mut files, 1, 3, 2, 4)?;
-    let a = end(&rt, &files, 1, 3);
-    pass(&rt, &mut files, 1, 3, 3)?;
-    close(&rt, &mut files, 1, 3);
-    assert!(rt; files.is_open(a.pair, Side::A));
-    let b = end(&rt, &files, 2, 4);
-    send(&rt, &mut files, 2, 4, 1)?;
-    assert!(rt; receive(&rt, &mut files, 2, 4) == Some(0));
-    assert!(rt; !files.is_open(a.pair, Side::A));
-    assert!(rt; files.is_open(b.pair, Side::B));
-    assert!(rt; send(&rt, &mut files, 2, 4, 2) == Err(SendFault::Closed));
-    pair(&rt, &mut files, 5, 0, 6, 0)?;
-    assert!(rt; end(&rt, &files, 5, 0).pair != b.pair);
     Ok(())
 }
 

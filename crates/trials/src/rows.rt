@@ -186,7 +186,7 @@ fn calls_answer_outside_the_mode(rt: HostRuntime) -> Result<(), Fail> {
 
 #[test]
 fn files_are_changed(rt: HostRuntime) -> Result<(), Fail> {
-    let rows: [(&str, &str); 6] = [
+    let rows: [(&str, &str); 7] = [
         (
             "openat 1 \"f\" read,write,create else e\nwrite 2 321 else e\nlseek 2 0 else e\nread 2 else e\nopenat 1 \"f\" write,trunc else e\nread 2 else e\nlseek 2 4096 else e\nwrite 2 0 else e\ne: halt",
             "0 main:0 = 2 create /log/f\n0 main:1 = 1 write /log/f\n0 main:2 = 0\n0 main:3 = 65 read /log/f\n0 main:4 = 3 write /log/f\n0 main:5 = 256 read /log/f\n0 main:6 = 4096\n0 main:7 ! EFBIG Full\n",
@@ -210,6 +210,10 @@ fn files_are_changed(rt: HostRuntime) -> Result<(), Fail> {
         (
             "open \"/work/in\" read else e\nread 2 else e\ne: halt",
             "0 main:0 = 2\n0 main:1 = 65 read /work/in\n0 main:2 halt\n",
+        ),
+        (
+            "set r1 1\nset r2 70\nopenat r1 \"a;b\" create,write,trunc else e\nwrite 2 r2 else e\nopenat r1 \"a;b\" read else e\nread 3 else e\nrenameat r1 \"a;b\" 1 \"c\" else e\ne: halt",
+            "0 main:0 ok\n0 main:1 ok\n0 main:2 = 2 create /log/a;b\n0 main:3 = 1 write /log/a;b\n0 main:4 = 3\n0 main:5 = 70 read /log/a;b\n0 main:6 = 0 remove /log/a;b create /log/c\n",
         ),
     ];
     for (program, trace) in rows {

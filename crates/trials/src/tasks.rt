@@ -1,16 +1,14 @@
 //! Tasks as values, and how they are read: that documents are read where memory is there, and mean what the worked
 //! examples say.
 
-use crate::base::{BASE, changed, times};
+use crate::base::{BASE, changed};
 use fd_table::{Access, Side};
-use file_tree::{Kind, LinkTree};
+use file_tree::Kind;
 use prog_asm::{AsmFault, Instruction};
 use rights::{Fcntls, Op, Rights};
-use simulator::{LineResult, Machine};
 use std::alloc::Global;
 use std::process::Abort;
 use std::test::Fail;
-use syscalls::Event;
 use task::{FirstObject, Task, grant_holds, grant_lists, grant_named};
 use task_reader::{TaskFault, read_task};
 
@@ -156,43 +154,6 @@ fn later_faults_are_told(rt: HostRuntime) -> Result<(), Fail> {
             None => panic!(rt; "no {old}"),
         }
     }
-    Ok(())
-}
-
-/// A long file and a 17th process are past a limit, and a directory that is written is told before them.
-#[test]
-fn what_is_too_much_is_past_a_limit(rt: HostRuntime) -> Result<(), Fail> {
-    let alloc = rt.alloc();
-    for (count, number) in [(15, 0), (16, 7)] {
-        let others = times(alloc, ", {program=\"main\", fd=[]}", count)?;
-        let listed = format!(in alloc; "\"/log\"}}]}}{others}]")?;
-        match changed(alloc, BASE, &[("\"/log\"}]}]", listed.as_str())])? {
-            Some(text) => assert!(rt; number_of(read_task(alloc, text.as_bytes())) == number),
-            None => panic!(rt; "no process"),
-        }
-    }
-    for (count, number) in [(4096, 0), (4097, 7)] {
-        let content = times(alloc, "a", count)?;
-        match changed(alloc, BASE, &[("AB", content.as_str())])? {
-            Some(text) => assert!(rt; number_of(read_task(alloc, text.as_bytes())) == number),
-            None => panic!(rt; "no content"),
-        }
-    }
-    let content = times(alloc, "a", 4097)?;
-    match changed(alloc, BASE, &[("AB", content.as_str())])? {
-        Some(text) => {
-            match changed(
-                alloc,
-                text.as_str(),
-                &[("number=1", "number=1, flags=[\"write\"]")],
-            )? {
-                Some(both) => assert!(rt; number_of(read_task(alloc, both.as_bytes())) == 5),
-                None => panic!(rt; "no number"),
-            }
-        }
-        None => panic!(rt; "no content"),
-    }
-    assert!(rt; number_of(read_task(alloc, &[0xff])) == 1);
     Ok(())
 }
 
@@ -351,29 +312,5 @@ fn a_policy_goes_by_names(rt: HostRuntime) -> Result<(), Fail> {
     assert!(rt; grant_lists(grants, b"work", Op::Read));
     assert!(rt; !grant_lists(grants, b"work", Op::Write));
     assert!(rt; !grant_lists(grants, b"log", Op::Read));
-    Ok(())
-}
-
-fn event(process: u8) -> Event {
-    Event {
-        process,
-        input: 0,
-        refuse: false,
-    }
-}
-
-/// A machine gives a line for each event.
-#[test]
-fn a_machine_steps(rt: HostRuntime) -> Result<(), Fail> {
-    let task = task(&rt, rt.alloc(), BASE);
-    let mut machine: Machine<'_, LinkTree> = Machine::start(rt.alloc(), &task)?;
-    let line = machine.step(event(0))?;
-    assert!(rt; line.process == 0);
-    match line.acted {
-        Some(acted) => assert!(rt; acted.outcome == LineResult::Halted && acted.effects.is_empty()),
-        None => panic!(rt; "no process"),
-    }
-    let line = machine.step(event(1))?;
-    assert!(rt; line.acted.is_none());
     Ok(())
 }

@@ -355,67 +355,14 @@ fn rows<T: Tree>(rt: &impl Abort, alloc: Global) -> Result<(), TreeFault> {
     full::<T>(rt, alloc)
 }
 
-/// Each call that may take memory, in turn, with what is so where its growth is refused: then the test ends, so it
-/// passes whichever allocation fails.
-fn growths<T: Tree>(rt: &impl Abort, alloc: Global) {
-    let Ok(mut grown) = rooted::<T>(alloc) else {
-        return;
-    };
-    let rows = [
-        (
-            Row::Make(0, b"d", New::Dir, Ok(())),
-            Row::Look(0, Sight::Holds(b"d", None)),
-        ),
-        (
-            Row::Make(1, b"f", New::File, Ok(())),
-            Row::Look(1, Sight::Holds(b"f", None)),
-        ),
-        (
-            Row::PutByte(2, 5, b'Z', Ok(())),
-            Row::Look(2, Sight::Len(0)),
-        ),
-        (
-            Row::Truncate(2, MAX_BYTES, Ok(())),
-            Row::Look(2, Sight::Len(6)),
-        ),
-        (
-            Row::Rename(2, 0, b"g", Ok(())),
-            Row::Look(1, Sight::Holds(b"f", Some(2))),
-        ),
-        (
-            Row::Look(2, Sight::Stands(b"/g")),
-            Row::Look(2, Sight::IsLinked(true)),
-        ),
-        (Row::Remove(2, Ok(())), Row::Look(2, Sight::IsLinked(true))),
-    ];
-    for (call, unchanged) in rows {
-        let answer = answers(rt, alloc, &mut grown, call);
-        if answer.is_err() {
-            assert!(rt; answers(rt, alloc, &mut grown, unchanged) == Ok(true));
-            return;
-        }
-        assert!(rt; answer == Ok(true));
-    }
-}
-
 #[test]
 fn place_tree_has_the_rows(rt: HostRuntime) -> Result<(), Fail> {
     Ok(rows::<PlaceTree>(&rt, rt.alloc())?)
 }
 
 #[test]
-fn place_tree_meets_refused_growths(rt: HostRuntime) {
-    growths::<PlaceTree>(&rt, rt.alloc())
-}
-
-#[test]
 fn link_tree_has_the_rows(rt: HostRuntime) -> Result<(), Fail> {
     Ok(rows::<LinkTree>(&rt, rt.alloc())?)
-}
-
-#[test]
-fn link_tree_meets_refused_growths(rt: HostRuntime) {
-    growths::<LinkTree>(&rt, rt.alloc())
 }
 
 #[test]
