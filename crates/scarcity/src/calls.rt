@@ -55,12 +55,16 @@ impl<'a> Out for Comparison<'a> {
     }
 }
 
-/// What a call came to. Which value, and which fault, its contract says.
+/// What a call came to.
 #[derive(Clone, Copy, PartialEq, Eq, Debug)]
 pub(super) enum Outcome {
-    Value,
-    Fault,
+    /// A value, a yes, or a certificate: the one that the call's contract says.
+    Given,
+    /// A fault by its number, a no by the number of the rule that is broken, or 0 for no certificate.
+    Denied(u8),
+    /// Want of memory.
     Memory,
+    /// What it may not come to.
     Wrong,
 }
 
@@ -96,14 +100,14 @@ fn steps(alloc: Global, task: &Task, events: &[Event]) -> Outcome {
     if wanted {
         return Outcome::Memory;
     }
-    Outcome::Value
+    Outcome::Given
 }
 
 /// Simulates, to a writer that takes the trace and nothing else.
 fn simulates(alloc: Global, task: &Task, events: &[Event], trace: &[u8]) -> Outcome {
     let mut out = Comparison::new(trace);
     match simulate(alloc, task, events, &mut out) {
-        Ok(()) if out.is_done() => Outcome::Value,
+        Ok(()) if out.is_done() => Outcome::Given,
         Err(Stop::Memory) => Outcome::Memory,
         _ => Outcome::Wrong,
     }
@@ -113,33 +117,34 @@ fn simulates(alloc: Global, task: &Task, events: &[Event], trace: &[u8]) -> Outc
 pub(super) fn outcome_of(alloc: Global, call: &Call<'_>) -> Outcome {
     match call {
         Call::Assemble(text) => match assemble(alloc, *text) {
-            Ok(_) => Outcome::Value,
+            Ok(_) => Outcome::Given,
             Err(AsmFault::Memory) => Outcome::Memory,
-            Err(_) => Outcome::Fault,
+            Err(fault) => Outcome::Denied(fault.number()),
         },
         Call::ReadTask(text) => match read_task(alloc, *text) {
-            Ok(_) => Outcome::Value,
+            Ok(_) => Outcome::Given,
             Err(TaskFault::Memory) => Outcome::Memory,
-            Err(_) => Outcome::Fault,
+            Err(fault) => Outcome::Denied(fault.number()),
         },
         Call::ReadCert(text) => match read_cert(alloc, *text) {
-            Ok(_) => Outcome::Value,
+            Ok(_) => Outcome::Given,
             Err(CertFault::Memory) => Outcome::Memory,
-            Err(_) => Outcome::Fault,
+            Err(fault) => Outcome::Denied(fault.number()),
         },
         Call::ReadSchedule(text) => match read_schedule(alloc, *text) {
-            Ok(_) => Outcome::Value,
+            Ok(_) => Outcome::Given,
             Err(ScheduleFault::Memory) => Outcome::Memory,
-            Err(_) => Outcome::Fault,
+            Err(fault) => Outcome::Denied(fault.number()),
         },
         Call::CheckText(task, cert) => match check_text(alloc, *task, *cert) {
-            Ok(Verdict::Yes) => Outcome::Value,
+            Ok(Verdict::Yes) => Outcome::Given,
             Err(Fault::Task(TaskFault::Memory) | Fault::Cert(CertFault::Memory)) => Outcome::Memory,
-            _ => Outcome::Fault,
+            Ok(Verdict::No { rule, .. }) => Outcome::Denied(rule),
+            Err(_) => Outcome::Wrong,
         },
         Call::Search(task) => match search(alloc, *task) {
-            Ok(Some(_)) => Outcome::Value,
-            Ok(None) => Outcome::Fault,
+            Ok(Some(_)) => Outcome::Given,
+            Ok(None) => Outcome::Denied(0),
             Err(_) => Outcome::Memory,
         },
         Call::Steps(task, events) => steps(alloc, *task, *events),

@@ -58,21 +58,21 @@ fn readers_want_memory_or_answer(rt: HostRuntime) -> Result<(), Fail> {
     let calls = [
         (
             Call::Assemble("l: read 2 else e\njmp l\ne: halt\n"),
-            Outcome::Value,
+            Outcome::Given,
         ),
-        (Call::Assemble(NO_LABEL), Outcome::Fault),
-        (Call::ReadTask(READS.as_bytes()), Outcome::Value),
+        (Call::Assemble(NO_LABEL), Outcome::Denied(3)),
+        (Call::ReadTask(READS.as_bytes()), Outcome::Given),
         (
             Call::ReadTask(NO_LABEL_IN_A_TASK.as_bytes()),
-            Outcome::Fault,
+            Outcome::Denied(6),
         ),
-        (Call::ReadCert(SIX_POINTS.as_bytes()), Outcome::Value),
+        (Call::ReadCert(SIX_POINTS.as_bytes()), Outcome::Given),
         (
             Call::ReadCert(&SIX_POINTS.as_bytes()[..600]),
-            Outcome::Fault,
+            Outcome::Denied(1),
         ),
-        (Call::ReadSchedule(EVENTS), Outcome::Value),
-        (Call::ReadSchedule(NO_BYTE), Outcome::Fault),
+        (Call::ReadSchedule(EVENTS), Outcome::Given),
+        (Call::ReadSchedule(NO_BYTE), Outcome::Denied(1)),
     ];
     assert!(rt; are_refused(rt.alloc(), &calls)?);
     Ok(())
@@ -87,18 +87,18 @@ fn verdicts_and_searches_want_memory_or_answer(rt: HostRuntime) -> Result<(), Fa
     let calls = [
         (
             Call::CheckText(READS.as_bytes(), SIX_POINTS.as_bytes()),
-            Outcome::Value,
+            Outcome::Given,
         ),
         (
             Call::CheckText(READS.as_bytes(), long.as_bytes()),
-            Outcome::Value,
+            Outcome::Given,
         ),
         (
             Call::CheckText(READS.as_bytes(), NO_POINT.as_bytes()),
-            Outcome::Fault,
+            Outcome::Denied(16),
         ),
-        (Call::Search(&found), Outcome::Value),
-        (Call::Search(&none), Outcome::Fault),
+        (Call::Search(&found), Outcome::Given),
+        (Call::Search(&none), Outcome::Denied(0)),
     ];
     assert!(rt; are_refused(alloc, &calls)?);
     Ok(())
@@ -110,8 +110,8 @@ fn runs_want_memory_or_go_on(rt: HostRuntime) -> Result<(), Fail> {
     let task = read_task(alloc, ACTS.as_bytes())?;
     let events = read_schedule(alloc, EVENTS)?;
     let calls = [
-        (Call::Steps(&task, &events), Outcome::Value),
-        (Call::Simulate(&task, &events, TRACE), Outcome::Value),
+        (Call::Steps(&task, &events), Outcome::Given),
+        (Call::Simulate(&task, &events, TRACE), Outcome::Given),
     ];
     assert!(rt; are_refused(alloc, &calls)?);
     Ok(())
@@ -156,7 +156,7 @@ fn each_step_wants_memory_or_is_taken(rt: HostRuntime) -> Result<(), Fail> {
     let alloc = rt.alloc();
     let task = read_task(alloc, ACTS.as_bytes())?;
     let events = read_schedule(alloc, EVENTS)?;
-    assert!(rt; outcome_of(alloc, &Call::Steps(&task, &events)) == Outcome::Value);
+    assert!(rt; outcome_of(alloc, &Call::Steps(&task, &events)) == Outcome::Given);
     let mut memory = Scarcity::new(alloc)?;
     let mut refused = 0usize;
     let mut are_all_taken = true;

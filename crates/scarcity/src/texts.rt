@@ -78,7 +78,7 @@ pub(super) const NO_LABEL: &str = "set r0 1\njmp x\n";
 /// A task with that program.
 pub(super) const NO_LABEL_IN_A_TASK: &str = "node = []
 grant = []
-process = []
+process = [{program=\"main\", fd=[]}]
 program = [{name=\"main\", code=\"set r0 1\\njmp x\\n\"}]
 ";
 
