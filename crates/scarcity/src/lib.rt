@@ -6,8 +6,8 @@
 #[cfg(test)]
 mod calls;
 #[cfg(test)]
+mod inputs;
+#[cfg(test)]
 mod memory;
 #[cfg(test)]
 mod refusals;
-#[cfg(test)]
-mod texts;

@@ -1,11 +1,11 @@
 //! Growths that are refused, and calls that need none.
 
 use crate::calls::{Call, Comparison, Outcome, outcome_of};
-use crate::memory::{ROOMS, STEP, Scarcity};
-use crate::texts::{
+use crate::inputs::{
     ACTS, EVENTS, NO_BYTE, NO_LABEL, NO_LABEL_IN_A_TASK, NO_POINT, PARTS, READS, SIX_POINTS, TRACE,
     hundred_points,
 };
+use crate::memory::{ROOMS, STEP, Scarcity};
 use certificate_text::{read_cert, write_cert};
 use checker::{Verdict, check};
 use file_tree::LinkTree;
