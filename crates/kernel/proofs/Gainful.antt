@@ -1,14 +1,15 @@
 -- What no step does is refused by the relation.
-use Rattle.std.proofs.Common.{◌≡◌, ℕ, zero, suc, inl, inr, true, false, length, subst, sym, ap, arith, refl, ◌∙◌}
+use Rattle.std.proofs.Common.{◌≡◌, ℕ, zero, suc, inl, inr, true, false, List, [], length, subst, sym, ap, arith, refl, ◌∙◌}
 use Rattle.std.specs.Prelude.{Option, Some, None, is_some}
+use Rattle.std.specs.List.{slice_get}
 use Rattle.std.proofs.Math.Decide.{ℕ_discrete}
 use Rattle.rights.specs.Sets.{is_within, all_rights, all_commands, read_right}
 use Rattle.process.specs.State.{new_process}
-use Rattle.prog_asm.specs.Programs.{Syscall, Number, Dup, Cap_rights_limit, Cap_fcntls_limit, Fork}
-use Rattle.fd_table.specs.Descriptions.{Descriptor, Message, message_of}
+use Rattle.prog_asm.specs.Programs.{Syscall, Number, Sendfd, Recvfd, Dup, Cap_rights_limit, Cap_fcntls_limit, Fork}
+use Rattle.fd_table.specs.Descriptions.{Descriptor, Message}
 use Rattle.kernel.specs.World.{World}
 use Rattle.kernel.specs.Origins.{Caller, ComesFrom, stood, was_made, was_copied, IsMade, IsSent, QueuedFrom, had_waited, was_sent}
-use Rattle.kernel.specs.Gainful.{NothingComesFromElsewhere, wide, narrow, two_processes, with_message, at_ends, second, opens, sends}
+use Rattle.kernel.specs.Gainful.{NothingComesFromElsewhere, wide, narrow, two_processes, carries, with_message, at_ends, receiving, second, second_ended, opens, opens_beneath, sends, receives}
 
 some_is : (o : Option Descriptor) (d : Descriptor) → o ≡ Some d → is_some o ≡ true
 some_is o d is = ap is_some is
@@ -29,6 +30,12 @@ by_call : (w : World) (caller : Caller) (n : ℕ) (d : Descriptor) → length w.
 by_call w caller n d two old made (stood is) = old is
 by_call w caller n d two old made (was_made c is at made_so) = let same : caller ≡ c = cc in made (subst (λ c. IsMade w c n d) (sym same) made_so)
 by_call w caller n d two old made (was_copied c is forks at held) = absurd (omega (arith, at, two))
+
+-- where nobody makes a call, what stands there stood there
+by_nobody : (w : World) (q n : ℕ) (d : Descriptor) → (w.files.table q n ≡ Some d → ⊥) → ComesFrom w None q n d → ⊥
+by_nobody w q n d old (stood is) = old is
+by_nobody w q n d old (was_made c is at made) = absurd cc
+by_nobody w q n d old (was_copied c is forks at held) = absurd cc
 
 empty_there : (d : Descriptor) → two_processes.files.table 1 1 ≡ Some d → ⊥
 unfolding ℕ_discrete
@@ -54,6 +61,14 @@ no_other_copy (stood is) = impossible (some_is _ _ is)
 no_other_copy (was_made c is at made) = let same : second false (Dup (Number 0)) ≡ c = cc in absurd (omega (arith, subst (λ (c : Caller). 2 ≡ c.process) (sym same) at))
 no_other_copy (was_copied c is forks at held) = absurd cc
 
+no_dup_for_another : ComesFrom two_processes (Some (second false (Dup (Number 0)))) 0 1 narrow → ⊥
+unfolding ℕ_discrete
+no_dup_for_another (stood is) = impossible (some_is _ _ is)
+no_dup_for_another (was_made c is at made) =
+    let same : second false (Dup (Number 0)) ≡ c = cc in
+    let numbers : zero ≡ suc zero = subst (λ (c : Caller). 0 ≡ c.process) (sym same) at in absurd (omega (arith, numbers))
+no_dup_for_another (was_copied c is forks at held) = absurd cc
+
 no_rights : IsMade two_processes (second false (Dup (Number 0))) 1 wide → ⊥
 unfolding ℕ_discrete
 no_rights made = elim made.comes [ inl within ↦ impossible within.0 | inr own ↦ impossible own.makes ]
@@ -65,6 +80,31 @@ no_commands made = elim made.comes [ inl within ↦ impossible within.1 | inr ow
 no_wider : IsMade two_processes (second false (Cap_rights_limit (Number 0) all_rights)) 0 (record narrow { rights = all_rights }) → ⊥
 unfolding ℕ_discrete
 no_wider made = elim made.comes [ inl within ↦ impossible within.0 | inr own ↦ impossible own.makes ]
+
+no_wider_commands :
+    IsMade two_processes (second false (Cap_fcntls_limit (Number 0) all_commands)) 0 (record narrow { fcntls = all_commands }) → ⊥
+unfolding ℕ_discrete
+no_wider_commands made = elim made.comes [ inl within ↦ impossible within.1 | inr own ↦ impossible own.makes ]
+
+no_wider_openat : IsMade two_processes (second false opens_beneath) 1 wide → ⊥
+unfolding ℕ_discrete
+no_wider_openat made = elim made.comes [ inl within ↦ impossible within.0 | inr own ↦ impossible own.makes ]
+
+no_wider_receive : IsMade (receiving 1) (second false receives) 1 wide → ⊥
+unfolding ℕ_discrete
+no_wider_receive made = elim made.comes [ inl within ↦ impossible within.0 | inr own ↦ impossible own.makes ]
+
+no_own_message : IsMade (receiving 0) (second false receives) 1 narrow → ⊥
+unfolding ℕ_discrete
+no_own_message made = elim made.comes [ inl within ↦ within | inr own ↦ impossible own.makes ]
+
+no_message_of_a_file : IsMade two_processes (second false receives) 1 narrow → ⊥
+unfolding ℕ_discrete
+no_message_of_a_file made = elim made.comes [ inl within ↦ within | inr own ↦ impossible own.makes ]
+
+no_message_of_nothing : IsMade (receiving 1) (second false (Recvfd (Number 1))) 1 narrow → ⊥
+unfolding ℕ_discrete
+no_message_of_nothing made = elim made.comes [ inl within ↦ within | inr own ↦ impossible own.makes ]
 
 no_elsewhere : IsMade two_processes (second false (Cap_rights_limit (Number 0) read_right)) 1 narrow → ⊥
 unfolding ℕ_discrete
@@ -97,6 +137,13 @@ rights_in (Some d) = d.rights
 other_narrow : Some narrow ≡ Some (record narrow { rights = all_rights }) → ⊥
 other_narrow is = impossible (sym (ap (λ o. is_within (rights_in o) read_right) is))
 
+abbrev commands_in : Option Descriptor → ℕ
+commands_in None = 0
+commands_in (Some d) = d.fcntls
+
+other_commands : Some narrow ≡ Some (record narrow { fcntls = all_commands }) → ⊥
+other_commands is = impossible (ap (λ o. is_within all_commands (commands_in o)) is)
+
 no_unsent_message : QueuedFrom two_processes None 0 0 wide → ⊥
 no_unsent_message (had_waited i m here carried) = absurd cc
 no_unsent_message (was_sent c is sent) = absurd cc
@@ -104,24 +151,43 @@ no_unsent_message (was_sent c is sent) = absurd cc
 no_other_message : QueuedFrom (with_message two_processes narrow) None 0 0 wide → ⊥
 unfolding ℕ_discrete
 no_other_message (had_waited zero m here carried) =
-    let same : message_of 0 (Some narrow) ≡ m = cc in others (ap (λ (x : Message). x.passed) same ∙ carried)
+    let same : carries narrow ≡ m = cc in others (ap (λ (x : Message). x.passed) same ∙ carried)
 no_other_message (had_waited (suc i) m here carried) = absurd cc
 no_other_message (was_sent c is sent) = absurd cc
 
--- what end (0, 0) has sent is what a call of the second process sends
-by_sending : (side : ℕ) (call : Syscall) (d : Descriptor) → (IsSent (at_ends side) 1 (new_process 0 false) call 0 0 d → ⊥) → QueuedFrom (at_ends side) (Some (second false call)) 0 0 d → ⊥
-by_sending side call d not_sent (had_waited i m here carried) = absurd cc
-by_sending side call d not_sent (was_sent c is sent) =
+-- what end (0, 0) has sent, where it had sent nothing, is what a call of the second process sends
+by_sending :
+    (w : World) (call : Syscall) (d : Descriptor) → w.files.queue 0 0 ≡ [] → (IsSent w 1 (new_process 0 false) call 0 0 d → ⊥)
+    → QueuedFrom w (Some (second false call)) 0 0 d → ⊥
+by_sending w call d empty not_sent (had_waited i m here carried) =
+    let none : slice_get (w.files.queue 0 0) i ≡ None = ap (λ (messages : List Message). slice_get messages i) empty in absurd cc
+by_sending w call d empty not_sent (was_sent c is sent) =
     let same : second false call ≡ c = cc in
-    not_sent (subst (λ (c : Caller). IsSent (at_ends side) c.process c.state c.call 0 0 d) (sym same) sent)
+    not_sent (subst (λ (c : Caller). IsSent w c.process c.state c.call 0 0 d) (sym same) sent)
 
-no_wider_message : IsSent (at_ends 0) 1 (new_process 0 false) sends 0 0 wide → ⊥
+no_wider_message : IsSent (at_ends 0 0) 1 (new_process 0 false) sends 0 0 wide → ⊥
 unfolding ℕ_discrete
 no_wider_message sent = impossible sent.1.0
 
-no_other_end : IsSent (at_ends 1) 1 (new_process 0 false) sends 0 0 narrow → ⊥
+no_other_end : IsSent (at_ends 0 1) 1 (new_process 0 false) sends 0 0 narrow → ⊥
 unfolding ℕ_discrete
 no_other_end sent = let same : suc zero ≡ zero = sent.0.1 in absurd (omega (arith, same))
+
+no_other_pair : IsSent (at_ends 1 0) 1 (new_process 0 false) sends 0 0 narrow → ⊥
+unfolding ℕ_discrete
+no_other_pair sent = let same : suc zero ≡ zero = sent.0.0 in absurd (omega (arith, same))
+
+no_sending_through_a_file : IsSent two_processes 1 (new_process 0 false) sends 0 0 narrow → ⊥
+unfolding ℕ_discrete
+no_sending_through_a_file sent = sent.0
+
+no_sending_through_nothing : IsSent (at_ends 0 0) 1 (new_process 0 false) (Sendfd (Number 1) (Number 0) (Number 0)) 0 0 narrow → ⊥
+unfolding ℕ_discrete
+no_sending_through_nothing sent = sent.0
+
+unmade_there : (d : Descriptor) → two_processes.files.table 2 1 ≡ Some d → ⊥
+unfolding ℕ_discrete
+unmade_there d is = impossible (some_is _ _ is)
 
 pub nothing_comes_from_elsewhere : NothingComesFromElsewhere
 unfolding ℕ_discrete
@@ -129,20 +195,37 @@ nothing_comes_from_elsewhere = record {
   no_other_table = λ gains. no_other_table (gains.entries 2 0);
   no_other_child = λ gains. no_other_child (gains.entries 3 0);
   no_other_copy = λ gains. no_other_copy (gains.entries 2 0);
+  no_dup_for_another = λ gains. no_dup_for_another (gains.entries 0 1);
   no_other_rights = λ gains. by_call two_processes _ 1 wide refl (empty_there wide) no_rights (gains.entries 1 1);
   no_other_commands = λ gains. by_call two_processes _ 1 _ refl (empty_there _) no_commands (gains.entries 1 1);
   no_wider_limit = λ gains. by_call two_processes _ 0 _ refl other_narrow no_wider (gains.entries 1 0);
+  no_wider_command_limit = λ gains. by_call two_processes _ 0 _ refl other_commands no_wider_commands (gains.entries 1 0);
   no_limit_elsewhere = λ gains. by_call two_processes _ 1 narrow refl (empty_there narrow) no_elsewhere (gains.entries 1 1);
   no_command_limit_elsewhere = λ gains. by_call two_processes _ 1 narrow refl (empty_there narrow) no_moved_commands (gains.entries 1 1);
+  no_wider_openat = λ gains. by_call two_processes _ 1 wide refl (empty_there wide) no_wider_openat (gains.entries 1 1);
   no_taken_number = λ gains. by_call two_processes _ 0 wide refl others no_taken (gains.entries 1 0);
   no_open_in_the_mode = λ gains. by_call two_processes _ 1 wide refl (empty_there wide) no_open (gains.entries 1 1);
   no_open_of_other_rights = λ gains. by_call two_processes _ 1 _ refl (empty_there _) no_other_right (gains.entries 1 1);
   no_open_of_other_commands = λ gains. by_call two_processes _ 1 _ refl (empty_there _) no_other_command (gains.entries 1 1);
+  no_wider_receive = λ gains. by_call (receiving 1) _ 1 wide refl (empty_there wide) no_wider_receive (gains.entries 1 1);
+  no_receive_of_ones_own = λ gains. by_call (receiving 0) _ 1 narrow refl (empty_there narrow) no_own_message (gains.entries 1 1);
+  no_receive_through_a_file = λ gains.
+      by_call two_processes _ 1 narrow refl (empty_there narrow) no_message_of_a_file (gains.entries 1 1);
+  no_receive_through_nothing = λ gains.
+      by_call (receiving 1) _ 1 narrow refl (empty_there narrow) no_message_of_nothing (gains.entries 1 1);
   no_unsent_message = λ gains. no_unsent_message (gains.messages 0 0).0;
   no_other_message = λ gains. no_other_message (gains.messages 0 0).0;
-  no_wider_message = λ gains. by_sending 0 sends wide no_wider_message (gains.messages 0 0).0;
-  no_other_end = λ gains. by_sending 1 sends narrow no_other_end (gains.messages 0 0).0;
-  no_other_sender = λ gains. by_sending 0 (Dup (Number 0)) narrow (λ sent. sent) (gains.messages 0 0).0;
+  no_message_behind = λ gains. no_other_message (gains.messages 0 0).1.0;
+  no_wider_message = λ gains. by_sending (at_ends 0 0) sends wide refl no_wider_message (gains.messages 0 0).0;
+  no_other_end = λ gains. by_sending (at_ends 0 1) sends narrow refl no_other_end (gains.messages 0 0).0;
+  no_other_pair = λ gains. by_sending (at_ends 1 0) sends narrow refl no_other_pair (gains.messages 0 0).0;
+  no_sending_through_a_file = λ gains.
+      by_sending two_processes sends narrow refl no_sending_through_a_file (gains.messages 0 0).0;
+  no_sending_through_nothing = λ gains. by_sending (at_ends 0 0) _ narrow refl no_sending_through_nothing (gains.messages 0 0).0;
+  no_other_sender = λ gains. by_sending (at_ends 0 0) (Dup (Number 0)) narrow refl (λ sent. sent) (gains.messages 0 0).0;
+  no_call_of_the_ended = λ gains. by_nobody second_ended 1 1 narrow (empty_there narrow) (gains.entries 1 1);
+  no_call_of_the_unmade = λ gains. by_nobody two_processes 2 1 wide (unmade_there wide) (gains.entries 2 1);
+  no_call_at_no_call = λ gains. by_nobody two_processes 1 1 wide (empty_there wide) (gains.entries 1 1);
   no_left_mode = λ gains. impossible (gains.modes 0 refl);
   no_child_outside = λ gains. impossible (gains.modes 1 refl);
   no_process_vanishes = λ gains. gains.modes 1;

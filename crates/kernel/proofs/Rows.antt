@@ -110,6 +110,11 @@ looks_makes_and_removes : trace (programs_of (code_of (assembly_of (codes "cap_g
 unfolding assembly_of line_of written_at syscall_at register_at number_at operand_at path_at flags_at rights_at commands_at label_at directory_at else_at ℕ_discrete digits base created removed filled find_of looks looks_twice lookup_fault path_fault path_components last_component looked by_places node_at unless held at_object at_number any_below lowest_from answer files_after changed answered jumped executed stepped_at stepped_by stepped step
 looks_makes_and_removes = refl
 
+resizes_a_file : trace (programs_of (code_of (assembly_of (codes "openat 0 \"in\" read,write else e\nftruncate 2 1 else e\nread 2 else e\nread 2 else e\nftruncate 2 3 else e\nread 2 else e\nread 2 else e\ne: halt\n")) ∷ [])) (alone base []) 0 (times 7) ≡
+    codes "0 main:0 = 2\n0 main:1 = 0 write /work/in\n0 main:2 = 65 read /work/in\n0 main:3 = 256 read /work/in\n0 main:4 = 0 write /work/in\n0 main:5 = 0 read /work/in\n0 main:6 = 0 read /work/in\n"
+unfolding assembly_of line_of written_at syscall_at register_at number_at operand_at path_at flags_at rights_at commands_at label_at directory_at else_at ℕ_discrete digits base created removed filled find_of looks looks_twice lookup_fault path_fault path_components last_component looked by_places node_at unless held at_object at_number any_below lowest_from answer files_after changed answered jumped executed stepped_at stepped_by stepped step
+resizes_a_file = refl
+
 has_ended : trace (programs_of (code_of (assembly_of (codes "cap_enter else e\nread 2 else e\ne: halt\n")) ∷ [])) (alone base (reading 2 ∷ [])) 0 (times 5) ≡
     codes "0 main:0 = 0\n0 main:1 = 65 read /work/in\n0 main:2 halt\n0 main:2 ended\n0 main:2 ended\n"
 unfolding assembly_of line_of written_at syscall_at register_at number_at operand_at path_at flags_at rights_at commands_at label_at directory_at else_at ℕ_discrete digits base created removed filled find_of looks looks_twice lookup_fault path_fault path_components last_component looked by_places node_at unless held at_object at_number any_below lowest_from answer files_after changed answered jumped executed stepped_at stepped_by stepped step

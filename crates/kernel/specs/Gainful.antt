@@ -5,10 +5,12 @@ use Rattle.rights.specs.Maps.{put2}
 use Rattle.rights.specs.Opens.{open_request}
 use Rattle.rights.specs.Sets.{all_rights, all_commands, read_right}
 use Rattle.process.specs.State.{new_process}
-use Rattle.prog_asm.specs.Programs.{Syscall, Number, Open, Sendfd, Dup, Cap_rights_limit, Cap_fcntls_limit, Fork}
-use Rattle.fd_table.specs.Descriptions.{Initial, At_node, At_end, Descriptor, descriptor_of, message_of, new_state}
+use Rattle.prog_asm.specs.Programs.{Syscall, Number, Open, Openat, Sendfd, Recvfd, Dup, Cap_rights_limit, Cap_fcntls_limit, Fork, Set, Halt, Invoke}
+use Rattle.fd_table.specs.Descriptions.{Initial, At_node, At_end, Descriptor, Message, descriptor_of, message_of, new_state}
 use Rattle.kernel.specs.World.{World}
-use Rattle.kernel.specs.Origins.{Caller}
+use Rattle.kernel.specs.Answers.{Event}
+use Rattle.kernel.specs.Steps.{Programs}
+use Rattle.kernel.specs.Origins.{Caller, caller_of}
 use Rattle.kernel.specs.Gains.{GainsNothing}
 
 abbrev pub wide : Descriptor
@@ -40,47 +42,108 @@ second mode call = record { process = 1; state = new_process 0 mode; call = call
 abbrev pub opens : Syscall
 opens = Open [] (open_request true false false false false)
 
+abbrev pub opens_beneath : Syscall
+opens_beneath = Openat (Number 0) [] (open_request true false false false false)
+
 abbrev pub sends : Syscall
 sends = Sendfd (Number 0) (Number 0) (Number 0)
 
--- the same world with a descriptor at (p, n), with one in a message of end (0, 0), and with other processes
+abbrev pub receives : Syscall
+receives = Recvfd (Number 0)
+
+-- a world with a descriptor at (p, n), with messages of end (0, 0), and with other processes
+abbrev pub with_entry : World → ℕ → ℕ → Descriptor → World
+with_entry w p n d = record w { files = record w.files { table = put2 w.files.table p n (Some d) } }
+
 abbrev pub with_at : ℕ → ℕ → Descriptor → World
-with_at p n d = record two_processes { files = record two_processes.files { table = put2 two_tables p n (Some d) } }
+with_at p n d = with_entry two_processes p n d
+
+abbrev pub carries : Descriptor → Message
+carries d = message_of 0 (Some d)
+
+abbrev pub with_messages : World → List Message → World
+with_messages w messages = record w { files = record w.files { queue = put2 w.files.queue 0 0 messages } }
 
 abbrev pub with_message : World → Descriptor → World
-with_message w d = record w { files = record w.files { queue = put2 w.files.queue 0 0 (message_of 0 (Some d) ∷ []) } }
+with_message w d = with_messages w (carries d ∷ [])
 
 -- the same with that end of a pair behind each descriptor
-abbrev pub at_ends : ℕ → World
-at_ends side = record two_processes { files = record two_processes.files { objects = λ n. At_end 0 side (Initial 0) } }
+abbrev pub at_ends : ℕ → ℕ → World
+at_ends pair side = record two_processes { files = record two_processes.files { objects = λ n. At_end pair side (Initial 0) } }
+
+-- The second process receives at that side of pair 0, where side 0 has sent the narrow descriptor.
+abbrev pub receiving : ℕ → World
+receiving side = with_message (at_ends 0 side) narrow
 
 abbrev pub with_modes : List Bool → World
 with_modes modes = record two_processes { processes = map (new_process 0) modes }
 
+-- Programs whose first instruction is a call, or is none; an event of a process; and the second process ended.
+abbrev pub copying : Programs
+copying n = Invoke (Dup (Number 0)) 1 ∷ Halt ∷ []
+
+abbrev pub setting : Programs
+setting n = Set 0 0 ∷ Halt ∷ []
+
+abbrev pub event_of : ℕ → Event
+event_of p = record { process = p; input = 0; refuse = false }
+
+abbrev pub second_ended : World
+second_ended = record two_processes { processes = new_process 0 false ∷ record (new_process 0 false) { alive = false } ∷ [] }
+
 -- Copies are made by `fork` alone, and for its child alone: a child of the second process hasn't the first one's table. A dup
--- of the second has no rights of the first's, and no commands that its original hasn't. A limit doesn't widen, and leaves what
--- it narrows where it stood. An open takes no number that is taken, makes nothing in the mode, and makes all rights and
--- commands. No message carries what nobody sent, another thing than it did, or more than what was sent, and `sendfd` alone
--- sends, into its own end's queue. Nobody leaves the mode, no child of one in it is outside, and no process vanishes or comes
--- from nowhere.
+-- of the second has no rights of the first's, and no commands that its original hasn't, and is the second's. A limit doesn't
+-- widen, and leaves what it narrows where it stood. An `openat` has no more than its directory. An open takes no number that is
+-- taken, makes nothing in the mode, and makes all rights and commands. What is received has no more than what the front message
+-- carries that the other end has sent, through an end that is open. No message carries what nobody sent, another thing than it
+-- did, or more than what was sent, also behind another message; and `sendfd` alone sends, through an end that is open, into that
+-- end's queue. A process that has ended or was never made makes no call, and an instruction that is none makes nothing. Nobody
+-- leaves the mode, no child of one in it is outside, and no process vanishes or comes from nowhere.
 pub record NothingComesFromElsewhere : Type 0 where
   pub no_other_table : GainsNothing two_processes 1 (Some (second false Fork)) (with_at 2 0 wide) → ⊥
   pub no_other_child : GainsNothing two_processes 1 (Some (second false Fork)) (with_at 3 0 narrow) → ⊥
   pub no_other_copy : GainsNothing two_processes 1 (Some (second false (Dup (Number 0)))) (with_at 2 0 narrow) → ⊥
+  pub no_dup_for_another : GainsNothing two_processes 1 (Some (second false (Dup (Number 0)))) (with_at 0 1 narrow) → ⊥
   pub no_other_rights : GainsNothing two_processes 1 (Some (second false (Dup (Number 0)))) (with_at 1 1 wide) → ⊥
   pub no_other_commands : GainsNothing two_processes 1 (Some (second false (Dup (Number 0)))) (with_at 1 1 (record narrow { fcntls = all_commands })) → ⊥
   pub no_wider_limit : GainsNothing two_processes 1 (Some (second false (Cap_rights_limit (Number 0) all_rights))) (with_at 1 0 (record narrow { rights = all_rights })) → ⊥
+  pub no_wider_command_limit :
+      GainsNothing two_processes 1 (Some (second false (Cap_fcntls_limit (Number 0) all_commands)))
+      (with_at 1 0 (record narrow { fcntls = all_commands }))
+      → ⊥
   pub no_limit_elsewhere : GainsNothing two_processes 1 (Some (second false (Cap_rights_limit (Number 0) read_right))) (with_at 1 1 narrow) → ⊥
   pub no_command_limit_elsewhere : GainsNothing two_processes 1 (Some (second false (Cap_fcntls_limit (Number 0) 0))) (with_at 1 1 narrow) → ⊥
+  pub no_wider_openat : GainsNothing two_processes 1 (Some (second false opens_beneath)) (with_at 1 1 wide) → ⊥
   pub no_taken_number : GainsNothing two_processes 1 (Some (second false opens)) (with_at 1 0 wide) → ⊥
   pub no_open_in_the_mode : GainsNothing two_processes 1 (Some (second true opens)) (with_at 1 1 wide) → ⊥
   pub no_open_of_other_rights : GainsNothing two_processes 1 (Some (second false opens)) (with_at 1 1 (record wide { rights = read_right })) → ⊥
   pub no_open_of_other_commands : GainsNothing two_processes 1 (Some (second false opens)) (with_at 1 1 (record wide { fcntls = 0 })) → ⊥
+  pub no_wider_receive : GainsNothing (receiving 1) 1 (Some (second false receives)) (with_entry (receiving 1) 1 1 wide) → ⊥
+  pub no_receive_of_ones_own :
+      GainsNothing (receiving 0) 1 (Some (second false receives)) (with_entry (receiving 0) 1 1 narrow) → ⊥
+  pub no_receive_through_a_file : GainsNothing two_processes 1 (Some (second false receives)) (with_at 1 1 narrow) → ⊥
+  pub no_receive_through_nothing :
+      GainsNothing (receiving 1) 1 (Some (second false (Recvfd (Number 1)))) (with_entry (receiving 1) 1 1 narrow) → ⊥
   pub no_unsent_message : GainsNothing two_processes 1 None (with_message two_processes wide) → ⊥
   pub no_other_message : GainsNothing (with_message two_processes narrow) 1 None (with_message two_processes wide) → ⊥
-  pub no_wider_message : GainsNothing (at_ends 0) 1 (Some (second false sends)) (with_message (at_ends 0) wide) → ⊥
-  pub no_other_end : GainsNothing (at_ends 1) 1 (Some (second false sends)) (with_message (at_ends 1) narrow) → ⊥
-  pub no_other_sender : GainsNothing (at_ends 0) 1 (Some (second false (Dup (Number 0)))) (with_message (at_ends 0) narrow) → ⊥
+  pub no_message_behind :
+      GainsNothing (with_message two_processes narrow) 1 None
+      (with_messages two_processes (carries narrow ∷ carries wide ∷ []))
+      → ⊥
+  pub no_wider_message : GainsNothing (at_ends 0 0) 1 (Some (second false sends)) (with_message (at_ends 0 0) wide) → ⊥
+  pub no_other_end : GainsNothing (at_ends 0 1) 1 (Some (second false sends)) (with_message (at_ends 0 1) narrow) → ⊥
+  pub no_other_pair : GainsNothing (at_ends 1 0) 1 (Some (second false sends)) (with_message (at_ends 1 0) narrow) → ⊥
+  pub no_sending_through_a_file : GainsNothing two_processes 1 (Some (second false sends)) (with_message two_processes narrow) → ⊥
+  pub no_sending_through_nothing :
+      GainsNothing (at_ends 0 0) 1 (Some (second false (Sendfd (Number 1) (Number 0) (Number 0))))
+      (with_message (at_ends 0 0) narrow)
+      → ⊥
+  pub no_other_sender :
+      GainsNothing (at_ends 0 0) 1 (Some (second false (Dup (Number 0)))) (with_message (at_ends 0 0) narrow) → ⊥
+  pub no_call_of_the_ended :
+      GainsNothing second_ended 1 (caller_of copying second_ended (event_of 1)) (with_entry second_ended 1 1 narrow) → ⊥
+  pub no_call_of_the_unmade : GainsNothing two_processes 2 (caller_of copying two_processes (event_of 2)) (with_at 2 1 wide) → ⊥
+  pub no_call_at_no_call : GainsNothing two_processes 1 (caller_of setting two_processes (event_of 1)) (with_at 1 1 wide) → ⊥
   pub no_left_mode : GainsNothing (with_modes (true ∷ false ∷ [])) 0 None (with_modes (false ∷ false ∷ [])) → ⊥
   pub no_child_outside : GainsNothing (with_modes (true ∷ [])) 0 (Some (record { process = 0; state = new_process 0 true; call = Fork })) (with_modes (true ∷ false ∷ [])) → ⊥
   pub no_process_vanishes : GainsNothing (with_modes (false ∷ false ∷ [])) 0 None (with_modes (false ∷ [])) → ⊥

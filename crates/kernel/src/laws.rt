@@ -67,10 +67,13 @@ pub fn no_run_gains()
 
 /// That says something: in a world of two processes the relation refuses that the second one's child has the first one's
 /// descriptors, or that another call or for another process than the child copies them; that a `dup` of the second has the
-/// first one's rights or more commands; that a limit widens, or puts what it narrows elsewhere; that an `open` takes a number
-/// that is taken, makes something in the mode, or less than all rights and commands; a message with a descriptor that nobody
-/// sent, with another than it had, with more than what was sent, into another end's queue, or of another call than `sendfd`;
-/// that a process leaves the mode, vanishes, or comes from nowhere; and that a child of one in the mode is outside it.
+/// first one's rights or more commands, or is the first one's; that a limit widens rights or commands, or puts what it narrows
+/// elsewhere; that an `openat` has more than its directory; that an `open` takes a number that is taken, makes something in the
+/// mode, or less than all rights and commands; that more is received than was sent, or of one's own end, of a file or through a
+/// number that isn't open; a message with a descriptor that nobody sent, also behind another, with another than it had, with more
+/// than what was sent, into another end's or pair's queue, through a file or a number that isn't open, or of another call than
+/// `sendfd`; that a process that has ended or was never made, or an instruction that is no call, makes something; that a process
+/// leaves the mode, vanishes, or comes from nowhere; and that a child of one in the mode is outside it.
 pub fn nothing_comes_from_elsewhere()
     ensures { NothingComesFromElsewhere }
 {}

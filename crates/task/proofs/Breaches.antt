@@ -1,4 +1,4 @@
--- The tasks that aren't sandboxed, each by a run of two steps.
+-- The tasks that aren't sandboxed, each by a run of two steps, and the step that isn't safe.
 use Rattle.std.proofs.Common.{◌≡◌, ℕ, List, [], ◌∷◌, codes, refl, lit<}
 use Rattle.std.specs.Prelude.{true, false}
 use Rattle.std.proofs.Math.Decide.{ℕ_discrete}
@@ -16,6 +16,8 @@ use Rattle.kernel.specs.Answers.{Event, unless, held, at_object, at_number}
 use Rattle.kernel.specs.Calls.{looks, looks_twice, answer}
 use Rattle.kernel.specs.Changes.{files_after, changed}
 use Rattle.kernel.specs.Steps.{answered, jumped, executed, stepped_at, stepped_by, stepped, step}
+use Rattle.kernel.specs.Gainful.{two_processes, setting, event_of}
+use Rattle.kernel.proofs.Gainful.{nothing_comes_from_elsewhere}
 use Rattle.kernel.proofs.Keeping.{next_world}
 use Rattle.task.specs.Begins.{first_files, first_world}
 use Rattle.task.specs.Limits.{is_plan}
@@ -24,7 +26,7 @@ use Rattle.task.specs.Policies.{is_allowed}
 use Rattle.task.specs.Sandboxed.{IsSafe, IsSandboxed, Allowed}
 use Rattle.task.proofs.Allowances.{allowed_is_tested}
 use Rattle.task.proofs.FirstWorlds.{first_well_formed}
-use Rattle.task.specs.Breaches.{SomeAreNotSandboxed, reading_plan, opening_plan, writing_plan, moving_plan}
+use Rattle.task.specs.Breaches.{SomeAreNotSandboxed, reading_plan, opening_plan, writing_plan, moving_plan, gaining}
 
 -- an event of the first process
 abbrev event : Event
@@ -66,10 +68,14 @@ second_effect : IsSandboxed moving_plan → ⊥
 unfolding is_within_limits is_name ℕ_discrete find_of looks looks_twice lookup_fault path_fault path_components last_component looked by_places node_at unless held at_object at_number answer files_after changed answered jumped executed stepped_at stepped_by stepped step first_world first_files
 second_effect = second_step moving_plan refl (λ c d safe. forbidden moving_plan.grants Create (codes "work" ∷ codes "new" ∷ []) refl (safe.allowed refl).1.0)
 
+gained_descriptor : IsSafe setting [] two_processes (event_of 1) gaining → ⊥
+gained_descriptor safe = nothing_comes_from_elsewhere.no_call_at_no_call safe.gains
+
 pub some_are_not_sandboxed : SomeAreNotSandboxed
 some_are_not_sandboxed = record {
   missing_right = missing_right;
   capability_mode = capability_mode;
   unlisted_operation = unlisted_operation;
   second_effect = second_effect;
+  gained_descriptor = gained_descriptor;
 }

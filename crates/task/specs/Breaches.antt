@@ -1,12 +1,14 @@
--- Tasks that aren't sandboxed, each for another reason: what the headline refuses.
-use Rattle.std.specs.Prelude.{ℕ, Bool, true, false, List, [], ◌∷◌, codes}
+-- Tasks that aren't sandboxed, each for another reason, and a step that isn't safe: what the headline refuses.
+use Rattle.std.specs.Prelude.{ℕ, Bool, true, false, List, [], ◌∷◌, codes, Some}
 use Rattle.rights.specs.Opens.{open_request}
 use Rattle.rights.specs.Operations.{Operation, Look, Read as Reads, Remove as Removes}
 use Rattle.rights.specs.Sets.{all_rights, all_commands, seek_right}
 use Rattle.file_tree.specs.Nodes.{Node, File, Dir}
 use Rattle.prog_asm.specs.Programs.{Syscall, Halt, Invoke, Cap_enter, Open, Read, Write, Renameat, Number}
+use Rattle.kernel.specs.Steps.{Done, Stepped}
+use Rattle.kernel.specs.Gainful.{wide, two_processes, with_at, setting, event_of}
 use Rattle.task.specs.Plans.{On_node, Plan}
-use Rattle.task.specs.Sandboxed.{IsSandboxed}
+use Rattle.task.specs.Sandboxed.{IsSafe, IsSandboxed}
 
 -- the root, `/work`, and the file `/work/in` with the bytes `AB`
 abbrev pub small_tree : List Node
@@ -55,8 +57,14 @@ writing_plan = entering (Look ∷ Reads ∷ []) all_rights 2 true (Write (Number
 abbrev pub moving_plan : Plan
 moving_plan = entering (Removes ∷ []) all_rights 1 false (Renameat (Number 2) (codes "in") (Number 2) (codes "new"))
 
+-- What no step does: the second process of two sets a register, with no effect that its line shows, and has a descriptor more,
+-- with all rights.
+abbrev pub gaining : Stepped
+gaining = record { world = with_at 1 1 wide; acted = Some (record { program = 0; point = 0; outcome = Done; effects = [] }) }
+
 pub record SomeAreNotSandboxed : Type 0 where
   pub missing_right : IsSandboxed reading_plan → ⊥
   pub capability_mode : IsSandboxed opening_plan → ⊥
   pub unlisted_operation : IsSandboxed writing_plan → ⊥
   pub second_effect : IsSandboxed moving_plan → ⊥
+  pub gained_descriptor : IsSafe setting [] two_processes (event_of 1) gaining → ⊥

@@ -41,7 +41,8 @@ pub fn a_valid_plan_exists()
 
 /// To be sandboxed says something. These tasks aren't: one whose process lacks the right for its call; one that opens a
 /// file by its path alone in the mode; one that writes in a grant that lists reading alone; and one that moves a file in a
-/// grant that lists removing alone, where the second of two effects isn't allowed.
+/// grant that lists removing alone, where the second of two effects isn't allowed. And a step isn't safe in which a process that
+/// calls nothing has a descriptor more, though its line shows nothing of that; no step of the kernel is such a one.
 pub fn some_tasks_are_not_sandboxed()
     ensures { SomeAreNotSandboxed }
 {}

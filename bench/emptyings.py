@@ -1,0 +1,242 @@
+"""What bench/emptied empties: the clauses of the definitions that the headline stands on, each made to say nothing. A line has a
+name, the text that is replaced, what stands there then, and what has to be refused: a theorem or a law that would be false. Where
+no name is given, any refusal is one: then the crate's proofs use the clause."""
+
+ALL = "Some (record { description = 0; rights = all_rights; fcntls = all_commands })"
+NEW_CALLER = "record { program = 0; point = 0; registers = []; mode = false; alive = true }"
+OWN = "IsOwn (record c.state { mode = false }) Socketpair (record d { rights = all_rights; fcntls = all_commands })"
+BOTH = "(Unit {0} × Unit {0})"
+INSTANCES = "nothing_comes_from_elsewhere"
+
+ORIGINS = "kernel/specs/Origins.antt", [
+    ("calls_at, another instruction", "calls_at p s _ = None",
+        "calls_at p s _ = Some (record { process = p; state = s; call = Socketpair })", INSTANCES),
+    ("calls_by, an ended process", "calls_by programs p s false = None",
+        "calls_by programs p s false = calls_at p s (slice_get (programs s.program) s.point)", INSTANCES),
+    ("calls, a process that was not made", "calls programs p None = None",
+        f"calls programs p None = Some (record {{ process = p; state = {NEW_CALLER}; call = Socketpair }})", INSTANCES),
+    ("front_of, an empty queue", "front_of [] = None", f"front_of [] = {ALL}", "no_own_message"),
+    ("arriving_at, a node", "arriving_at w (At_node n access) = None", f"arriving_at w (At_node n access) = {ALL}",
+        "no_message_of_a_file"),
+    ("arriving_at, an end", "front_of (w.files.queue pair (other_side side))", ALL, "no_wider_receive"),
+    ("arriving_at, the other side", "queue pair (other_side side)", "queue pair side", "no_own_message"),
+    ("arriving, no descriptor", "arriving w None = None", f"arriving w None = {ALL}", "no_message_of_nothing"),
+    ("source_of openat", "source_of w p s (Openat x path flags) = w.files.table p (value_of s x)",
+        f"source_of w p s (Openat x path flags) = {ALL}", "no_wider_openat"),
+    ("source_of dup", "source_of w p s (Dup x) = w.files.table p (value_of s x)", f"source_of w p s (Dup x) = {ALL}",
+        "no_rights"),
+    ("source_of cap_rights_limit", "source_of w p s (Cap_rights_limit x rights) = w.files.table p (value_of s x)",
+        f"source_of w p s (Cap_rights_limit x rights) = {ALL}", "no_wider"),
+    ("source_of cap_fcntls_limit", "source_of w p s (Cap_fcntls_limit x commands) = w.files.table p (value_of s x)",
+        f"source_of w p s (Cap_fcntls_limit x commands) = {ALL}", "no_wider_commands"),
+    ("source_of recvfd", "source_of w p s (Recvfd x) = arriving w (w.files.table p (value_of s x))",
+        f"source_of w p s (Recvfd x) = {ALL}", "no_wider_receive"),
+    ("source_of another call", "source_of w p s _ = None", f"source_of w p s _ = {ALL}", "no_open"),
+    ("IsWithin, no source", "IsWithin d None = ⊥", "IsWithin d None = Unit {0}", "no_open"),
+    ("IsWithin, rights", "(is_within d.rights source.rights ≡ true)", "Unit {0}", "no_rights"),
+    ("IsWithin, commands", "(is_within d.fcntls source.fcntls ≡ true)", "Unit {0}", "no_commands"),
+    ("makes_own, open in the mode", "makes_own mode (Open path flags) = not mode", "makes_own mode (Open path flags) = true",
+        "no_open"),
+    ("makes_own, another call", "makes_own mode _ = false", "makes_own mode _ = true", "no_rights"),
+    ("IsOwn.makes", "pub makes : makes_own s.mode call ≡ true", "pub makes : true ≡ true", "no_rights"),
+    ("IsOwn.rights", "pub rights : d.rights ≡ all_rights", "pub rights : d.rights ≡ d.rights", "no_other_right"),
+    ("IsOwn.fcntls", "pub fcntls : d.fcntls ≡ all_commands", "pub fcntls : d.fcntls ≡ d.fcntls", "no_other_command"),
+    ("IsPlace cap_rights_limit", "IsPlace w p s (Cap_rights_limit x rights) n = n ≡ value_of s x",
+        "IsPlace w p s (Cap_rights_limit x rights) n = n ≡ n", "no_elsewhere"),
+    ("IsPlace cap_fcntls_limit", "IsPlace w p s (Cap_fcntls_limit x commands) n = n ≡ value_of s x",
+        "IsPlace w p s (Cap_fcntls_limit x commands) n = n ≡ n", "no_moved_commands"),
+    ("IsPlace of another call", "IsPlace w p s call n = w.files.table p n ≡ None", "IsPlace w p s call n = n ≡ n", "no_taken"),
+    ("IsMade.place", "pub place : IsPlace w c.process c.state c.call n", "pub place : n ≡ n", "no_taken"),
+    ("IsMade.comes, within", "pub comes : IsWithin d (source_of w c.process c.state c.call) ⊎", f"pub comes : {BOTH} ⊎",
+        "no_rights"),
+    ("IsMade.comes, own", "⊎ IsOwn c.state c.call d", f"⊎ {OWN}", "no_rights"),
+    ("ComesFrom.stood", "stood : w.files.table q n ≡ Some d → ComesFrom", "stood : n ≡ n → ComesFrom", "no_other_table"),
+    ("ComesFrom.was_made, the caller", "was_made : (c : Caller) → caller ≡ Some c →",
+        "was_made : (c : Caller) → caller ≡ caller →", "by_call"),
+    ("ComesFrom.was_made, the process", "q ≡ c.process → IsMade", "q ≡ q → IsMade", "no_dup_for_another"),
+    ("ComesFrom.was_made, what is made", "IsMade w c n d → ComesFrom", "n ≡ n → ComesFrom", "by_call"),
+    ("ComesFrom.was_copied, the caller", "was_copied : (c : Caller) → caller ≡ Some c →",
+        "was_copied : (c : Caller) → caller ≡ caller →",
+        "no_other_copy"),
+    ("ComesFrom.was_copied, the call", "c.call ≡ Fork", "c.call ≡ c.call", "no_other_copy"),
+    ("ComesFrom.was_copied, the child", "q ≡ length w.processes", "q ≡ q", "no_other_child"),
+    ("ComesFrom.was_copied, the parent's", "w.files.table c.process n ≡ Some d → ComesFrom", "n ≡ n → ComesFrom",
+        "no_other_table"),
+    ("IsEndOf, a node", "IsEndOf (At_node n access) pair side = ⊥", "IsEndOf (At_node n access) pair side = Unit {0}",
+        "no_sending_through_a_file"),
+    ("IsEndOf, the pair", "(other ≡ pair)", "(pair ≡ pair)", "no_other_pair"),
+    ("IsEndOf, the side", "(its ≡ side)", "(side ≡ side)", "no_other_end"),
+    ("IsEnd, no descriptor", "IsEnd w None pair side = ⊥", "IsEnd w None pair side = Unit {0}", "no_sending_through_nothing"),
+    ("IsEnd, a descriptor", "IsEndOf (w.files.objects d.description) pair side", BOTH, "no_other_end"),
+    ("IsSent, the end", "IsEnd w (w.files.table p (value_of s x)) pair side ×", f"{BOTH} ×", "no_other_end"),
+    ("IsSent, what is sent", "× IsWithin d (w.files.table p (value_of s y))", f"× {BOTH}", "no_wider_message"),
+    ("IsSent, another call", "IsSent w p s _ pair side d = ⊥", "IsSent w p s _ pair side d = Unit {0}", INSTANCES),
+    ("QueuedFrom.had_waited, the message", "slice_get (w.files.queue pair side) i ≡ Some m", "i ≡ i", "no_unsent_message"),
+    ("QueuedFrom.had_waited, what it carries", "m.passed ≡ Some d → QueuedFrom", "i ≡ i → QueuedFrom", "no_other_message"),
+    ("QueuedFrom.was_sent, the caller", "was_sent : (c : Caller) → caller ≡ Some c →",
+        "was_sent : (c : Caller) → caller ≡ caller →", "by_sending"),
+    ("QueuedFrom.was_sent, what is sent", "IsSent w c.process c.state c.call pair side d → QueuedFrom",
+        "side ≡ side → QueuedFrom", "by_sending"),
+]
+
+GAINS = "kernel/specs/Gains.antt", [
+    ("KeepsMode, a process that vanishes", "KeepsMode s None = ⊥", "KeepsMode s None = Unit {0}", INSTANCES),
+    ("KeepsMode, the mode", "KeepsMode s (Some t) = s.mode ≡ true → t.mode ≡ true",
+        "KeepsMode s (Some t) = s.mode ≡ true → true ≡ true",
+        INSTANCES),
+    ("StaysIn, a process that was made", "= KeepsMode s after", "= Unit {0}", INSTANCES),
+    ("StaysIn, a process from nowhere", "StaysIn None None (Some t) = ⊥", "StaysIn None None (Some t) = Unit {0}", INSTANCES),
+    ("StaysIn, a child", "StaysIn (Some s) None (Some t) = s.mode ≡ true → t.mode ≡ true",
+        "StaysIn (Some s) None (Some t) = s.mode ≡ true → true ≡ true", INSTANCES),
+    ("GainsNothing.modes", "StaysIn (slice_get w.processes p) (slice_get w.processes q) (slice_get next.processes q)", "q ≡ q",
+        INSTANCES),
+    ("GainsNothing.entries", "IfHeld (ComesFrom w caller q n) (next.files.table q n)", "n ≡ n", INSTANCES),
+    ("GainsNothing.messages", "EachPassed (QueuedFrom w caller pair side) (next.files.queue pair side)", "side ≡ side",
+        INSTANCES),
+]
+
+HELD = "fd_table/specs/Descriptions.antt", [
+    ("IfHeld", "IfHeld Good (Some d) = Good d", "IfHeld Good (Some d) = Unit {0}", INSTANCES),
+    ("EachPassed, the front message", "IfHeld Good m.passed × EachPassed Good messages", "Unit {0} × EachPassed Good messages",
+        INSTANCES),
+    ("EachPassed, the messages behind", "IfHeld Good m.passed × EachPassed Good messages", f"IfHeld Good m.passed × {BOTH}",
+        INSTANCES),
+]
+
+# Of Allowed and allows the law is AllowedIsTested, whose proof fails in one lemma or another.
+SANDBOXED = "task/specs/Sandboxed.antt", [
+    ("Allowed.there", "pub there : slice_get grants number ≡ Some grant", "pub there : number ≡ number", ""),
+    ("Allowed.beneath", "pub beneath : place ≡ grant.path ++ rest", "pub beneath : place ≡ place", ""),
+    ("Allowed.listed", "pub listed : Contains grant.operations operation", "pub listed : operation ≡ operation",
+        ""),
+    ("IsInMode, which no process is", "IsInMode (Some s) = s.mode ≡ true", "IsInMode (Some s) = ⊥", "unlisted_operation"),
+    ("AreAllowed, the first effect", "Allowed grants f.operation f.place × AreAllowed grants effects",
+        "Unit {0} × AreAllowed grants effects",
+        "unlisted_operation"),
+    ("AreAllowed, the effects after it", "Allowed grants f.operation f.place × AreAllowed grants effects",
+        f"Allowed grants f.operation f.place × {BOTH}", "second_effect"),
+    ("IsOtherCause, capability mode", "IsOtherCause CapMode = ⊥", "IsOtherCause CapMode = Unit {0}", "capability_mode"),
+    ("IsOtherCause, a missing right", "IsOtherCause MissingRight = ⊥", "IsOtherCause MissingRight = Unit {0}", "missing_right"),
+    ("IsUnrefused", "IsUnrefused (Failed errno cause) = IsOtherCause cause", "IsUnrefused (Failed errno cause) = Unit {0}",
+        "missing_right"),
+    ("IsSafe.allowed", "AreAllowed grants a.effects", BOTH, "unlisted_operation"),
+    ("IsSafe.unrefused", "IsUnrefused a.outcome", "Unit {0}", "missing_right"),
+    ("IsSafe.gains", "pub gains : GainsNothing w e.process (caller_of programs w e) next.world", "pub gains : Unit {0}",
+        "gained_descriptor"),
+    ("Sandboxed, the first step", "IsSafe programs grants w e (step programs w e choice) × Sandboxed", "Unit {0} × Sandboxed",
+        "second_step"),
+    ("Sandboxed, the steps after it", "× Sandboxed programs grants (step programs w e choice).world events", "× Unit {0}",
+        "second_step"),
+    ("IsSandboxed, of no events", "Sandboxed (programs_of_plan plan) plan.grants (first_world plan) events",
+        "Sandboxed (programs_of_plan plan) plan.grants (first_world plan) []", "second_step"),
+]
+
+POLICIES = "task/specs/Policies.antt", [
+    ("allows, the place", "= begins g.path place && lists g.operations operation", "= lists g.operations operation", ""),
+    ("allows, the operation", "= begins g.path place && lists g.operations operation", "= begins g.path place", ""),
+]
+
+# What the headline asks of a run or a task, made impossible: then it would say nothing of any.
+PREMISES = "kernel/specs/Answers.antt", [
+    ("IsEvent, which none is", "IsEvent e = e.input < 256", "IsEvent e = ⊥", ""),
+]
+CHOICES = "kernel/specs/World.antt", [
+    ("IsFresh, which no choice is", "pub apart : choice.first ≢ choice.second", "pub apart : choice.first ≢ choice.first", ""),
+]
+LIMITS = "task/specs/Limits.antt", [
+    ("is_plan, which no task is", "    is_tree plan.nodes && are_grants", "    false && is_tree plan.nodes && are_grants",
+        "is_valid"),
+]
+
+# Outcomes and effects that a line doesn't tell.
+STEPS = "kernel/specs/Steps.antt", [
+    ("answered, a failure", "outcome = Failed errno cause; effects = []", "outcome = Done; effects = []", "opens_in_the_mode"),
+    ("answered, the effects", "outcome = Value value; effects = effects", "outcome = Value value; effects = []",
+        "reads_to_the_end"),
+    ("stepped_at, the outcome", "acted_as s x.outcome x.effects", "acted_as s Done x.effects", "opens_in_the_mode"),
+    ("stepped_at, the effects", "acted_as s x.outcome x.effects", "acted_as s x.outcome []", "reads_to_the_end"),
+]
+EFFECTS = "kernel/specs/Calls.antt", [
+    ("outside_mode, the cause", "unless (not s.mode) ECAPMODE CapMode rest", "unless (not s.mode) ECAPMODE Refused rest",
+        "opens_in_the_mode"),
+    ("truncates", "truncates true place = does Writes place", "truncates true place = []", "writes_and_truncates"),
+    ("opened_new", "(Make place File)) (does Creates place)", "(Make place File)) []", "writes_and_truncates"),
+    ("read_byte, at the end", "read_byte description place None = Gives 256 same (does Reads place)",
+        "read_byte description place None = gives 256",
+        "reads_to_the_end"),
+    ("read_byte, a byte", "offset = (state_of description).offset + 1 }) }) (does Reads place)",
+        "offset = (state_of description).offset + 1 }) }) []", "reads_to_the_end"),
+    ("write_at", "      })\n      (does Writes (at n).place)))", "      })\n      []))", "writes_and_truncates"),
+    ("resizes", "(resized (at n).content len) }) (does Writes (at n).place)", "(resized (at n).content len) }) []",
+        "resizes_a_file"),
+    ("looked", "looked n = Gives (kind_number (at n).kind) same (does Look (at n).place)",
+        "looked n = gives (kind_number (at n).kind)",
+        "looks_makes_and_removes"),
+    ("made_directory", "(does Creates (at_name (at d).place (last_component path)))", "[]", "looks_makes_and_removes"),
+    ("unlinked", "(Gives 0 (record same { tree = Remove n }) (does Removes (at n).place))",
+        "(Gives 0 (record same { tree = Remove n }) [])",
+        "looks_makes_and_removes"),
+    ("renamed_free, what is removed",
+        "(record { operation = Removes; place = (at n).place } ∷ record { operation = Creates; place = place } ∷ [])",
+        "(record { operation = Creates; place = place } ∷ [])", "renames_between_directories"),
+    ("renamed_free, what is created",
+        "(record { operation = Removes; place = (at n).place } ∷ record { operation = Creates; place = place } ∷ [])",
+        "(record { operation = Removes; place = (at n).place } ∷ [])", "renames_between_directories"),
+    ("renamed_over, what is replaced", "(record { operation = Removes; place = (at m).place } ∷ record", "(record",
+        "renames_over_a_file"),
+    ("renamed_over, what is removed", "record { operation = Removes; place = (at n).place }\n      ∷ record", "record",
+        "renames_over_a_file"),
+    ("renamed_over, what is created", "∷ record { operation = Creates; place = (at m).place } ∷ []", "∷ []",
+        "renames_over_a_file"),
+]
+CAUSES = "kernel/specs/Answers.antt", [
+    ("granted, the cause", "granted need d rest = unless (is_within need d.rights) ENOTCAPABLE MissingRight rest",
+        "granted need d rest = unless (is_within need d.rights) ENOTCAPABLE Refused rest", "limits_and_misses_a_right"),
+    ("commanded, the cause", "commanded command d rest = unless (is_within command d.fcntls) ENOTCAPABLE MissingRight rest",
+        "commanded command d rest = unless (is_within command d.fcntls) ENOTCAPABLE Refused rest", "shares_status_flags"),
+]
+
+# Well-formed worlds are what the laws of runs speak of, and what each step of the checker's proof keeps: no instance says so.
+WELL_FORMED = "kernel/specs/WellFormed.antt", [
+    ("IsCode", "IsCode (i ∷ code) = is_program (i ∷ code) ≡ true", "IsCode (i ∷ code) = true ≡ true", ""),
+    ("ArePrograms", "(n : ℕ) → IsCode (programs n)", "(n : ℕ) → n ≡ n", ""),
+    ("IsObject, a node", "= is_link (node tree n).kind ≡ false", "= n ≡ n", ""),
+    ("IsObject, the pair", "(pair < numbering.pairs) ×", "Unit {0} ×", ""),
+    ("IsObject, the side", "(side < 2) × (numbering", "Unit {0} × (numbering", ""),
+    ("IsObject, the holder", "(numbering.holder pair side ≡ description)", "Unit {0}", ""),
+    ("IsObject, the class", "(numbering.class pair ≡ class)", "Unit {0}", ""),
+    ("IsDescriptor.number", "pub number : d.description < numbering.descriptions", "pub number : Unit {0}", ""),
+    ("IsDescriptor.rights", "pub rights : is_within d.rights all_rights ≡ true", "pub rights : Unit {0}", ""),
+    ("IsDescriptor.fcntls", "pub fcntls : is_within d.fcntls all_commands ≡ true", "pub fcntls : Unit {0}", ""),
+    ("IsDescriptor.object", "pub object : IsObject tree numbering d.description (objects d.description)", "pub object : Unit {0}",
+        ""),
+    ("IsDescriptor.offset", "pub offset : (states d.description).offset ≤ most_bytes", "pub offset : Unit {0}", ""),
+    ("EachMessage, the byte", "(m.byte < 256) ×", "Unit {0} ×", ""),
+    ("EachMessage, what it carries", "IfHeld Good m.passed × EachMessage", "Unit {0} × EachMessage", ""),
+    ("EachMessage, the messages behind", "× EachMessage Good messages", "× Unit {0}", ""),
+    ("IsPoint", "IsPoint None = ⊥", "IsPoint None = Unit {0}", ""),
+    ("FitsRegister", "FitsRegister (Some value) = value < 2 ^ 32", "FitsRegister (Some value) = Unit {0}", ""),
+    ("IsProcess.placed", "IsPoint (slice_get (programs s.program) s.point)", "Unit {0}", ""),
+    ("IsProcess.eight", "pub eight : length s.registers ≡ register_count", "pub eight : Unit {0}", ""),
+    ("IsProcess.small", "FitsRegister (slice_get s.registers r)", "Unit {0}", ""),
+    ("IsMade", "IsMade programs (Some s) = IsProcess programs s", "IsMade programs (Some s) = Unit {0}", ""),
+    ("HasNone, a process that was not made", "HasNone None row = (n : ℕ) → row n ≡ None",
+        "HasNone None row = (n : ℕ) → row n ≡ row n", ""),
+    ("HasNone, an ended process", "HasNone (Some s) row = s.alive ≡ false → (n : ℕ) → row n ≡ None",
+        "HasNone (Some s) row = s.alive ≡ false → (n : ℕ) → row n ≡ row n", ""),
+    ("IsWorld.tree", "pub tree : IsTree w.tree", "pub tree : Unit {0}", ""),
+    ("IsWorld.some", "pub some : 0 < length w.processes", "pub some : Unit {0}", ""),
+    ("IsWorld.few", "pub few : length w.processes ≤ most_processes", "pub few : Unit {0}", ""),
+    ("IsWorld.processes", "IsMade programs (slice_get w.processes p)", "p ≡ p", ""),
+    ("IsWorld.entries", "IfHeld (IsDescriptor w.tree numbering w.files.objects w.files.states) (w.files.table p n)", "n ≡ n", ""),
+    ("IsWorld.numbers", "most_descriptors ≤ n → w.files.table p n ≡ None", "most_descriptors ≤ n → n ≡ n", ""),
+    ("IsWorld.gone", "HasNone (slice_get w.processes p) (w.files.table p)", "p ≡ p", ""),
+    ("IsWorld.messages", "EachMessage (IsDescriptor w.tree numbering w.files.objects w.files.states) (w.files.queue pair side)",
+        "side ≡ side", ""),
+    ("IsWorld.short", "length (w.files.queue pair side) ≤ most_messages", "side ≡ side", ""),
+    ("IsWorld.idle", "w.files.pairs ≤ pair → w.files.queue pair side ≡ []", "w.files.pairs ≤ pair → side ≡ side", ""),
+    ("IsWorld.sides", "2 ≤ side → w.files.queue pair side ≡ []", "2 ≤ side → side ≡ side", ""),
+]
+
+FILES = [ORIGINS, GAINS, HELD, SANDBOXED, POLICIES, PREMISES, CHOICES, LIMITS, STEPS, EFFECTS, CAUSES, WELL_FORMED]
+EMPTYINGS = [(name, file, old, new, by) for file, changes in FILES for name, old, new, by in changes]
