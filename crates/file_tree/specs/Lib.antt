@@ -4,7 +4,3 @@ pub mod Changes
 pub mod Refusals
 pub mod WellFormed
 pub mod Views
-pub mod PlaceEntries
-pub mod Links
-pub mod LinkEntries
-pub mod PathMatch

@@ -1,4 +1,4 @@
-//! What a node holds: made, and written into, in each way to keep a tree.
+//! What a node holds: made, and written into, whatever way a tree is kept.
 
 ghost use Rattle.std.specs.Prelude.{◌≡◌, ◌<◌, true, IfOk, OnOk, OnErr};
 ghost use Rattle.std.specs.List.{list_all};
@@ -10,8 +10,8 @@ use crate::nodes::{Kind, New};
 use rights::limits::MAX_BYTES;
 use std::alloc::{AllocError, Global};
 
-/// The kind of a node that is to be made.
-pub(crate) fn kind_to_make(what: New<'_>) -> Kind
+/// The kind of a node that is to be made. (own)
+pub fn kind_to_make(what: New<'_>) -> Kind
     ensures { kind_of result ≡ new_kind what.entry }
 {
     match what {
@@ -30,8 +30,8 @@ fn copy_of_bytes(alloc: Global, bytes: &[u8]) -> Result<Vec<u8>, AllocError>
     Ok(copy)
 }
 
-/// The content of a node that is to be made.
-pub(crate) fn content_to_make(alloc: Global, what: New<'_>) -> Result<Vec<u8>, AllocError>
+/// The content of a node that is to be made: a link's target, or nothing. A refused growth is its only error. (symlink(2))
+pub fn content_to_make(alloc: Global, what: New<'_>) -> Result<Vec<u8>, AllocError>
     ensures copied { IfOk result (λ content. content.items ≡ new_content what.entry) }
     ensures bytes { OnOk result (list_all is_byte (new_content what.entry) ≡ true) }
 {
@@ -45,8 +45,9 @@ pub(crate) fn content_to_make(alloc: Global, what: New<'_>) -> Result<Vec<u8>, A
     }
 }
 
-/// Writes a byte into a content, the gap before it filled with zeros.
-pub(crate) fn put(content: &mut Vec<u8>, at: usize, b: u8) -> Result<(), AllocError>
+/// Writes a byte into a content at a place below 4096, the gap before it filled with zeros. A refused growth is its only
+/// error, and leaves the content as it was. (write(2))
+pub fn put(content: &mut Vec<u8>, at: usize, b: u8) -> Result<(), AllocError>
     requires { at < MAX_BYTES }
     ensures ok { OnOk result (content.new.items ≡ written content.old.items at b) }
     ensures err { OnErr result (content.new.items ≡ content.old.items) }

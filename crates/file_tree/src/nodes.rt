@@ -21,8 +21,8 @@ impl Model for NodeId {
 }
 
 impl NodeId {
-    /// The node of a number.
-    pub(crate) fn at(number: usize) -> NodeId
+    /// The node of a number, for those who keep a tree. (own)
+    pub fn at(number: usize) -> NodeId
         requires { number < 2 ^ 16 }
         ensures { result ≡ number }
     {

@@ -1,7 +1,7 @@
 //! Places as lists of names, compared, printed and made.
 
 ghost use Rattle.std.specs.Prelude.{◌≡◌, ◌++◌, ℕ, List, false, length, take, IfOk, OnOk, OnErr, MatchOption};
-ghost use Rattle.file_tree.specs.Places.{at_name, begins, path_components, place_text, same_place, with_name};
+ghost use Rattle.file_tree.specs.Places.{begins, path_components, place_text, same_place, with_name};
 ghost use Rattle.file_tree.specs.Views.{names_of};
 
 use std::alloc::{AllocError, Global};
@@ -40,28 +40,6 @@ pub fn is_front(front: &[Vec<u8>], place: &[Vec<u8>]) -> bool
     }
 }
 
-/// Whether a place is that of a name in the directory at another place.
-pub(crate) fn is_child(dir: &[Vec<u8>], name: &[u8], place: &[Vec<u8>]) -> bool
-    ensures { result ≡ same_place (at_name (names_of dir.now) name.now) (names_of place.now) }
-{
-    match dir {
-        [] => match place {
-            [] => false,
-            [only] => name == only.as_slice(),
-            [_, _, ..] => false,
-        },
-        [x, dirs @ ..] => match place {
-            [] => false,
-            [y, places @ ..] => {
-                if x.as_slice() != y.as_slice() {
-                    return false;
-                }
-                is_child(dirs, name, places)
-            }
-        },
-    }
-}
-
 /// What is left of a place after a name of a path; an empty name leaves all of it.
 fn after_name<'a>(name: &[u8], place: &'a [Vec<u8>]) -> Option<&'a [Vec<u8>]>
     ensures { MatchOption result ((names : List (List ℕ)) → begins (with_name name.now names) (names_of place.now) ≡ false)
@@ -81,9 +59,9 @@ fn after_name<'a>(name: &[u8], place: &'a [Vec<u8>]) -> Option<&'a [Vec<u8>]>
     }
 }
 
-/// Whether a place begins with the names of a path.
+/// Whether a place begins with the names of a path, of which empty ones count for nothing. (own)
 #[tactic(auto, unfolding(crate::specs::Places::path_components))]
-pub(crate) fn begins_with_path(path: &[u8], place: &[Vec<u8>]) -> bool
+pub fn begins_with_path(path: &[u8], place: &[Vec<u8>]) -> bool
     ensures { result ≡ begins (path_components path.now) (names_of place.now) }
 {
     let mut rest = place;
@@ -100,8 +78,8 @@ pub(crate) fn begins_with_path(path: &[u8], place: &[Vec<u8>]) -> bool
     after_name(&path[from..], rest).is_some()
 }
 
-/// Copies some names behind those of a place.
-pub(crate) fn append_names(
+/// Copies some names behind those of a place. Where a growth is refused, some of them may stand there. (own)
+pub fn append_names(
     alloc: Global,
     place: &mut Vec<Vec<u8>>,
     names: &[Vec<u8>],
@@ -114,26 +92,13 @@ pub(crate) fn append_names(
     Ok(())
 }
 
-/// A copy of some names.
-pub(crate) fn copy_of(alloc: Global, names: &[Vec<u8>]) -> Result<Vec<Vec<u8>>, AllocError>
+/// A copy of some names. A refused growth is its only error. (own)
+pub fn copy_of(alloc: Global, names: &[Vec<u8>]) -> Result<Vec<Vec<u8>>, AllocError>
     ensures { IfOk result (λ copy. names_of copy.items ≡ names_of names.now) }
 {
     let mut copy = Vec::new(alloc);
     append_names(alloc, &mut copy, names)?;
     Ok(copy)
-}
-
-/// The place of a name in the directory at a place.
-pub(crate) fn child_place(
-    alloc: Global,
-    dir: &[Vec<u8>],
-    name: &[u8],
-) -> Result<Vec<Vec<u8>>, AllocError>
-    ensures { IfOk result (λ place. names_of place.items ≡ at_name (names_of dir.now) name.now) }
-{
-    let mut place = copy_of(alloc, dir)?;
-    place.push(Vec::from_slice(alloc, name)?)?;
-    Ok(place)
 }
 
 /// Appends a place as text, or a beginning of that.
@@ -152,8 +117,9 @@ fn try_append(place: &[Vec<u8>], out: &mut Vec<u8>) -> Result<(), AllocError>
     Ok(())
 }
 
-/// Appends a place as text, or leaves what is there as it was.
-pub(crate) fn append_text(place: &[Vec<u8>], out: &mut Vec<u8>) -> Result<(), AllocError>
+/// Appends a place as text, each name behind a `/` and the root's as `/` alone. A refused growth is its only error, and
+/// leaves what is there as it was. (own)
+pub fn append_text(place: &[Vec<u8>], out: &mut Vec<u8>) -> Result<(), AllocError>
     ensures ok { OnOk result (out.new.items ≡ out.old.items ++ place_text (names_of place.now)) }
     ensures err { OnErr result (out.new.items ≡ out.old.items) }
 {

@@ -4,7 +4,7 @@ ghost use Rattle.std.specs.Prelude.{◌≡◌, None};
 
 use certificate_text::{CertFault, read_cert};
 use checker::Verdict;
-use file_tree::PlaceTree;
+use place_tree::PlaceTree;
 use prog_asm::{AsmFault, assemble};
 use rights::{Out, OutFault, Stop};
 use searcher::search;

@@ -8,7 +8,7 @@ use crate::inputs::{
 use crate::memory::{ROOMS, STEP, Scarcity};
 use certificate_text::{read_cert, write_cert};
 use checker::{Verdict, check};
-use file_tree::LinkTree;
+use link_tree::LinkTree;
 use rights::Stop;
 use simulator::{Machine, read_schedule};
 use std::alloc::{AllocError, Global};

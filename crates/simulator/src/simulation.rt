@@ -13,7 +13,7 @@ ghost use Rattle.simulator.specs.Views.{line_of};
 use crate::lines::Line;
 use crate::machine::Machine;
 use crate::trace::push_line;
-use file_tree::LinkTree;
+use link_tree::LinkTree;
 use rights::{Out, Stop, write_all};
 use std::alloc::Global;
 use syscalls::Event;

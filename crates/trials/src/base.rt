@@ -55,14 +55,3 @@ pub(super) fn times(alloc: Global, text: &str, count: usize) -> Result<String, A
     }
     Ok(all)
 }
-
-/// An event of process 0 for each line of a trace.
-pub(super) fn schedule_of(alloc: Global, trace: &str) -> Result<String, AllocError> {
-    let mut schedule = String::new(alloc);
-    for byte in trace.as_bytes() {
-        if *byte == b'\n' {
-            schedule.push_str("0 0\n")?;
-        }
-    }
-    Ok(schedule)
-}

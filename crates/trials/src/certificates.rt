@@ -1,5 +1,6 @@
 //! Texts of certificates: read and written back, and the fault of those that are none.
 
+use crate::base::changed;
 use crate::serving::empty_shelf;
 use certificate::Cert;
 use certificate_text::{CertFault, read_cert, write_cert};
@@ -25,7 +26,7 @@ end
 const LINE_STARTS: [usize; 11] = [0, 10, 24, 59, 93, 106, 141, 175, 188, 223, 257];
 
 /// Six points of a program, with a descriptor that is open at some and perhaps at one.
-pub(super) const SIX_POINTS: &str = "capcert 1
+const SIX_POINTS: &str = "capcert 1
 at main 0 off
 fd 0 open grant work 3fff 3fff 3 3
 fd 1 open grant log 3fff 3fff 3 3
@@ -52,7 +53,7 @@ end
 ";
 
 /// Two programs at the ends of a pair, through which any descriptor comes.
-pub(super) const SENDS_ANYTHING: &str = "capcert 1
+const SENDS_ANYTHING: &str = "capcert 1
 at child 0 on
 fd 0 open sock @0 b 3fff 3fff 3 3
 at child 1 on
@@ -80,7 +81,7 @@ end
 ";
 
 /// Two programs at the ends of a pair, through which narrowed descriptors of one grant come.
-pub(super) const SENDS_NARROWED: &str = "capcert 1
+const SENDS_NARROWED: &str = "capcert 1
 at child 0 on
 fd 0 open sock @0 b 3fff 3fff 3 3
 at child 1 on
@@ -110,24 +111,22 @@ chan @0 a grant work 0081 0081 3 3
 end
 ";
 
+/// `SIX_POINTS` with bounds where ways meet alone.
+const TWO_POINTS: &str = "capcert 2
+at main 0 off
+fd 0 open grant work 3fff 3fff 3 3
+fd 1 open grant log 3fff 3fff 3 3
+at main 5 on
+fd 0 open grant work 3fff 3fff 3 3
+fd 1 open grant log 3fff 3fff 3 3
+fd 2 maybe grant work 3fff 3fff 3 3
+end
+";
+
 /// A point of a program, in version 2.
 const ONE_POINT: &str = "capcert 2
 at main 0 off
 end
-";
-
-/// Lines that begin a block.
-const BLOCK: &str = "at main 0 off\n";
-
-/// Lines that name eight programs.
-const EIGHT_PROGRAMS: &str = "at a 0 on
-at b 0 on
-at c 0 on
-at d 0 on
-at e 0 on
-at f 0 on
-at g 0 on
-fd 0 open sock h:0 a 0000 3fff 0 3
 ";
 
 /// Whether the certificate is written as these bytes, to a writer that takes at most so many a call.
@@ -155,6 +154,7 @@ fn texts_are_written_back(rt: HostRuntime) {
         SIX_POINTS,
         SENDS_ANYTHING,
         SENDS_NARROWED,
+        TWO_POINTS,
         ONE_POINT,
     ] {
         assert!(rt; is_written_back(rt.alloc(), text.as_bytes()), "{text}");
@@ -243,185 +243,25 @@ fn a_changed_byte_is_a_fault_or_another_certificate(rt: HostRuntime) -> Result<(
     Ok(())
 }
 
-/// The fault of the lines between the first line and the last one, if they have any.
-fn fault_of(alloc: Global, before: &str, line: &str) -> Result<Option<CertFault>, AllocError> {
-    let text = format!(in alloc; "capcert 1\n{before}{line}\nend\n")?;
-    Ok(read_cert(alloc, text.as_bytes()).err())
-}
+/// The block of point 1 of `THREE_POINTS`, which the call before it leads to, and what that call gives.
+const CARRIED: (&str, &str) = (
+    "at main 1 on
+fd 0 open grant work 3fff 3fff 3 3
+fd 1 open grant log 3fff 3fff 3 3
+",
+    "",
+);
 
-/// Lines, each of which has this fault behind the lines before it.
-type Faulty<'a> = (&'a str, CertFault, &'a [&'a str]);
-
-/// The faults of lines, by their forms, the limits of their numbers, their places, and a ninth program.
-const FAULTY: [Faulty<'static>; 16] = [
-    (
-        "",
-        CertFault::Syntax(10),
-        &[
-            "at main 0 of",
-            "at Main 0 off",
-            "at main 00 off",
-            "at main 0  off",
-            "at main 0",
-            "at main 0 off ",
-        ],
-    ),
-    (
-        BLOCK,
-        CertFault::Syntax(24),
-        &[
-            "r0 1",
-            "r 0 1",
-            "r00 0 1",
-            "r0 0 4294967295",
-            "r0 2 1",
-            "fd 2 any 0000 3fff 0 3",
-            "fd 2 open any 0000 3fff 0",
-            "fd 2 open any 000 3fff 0 3",
-            "fd 2 open any 0000 3FFF 0 3",
-            "fd 2 open any 0002 0001 3 3",
-            "fd 2 open any 0000 4000 0 3",
-            "fd 2 open any 0000 3fff 0 4",
-            "fd 2 open any 0000 3fff 3 0",
-            "fd 2 open sock 0 a 0000 3fff 0 3",
-            "fd 2 open sock @0 c 0000 3fff 0 3",
-            "fd 2 open none",
-            "chan @0 a",
-            "chan @0 a none none",
-            "chan main:0:0 a none",
-            "",
-            "auth main",
-        ],
-    ),
-    ("", CertFault::Limit(10), &["at main 256 off"]),
-    ("", CertFault::Syntax(10), &["at main 256 of"]),
-    (
-        BLOCK,
-        CertFault::Limit(24),
-        &[
-            "r8 0 1",
-            "r0 0 4294967296",
-            "r0 99999999999999999999 100000000000000000000",
-            "fd 16 open any 0000 3fff 0 3",
-            "fd 2 open sock @32 a 0000 3fff 0 3",
-            "fd 2 open sock main:256 a 0000 3fff 0 3",
-            "chan @32 a none",
-            "chan main:256 a none",
-        ],
-    ),
-    (
-        BLOCK,
-        CertFault::Syntax(24),
-        &[
-            "r9 0 4294967295",
-            "r0 5000000000 4999999999",
-            "fd 16 open any 0000 3fff 0 9",
-            "chan @32 c none",
-        ],
-    ),
-    (
-        "",
-        CertFault::Order(10),
-        &["r0 0 1", "fd 0 open any 0000 3fff 0 3"],
-    ),
-    (
-        BLOCK,
-        CertFault::Order(24),
-        &["at main 0 off", "at main 0 on", "at lain 9 on"],
-    ),
-    (
-        "at main 0 off\nr1 0 1\n",
-        CertFault::Order(31),
-        &["r1 0 1", "r0 0 1"],
-    ),
-    (
-        "at main 0 off\nfd 1 open any 0000 3fff 0 3\n",
-        CertFault::Order(52),
-        &["r1 0 1", "fd 1 open any 0000 3fff 0 3"],
-    ),
-    (
-        "chan @0 a none\n",
-        CertFault::Order(25),
-        &["at main 0 off", "r0 0 1", "chan @0 a none"],
-    ),
-    (
-        "chan @0 b none\n",
-        CertFault::Order(25),
-        &["chan @0 a none"],
-    ),
-    (
-        "chan @10 b none\n",
-        CertFault::Order(26),
-        &["chan @9 a none"],
-    ),
-    (
-        "chan main:0 a none\n",
-        CertFault::Order(29),
-        &["chan @0 a none"],
-    ),
-    (
-        EIGHT_PROGRAMS,
-        CertFault::Limit(115),
-        &[
-            "at i 0 on",
-            "fd 0 open sock i:0 a 0000 3fff 0 3",
-            "chan i:0 a none",
-            "chan @0 a sock i:0 a 0000 3fff 0 3",
-        ],
-    ),
-    (
-        EIGHT_PROGRAMS,
-        CertFault::Order(115),
-        &["fd 0 open sock h:0 a 0000 3fff 0 3"],
-    ),
-];
+const GIVEN: (&str, &str) = ("at main 1 on\n", "at main 1 on\nr0 0 0\n");
 
 #[test]
-fn faulty_lines_are_told(rt: HostRuntime) -> Result<(), Fail> {
-    for (before, fault, lines) in FAULTY {
-        for line in lines {
-            assert!(rt;
-                fault_of(rt.alloc(), before, line)? == Some(fault),
-                "{before}{line}"
-            );
+fn a_carried_bound_makes_a_text_shorter(rt: HostRuntime) -> Result<(), Fail> {
+    for (change, size) in [(CARRIED, 179), (GIVEN, 268)] {
+        match changed(rt.alloc(), THREE_POINTS, &[change])? {
+            Some(text) => assert!(rt; text.len() == size),
+            None => panic!(rt; "no such part"),
         }
     }
-    Ok(())
-}
-
-/// `THREE_POINTS` with its first two blocks exchanged.
-pub(super) const EXCHANGED: &str = "capcert 1
-at main 1 on
-fd 0 open grant work 3fff 3fff 3 3
-fd 1 open grant log 3fff 3fff 3 3
-at main 0 off
-fd 0 open grant work 3fff 3fff 3 3
-fd 1 open grant log 3fff 3fff 3 3
-at main 2 on
-fd 0 open grant work 3fff 3fff 3 3
-fd 1 open grant log 3fff 3fff 3 3
-end
-";
-
-#[test]
-fn faulty_ends_and_orders_are_told(rt: HostRuntime) -> Result<(), Fail> {
-    let more = format!(in rt.alloc(); "{THREE_POINTS}x")?;
-    let empty_line = format!(in rt.alloc(); "{THREE_POINTS}\n")?;
-    let rows = [
-        ("", CertFault::Syntax(0)),
-        ("capcert 1\n", CertFault::Syntax(10)),
-        ("capcert 3\nend\n", CertFault::Syntax(0)),
-        ("capcert 02\nend\n", CertFault::Syntax(0)),
-        ("capcert 1\ncapcert 1\nend\n", CertFault::Syntax(10)),
-        (more.as_str(), CertFault::Syntax(261)),
-        (empty_line.as_str(), CertFault::Syntax(261)),
-        (EXCHANGED, CertFault::Order(92)),
-    ];
-    for (text, fault) in rows {
-        assert!(rt;
-            read_cert(rt.alloc(), text.as_bytes()).err() == Some(fault),
-            "{text}"
-        );
-    }
+    assert!(rt; TWO_POINTS.len() == 215);
     Ok(())
 }

@@ -2,45 +2,10 @@
 //! What other texts come to is rows over the definitions, by computation.
 
 use prog_asm::{AsmFault, Instruction, Path, Register, assemble, is_valid_path};
-use rights::limits::MAX_INSTRUCTIONS;
-use std::alloc::{AllocError, Global};
 use std::test::Fail;
 
 #[test]
-fn tells_the_first_fault(rt: HostRuntime) {
-    for (text, number, name, line) in [
-        ("frob", 1, "Word", 1),
-        ("set r0 01", 2, "Operand", 1),
-        ("set r0 4294967296", 2, "Operand", 1),
-        ("openat 0 \"x\" append else e\ne: halt", 2, "Operand", 1),
-        ("a: halt\na: halt", 4, "TwiceLabel", 2),
-        ("jmp y\ny:", 3, "NoLabel", 1),
-        ("set r0 1\njmp z\nset r1 2", 3, "NoLabel", 2),
-        ("", 6, "FallsOff", 1),
-        ("set r0 1", 6, "FallsOff", 1),
-        ("jmp x", 3, "NoLabel", 1),
-        ("halt\nfork 1 else e\ne: halt", 2, "Operand", 2),
-        ("socketpair\nhalt", 2, "Operand", 1),
-        ("sendfd 0 1 else e\ne: halt", 2, "Operand", 1),
-        ("recvfd 0 1 else e\ne: halt", 2, "Operand", 1),
-        ("vfork else e\ne: halt", 1, "Word", 1),
-        ("stat \"\u{e9}\" else e\ne: halt", 2, "Operand", 1),
-        ("halt \u{e9}", 1, "Word", 1),
-        ("halt\n\n\nset r0 1\n; the end\n", 6, "FallsOff", 4),
-        ("cap_rights_limit 0 GETFL else e\ne: halt", 2, "Operand", 1),
-        ("cap_fcntls_limit 0 READ else e\ne: halt", 2, "Operand", 1),
-        ("open \"x\" create else e\ne: halt", 2, "Operand", 1),
-        ("open \"x\" read,trunc else e\ne: halt", 2, "Operand", 1),
-    ] {
-        match assemble(rt.alloc(), text) {
-            Ok(_) => assert!(rt; false, "{text} is no program"),
-            Err(fault) => {
-                assert!(rt; fault.number() == number, "{text}");
-                assert!(rt; fault.name() == name, "{text}");
-                assert!(rt; fault.line() == Some(line), "{text}");
-            }
-        }
-    }
+fn faults_have_numbers(rt: HostRuntime) {
     assert!(rt; AsmFault::TooMany(257).number() == 5);
     assert!(rt; AsmFault::Memory.number() == 7);
     assert!(rt; AsmFault::Memory.name() == "Memory");
@@ -164,44 +129,6 @@ const CALLS: [&str; 34] = [
     "socketpair",
     "fork",
 ];
-
-/// So many lines of `halt`.
-fn halts(alloc: Global, count: usize) -> Result<String, AllocError> {
-    let mut text = String::new(alloc);
-    for _ in 0..count {
-        text.push_str("halt\n")?;
-    }
-    Ok(text)
-}
-
-#[test]
-fn has_at_most_256_instructions(rt: HostRuntime) -> Result<(), Fail> {
-    let most = assemble(rt.alloc(), halts(rt.alloc(), MAX_INSTRUCTIONS)?.as_str())?;
-    assert!(rt; most.code().len() == 256);
-    match assemble(rt.alloc(), halts(rt.alloc(), 257)?.as_str()) {
-        Ok(_) => assert!(rt; false),
-        Err(fault) => assert!(rt; fault == AsmFault::TooMany(257)),
-    }
-    Ok(())
-}
-
-#[test]
-fn takes_what_need_not_be_there(rt: HostRuntime) {
-    for text in [
-        "halt",
-        "halt\n",
-        "\n\thalt ; \u{e9} \"\n",
-        "halt;x",
-        "halt: halt",
-        "jmp else\nelse: halt",
-        "a: halt\nb: c: ; no",
-    ] {
-        match assemble(rt.alloc(), text) {
-            Ok(program) => assert!(rt; !program.code().is_empty()),
-            Err(fault) => assert!(rt; fault == AsmFault::Word(2), "{text}"),
-        }
-    }
-}
 
 #[test]
 fn makes_registers_and_paths(rt: HostRuntime) -> Result<(), Fail> {

@@ -23,10 +23,6 @@ mod outputs;
 #[cfg(test)]
 mod processes;
 #[cfg(test)]
-mod reports;
-#[cfg(test)]
-mod rows;
-#[cfg(test)]
 mod schedules;
 #[cfg(test)]
 mod searches;
@@ -34,8 +30,6 @@ mod searches;
 mod serving;
 #[cfg(test)]
 mod sets;
-#[cfg(test)]
-mod small;
 #[cfg(test)]
 mod tables;
 #[cfg(test)]
@@ -48,9 +42,5 @@ mod text_parts;
 mod told_faults;
 #[cfg(test)]
 mod trees;
-#[cfg(test)]
-mod verdicts;
-#[cfg(test)]
-mod versions;
 #[cfg(test)]
 mod writers;

@@ -1,8 +1,10 @@
 //! What paths lead to, row by row, over any tree.
 
 use crate::trees::{Grown, Row, base, node, plays};
-use file_tree::{LinkTree, New, PlaceTree, Tree, TreeFault};
+use file_tree::{New, Tree, TreeFault};
+use link_tree::LinkTree;
 use lookup::{Found, Last, PathFault, Way, find, last_name};
+use place_tree::PlaceTree;
 use std::alloc::Global;
 use std::process::Abort;
 use std::test::Fail;

@@ -7,7 +7,8 @@ ghost use Rattle.fd_table.specs.Kept.{open_files};
 ghost use Rattle.fd_table.specs.Views.{descriptor_seen, side_seen};
 
 use fd_table::{Class, Descriptor, End, Entry, Files, Object, SendFault, Side, Status};
-use file_tree::{NodeId, PlaceTree, Tree};
+use file_tree::{NodeId, Tree};
+use place_tree::PlaceTree;
 use rights::{Fcntls, Memory, OpenFlags, Rights};
 use std::alloc::Global;
 use std::process::Abort;

@@ -2,7 +2,7 @@
 
 use std::alloc::{AllocError, Global};
 use std::test::Fail;
-use words::{Order, WordsFault, read_order};
+use words::{Order, read_order};
 
 /// The words, each as a text of its own.
 fn texts(alloc: Global, words: &[&str]) -> Result<Vec<String>, AllocError> {
@@ -93,50 +93,6 @@ fn right_lines_are_read(rt: HostRuntime) -> Result<(), Fail> {
     for (words, order) in rows {
         let texts = texts(rt.alloc(), words)?;
         assert!(rt; read_order(rt.alloc(), &texts) == Ok(order), "{words:?}");
-    }
-    Ok(())
-}
-
-#[test]
-fn other_lines_are_refused(rt: HostRuntime) -> Result<(), Fail> {
-    let rows: [&[&str]; 30] = [
-        &[""],
-        &["run"],
-        &["run", "t.toml"],
-        &["run", "t.toml", "s.txt", "more"],
-        &["run", "t.toml", "s.txt", ""],
-        &["check"],
-        &["check", "first"],
-        &["check", "first", "good", "more"],
-        &["report", "first"],
-        &["report", "first", "good", "more"],
-        &["search"],
-        &["search", "t.toml", "more"],
-        &["search", "-"],
-        &["help"],
-        &["help", "run"],
-        &["run", "help"],
-        &["--help"],
-        &["-h"],
-        &["--version"],
-        &["run", "--help"],
-        &["-"],
-        &["--"],
-        &["run", "-", "s.txt"],
-        &["run", "t.toml", "--"],
-        &["--", "run", "t.toml", "s.txt"],
-        &["run", "--", "t.toml", "s.txt"],
-        &["walk", "t.toml", "s.txt"],
-        &["Run", "t.toml", "s.txt"],
-        &["ru", "t.toml", "s.txt"],
-        &["", "t.toml", "s.txt"],
-    ];
-    for words in rows {
-        let texts = texts(rt.alloc(), words)?;
-        assert!(rt;
-            read_order(rt.alloc(), &texts) == Err(WordsFault::Words),
-            "{words:?}"
-        );
     }
     Ok(())
 }

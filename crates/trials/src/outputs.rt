@@ -1,77 +1,89 @@
-//! Writers that take little, or fail.
+//! Outputs that take a byte a call, or fail, whatever the program prints.
 
-use crate::base::{BASE, changed};
 use crate::serving::{Said, empty_shelf, says, serve_to};
 use std::alloc::{AllocError, Global};
 use std::test::Fail;
 
-const TRACE: &[u8] =
-    b"0 main:0 = 0\n0 main:1 = 2\n0 main:2 = 65 read /work/in\n0 main:3 = 66 read /work/in\n0 main:4 = 256 read /work/in\n0 main:5 halt\n";
+/// Enters the mode and reads a byte of its one descriptor.
+const TASK: &str = "node = [
+ {path=\"/work\", kind=\"dir\"},
+ {path=\"/work/in\", kind=\"file\", content=\"AB\"}]
+grant = [{name=\"work\", path=\"/work\", ops=[\"look\",\"read\"]}]
+process = [{program=\"main\", fd=[{number=2, path=\"/work/in\"}]}]
+[[program]]
+name = \"main\"
+code = '''
+cap_enter else e
+read 2 else e
+e: halt
+'''
+";
 
-/// Runs a program that reads to the end of a file, with a writer that takes a byte a call and fails at one.
-fn slowly(alloc: Global, fails_at: u64, refuses: bool) -> Result<Option<Said>, AllocError> {
-    let program =
-        "cap_enter else e\nopenat 0 \"same\" read else e\nread 2 else e\nread 2 else e\nread 2 else e\ne: halt";
-    let Some(task) = changed(alloc, BASE, &[("halt", program)])? else {
-        return Ok(None);
-    };
+const SCHEDULE: &str = "0 0\n0 0\n0 0\n";
+
+/// Version 2, with a bound that is carried.
+const CERT: &str = "capcert 2
+at main 0 off
+fd 2 open grant work 3fff 3fff 3 3
+at main 2 maybe
+fd 2 open grant work 3fff 3fff 3 3
+end
+";
+
+/// What is said to an output that takes a byte a call and fails at one, or at none where that is 0.
+fn slowly(
+    alloc: Global,
+    words: &[&str],
+    second: &str,
+    fails_at: u64,
+    refuses: bool,
+) -> Result<Said, AllocError> {
     let out = empty_shelf(alloc, 1, fails_at, refuses);
     let err = empty_shelf(alloc, 1000, 0, true);
-    let said = serve_to(
-        alloc,
-        &["run", "task", "schedule"],
-        Some(task.as_bytes()),
-        Some(b"0 0\n0 0\n0 0\n0 0\n0 0\n0 0\n"),
-        out,
-        err,
-    )?;
-    Ok(Some(said))
+    let (task, second) = (TASK.as_bytes(), second.as_bytes());
+    serve_to(alloc, words, Some(task), Some(second), out, err)
 }
 
-#[test]
-fn writes_the_same_a_byte_a_call(rt: HostRuntime) -> Result<(), Fail> {
-    match slowly(rt.alloc(), 0, true)? {
-        Some(said) => assert!(rt; said.is(0, TRACE, b"")),
-        None => panic!(rt; "no such part"),
-    }
-    Ok(())
-}
-
-#[test]
-fn tells_a_failed_output(rt: HostRuntime) -> Result<(), Fail> {
-    for (at, _) in TRACE.iter().enumerate() {
+/// Whether each failure of the output is told, once it has taken what was printed before it.
+fn tells_each_failure(
+    alloc: Global,
+    words: &[&str],
+    second: &str,
+    whole: &[u8],
+) -> Result<bool, AllocError> {
+    for (place, _) in whole.iter().enumerate() {
         for refuses in [false, true] {
-            match slowly(rt.alloc(), at as u64 + 1, refuses)? {
-                Some(said) => assert!(rt; said.is(3, &TRACE[..at], b"capcheck: output\n"), "{at}"),
-                None => panic!(rt; "no such part"),
+            let said = slowly(alloc, words, second, place as u64 + 1, refuses)?;
+            if !said.is(3, &whole[..place], b"capcheck: output\n") {
+                return Ok(false);
             }
         }
     }
-    Ok(())
+    Ok(true)
 }
 
 #[test]
-fn tells_a_failed_verdict(rt: HostRuntime) -> Result<(), Fail> {
+fn slow_and_failing_outputs_are_served(rt: HostRuntime) -> Result<(), Fail> {
     let alloc = rt.alloc();
-    let out = empty_shelf(alloc, 1, 2, false);
-    let err = empty_shelf(alloc, 1000, 0, true);
-    let said = serve_to(
-        alloc,
-        &["check", "task", "schedule"],
-        Some(BASE.as_bytes()),
-        Some(
-            b"capcert 1\nat main 0 off\nfd 0 open any 0000 3fff 0 3\nfd 1 open any 0000 3fff 0 3\nend\n",
-        ),
-        out,
-        err,
-    )?;
-    assert!(rt; said.is(3, b"y", b"capcheck: output\n"));
-    Ok(())
-}
-
-#[test]
-fn runs_an_example_without_words(rt: HostRuntime) -> Result<(), Fail> {
-    let said = says(rt.alloc(), &[], None, None)?;
-    assert!(rt; said.is(0, b"0 main:0 = 0\n0 main:1 = 65 read /work/in\n", b""));
+    let rows: [(&[&str], &str); 5] = [
+        (&["run", "task", "schedule"], SCHEDULE),
+        (&["check", "task", "schedule"], CERT),
+        (&["report", "task", "schedule"], CERT),
+        (&["expand", "task", "schedule"], CERT),
+        (&["search", "task"], ""),
+    ];
+    for (words, second) in rows {
+        let (task, file) = (TASK.as_bytes(), second.as_bytes());
+        let said = says(alloc, words, Some(task), Some(file))?;
+        assert!(rt; said.status == 0 && !said.out.is_empty(), "{words:?}");
+        assert!(rt;
+            slowly(alloc, words, second, 0, true)?.is(0, &said.out, b""),
+            "{words:?}"
+        );
+        assert!(rt;
+            tells_each_failure(alloc, words, second, &said.out)?,
+            "{words:?}"
+        );
+    }
     Ok(())
 }

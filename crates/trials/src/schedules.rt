@@ -1,29 +1,31 @@
 //! Schedules, as texts.
 
+use crate::base::{BASE, times};
+use crate::serving::says;
 use simulator::{ScheduleFault, read_schedule};
-use std::alloc::{AllocError, Global};
 use std::test::Fail;
 use syscalls::Event;
 
-/// So many lines of one event, and a last text.
-fn lines(alloc: Global, count: u32, last: &[u8]) -> Result<Vec<u8>, AllocError> {
-    let mut text = Vec::new(alloc);
-    for _line in 0..count {
-        text.extend_from_slice(b"0 0\n")?;
-    }
-    text.extend_from_slice(last)?;
-    Ok(text)
-}
-
 #[test]
-fn reads_at_most_65536_events(rt: HostRuntime) -> Result<(), Fail> {
+fn runs_at_most_65536_events(rt: HostRuntime) -> Result<(), Fail> {
     let alloc = rt.alloc();
-    let most = read_schedule(alloc, &lines(alloc, 65_536, b"")?)?;
-    assert!(rt; most.len() == 65_536);
-    let too_many = read_schedule(alloc, &lines(alloc, 65_537, b"")?);
-    assert!(rt; matches!(too_many, Err(ScheduleFault::Limit)));
-    let faulty = read_schedule(alloc, &lines(alloc, 65_537, b"x")?);
-    assert!(rt; matches!(faulty, Err(ScheduleFault::Line(65_538))));
+    let most = times(alloc, "5 0\n", 65_536)?;
+    let trace = times(alloc, "5 - none\n", 65_536)?;
+    let many = times(alloc, "0 0\n", 65_537)?;
+    let faulty = format!(in alloc; "{many}x\n")?;
+    let cut = format!(in alloc; "{many}x")?;
+    let rows = [
+        (most.as_str(), 0, trace.as_str(), ""),
+        (many.as_str(), 2, "", "capcheck: schedule 2 Limit\n"),
+        (faulty.as_str(), 2, "", "capcheck: schedule 1 Line 65538\n"),
+        (cut.as_str(), 2, "", "capcheck: schedule 1 Line 65538\n"),
+    ];
+    for (schedule, status, out, err) in rows {
+        let words = &["run", "task", "schedule"];
+        let (task, schedule) = (BASE.as_bytes(), schedule.as_bytes());
+        let said = says(alloc, words, Some(task), Some(schedule))?;
+        assert!(rt; said.is(status, out.as_bytes(), err.as_bytes()), "{err}");
+    }
     Ok(())
 }
 

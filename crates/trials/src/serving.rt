@@ -143,13 +143,3 @@ pub(super) fn says(
     let err = empty_shelf(alloc, 1000, 0, true);
     serve_to(alloc, words, task, schedule, out, err)
 }
-
-/// Runs a task over a schedule.
-pub(super) fn runs(alloc: Global, task: &[u8], schedule: &[u8]) -> Result<Said, AllocError> {
-    says(
-        alloc,
-        &["run", "task", "schedule"],
-        Some(task),
-        Some(schedule),
-    )
-}

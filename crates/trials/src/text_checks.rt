@@ -1,11 +1,9 @@
 //! Verdicts on the texts of a task and a certificate.
 
 use crate::certificates::THREE_POINTS;
-use certificate_text::CertFault;
 use checker::Verdict;
 use std::alloc::Global;
-use task_reader::TaskFault;
-use text_checker::{Fault, check_text};
+use text_checker::check_text;
 
 /// A task whose program enters capability mode with two directories open.
 const ENTERS: &str = "node = [{path=\"/work\", kind=\"dir\"}, {path=\"/log\", kind=\"dir\"}]
@@ -39,17 +37,4 @@ fn texts_have_verdicts(rt: HostRuntime) {
         rule: 16,
     };
     assert!(rt; has_verdict(rt.alloc(), ENTERS, "capcert 1\nend\n", missing));
-}
-
-#[test]
-fn the_fault_of_the_task_comes_first(rt: HostRuntime) {
-    for cert in ["", THREE_POINTS] {
-        let told = check_text(rt.alloc(), b"node", cert.as_bytes());
-        assert!(rt;
-            matches!(told, Err(Fault::Task(TaskFault::NotToml))),
-            "{cert}"
-        );
-    }
-    let told = check_text(rt.alloc(), ENTERS.as_bytes(), b"capcert 1\n");
-    assert!(rt; matches!(told, Err(Fault::Cert(CertFault::Syntax(10)))));
 }

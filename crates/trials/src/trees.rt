@@ -3,9 +3,10 @@
 ghost use Rattle.std.specs.Prelude.{◌<◌, length};
 
 use file_tree::{
-    Kind, LinkTree, New, NodeId, PlaceTree, Tree, TreeFault, is_same_place, is_valid_name,
-    is_valid_target,
+    Kind, New, NodeId, Tree, TreeFault, is_same_place, is_valid_name, is_valid_target,
 };
+use link_tree::LinkTree;
+use place_tree::PlaceTree;
 use rights::limits::MAX_BYTES;
 use std::alloc::Global;
 use std::process::Abort;

@@ -1,8 +1,0 @@
-use Rattle.std.proofs.Common.{length}
-use Rattle.file_tree.specs.Nodes.{node}
-use Rattle.file_tree.specs.Links.{linked_nodes}
-use Rattle.file_tree.specs.LinkEntries.{links_of}
-use Rattle.file_tree.proofs.link_tree.climbs.+append_linked_names.Given as goal
-
-abbrev pub decreases-append_linked_names : goal.decreases-append_linked_names
-decreases-append_linked_names l = length (node (linked_nodes (links_of l.entries.now)) l.n).place

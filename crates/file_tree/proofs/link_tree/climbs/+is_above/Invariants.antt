@@ -1,8 +1,0 @@
-use Rattle.std.proofs.Common.{length}
-use Rattle.file_tree.specs.Nodes.{node}
-use Rattle.file_tree.specs.Links.{linked_nodes}
-use Rattle.file_tree.specs.LinkEntries.{links_of}
-use Rattle.file_tree.proofs.link_tree.climbs.+is_above.Given as goal
-
-abbrev pub decreases-is_above : goal.decreases-is_above
-decreases-is_above l = length (node (linked_nodes (links_of l.entries.now)) l.dir).place

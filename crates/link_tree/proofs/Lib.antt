@@ -1,0 +1,16 @@
+pub mod FiledLaws
+pub mod LinkChanges
+pub mod LinkLaws
+pub mod LinkReads
+pub mod LinkRows
+pub mod LinkedByCreate
+pub mod LinkedByFill
+pub mod LinkedByRemove
+pub mod LinkedByRename
+pub mod LinkEntryLaws
+pub mod PathMatches
+pub mod LinkEntryChanges
+pub mod LinkedAfter
+pub mod LinkBelow
+pub mod LinkRenames
+pub mod NewLinks

@@ -1,0 +1,115 @@
+//! The plain list of nodes: what is read of it.
+
+ghost use Rattle.std.specs.Prelude.{◌≡◌, ◌<◌, Option, length, IfSome};
+ghost use Rattle.std.specs.Option.{option_copied};
+ghost use Rattle.file_tree.specs.Places.{at_name};
+ghost use Rattle.file_tree.specs.Nodes.{child_of, has_below, node_at, parent_of, target_of};
+ghost use Rattle.file_tree.specs.Views.{names_of};
+ghost use Rattle.place_tree.specs.PlaceEntries.{nodes_of};
+
+use crate::places::is_child;
+use file_tree::Kind;
+use file_tree::places::{is_front, is_same_place};
+
+/// A node of the plain list, with its whole place.
+#[derive(Drop)]
+pub(crate) struct Entry {
+    pub(crate) kind: Kind,
+    pub(crate) linked: bool,
+    pub(crate) place: Vec<Vec<u8>>,
+    pub(crate) content: Vec<u8>,
+}
+
+/// The number of the linked node at a place.
+#[tactic(auto, unfolding(file_tree::specs::Nodes::node_at))]
+pub(crate) fn find_place(entries: &[Entry], place: &[Vec<u8>]) -> Option<usize>
+    ensures found { result ≡ node_at (nodes_of entries.now) (names_of place.now) }
+    ensures there { IfSome result (λ n. n < length entries.now) }
+{
+    for (i, entry) in entries.iter().enumerate() {
+        if entry.linked {
+            if is_same_place(place, entry.place.as_slice()) {
+                return Some(i);
+            }
+        }
+    }
+    None
+}
+
+/// The number of the linked node of a name in the directory at a place.
+#[tactic(auto, unfolding(file_tree::specs::Nodes::node_at))]
+pub(crate) fn find_child(entries: &[Entry], dir: &[Vec<u8>], name: &[u8]) -> Option<usize>
+    ensures found { result ≡ node_at (nodes_of entries.now) (at_name (names_of dir.now) name.now) }
+    ensures there { IfSome result (λ n. n < length entries.now) }
+{
+    for (i, entry) in entries.iter().enumerate() {
+        if entry.linked {
+            if is_child(dir, name, entry.place.as_slice()) {
+                return Some(i);
+            }
+        }
+    }
+    None
+}
+
+/// Whether some linked node lies below a place.
+pub(crate) fn holds_below(entries: &[Entry], place: &[Vec<u8>]) -> bool
+    ensures { result ≡ has_below (nodes_of entries.now) (names_of place.now) }
+{
+    for entry in entries {
+        if entry.linked {
+            if is_front(place, entry.place.as_slice()) {
+                if !is_same_place(place, entry.place.as_slice()) {
+                    return true;
+                }
+            }
+        }
+    }
+    false
+}
+
+/// The node of a name in a directory.
+#[tactic(auto, unfolding(file_tree::specs::Nodes::child_of))]
+pub(crate) fn child_in(entries: &[Entry], dir: usize, name: &[u8]) -> Option<usize>
+    requires { dir < length entries.now }
+    ensures found { result ≡ child_of (nodes_of entries.now) dir name.now }
+    ensures there { IfSome result (λ n. n < length entries.now) }
+{
+    let holder = &entries[dir];
+    if !holder.linked {
+        return None;
+    }
+    find_child(entries, holder.place.as_slice(), name)
+}
+
+/// The directory that holds a node.
+#[tactic(auto, unfolding(file_tree::specs::Nodes::parent_of))]
+pub(crate) fn parent_in(entries: &[Entry], n: usize) -> Option<usize>
+    requires { n < length entries.now }
+    ensures found { result ≡ parent_of (nodes_of entries.now) n }
+    ensures there { IfSome result (λ d. d < length entries.now) }
+{
+    let entry = &entries[n];
+    if !entry.linked {
+        return None;
+    }
+    let place = entry.place.as_slice();
+    if place.is_empty() {
+        return None;
+    }
+    find_place(entries, &place[..place.len() - 1])
+}
+
+/// What a link holds.
+#[tactic(auto, unfolding(file_tree::specs::Nodes::target_of))]
+pub(crate) fn target_in(entries: &[Entry], n: usize) -> Option<&[u8]>
+    requires { n < length entries.now }
+    ensures { option_copied result ≡ target_of (nodes_of entries.now) n }
+{
+    let entry = &entries[n];
+    match entry.kind {
+        Kind::Link => Some(entry.content.as_slice()),
+        Kind::File => None,
+        Kind::Dir => None,
+    }
+}

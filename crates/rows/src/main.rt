@@ -1,0 +1,201 @@
+//! Asks the program what each case of `cases.toml` says, over the files of the folder that this runs in. A line names each
+//! case that differs from what is wanted, and the last line counts.
+#![tactic(auto)]
+
+ghost use Rattle.std.specs.Prelude.{◌≡◌, None};
+
+use anyhow::{Context, Result, bail};
+use rights::{Out, OutFault};
+use serde::Deserialize;
+use service::statuses::{DONE, STOPPED};
+use service::{Source, Unread, fetched, serve};
+use std::alloc::Global;
+use std::fs;
+use std::process::ExitCode;
+
+/// Words, and what the program has to make of them.
+#[derive(Drop, Deserialize)]
+#[serde(deny_unknown_fields)]
+struct Case {
+    words: Vec<String>,
+
+    /// The file with the wanted output; without one none is wanted.
+    out: Option<String>,
+
+    /// The file with the line that is wanted on the error stream; without one none is wanted.
+    err: Option<String>,
+
+    #[serde(default)]
+    status: u8,
+
+    /// Whether the output is a certificate that has to be accepted. Without `out` any such certificate will do.
+    #[serde(default)]
+    found: bool,
+}
+
+/// All cases.
+#[derive(Drop, Deserialize)]
+#[serde(deny_unknown_fields)]
+struct Cases {
+    case: Vec<Case>,
+}
+
+/// The name of the certificate that a search found. No file of the system has it, since it ends with a slash.
+const FOUND: &str = "found/";
+
+/// Files of the system by path, and what a search found, if there was one.
+#[derive(Drop)]
+struct Files<'a> {
+    rt: &'a HostRuntime,
+    found: Option<&'a [u8]>,
+}
+
+impl<'a> Source for Files<'a> {
+    ghost files = { λ _. None };
+
+    fn fetch(&mut self, name: &str) -> Result<Vec<u8>, Unread> {
+        match self.found {
+            Some(cert) if name == FOUND => match Vec::from_slice(self.rt.alloc(), cert) {
+                Ok(bytes) => Ok(bytes),
+                Err(_) => Err(Unread::Memory),
+            },
+            _ => fetched(fs::read(self.rt, name)),
+        }
+    }
+}
+
+/// A writer into memory. It fails only where memory is refused.
+#[derive(Drop)]
+struct Sink {
+    bytes: Vec<u8>,
+    failures: u64,
+}
+
+impl Out for Sink {
+    ghost taken = { λ _. None };
+
+    ghost faults = { λ sink. sink.failures };
+
+    fn write_some(&mut self, bytes: &[u8]) -> Result<usize, OutFault> {
+        if self.bytes.extend_from_slice(bytes).is_err() {
+            self.failures += 1;
+            return Err(OutFault);
+        }
+        Ok(bytes.len())
+    }
+}
+
+/// A writer that has taken nothing yet.
+fn empty_sink(alloc: Global) -> Sink
+    ensures { result.failures ≡ 0 }
+{
+    Sink {
+        bytes: Vec::new(alloc),
+        failures: 0,
+    }
+}
+
+/// What the program makes of some words.
+#[derive(Drop)]
+struct Said {
+    status: u8,
+    out: Vec<u8>,
+    err: Vec<u8>,
+}
+
+/// Serves the words. A status for want of memory or a failed output comes only from memory here, and is no answer.
+fn asked(rt: &HostRuntime, words: &[String], found: Option<&[u8]>) -> Result<Said> {
+    let mut files = Files { rt, found };
+    let mut out = empty_sink(rt.alloc());
+    let mut err = empty_sink(rt.alloc());
+    let status = serve(rt.alloc(), words, &mut files, &mut out, &mut err);
+    if status == STOPPED || err.failures > 0 {
+        bail!("no memory");
+    }
+    Ok(Said {
+        status,
+        out: out.bytes,
+        err: err.bytes,
+    })
+}
+
+/// Whether `check` says yes to what was found for the task of these words.
+fn is_accepted(rt: &HostRuntime, words: &[String], found: &[u8]) -> Result<bool> {
+    let Some(task) = words.get(1) else {
+        bail!("a search names no task");
+    };
+    let alloc = rt.alloc();
+    let mut check = Vec::new(alloc);
+    for word in ["check", task.as_str(), FOUND] {
+        check.push(String::from_str(alloc, word)?)?;
+    }
+    let said = asked(rt, &check, Some(found))?;
+    Ok(said.status == DONE && said.out.as_slice() == b"yes\n".as_slice() && said.err.is_empty())
+}
+
+/// The bytes of a file, which has to be there.
+fn read(rt: &HostRuntime, name: &str) -> Result<Vec<u8>> {
+    fs::read(rt, name).context(format_args!("{name}"))
+}
+
+/// The bytes of a wanted file, or none where none is named.
+fn wanted(rt: &HostRuntime, name: &Option<String>) -> Result<Vec<u8>> {
+    match name {
+        Some(name) => read(rt, name.as_str()),
+        None => Ok(Vec::new(rt.alloc())),
+    }
+}
+
+/// What differs of a case from what is wanted.
+fn differences(rt: &HostRuntime, case: &Case) -> Result<Vec<&'static str>> {
+    let said = asked(rt, &case.words, None)?;
+    let out = wanted(rt, &case.out)?;
+    let err = wanted(rt, &case.err)?;
+    let mut differ = Vec::new(rt.alloc());
+    if said.out != out && (!case.found || case.out.is_some()) {
+        differ.push("output")?;
+    }
+    if said.err != err {
+        differ.push("error")?;
+    }
+    if said.status != case.status {
+        differ.push("status")?;
+    }
+    if case.found && !is_accepted(rt, &case.words, &said.out)? {
+        differ.push("certificate")?;
+    }
+    Ok(differ)
+}
+
+/// The cases of the file.
+fn read_cases(rt: &HostRuntime) -> Result<Vec<Case>> {
+    let text = read(rt, "cases.toml")?;
+    let cases: Cases = toml::from_slice(rt.alloc(), &text).context("cases.toml")?;
+    Ok(cases.case)
+}
+
+/// Tries each case, and says whether all are as wanted.
+fn run(rt: &HostRuntime) -> Result<bool> {
+    let cases = read_cases(rt)?;
+    let (mut same, mut others) = (0usize, 0usize);
+    for case in &cases {
+        let differ = differences(rt, case)?;
+        if differ.is_empty() {
+            same = same.saturating_add(1);
+            continue;
+        }
+        others = others.saturating_add(1);
+        let words = case.words.join(rt.alloc(), " ")?;
+        let differ = differ.join(rt.alloc(), ", ")?;
+        println!(rt; "{words}: {differ}")?;
+    }
+    println!(rt; "{same} as wanted, {others} differ")?;
+    Ok(others == 0)
+}
+
+fn main(rt: HostRuntime) -> Result<ExitCode> {
+    if run(&rt)? {
+        return Ok(ExitCode::SUCCESS);
+    }
+    Ok(ExitCode::FAILURE)
+}
