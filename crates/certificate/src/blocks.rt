@@ -64,8 +64,8 @@ fn push_slots(cert: &mut Cert, number: u8, slots: &[Slot]) -> Result<(), Refusal
     }
 }
 
-/// Adds the block of a point: its line, those of its registers that aren't full, and those of its slots that aren't closed. On an
-/// error, which is that of the first line that isn't taken, the lines before that one stay. (own)
+/// Adds the block of a point: its line, those of its registers that aren't full, and those of its slots that aren't closed. Its
+/// errors are those of `Cert::push`; after one of them the certificate may have some of the lines. (own)
 #[tactic(auto, using(crate::proofs::Growths::grown_append), unfolding(crate::specs::Growths::grown))]
 pub fn push_block(cert: &mut Cert, program: &Name, point: u8, bound: &Bound) -> Result<(), Refusal>
     ensures { Grows result cert.new (grown (block_lines (record { program = name_of program.now; point = point; bound = bound_of bound.now })) cert.old) }
@@ -87,7 +87,7 @@ fn channel_line(channel: Channel) -> Line
     Line::Channel(channel)
 }
 
-/// Adds channels. On an error, which is that of the first one that isn't taken, those before it stay. (own)
+/// Adds channels. Its errors are those of `Cert::push`; after one of them the certificate may have some of the channels. (own)
 #[tactic(auto, unfolding(crate::specs::Growths::grown))]
 pub fn push_channels(cert: &mut Cert, channels: &[Channel]) -> Result<(), Refusal>
     ensures { Grows result cert.new (grown (map Bounds_channel (channels_of channels.now)) cert.old) }

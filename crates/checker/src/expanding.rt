@@ -12,8 +12,9 @@ ghost use Rattle.rules.specs.Expansions.{expanded_points, expansion, points_alon
 use crate::carrying::{bound_with, carried_past};
 use crate::points::code_named;
 use certificate::{Bound, Cert, Name, Point, Refusal, Version, push_block, push_channels};
+use rights::Memory;
 use rights::limits::MAX_INSTRUCTIONS;
-use std::alloc::{AllocError, Global};
+use std::alloc::Global;
 use task::Task;
 
 /// Adds a point, if it has a bound.
@@ -122,8 +123,8 @@ fn push_expansion(expanded: &mut Cert, task: &Task, cert: &Cert) -> Result<(), R
 }
 
 /// The expansion of a certificate: that of version 1 with all bounds that it gives and all that are carried, and the same
-/// channels. `check` gives both the same verdict. Its one error is want of memory. (own)
-pub fn expand(alloc: Global, task: &Task, cert: &Cert) -> Result<Cert, AllocError>
+/// channels. `check` gives both the same verdict. Its one error is `Memory`. (own)
+pub fn expand(alloc: Global, task: &Task, cert: &Cert) -> Result<Cert, Memory>
     ensures value { IfOk result (λ expanded. expanded ≡ expansion task.now cert.now) }
     ensures same { IfOk result (λ expanded. (verdict : Verdict) → IsVerdict task.now expanded verdict ↔ IsVerdict task.now cert.now verdict) }
 {
@@ -131,7 +132,7 @@ pub fn expand(alloc: Global, task: &Task, cert: &Cert) -> Result<Cert, AllocErro
     let mut expanded = Cert::new(alloc, Version::One);
     match push_expansion(&mut expanded, task, cert) {
         Ok(()) => Ok(expanded),
-        Err(Refusal::Memory) => Err(AllocError),
+        Err(Refusal::Memory) => Err(Memory),
         Err(Refusal::Limit) => unreachable!(),
         Err(Refusal::Order) => unreachable!(),
     }

@@ -13,7 +13,8 @@ use crate::shortening::shortened;
 use crate::spots::Way;
 use certificate::{Cert, Refusal};
 use checker::{Verdict, check};
-use std::alloc::{AllocError, Global};
+use rights::Memory;
+use std::alloc::Global;
 use task::Task;
 
 /// Whether the checker accepts a certificate.
@@ -36,7 +37,7 @@ fn accepted(task: &Task, proposed: Option<Cert>) -> Option<Cert>
 }
 
 /// A certificate in its shorter form, if the checker accepts that too; else as it is.
-fn preferred(alloc: Global, task: &Task, cert: Cert) -> Result<Cert, AllocError>
+fn preferred(alloc: Global, task: &Task, cert: Cert) -> Result<Cert, Memory>
     requires { IsAccepted task.now cert }
     ensures { IfOk result (λ cert. IsAccepted task.now cert) }
 {
@@ -57,22 +58,21 @@ fn settled(alloc: Global, task: &Task, mut ways: Vec<Way>) -> Result<Option<Cert
 }
 
 /// The certificate that the search point by point proposes, if it comes to one.
-fn proposed(alloc: Global, task: &Task) -> Result<Option<Cert>, AllocError> {
+fn proposed(alloc: Global, task: &Task) -> Result<Option<Cert>, Memory> {
     let Some(ways) = all_ways(alloc, task)? else {
         return Ok(None);
     };
     match settled(alloc, task, ways) {
         Ok(cert) => Ok(cert),
-        Err(Refusal::Memory) => Err(AllocError),
+        Err(Refusal::Memory) => Err(Memory),
         Err(Refusal::Limit | Refusal::Order) => Ok(None),
     }
 }
 
 /// A certificate of a task, of version 2, that the checker accepts, if the search finds one: that of what it finds point by
 /// point, or the flat one; with bounds at named points alone where that is accepted too. Where the flat certificate is accepted,
-/// it finds one. Want of memory may come in place of any answer. It always
-/// ends. (own)
-pub fn search(alloc: Global, task: &Task) -> Result<Option<Cert>, AllocError>
+/// it finds one. `Memory` may come in place of any answer. It always ends. (own)
+pub fn search(alloc: Global, task: &Task) -> Result<Option<Cert>, Memory>
     ensures accepted { IfOk result (λ found. IfSome found (λ cert. IsAccepted task.now cert)) }
     ensures flat { result ≡ Ok None → (certificate : Certificate) → flat task.now ≡ Some certificate → IsAccepted task.now certificate → ⊥ }
 {

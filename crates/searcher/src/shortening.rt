@@ -2,7 +2,8 @@
 
 use certificate::{Cert, Point, Refusal, Version, push_block, push_channels};
 use checker::{code_named, is_named};
-use std::alloc::{AllocError, Global};
+use rights::Memory;
+use std::alloc::Global;
 use task::Task;
 
 /// Adds those of some points that are named.
@@ -25,14 +26,10 @@ fn named_alone(alloc: Global, task: &Task, cert: &Cert) -> Result<Cert, Refusal>
 }
 
 /// A certificate in version 2 with its bounds at named points alone, where its lines are taken.
-pub(crate) fn shortened(
-    alloc: Global,
-    task: &Task,
-    cert: &Cert,
-) -> Result<Option<Cert>, AllocError> {
+pub(crate) fn shortened(alloc: Global, task: &Task, cert: &Cert) -> Result<Option<Cert>, Memory> {
     match named_alone(alloc, task, cert) {
         Ok(short) => Ok(Some(short)),
-        Err(Refusal::Memory) => Err(AllocError),
+        Err(Refusal::Memory) => Err(Memory),
         Err(Refusal::Limit | Refusal::Order) => Ok(None),
     }
 }

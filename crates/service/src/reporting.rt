@@ -7,7 +7,7 @@ ghost use Rattle.certificate.specs.Views.{bound_of, slot_of};
 ghost use Rattle.certificate_text.specs.Pieces.{in_order};
 ghost use Rattle.certificate_text.specs.Writings.{Writes};
 ghost use Rattle.checker.specs.Views.{verdict_of};
-ghost use Rattle.rights.specs.Output.{Took};
+ghost use Rattle.rights.specs.Output.{Took, TookFront};
 ghost use Rattle.service.specs.Reports.{Reports, answer_text, either_set, grant_line, greatest_in, names_in, own_names, parted, place_text, point_lines, program_lines, report_text, rights_in, rights_text};
 ghost use Rattle.rules.specs.Expansions.{expansion};
 ghost use Rattle.task.specs.Views.{grant_of, grants_of, program_of, programs_of};
@@ -297,11 +297,13 @@ fn write_report<W: Out>(task: &Task, cert: &Cert, out: &mut W) -> Result<(), Sto
 
 /// Writes the report of a task and a certificate: for each point of the task's programs that has a bound, given or carried, by
 /// the place of the program in the task, and for each grant of the task in which some slot may be open, the greatest rights of
-/// those slots. Its errors are `Device`, after a failure of the writer, and `Memory`, before anything is written. (own)
+/// those slots. Its errors are `Device`, after a failure of the writer, which then has taken a beginning of that, and `Memory`, before
+/// anything is written. (own)
 pub fn report<W: Out>(alloc: Global, task: &Task, cert: &Cert, out: &mut W) -> Result<(), Stop>
     requires { W.faults out.old < 2 ^ 64 - 1 }
     ensures written { OnOk result (Took (W.taken out.old) (W.taken out.new) (report_text task.now (expansion task.now cert.now))) }
     ensures device { IsErrOf result Stop.Device → W.faults out.old < W.faults out.new }
+    ensures begun { IsErrOf result Stop.Device → TookFront (W.taken out.old) (W.taken out.new) (report_text task.now (expansion task.now cert.now)) }
     ensures memory { IsErrOf result Stop.Memory → W.taken out.new ≡ W.taken out.old }
     ensures not_spent { IsErrOf result Stop.Spent → ⊥ }
 {

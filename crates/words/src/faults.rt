@@ -1,6 +1,6 @@
 //! Why some words are no order.
 
-ghost use Rattle.std.specs.Prelude.{◌≡◌};
+ghost use Rattle.std.specs.Prelude.{◌≡◌, ◌≢◌};
 ghost use Rattle.clap.specs.Words.{kind_of};
 ghost use Rattle.clap.specs.declared.error.kind.ErrorKind.TheVariants as kind;
 ghost use Rattle.words.specs.declared.faults.WordsFault.TheVariants as fault;
@@ -28,7 +28,8 @@ impl From<AllocError> for WordsFault {
 }
 
 impl From<clap::Error> for WordsFault {
-    ghost from_gives = { λ error given. kind_of error ≡ kind.OutOfMemory → given ≡ fault.Memory };
+    ghost from_gives = { λ error given. (kind_of error ≡ kind.OutOfMemory → given ≡ fault.Memory)
+        × (kind_of error ≢ kind.OutOfMemory → given ≡ fault.Words) };
 
     fn from(error: clap::Error) -> WordsFault {
         if error.kind() == clap::error::ErrorKind::OutOfMemory {

@@ -8,7 +8,7 @@ pub returns-in-Err : goal.returns-in-Err
 returns-in-Err c =
     let words = map string_bytes c.args.words.now in
     failed c.from.result words
-    (λ taken. c.from.ensures (c.in-Err.ensures.passes (ap (λ (app : App). takes app words) c.in_ok-program.ensures ∙ taken)))
+    (λ taken. c.from.ensures.0 (c.in-Err.ensures.passes (ap (λ (app : App). takes app words) c.in_ok-program.ensures ∙ taken)))
 
 pub returns-in-None : goal.returns-in-None
 returns-in-None c = λ order asked.
