@@ -1,9 +1,10 @@
-"""What the files of examples/ ask of the program: which words, and of which files."""
+"""What the files of crates/examples/data ask of the program: which words, and of which files."""
 
 import glob
 import os
 
 TOP = os.path.dirname(os.path.dirname(os.path.abspath(__file__)))
+EXAMPLES = os.path.join(TOP, "crates/examples/data")
 
 
 def task_of(name):
@@ -20,7 +21,7 @@ def task_of(name):
 def asked():
     """The words of each line that the examples ask for."""
     for kind, commands in (("schedule", ["run"]), ("cert", ["check", "report", "expand"]), ("search", ["search"])):
-        for path in sorted(glob.glob(os.path.join(TOP, f"examples/*/*.{kind}"))):
+        for path in sorted(glob.glob(os.path.join(EXAMPLES, f"*/*.{kind}"))):
             task = task_of(path[: -len(kind) - 1])
             for command in commands:
                 yield [command, task] + ([path] if command != "search" else [])
