@@ -72,7 +72,7 @@ chosen : {A : Type 0} (b : Bool) (x y z : A) → (if b then x else y) ≡ z → 
 chosen true x y z is = inl (refl, is)
 chosen false x y z is = inr (refl, is)
 
-same_some : {A : Type 0} (x y : A) → Some x ≡ Some y → x ≡ y
+pub same_some : {A : Type 0} (x y : A) → Some x ≡ Some y → x ≡ y
 same_some x y is = cc
 
 module _ (plan : Plan) (name : List ℕ) where

@@ -4,3 +4,6 @@ pub mod Valid
 pub mod Taken
 pub mod FlatGrows
 pub mod KnownLimits
+pub mod Versions
+pub mod Shortened
+pub mod Widened

@@ -1,1 +1,3 @@
 pub mod Flat
+pub mod Shortening
+pub mod SpotViews

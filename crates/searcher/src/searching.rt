@@ -1,9 +1,10 @@
 //! The search.
 
 ghost use Rattle.std.specs.Prelude.{◌≡◌, true, false, IfOk, IfSome};
-ghost use Rattle.certificate.specs.Bounds.{Certificate};
+ghost use Rattle.certificate.specs.Bounds.{Certificate, Two};
 ghost use Rattle.checker.specs.Verdicts.{IsAccepted};
 ghost use Rattle.searcher.specs.Flat.{flat};
+ghost use Rattle.searcher.specs.Shortening.{short_form};
 
 use crate::channels::Channels;
 use crate::drawing::draw;
@@ -27,7 +28,9 @@ fn is_accepted(task: &Task, cert: &Cert) -> bool
 
 /// A certificate that was proposed, if the checker accepts it.
 fn accepted(task: &Task, proposed: Option<Cert>) -> Option<Cert>
-    ensures { IfSome result (λ cert. IsAccepted task.now cert) }
+    ensures accepted { IfSome result (λ cert. IsAccepted task.now cert) }
+    ensures same { IfSome result (λ cert. proposed ≡ Some cert) }
+    ensures none { result ≡ None → IfSome proposed (λ cert. IsAccepted task.now cert → ⊥) }
 {
     let cert = proposed?;
     if is_accepted(task, &cert) {
@@ -36,19 +39,10 @@ fn accepted(task: &Task, proposed: Option<Cert>) -> Option<Cert>
     None
 }
 
-/// A certificate in its shorter form, if the checker accepts that too; else as it is.
-fn preferred(alloc: Global, task: &Task, cert: Cert) -> Result<Cert, Memory>
-    requires { IsAccepted task.now cert }
-    ensures { IfOk result (λ cert. IsAccepted task.now cert) }
-{
-    if let Some(short) = accepted(task, shortened(alloc, task, &cert)?) {
-        return Ok(short);
-    }
-    Ok(cert)
-}
-
 /// What is found point by point, where the search settles.
-fn settled(alloc: Global, task: &Task, mut ways: Vec<Way>) -> Result<Option<Cert>, Refusal> {
+fn settled(alloc: Global, task: &Task, mut ways: Vec<Way>) -> Result<Option<Cert>, Refusal>
+    ensures { IfOk result (λ found. IfSome found (λ cert. cert.version ≡ Two)) }
+{
     let mut channels = Channels::new(alloc);
     if !settle(alloc, task, &mut channels, &mut ways)? {
         return Ok(None);
@@ -58,7 +52,9 @@ fn settled(alloc: Global, task: &Task, mut ways: Vec<Way>) -> Result<Option<Cert
 }
 
 /// The certificate that the search point by point proposes, if it comes to one.
-fn proposed(alloc: Global, task: &Task) -> Result<Option<Cert>, Memory> {
+fn proposed(alloc: Global, task: &Task) -> Result<Option<Cert>, Memory>
+    ensures { IfOk result (λ found. IfSome found (λ cert. cert.version ≡ Two)) }
+{
     let Some(ways) = all_ways(alloc, task)? else {
         return Ok(None);
     };
@@ -69,21 +65,45 @@ fn proposed(alloc: Global, task: &Task) -> Result<Option<Cert>, Memory> {
     }
 }
 
-/// A certificate of a task, of version 2, that the checker accepts, if the search finds one: that of what it finds point by
-/// point, or the flat one; with bounds at named points alone where that is accepted too. Where the flat certificate is accepted,
-/// it finds one. `Memory` may come in place of any answer. It always ends. (own)
-pub fn search(alloc: Global, task: &Task) -> Result<Option<Cert>, Memory>
+/// What the checker accepts of what is proposed: what is found point by point, or else the flat certificate.
+fn first_accepted(alloc: Global, task: &Task) -> Result<Option<Cert>, Memory>
     ensures accepted { IfOk result (λ found. IfSome found (λ cert. IsAccepted task.now cert)) }
+    ensures version { IfOk result (λ found. IfSome found (λ cert. cert.version ≡ Two)) }
     ensures flat { result ≡ Ok None → (certificate : Certificate) → flat task.now ≡ Some certificate → IsAccepted task.now certificate → ⊥ }
 {
     if let Some(cert) = accepted(task, proposed(alloc, task)?) {
-        return Ok(Some(preferred(alloc, task, cert)?));
+        return Ok(Some(cert));
     }
-    let Some(cert) = flat(alloc, task)? else {
-        return Ok(None);
-    };
-    if is_accepted(task, &cert) {
-        return Ok(Some(preferred(alloc, task, cert)?));
+    Ok(accepted(task, flat(alloc, task)?))
+}
+
+/// A certificate in its short form, if the checker accepts that too; else as it is.
+fn preferred(alloc: Global, task: &Task, cert: Cert) -> Result<Cert, Memory>
+    requires accepted { IsAccepted task.now cert }
+    requires version { cert.version ≡ Two }
+    ensures accepted { IfOk result (λ given. IsAccepted task.now given) }
+    ensures version { IfOk result (λ given. given.version ≡ Two) }
+    ensures short { IfOk result (λ given. IsAccepted task.now (short_form task.now given) → given ≡ short_form task.now given) }
+{
+    let short = shortened(alloc, task, &cert)?;
+    if is_accepted(task, &short) {
+        return Ok(short);
     }
-    Ok(None)
+    Ok(cert)
+}
+
+/// A certificate of a task, of version 2, that the checker accepts, if the search finds one: that of what it finds point by
+/// point, or the flat one. Where its short form is accepted, with bounds at named points alone, it is given in that form. Where
+/// the flat certificate is accepted, it finds one. `Memory` may come in place of any answer. It always ends. (own)
+pub fn search(alloc: Global, task: &Task) -> Result<Option<Cert>, Memory>
+    ensures accepted { IfOk result (λ found. IfSome found (λ cert. IsAccepted task.now cert)) }
+    ensures version { IfOk result (λ found. IfSome found (λ cert. cert.version ≡ Two)) }
+    ensures short { IfOk result (λ found. IfSome found (λ cert.
+        IsAccepted task.now (short_form task.now cert) → cert ≡ short_form task.now cert)) }
+    ensures flat { result ≡ Ok None → (certificate : Certificate) → flat task.now ≡ Some certificate → IsAccepted task.now certificate → ⊥ }
+{
+    match first_accepted(alloc, task)? {
+        Some(cert) => Ok(Some(preferred(alloc, task, cert)?)),
+        None => Ok(None),
+    }
 }

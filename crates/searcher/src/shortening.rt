@@ -1,35 +1,58 @@
 //! Certificates of version 2 with bounds at named points alone.
 
+ghost use Rattle.std.specs.Prelude.{◌≡◌, [], ◌∷◌, IfOk};
+ghost use Rattle.std.specs.List.{filter};
+ghost use Rattle.certificate.specs.Growths.{Grows, grown, grown_by};
+ghost use Rattle.certificate.specs.Lines.{lines_of};
+ghost use Rattle.certificate.specs.Views.{point_of, points_of};
+ghost use Rattle.searcher.specs.Shortening.{is_at_named, short_form};
+
 use certificate::{Cert, Point, Refusal, Version, push_block, push_channels};
 use checker::{code_named, is_named};
 use rights::Memory;
 use std::alloc::Global;
 use task::Task;
 
+/// Adds a point, if it is named.
+#[tactic(auto, unfolding(certificate::specs::Growths::grown_by))]
+fn push_if_named(short: &mut Cert, task: &Task, point: &Point) -> Result<(), Refusal>
+    ensures { Grows result short.new (grown_by (filter (is_at_named task.now) (point_of point.now ∷ [])) short.old) }
+{
+    let code = code_named(task, point.program().as_bytes());
+    if !is_named(code, point.point() as usize) {
+        return Ok(());
+    }
+    push_block(short, point.program(), point.point(), &point.bound())
+}
+
 /// Adds those of some points that are named.
-fn push_named(short: &mut Cert, task: &Task, points: &[Point]) -> Result<(), Refusal> {
+fn push_named(short: &mut Cert, task: &Task, points: &[Point]) -> Result<(), Refusal>
+    ensures { Grows result short.new (grown_by (filter (is_at_named task.now) (points_of points.now)) short.old) }
+{
     for point in points {
-        let code = code_named(task, point.program().as_bytes());
-        if is_named(code, point.point() as usize) {
-            push_block(short, point.program(), point.point(), &point.bound())?;
-        }
+        push_if_named(short, task, point)?;
     }
     Ok(())
 }
 
-/// A certificate without its points that aren't named.
-fn named_alone(alloc: Global, task: &Task, cert: &Cert) -> Result<Cert, Refusal> {
-    let mut short = Cert::new(alloc, Version::Two);
-    push_named(&mut short, task, cert.points())?;
-    push_channels(&mut short, cert.channels())?;
-    Ok(short)
+/// Adds the lines of a certificate's short form.
+fn push_short(short: &mut Cert, task: &Task, cert: &Cert) -> Result<(), Refusal>
+    ensures { Grows result short.new (grown (lines_of (short_form task.now cert.now)) short.old) }
+{
+    push_named(short, task, cert.points())?;
+    push_channels(short, cert.channels())
 }
 
-/// A certificate in version 2 with its bounds at named points alone, where its lines are taken.
-pub(crate) fn shortened(alloc: Global, task: &Task, cert: &Cert) -> Result<Option<Cert>, Memory> {
-    match named_alone(alloc, task, cert) {
-        Ok(short) => Ok(Some(short)),
+/// The short form of a certificate: that of version 2 with its bounds at named points alone, of which no line is ever refused.
+pub(crate) fn shortened(alloc: Global, task: &Task, cert: &Cert) -> Result<Cert, Memory>
+    ensures { IfOk result (λ short. short ≡ short_form task.now cert.now) }
+{
+    let _points = cert.points();
+    let mut short = Cert::new(alloc, Version::Two);
+    match push_short(&mut short, task, cert) {
+        Ok(()) => Ok(short),
         Err(Refusal::Memory) => Err(Memory),
-        Err(Refusal::Limit | Refusal::Order) => Ok(None),
+        Err(Refusal::Limit) => unreachable!(),
+        Err(Refusal::Order) => unreachable!(),
     }
 }

@@ -1,6 +1,11 @@
 //! What is known of the points of a program: a bound at each that is reached, which grows as outcomes come to it.
 
-ghost use Rattle.std.specs.Prelude.{◌≡◌, None, true};
+ghost use Rattle.std.specs.Prelude.{◌≡◌, ◌≤◌, ◌⊎◌, None, true, IfSome, slice_get};
+ghost use Rattle.certificate.specs.Order.{bound_within, interval_within};
+ghost use Rattle.certificate.specs.Views.{bound_of, interval_of};
+ghost use Rattle.rules.specs.Outcomes.{Outcome as OutcomeSeen};
+ghost use Rattle.transfer.specs.OutcomeViews.{outcome_of};
+ghost use Rattle.searcher.specs.SpotViews.{lies_in};
 
 use certificate::{Bound, Domain, Interval, Name};
 use prog_asm::Instruction;
@@ -31,7 +36,9 @@ pub(crate) struct Way {
 }
 
 /// The greatest constant that isn't above a value, or 0.
-fn constant_below(constants: &[u32], value: u32) -> u32 {
+fn constant_below(constants: &[u32], value: u32) -> u32
+    ensures { result ≤ value }
+{
     let mut found = 0;
     for constant in constants {
         if *constant <= value && found < *constant {
@@ -42,7 +49,9 @@ fn constant_below(constants: &[u32], value: u32) -> u32 {
 }
 
 /// The least constant that isn't below a value, or the greatest value of a register.
-fn constant_above(constants: &[u32], value: u32) -> u32 {
+fn constant_above(constants: &[u32], value: u32) -> u32
+    ensures { value ≤ result }
+{
     let mut found = u32::MAX;
     for constant in constants {
         if value <= *constant && *constant < found {
@@ -53,7 +62,9 @@ fn constant_above(constants: &[u32], value: u32) -> u32 {
 }
 
 /// An interval that grew, with the ends that moved taken further.
-fn widened_interval(old: Interval, grown: Interval, constants: &[u32]) -> Interval {
+fn widened_interval(old: Interval, grown: Interval, constants: &[u32]) -> Interval
+    ensures { interval_within (interval_of grown) (interval_of result) ≡ true }
+{
     let low = if grown.low() < old.low() {
         constant_below(constants, grown.low())
     } else {
@@ -71,23 +82,43 @@ fn widened_interval(old: Interval, grown: Interval, constants: &[u32]) -> Interv
     }
 }
 
+/// An interval that grew, taken further: to constants, or late to all values.
+fn taken_further(old: Interval, grown: Interval, constants: &[u32], is_late: bool) -> Interval
+    ensures { interval_within (interval_of grown) (interval_of result) ≡ true }
+{
+    if is_late {
+        return Interval::FULL;
+    }
+    widened_interval(old, grown, constants)
+}
+
 /// A bound that grew, with the registers widened that did.
-fn widened(old: &Bound, grown: Bound, constants: &[u32], is_late: bool) -> Bound {
+fn widened(old: &Bound, grown: Bound, constants: &[u32], is_late: bool) -> Bound
+    ensures { bound_within (bound_of grown) (bound_of result) ≡ true }
+{
     let mut next = grown;
     for register in 0..REGISTERS {
         let register = register as u8;
         let before = old.interval(register);
         let after = grown.interval(register);
         if !after.within(&before) {
-            let interval = if is_late {
-                Interval::FULL
-            } else {
-                widened_interval(before, after, constants)
-            };
+            let interval = taken_further(before, after, constants, is_late);
             next = next.with_interval(register, interval);
         }
     }
     next
+}
+
+/// The join of a bound and an outcome; after a few changes with the registers widened that grew.
+fn grown_to(there: &Bound, outcome: &Outcome<'_>, changes: u32, constants: &[u32]) -> Bound
+    ensures outcome { bound_within (outcome_of outcome.now).bound (bound_of result) ≡ true }
+    ensures grows { bound_within (bound_of there.now) (bound_of result) ≡ true }
+{
+    let joined = there.join(&outcome.bound_there());
+    if changes <= FEW_CHANGES {
+        return joined;
+    }
+    widened(there, joined, constants, changes > MANY_CHANGES)
 }
 
 impl Spot {
@@ -100,8 +131,12 @@ impl Spot {
         }
     }
 
-    /// Takes an outcome: the bound grows to hold it.
-    fn take(&mut self, outcome: &Outcome<'_>, constants: &[u32]) {
+    /// Takes an outcome: the bound grows to hold it, and waits where it grew.
+    fn take(&mut self, outcome: &Outcome<'_>, constants: &[u32])
+        ensures outcome { lies_in self.new.bound (outcome_of outcome.now) ≡ true }
+        ensures grows { (o : OutcomeSeen) → lies_in self.old.bound o ≡ true → lies_in self.new.bound o ≡ true }
+        ensures waits { (self.new.waits ≡ true) ⊎ (self.new.bound ≡ self.old.bound) }
+    {
         let Some(there) = self.bound else {
             self.bound = Some(outcome.bound_there());
             self.waits = true;
@@ -110,14 +145,8 @@ impl Spot {
         if outcome.is_within(&there) {
             return;
         }
-        let joined = there.join(&outcome.bound_there());
         self.changes = self.changes.saturating_add(1);
-        let grown = if self.changes > FEW_CHANGES {
-            widened(&there, joined, constants, self.changes > MANY_CHANGES)
-        } else {
-            joined
-        };
-        self.bound = Some(grown);
+        self.bound = Some(grown_to(&there, outcome, self.changes, constants));
         self.waits = true;
     }
 }
@@ -185,8 +214,11 @@ impl OutcomeTest for Way {
 
     ghost kept = { λ t. None };
 
-    /// Takes the outcome, and goes on to the next.
-    fn asks(&mut self, outcome: &Outcome<'_>) -> bool {
+    /// Takes the outcome at its point, if the program has that, and goes on to the next.
+    fn asks(&mut self, outcome: &Outcome<'_>) -> bool
+        ensures value { result ≡ true }
+        ensures taken { IfSome (slice_get self.new.spots.items outcome.now.point) (λ spot. lies_in spot.bound (outcome_of outcome.now) ≡ true) }
+    {
         if let Some(spot) = self.spots.get_mut(outcome.point) {
             spot.take(outcome, &self.constants);
         }

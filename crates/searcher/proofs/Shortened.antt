@@ -1,0 +1,122 @@
+-- The short form of a certificate is made by its own lines, and is its own short form.
+use Rattle.std.proofs.Common.{◌≡◌, ◌≤◌, ◌<◌, ◌+◌, ◌++◌, ℕ, Bool, true, false, List, [], ◌∷◌, length, map, drop, refl, ap, sym, ◌∙◌}
+use Rattle.std.specs.Prelude.{Some, if◌then◌else◌}
+use Rattle.std.specs.List.{filter, flat_map, list_all, slice_index_or}
+use Rattle.std.proofs.Math.ListN.{drop_of_length-le}
+use Rattle.std.proofs.lemmas.List.{drop_more}
+use Rattle.std.proofs.lemmas.List.Folds.{list_all-map}
+use Rattle.certificate.specs.Bounds.{PointBound, Two, Certificate}
+use Rattle.certificate.specs.Growth.{IsCertificate, nothing, programs_of}
+use Rattle.certificate.specs.Growths.{grown, grown_by, then_grown}
+use Rattle.certificate.specs.Lines.{Bounds_channel, block_lines, lines_of}
+use Rattle.certificate.specs.Rising.{places_of, precedes, rises}
+use Rattle.certificate.specs.Views.{point_of, points_of}
+use Rattle.certificate.specs.declared.points.Point.{Point as PointCode}
+use Rattle.certificate.proofs.Fits.{is_fit_point}
+use Rattle.certificate.proofs.Growing.{and_left, and_right, both_true}
+use Rattle.certificate.proofs.Growths.{by_append, grown_append}
+use Rattle.certificate.proofs.Makes.{Fits, makes_itself}
+use Rattle.certificate.proofs.Whole.{fits_itself}
+use Rattle.checker.proofs.Along.{by_lines}
+use Rattle.task.specs.Plans.{Plan}
+use Rattle.searcher.specs.Shortening.{is_at_named, short_form}
+
+-- WHAT IS LEFT of some points
+all_left : {A : Type 0} (test keep : A → Bool) (xs : List A) → list_all test xs ≡ true → list_all test (filter keep xs) ≡ true
+all_left test keep [] all = refl
+all_left test keep (x ∷ xs) all =
+    go (keep x) (and_left (test x) (list_all test xs) all) (all_left test keep xs (and_right (test x) (list_all test xs) all))
+  where
+    go : (b : Bool) → test x ≡ true → list_all test (filter keep xs) ≡ true → list_all test (if b then x ∷ filter keep xs else filter keep xs) ≡ true
+    go true first rest = both_true (test x) (list_all test (filter keep xs)) first rest
+    go false first rest = rest
+
+left_twice : {A : Type 0} (keep : A → Bool) (xs : List A) → filter keep (filter keep xs) ≡ filter keep xs
+left_twice keep [] = refl
+left_twice keep (x ∷ xs) = go (keep x) refl (left_twice keep xs)
+  where
+    go : (b : Bool) → keep x ≡ b → filter keep (filter keep xs) ≡ filter keep xs
+        → filter keep (if b then x ∷ filter keep xs else filter keep xs) ≡ (if b then x ∷ filter keep xs else filter keep xs)
+    go true is rest = ap (λ b. if b then x ∷ filter keep (filter keep xs) else filter keep (filter keep xs)) is ∙ ap (λ list. x ∷ list) rest
+    go false is rest = rest
+
+rises_left : (keep : PointBound → Bool) (points : List PointBound) → rises (places_of points) ≡ true → rises (places_of (filter keep points)) ≡ true
+rises_left keep [] up = refl
+rises_left keep (b ∷ points) up =
+    let before = list_all (precedes (b.program, b.point)) (places_of points) in
+    go (keep b) (above (and_left before (rises (places_of points)) up)) (rises_left keep points (and_right before (rises (places_of points)) up))
+  where
+    above : list_all (precedes (b.program, b.point)) (places_of points) ≡ true → list_all (precedes (b.program, b.point)) (places_of (filter keep points)) ≡ true
+    above all =
+        list_all-map (precedes (b.program, b.point)) (λ (a : PointBound). (a.program, a.point)) (filter keep points)
+        ∙ all_left (λ (a : PointBound). precedes (b.program, b.point) (a.program, a.point)) keep points
+        (sym (list_all-map (precedes (b.program, b.point)) (λ (a : PointBound). (a.program, a.point)) points) ∙ all)
+
+    go : (keeps : Bool) → list_all (precedes (b.program, b.point)) (places_of (filter keep points)) ≡ true → rises (places_of (filter keep points)) ≡ true
+        → rises (places_of (if keeps then b ∷ filter keep points else filter keep points)) ≡ true
+    go true first rest = both_true (list_all (precedes (b.program, b.point)) (places_of (filter keep points))) (rises (places_of (filter keep points))) first rest
+    go false first rest = rest
+
+-- THE SHORT FORM is a certificate,
+short_fits : (plan : Plan) (c : Certificate) → IsCertificate c → Fits (programs_of c) (short_form plan c)
+unfolding short_form
+short_fits plan c valid =
+    let fits = fits_itself c valid in
+    record {
+      few = fits.few;
+      fit = all_left (is_fit_point (programs_of c)) (is_at_named plan) c.points fits.fit;
+      up = rises_left (is_at_named plan) c.points fits.up;
+      among = fits.among;
+      stand = fits.stand;
+      classes = fits.classes;
+    }
+
+pub short_taken : (plan : Plan) (c start : Certificate) → IsCertificate c → start ≡ nothing Two
+    → grown (lines_of (short_form plan c)) start ≡ Some (short_form plan c)
+unfolding short_form
+short_taken plan c start valid begun =
+    ap (grown (lines_of (short_form plan c))) begun ∙ makes_itself (programs_of c) (short_form plan c) (short_fits plan c valid)
+
+-- of version 2,
+pub short_is_two : (plan : Plan) (c : Certificate) → (short_form plan c).version ≡ Two
+unfolding short_form
+short_is_two plan c = refl
+
+-- and has no shorter one.
+pub short_twice : (plan : Plan) (c : Certificate) → short_form plan (short_form plan c) ≡ short_form plan c
+unfolding short_form
+short_twice plan c = ap (λ points. record { version = Two; points = points; channels = c.channels }) (left_twice (is_at_named plan) c.points)
+
+-- ITS LINES are those of its points, and then the channels.
+pub short_lines : (plan : Plan) (c d : Certificate)
+    → grown (lines_of (short_form plan c)) d ≡ then_grown (grown (map Bounds_channel c.channels)) (grown_by (filter (is_at_named plan) c.points) d)
+unfolding short_form
+short_lines plan c d =
+    let points = filter (is_at_named plan) c.points in
+    grown_append (flat_map block_lines points) (map Bounds_channel c.channels) d
+    ∙ ap (then_grown (grown (map Bounds_channel c.channels))) (sym (by_lines points d))
+
+-- One point after another is added, if it is named.
+point_then : (plan : Plan) (b : PointBound) (points : List PointBound)
+    → filter (is_at_named plan) (b ∷ points) ≡ filter (is_at_named plan) (b ∷ []) ++ filter (is_at_named plan) points
+point_then plan b points = go (is_at_named plan b)
+  where
+    go : (named : Bool) → (if named then b ∷ filter (is_at_named plan) points else filter (is_at_named plan) points)
+        ≡ (if named then b ∷ [] else []) ++ filter (is_at_named plan) points
+    go true = refl
+    go false = refl
+
+pub first_then : (plan : Plan) (points : List PointCode) (i : ℕ) (first : PointCode) (c : Certificate) → i < length points → first ≡ slice_index_or points i first
+    → grown_by (filter (is_at_named plan) (points_of (drop i points))) c
+    ≡ then_grown (grown_by (filter (is_at_named plan) (points_of (drop (i + 1) points)))) (grown_by (filter (is_at_named plan) (point_of first ∷ [])) c)
+first_then plan points i first c below is =
+    let rest = points_of (drop (i + 1) points) in
+    ap (λ list. grown_by (filter (is_at_named plan) (points_of list)) c) (drop_more points i first below ∙ ap (λ p. p ∷ drop (i + 1) points) (sym is))
+    ∙ ap (λ list. grown_by list c) (point_then plan (point_of first) rest)
+    ∙ by_append (filter (is_at_named plan) (point_of first ∷ [])) (filter (is_at_named plan) rest) c
+
+-- Behind the last nothing is left.
+pub none_left : (plan : Plan) (points : List PointCode) (i : ℕ) (c : Certificate) → length points ≤ i
+    → grown_by (filter (is_at_named plan) (points_of (drop i points))) c ≡ Some c
+unfolding grown_by
+none_left plan points i c past = ap (λ list. grown_by (filter (is_at_named plan) (points_of list)) c) (drop_of_length-le points past)
