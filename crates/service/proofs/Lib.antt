@@ -1,3 +1,5 @@
 pub mod Rows
 pub mod Accepted
 pub mod Listings
+pub mod Begun
+pub mod Verdicts

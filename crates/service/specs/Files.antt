@@ -1,5 +1,7 @@
--- Files by name, which a source tells or doesn't.
-use Rattle.std.specs.Prelude.{◌≡◌, ℕ, List, Option, Some, None}
+-- Files by name, which a source tells or doesn't, and what their texts stand for. (own)
+use Rattle.std.specs.Prelude.{◌≡◌, ℕ, List, Option, Some, None, Result, Ok}
+use Rattle.task.specs.Plans.{Plan}
+use Rattle.task_reader.specs.Reading.{task_of}
 
 abbrev pub Files : Type 0
 Files = Option (List ℕ → Option (List ℕ))
@@ -9,7 +11,28 @@ abbrev pub IsFile : Files → List ℕ → List ℕ → Type 0
 IsFile None name text = Unit {0}
 IsFile (Some files) name text = files name ≡ Some text
 
--- There is no file of this name.
+-- There is a file of this name.
+abbrev pub IsThere : Files → List ℕ → Type 0
+IsThere files name = (text : List ℕ) × IsFile files name text
+
+-- There is none.
 abbrev pub IsMissing : Files → List ℕ → Type 0
 IsMissing None name = Unit {0}
 IsMissing (Some files) name = files name ≡ None
+
+-- The file of this name has a text that is read as this.
+pub record IsRead {R : Type 0} (files : Files) (name : List ℕ) (reading_of : List ℕ → R) (reading : R) : Type 0 where
+  pub text : List ℕ
+  pub file : IsFile files name text
+  pub is : reading_of text ≡ reading
+
+abbrev pub IsTask : Files → List ℕ → Plan → Type 0
+IsTask files name plan = IsRead files name task_of (Ok plan)
+
+-- Of the files of these names the first is a task and the second has a value, as `reading_of` reads it, and this holds of both.
+pub record OfFiles {R F : Type 0} (files : Files) (task second : List ℕ) (reading_of : List ℕ → Result R F) (Holds : Plan → R → Type 0) : Type 0 where
+  pub plan : Plan
+  pub is_task : IsTask files task plan
+  pub value : R
+  pub is_value : IsRead files second reading_of (Ok value)
+  pub holds : Holds plan value

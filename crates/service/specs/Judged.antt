@@ -1,14 +1,11 @@
 -- The verdict on a task with a certificate, and how it is told.
-use Rattle.std.specs.Prelude.{◌≡◌, ◌++◌, ℕ, List, codes, Option, Ok}
+use Rattle.std.specs.Prelude.{◌≡◌, ◌++◌, ℕ, List, codes, Option}
 use Rattle.std.specs.Fmt.{decimal}
 use Rattle.rights.specs.Output.{Took}
 use Rattle.certificate.specs.Bounds.{Certificate}
 use Rattle.checker.specs.Verdicts.{Verdict, Yes, No, IsVerdict}
 use Rattle.task.specs.Plans.{Plan, program_name}
 use Rattle.task.specs.Sandboxed.{IsSandboxed}
-use Rattle.task_reader.specs.Reading.{task_of}
-use Rattle.certificate_text.specs.Readings.{certificate_of_text}
-use Rattle.service.specs.Files.{Files, IsFile}
 
 -- `no main:4`
 abbrev pub no_at : Plan → ℕ → ℕ → List ℕ
@@ -30,15 +27,3 @@ pub record Judges (plan : Plan) (bounds : Certificate) (status : ℕ) (before af
   pub status_is : status ≡ verdict_status verdict
   pub sound : verdict ≡ Yes → IsSandboxed plan
   pub writes : Took before after (verdict_text plan verdict)
-
--- Of the files of these names the first is a task and the second a certificate, and this is the verdict on them.
-pub record ChecksFiles (files : Files) (task certificate : List ℕ) (status : ℕ) (before after : Option (List ℕ)) : Type 0 where
-  pub task_text : List ℕ
-  pub task_file : IsFile files task task_text
-  pub certificate_text : List ℕ
-  pub certificate_file : IsFile files certificate certificate_text
-  pub plan : Plan
-  pub is_task : task_of task_text ≡ Ok plan
-  pub bounds : Certificate
-  pub is_certificate : certificate_of_text certificate_text ≡ Ok bounds
-  pub judges : Judges plan bounds status before after

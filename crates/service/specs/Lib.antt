@@ -1,4 +1,5 @@
 pub mod Accepted
+pub mod Begun
 pub mod Examples
 pub mod Expanded
 pub mod Fails

@@ -1,5 +1,5 @@
 -- What is told of an accepted certificate: at each point the rights that a process may have in each grant. (own)
-use Rattle.std.specs.Prelude.{◌≡◌, ◌==◌, ◌++◌, ℕ, List, [], ◌∷◌, codes, take, Option, Some, None, Ok, bit_or, if◌then◌else◌}
+use Rattle.std.specs.Prelude.{◌≡◌, ◌==◌, ◌++◌, ℕ, List, [], ◌∷◌, codes, take, Option, Some, None, bit_or, if◌then◌else◌}
 use Rattle.std.specs.Fmt.{decimal}
 use Rattle.std.specs.Str.{bytes_eq}
 use Rattle.rights.specs.Output.{Took}
@@ -8,14 +8,11 @@ use Rattle.texts.specs.Bytes.{comma}
 use Rattle.texts.specs.Parts.{joined}
 use Rattle.certificate.specs.Bounds.{Target, In_grant, Any_node, Socket, Unknown, Held, Slot, Bound, Certificate, bound_at, held_in}
 use Rattle.certificate_text.specs.Pieces.{in_order}
-use Rattle.certificate_text.specs.Readings.{certificate_of_text}
 use Rattle.checker.specs.Verdicts.{Verdict, Yes, No, IsVerdict}
 use Rattle.rules.specs.Expansions.{expansion}
 use Rattle.prog_asm.specs.Programs.{Instruction}
 use Rattle.task.specs.Plans.{Grant, NamedProgram, Plan}
 use Rattle.task.specs.Sandboxed.{IsSandboxed}
-use Rattle.task_reader.specs.Reading.{task_of}
-use Rattle.service.specs.Files.{Files, IsFile}
 use Rattle.service.specs.Judged.{verdict_status, verdict_text}
 
 -- ## The rights in a grant
@@ -96,15 +93,3 @@ pub record Reports (plan : Plan) (bounds : Certificate) (status : ℕ) (before a
   pub status_is : status ≡ verdict_status verdict
   pub sound : verdict ≡ Yes → IsSandboxed plan
   pub writes : Took before after (answer_text plan bounds verdict)
-
--- Of the files of these names the first is a task and the second a certificate, and this is the report on them.
-pub record ReportsFiles (files : Files) (task certificate : List ℕ) (status : ℕ) (before after : Option (List ℕ)) : Type 0 where
-  pub task_text : List ℕ
-  pub task_file : IsFile files task task_text
-  pub certificate_text : List ℕ
-  pub certificate_file : IsFile files certificate certificate_text
-  pub plan : Plan
-  pub is_task : task_of task_text ≡ Ok plan
-  pub bounds : Certificate
-  pub is_certificate : certificate_of_text certificate_text ≡ Ok bounds
-  pub reports : Reports plan bounds status before after

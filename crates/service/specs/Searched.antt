@@ -8,8 +8,6 @@ use Rattle.checker.specs.Verdicts.{IsAccepted}
 use Rattle.searcher.specs.Flat.{flat}
 use Rattle.task.specs.Plans.{Plan}
 use Rattle.task.specs.Sandboxed.{IsSandboxed}
-use Rattle.task_reader.specs.Reading.{task_of}
-use Rattle.service.specs.Files.{Files, IsFile}
 
 -- A certificate that is accepted, so that every run of the task is sandboxed, is written as a text that is read as it again.
 pub record Proposes (plan : Plan) (before after : Option (List ℕ)) : Type 0 where
@@ -28,11 +26,3 @@ pub record FindsNone (plan : Plan) (before after : Option (List ℕ)) : Type 0 w
 abbrev pub Searches : Plan → ℕ → Option (List ℕ) → Option (List ℕ) → Type 0
 Searches plan status before after =
     ((status ≡ 0) × Proposes plan before after) ⊎ ((status ≡ 1) × FindsNone plan before after)
-
--- The file of this name is a task, and this is what is proposed for it.
-pub record SearchesFile (files : Files) (task : List ℕ) (status : ℕ) (before after : Option (List ℕ)) : Type 0 where
-  pub task_text : List ℕ
-  pub task_file : IsFile files task task_text
-  pub plan : Plan
-  pub is_task : task_of task_text ≡ Ok plan
-  pub searches : Searches plan status before after

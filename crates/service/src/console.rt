@@ -9,8 +9,8 @@ use crate::statuses::{REFUSED, STOPPED};
 use rights::{Out, OutFault, write_all};
 use std::io::Write;
 
-/// A stream of the process. What it takes isn't told as of other writers, but the stream underneath gets what was taken
-/// and no more.
+/// A stream of the process, as a writer that counts its failures. `taken` tells nothing of it; where the stream underneath
+/// tells what it holds, the clause `appends` says that it gets what was taken and no more.
 #[derive(Drop)]
 pub struct Console<W: Write + Drop> {
     stream: W,
@@ -28,7 +28,8 @@ impl<W: Write + Drop> Console<W> {
         }
     }
 
-    /// Hands on what a buffer still holds, and says whether that went well.
+    /// Hands on what a buffer still holds, and says whether that went well. No clause can say when it does: the contract of
+    /// std's `Write` promises nothing of what a stream's `flush` answers.
     pub fn flush(&mut self) -> bool
         ensures failures { self.new.failures ≡ self.old.failures }
         ensures kept { Keeps (W.contents self.old.stream) (W.contents self.new.stream) }
@@ -66,8 +67,8 @@ impl<W: Write + Drop> Out for Console<W> {
     }
 }
 
-/// The status of the program, once the output was flushed: the one that it has; or 3 where that failed, which is told
-/// unless a fault was told before.
+/// The status that the program ends with once the output was flushed: the one that it had; or 3 where the flush failed, and
+/// that is told unless a fault was told before.
 pub fn closed<V: Out>(status: u8, flushed: bool, err: &mut V) -> u8
     requires { V.faults err.old < 2 ^ 64 - 1 }
     ensures kept { flushed ≡ true → (result ≡ status) × (V.taken err.new ≡ V.taken err.old) }

@@ -1,5 +1,5 @@
-//! The task that runs without words: its one process `main` begins outside capability mode, with `/work/in` open for reading as
-//! descriptor 2 and the grant `work` to look and read beneath `/work`; it enters the mode and reads a byte.
+//! The task that runs without words. Its one process `main` begins outside capability mode, with `/work/in` open for reading as
+//! descriptor 2; it enters the mode and reads a byte. Its one grant, `work`, is to look and read beneath `/work`.
 
 ghost use Rattle.std.specs.Prelude.{◌≡◌, ◌∷◌, [], codes, IfOk};
 ghost use Rattle.service.specs.Examples.{enter_and_read, first_plan, start_with, work_grant};
@@ -112,7 +112,7 @@ fn enter_and_read(alloc: Global) -> Result<Program, AllocError>
     Ok(Program::new(code))
 }
 
-/// The task.
+/// The example's task.
 #[tactic(auto, unfolding(file_tree::specs::WellFormed::is_within_limits, file_tree::specs::Places::is_name))]
 pub fn example_task(alloc: Global) -> Result<Task, AllocError>
     ensures { IfOk result (λ task. task ≡ first_plan) }

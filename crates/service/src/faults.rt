@@ -211,8 +211,8 @@ fn text_of(alloc: Global, fault: &Fault<'_>) -> Result<Vec<u8>, AllocError>
     Ok(text)
 }
 
-/// Tells a fault, and gives its status. A fault of this writer changes nothing. Without memory for its
-/// line another fault is told as want of memory, with that status.
+/// Tells a fault, and gives its status, which a failure of this writer doesn't change. Where there is no memory for the line of
+/// a fault, want of memory is told in its place, with the status of that.
 pub(crate) fn tell<V: Out>(alloc: Global, fault: &Fault<'_>, err: &mut V) -> u8
     requires { V.faults err.old < 2 ^ 64 - 1 }
     ensures { IsTold (fault_of fault.now) result (V.taken err.old) (V.taken err.new) (V.faults err.old) (V.faults err.new) }

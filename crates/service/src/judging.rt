@@ -1,6 +1,7 @@
 //! Verdicts on tasks and certificates, and how they are told.
 
 ghost use Rattle.std.specs.Prelude.{◌≡◌, ◌<◌, ◌-◌, ◌^◌, IfOk, IsErrOf};
+ghost use Rattle.service.specs.Begun.{Begins};
 ghost use Rattle.service.specs.Judged.{Judges, no_at, verdict_status, verdict_text};
 ghost use Rattle.checker.specs.Views.{verdict_of};
 
@@ -32,7 +33,7 @@ fn no_at(alloc: Global, task: &Task, program: u8, point: u8) -> Result<Vec<u8>, 
     Ok(text)
 }
 
-/// The line of a verdict: `yes`; or the program's name and the point, with the rule that is broken.
+/// The line of a verdict: `yes`, or `no` with the program's name, the point, and the rule that is broken.
 pub(crate) fn text_of_verdict(
     alloc: Global,
     task: &Task,
@@ -57,11 +58,15 @@ pub(crate) fn text_of_verdict(
 }
 
 /// Checks a certificate against a task, writes the verdict, and gives its status: 0 for a yes, and else 1. Its errors are
-/// `Device`, after a failure of the writer, and `Memory`. (own)
+/// `Device`, after a failure of the writer, which then has taken a beginning of that, and `Memory`, before anything is
+/// written. (own)
+#[tactic(auto, using(crate::proofs::Verdicts::verdict_begun))]
 pub fn judge<W: Out>(alloc: Global, task: &Task, cert: &Cert, out: &mut W) -> Result<u8, Stop>
     requires { W.faults out.old < 2 ^ 64 - 1 }
     ensures judged { IfOk result (λ status. Judges task.now cert.now status (W.taken out.old) (W.taken out.new)) }
     ensures device { IsErrOf result Stop.Device → W.faults out.old < W.faults out.new }
+    ensures begun { IsErrOf result Stop.Device → Begins (Judges task.now cert.now) (W.taken out.old) (W.taken out.new) }
+    ensures memory { IsErrOf result Stop.Memory → W.taken out.new ≡ W.taken out.old }
     ensures not_spent { IsErrOf result Stop.Spent → ⊥ }
 {
     let verdict = check(task, cert);

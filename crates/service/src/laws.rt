@@ -6,7 +6,7 @@ ghost use Rattle.service.specs.Examples.{AlwaysShows, absent_event, bare_plan, e
 ghost use Rattle.service.specs.ReportRows.{halting_certificate, halting_plan};
 ghost use Rattle.service.specs.Reports.{report_text};
 
-/// What every run of three small tasks shows, event for event, and of a process that was not made.
+/// What every run of three small tasks shows, event for event: one event is of a process that was not made.
 pub fn small_tasks_show_these_traces()
     ensures example { AlwaysShows first_plan example_events
         (codes "0 main:0 = 0\n0 main:1 = 65 read /work/in\n") }

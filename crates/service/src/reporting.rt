@@ -8,6 +8,7 @@ ghost use Rattle.certificate_text.specs.Pieces.{in_order};
 ghost use Rattle.certificate_text.specs.Writings.{Writes};
 ghost use Rattle.checker.specs.Views.{verdict_of};
 ghost use Rattle.rights.specs.Output.{Took, TookFront};
+ghost use Rattle.service.specs.Begun.{Begins};
 ghost use Rattle.service.specs.Reports.{Reports, answer_text, either_set, grant_line, greatest_in, names_in, own_names, parted, place_text, point_lines, program_lines, report_text, rights_in, rights_text};
 ghost use Rattle.rules.specs.Expansions.{expansion};
 ghost use Rattle.task.specs.Views.{grant_of, grants_of, program_of, programs_of};
@@ -322,6 +323,8 @@ fn write_answer<W: Out>(
     requires { W.faults out.old < 2 ^ 64 - 1 }
     ensures written { OnOk result (Took (W.taken out.old) (W.taken out.new) (answer_text task.now cert.now (verdict_of verdict))) }
     ensures device { IsErrOf result Stop.Device → W.faults out.old < W.faults out.new }
+    ensures begun { IsErrOf result Stop.Device → TookFront (W.taken out.old) (W.taken out.new) (answer_text task.now cert.now (verdict_of verdict)) }
+    ensures memory { IsErrOf result Stop.Memory → W.taken out.new ≡ W.taken out.old }
     ensures not_spent { IsErrOf result Stop.Spent → ⊥ }
 {
     match verdict {
@@ -334,7 +337,9 @@ fn write_answer<W: Out>(
 }
 
 /// Checks a certificate against a task, and writes the report, with the status 0, where it is accepted, or else the line of the
-/// verdict, with the status 1. Its errors are `Device`, after a failure of the writer, and `Memory`. (own)
+/// verdict, with the status 1. Its errors are `Device`, after a failure of the writer, which then has taken a beginning of that,
+/// and `Memory`, before anything is written. (own)
+#[tactic(auto, using(crate::proofs::Verdicts::report_begun))]
 pub fn report_checked<W: Out>(
     alloc: Global,
     task: &Task,
@@ -344,6 +349,8 @@ pub fn report_checked<W: Out>(
     requires { W.faults out.old < 2 ^ 64 - 1 }
     ensures reported { IfOk result (λ status. Reports task.now cert.now status (W.taken out.old) (W.taken out.new)) }
     ensures device { IsErrOf result Stop.Device → W.faults out.old < W.faults out.new }
+    ensures begun { IsErrOf result Stop.Device → Begins (Reports task.now cert.now) (W.taken out.old) (W.taken out.new) }
+    ensures memory { IsErrOf result Stop.Memory → W.taken out.new ≡ W.taken out.old }
     ensures not_spent { IsErrOf result Stop.Spent → ⊥ }
 {
     let verdict = check(task, cert);

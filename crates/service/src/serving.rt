@@ -1,17 +1,12 @@
 //! What the program does with its words, and with the files that they name.
 
 ghost use Rattle.std.specs.Prelude.{◌≡◌, ◌<◌, ◌⊎◌, ◌-◌, ◌^◌, IfErr, IfOk, IsTrue, None, OnOk, map, string_bytes};
-ghost use Rattle.service.specs.Expanded.{ExpandsFiles};
-ghost use Rattle.service.specs.Examples.{example_events, first_plan};
+ghost use Rattle.service.specs.Begun.{Begins};
 ghost use Rattle.service.specs.Fails.{Fails, Refuses, WordsFail};
 ghost use Rattle.service.specs.Faults.{No_file, No_memory, Refused};
 ghost use Rattle.service.specs.FaultViews.{fault_of};
 ghost use Rattle.service.specs.Files.{IsFile, IsMissing};
-ghost use Rattle.service.specs.Judged.{ChecksFiles};
-ghost use Rattle.service.specs.Reports.{ReportsFiles};
-ghost use Rattle.service.specs.Searched.{SearchesFile};
-ghost use Rattle.service.specs.Served.{Does, RunsFiles, Serves, is_done_status, is_fault_status, is_status};
-ghost use Rattle.simulator.specs.Simulations.{WritesTrace};
+ghost use Rattle.service.specs.Served.{Does, Serves, is_done_status, is_fault_status, is_status};
 ghost use Rattle.words.specs.Orders.{Check, Example, Expand, Report, Run, Search};
 ghost use Rattle.words.specs.OrderViews.{order_of};
 
@@ -48,8 +43,7 @@ const EXAMPLE: [Event; 2] = [
 /// The trace of the example's task on two events.
 fn example<'a, W: Out>(alloc: Global, out: &mut W) -> Result<(), Fault<'a>>
     requires { W.faults out.old < 2 ^ 64 - 1 }
-    ensures done { OnOk result
-        (WritesTrace first_plan example_events (W.taken out.old) (W.taken out.new)) }
+    ensures done { OnOk result (Does None Example 0 (W.taken out.old) (W.taken out.new)) }
     ensures fails { IfErr result (λ fault. Fails None Example
         (W.taken out.old) (W.taken out.new) (W.faults out.old) (W.faults out.new) (fault_of fault)) }
 {
@@ -80,7 +74,7 @@ fn run<'a, S: Source, W: Out>(
     out: &mut W,
 ) -> Result<(), Fault<'a>>
     requires { W.faults out.old < 2 ^ 64 - 1 }
-    ensures done { OnOk result (RunsFiles (S.files files.old) task.now schedule.now (W.taken out.old) (W.taken out.new)) }
+    ensures done { OnOk result (Does (S.files files.old) (Run task.now schedule.now) 0 (W.taken out.old) (W.taken out.new)) }
     ensures fails { IfErr result (λ fault. Fails (S.files files.old) (Run task.now schedule.now)
         (W.taken out.old) (W.taken out.new) (W.faults out.old) (W.faults out.new) (fault_of fault)) }
 {
@@ -102,7 +96,7 @@ fn check_files<'a, S: Source, W: Out>(
     out: &mut W,
 ) -> Result<u8, Fault<'a>>
     requires { W.faults out.old < 2 ^ 64 - 1 }
-    ensures done { IfOk result (λ status. ChecksFiles (S.files files.old) task.now cert.now status (W.taken out.old) (W.taken out.new)) }
+    ensures done { IfOk result (λ status. Does (S.files files.old) (Check task.now cert.now) status (W.taken out.old) (W.taken out.new)) }
     ensures fails { IfErr result (λ fault. Fails (S.files files.old) (Check task.now cert.now)
         (W.taken out.old) (W.taken out.new) (W.faults out.old) (W.faults out.new) (fault_of fault)) }
 {
@@ -122,7 +116,7 @@ fn report_files<'a, S: Source, W: Out>(
     out: &mut W,
 ) -> Result<u8, Fault<'a>>
     requires { W.faults out.old < 2 ^ 64 - 1 }
-    ensures done { IfOk result (λ status. ReportsFiles (S.files files.old) task.now cert.now status (W.taken out.old) (W.taken out.new)) }
+    ensures done { IfOk result (λ status. Does (S.files files.old) (Report task.now cert.now) status (W.taken out.old) (W.taken out.new)) }
     ensures fails { IfErr result (λ fault. Fails (S.files files.old) (Report task.now cert.now)
         (W.taken out.old) (W.taken out.new) (W.faults out.old) (W.faults out.new) (fault_of fault)) }
 {
@@ -132,7 +126,7 @@ fn report_files<'a, S: Source, W: Out>(
     Ok(report_checked(alloc, &claim.task, &claim.cert, out)?)
 }
 
-/// Searches a certificate of the task of a file, and writes it, or that none is found, with the status.
+/// Searches for a certificate of the task of a file, writes it, or `none`, and gives the status.
 fn search_file<'a, S: Source, W: Out>(
     alloc: Global,
     task: &'a str,
@@ -140,7 +134,7 @@ fn search_file<'a, S: Source, W: Out>(
     out: &mut W,
 ) -> Result<u8, Fault<'a>>
     requires { W.faults out.old < 2 ^ 64 - 1 }
-    ensures done { IfOk result (λ status. SearchesFile (S.files files.old) task.now status (W.taken out.old) (W.taken out.new)) }
+    ensures done { IfOk result (λ status. Does (S.files files.old) (Search task.now) status (W.taken out.old) (W.taken out.new)) }
     ensures fails { IfErr result (λ fault. Fails (S.files files.old) (Search task.now)
         (W.taken out.old) (W.taken out.new) (W.faults out.old) (W.faults out.new) (fault_of fault)) }
 {
@@ -158,7 +152,7 @@ fn expand_files<'a, S: Source, W: Out>(
     out: &mut W,
 ) -> Result<(), Fault<'a>>
     requires { W.faults out.old < 2 ^ 64 - 1 }
-    ensures done { OnOk result (ExpandsFiles (S.files files.old) task.now cert.now (W.taken out.old) (W.taken out.new)) }
+    ensures done { OnOk result (Does (S.files files.old) (Expand task.now cert.now) 0 (W.taken out.old) (W.taken out.new)) }
     ensures fails { IfErr result (λ fault. Fails (S.files files.old) (Expand task.now cert.now)
         (W.taken out.old) (W.taken out.new) (W.faults out.old) (W.faults out.new) (fault_of fault)) }
 {
@@ -218,12 +212,13 @@ fn serve_words<'a, S: Source, W: Out>(
     }
 }
 
-/// The program: does what its words say, or tells the fault on the error stream, and gives the status: 0, or
-/// 1 where it answers no, or 2 for a fault in words or files, or 3 for want of memory or a failed output.
+/// The program: does what its words say, or tells the fault on the error stream, and gives the status: 0, or 1 where it answers
+/// `no` or `none`, or 2 for a fault in words or files, or 3 for want of memory or a failed output.
 ///
 /// A file that can't be read is told before either text is parsed, in the order of the words; the task is parsed first.
-/// Where it is refused nothing is written to the output. A failure of the error stream changes nothing. `err` takes
-/// nothing else.
+/// With status 2 nothing is written to the output. With 3 a beginning of what is written with 0 or 1 is, where the output failed;
+/// and for want of memory nothing, or of a trace a beginning. Want of memory may be told in place of any fault. `err` takes the
+/// line of a fault and nothing else, and its failures change neither the status nor the output.
 pub fn serve<S: Source, W: Out, V: Out>(
     alloc: Global,
     words: &[String],
@@ -238,6 +233,8 @@ pub fn serve<S: Source, W: Out, V: Out>(
     ensures refused { IsTrue (is_fault_status result) → Refuses (S.files files.old) (map string_bytes words.now) result
         (W.taken out.old) (W.taken out.new) (W.faults out.old) (W.faults out.new)
         (V.taken err.old) (V.taken err.new) (V.faults err.old) (V.faults err.new) }
+    ensures stopped { result ≡ 3 → (W.taken out.new ≡ W.taken out.old)
+        ⊎ Begins (Serves (S.files files.old) (map string_bytes words.now)) (W.taken out.old) (W.taken out.new) }
     ensures known { IsTrue (is_status result) }
 {
     match serve_words(alloc, words, files, out) {

@@ -3,7 +3,7 @@
 /// It did what its words say.
 pub const DONE: u8 = 0;
 
-/// It answers no.
+/// It answers `no` or `none`.
 pub const BROKEN: u8 = 1;
 
 /// A fault in words or files.

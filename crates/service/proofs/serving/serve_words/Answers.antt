@@ -14,4 +14,4 @@ returns-in-Err-Words-clause-fails g c =
     not_asked (subst (λ e. ReadsWords (Err e) words) c.in-Err-Words.field-0-is c.in-Err-Words.ensures) refl
 
 pub returns-in-Err-Memory-clause-fails : goal.returns-in-Err-Memory-clause-fails
-returns-in-Err-Memory-clause-fails g c = unread
+returns-in-Err-Memory-clause-fails g c = unread refl
