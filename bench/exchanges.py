@@ -1,4 +1,4 @@
-"""What bench/emptied exchanges: for each row of crates/kernel/proofs/CauseRows.antt the two tests whose order it tells, in the
+"""What bench/emptied exchanges: for each row of crates/kernel/proofs/CauseRows.antt and NameCauseRows.antt the two tests whose order it tells, in the
 definition of the calls. A line has the row, the text that is replaced, and what stands there then. A text that ends in ` =`
 stands for its whole clause, and what a new text leaves open, where the old one doesn't, is closed at its end."""
 
@@ -190,11 +190,11 @@ PAIRS = [
       (granted (first_need (Fcntl_setfl x v) no_request) d
       (commanded setfl_command d (sets_flags d.description (value_of s v)"""),
     ("fstatat_asks_the_right_before_the_kind", *right_last("Fstatat x path", IN_DIRECTORY,
-        "looks n Beneath path Follow looked_at")),
+        "looks n Beneath path Follow stats_at")),
     ("fstatat_asks_the_kind_before_the_path",
-        *path_first("Fstatat x path", "looks n Beneath path Follow " + lost_first(f"{IS_DIR} (looked_at other)"))),
+        *path_first("Fstatat x path", "looks n Beneath path Follow " + lost_first(f"{IS_DIR} (stats_at other)"))),
     ("stat_asks_the_mode_first", "answer (Stat path) =",
-        "looks 0 Global path Follow (λ found. elim found [ Found_node n ↦ outside_mode (looked n) | other ↦ looked_at other ]"),
+        "looks 0 Global path Follow (λ found. elim found [ Found_node n ↦ outside_mode (stats n) | other ↦ stats_at other ]"),
     ("mkdir_asks_the_mode_first", "answer (Mkdir path) =",
         "looks 0 Global path Keep " + lost_first("outside_mode (made_directory path other)")),
     ("mkdirat_asks_the_right_before_the_kind",
@@ -211,13 +211,13 @@ PAIRS = [
       ({MADE_DIRECTORY}"""),
     ("mkdirat_asks_the_path_before_the_kernel", "made_directory path (Found_node n) =", "unrefused ENOSPC (Fails EEXIST Path)"),
     ("unlink_asks_the_mode_first", "answer (Unlink path directory) =",
-        "looks 0 Global path Keep " + lost_first("outside_mode (unlinked directory other)")),
+        "looks 0 Global path Keep " + lost_first("outside_mode (unlinks directory other)")),
     ("unlinkat_asks_the_right_before_the_kind",
-        *right_last("Unlinkat x path directory", IN_DIRECTORY, "looks n Beneath path Keep (unlinked directory)")),
+        *right_last("Unlinkat x path directory", IN_DIRECTORY, "looks n Beneath path Keep (unlinks directory)")),
     ("unlinkat_asks_the_kind_before_the_path",
         *path_first("Unlinkat x path directory",
-            "looks n Beneath path Keep " + lost_first(f"{IS_DIR} (unlinked directory other)"))),
-    ("unlinkat_asks_the_kind_before_what_is_below", "unlinked_as false n rest =",
+            "looks n Beneath path Keep " + lost_first(f"{IS_DIR} (unlinks directory other)"))),
+    ("unlinkat_asks_the_kind_before_what_is_below", "unlinks_as false n rest =",
         "unless (not (has_below w.tree (at n).place)) ENOTEMPTY Path (unless (not (is_dir (at n).kind)) EPERM Path rest"),
     ("renameat_asks_rights_before_the_kinds", "answer (Renameat x from y to) =", f"""{BOTH} granted ({FIRST}) d
       ({IN_DIRECTORY} granted ({SECOND}) target

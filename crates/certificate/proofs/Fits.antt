@@ -8,7 +8,7 @@ use Rattle.rights.specs.Limits.{most_descriptors, most_programs, register_count}
 use Rattle.certificate.specs.Bounds.{Bound, Slot, PointBound, Certificate}
 use Rattle.certificate.specs.Order.{same_class}
 use Rattle.certificate.specs.Lines.{Line}
-use Rattle.certificate.specs.Growth.{classes_in_line, classes_of, distinct, has_room, most_classes, programs_in_line, programs_of, programs_of_block, programs_of_slot}
+use Rattle.certificate.specs.Growth.{classes_in_line, classes_of, distinct, has_room, most_classes, programs_in_line, programs_named, programs_of_block, programs_of_slot}
 use Rattle.certificate.proofs.Fewer.{among_both, are_among, fewer, is_among}
 use Rattle.certificate.proofs.Growing.{and_left, and_right, both_true}
 
@@ -50,10 +50,10 @@ module _ (names : List (List ℕ)) where
     few_among : (some : List (List ℕ)) → are_among names some ≡ true → nat_le (length (distinct bytes_eq some)) most_programs ≡ true
     few_among some all = let less = fewer names some all in search (rules, less, few)
 
-    pub room_for : (c : Certificate) (line : Line) → are_among names (programs_of c) ≡ true → are_among names (programs_in_line line) ≡ true
+    pub room_for : (c : Certificate) (line : Line) → are_among names (programs_named c) ≡ true → are_among names (programs_in_line line) ≡ true
         → length (distinct same_class (classes_of c ++ classes_in_line line)) ≤ most_classes → has_room c line ≡ true
     room_for c line all own classes =
-        both_true (nat_le (length (distinct bytes_eq (programs_of c ++ programs_in_line line))) most_programs)
+        both_true (nat_le (length (distinct bytes_eq (programs_named c ++ programs_in_line line))) most_programs)
         (nat_le (length (distinct same_class (classes_of c ++ classes_in_line line))) most_classes)
-        (few_among (programs_of c ++ programs_in_line line) (among_both names (programs_of c) (programs_in_line line) all own))
+        (few_among (programs_named c ++ programs_in_line line) (among_both names (programs_named c) (programs_in_line line) all own))
         (search (rules, classes))

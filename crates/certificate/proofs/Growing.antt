@@ -8,7 +8,8 @@ use Rattle.rights.specs.Limits.{most_programs}
 use Rattle.certificate.specs.Bounds.{Certificate, ChannelBound}
 use Rattle.certificate.specs.Order.{same_class}
 use Rattle.certificate.specs.Lines.{Line, Begins_block, Bounds_register, Bounds_slot, Bounds_channel}
-use Rattle.certificate.specs.Growth.{IsCertificate, No_room, Out_of_order, begins, grows, classes_in_line, classes_of, distinct, distinct_behind, has_room, most_classes, programs_in_line, programs_of, stands, taken, with_line}
+use Rattle.certificate.specs.Growth.{IsCertificate, No_room, Out_of_order, begins, grows, classes_in_line, classes_of, distinct, distinct_behind, has_room, most_classes}
+use Rattle.certificate.specs.Growth.{programs_in_line, programs_named, stands, taken, with_line}
 use Rattle.certificate.specs.Room.{if_few, listed_with}
 use Rattle.certificate.proofs.Distinct.{behind-append, few_none-back, few_some-back}
 
@@ -67,7 +68,7 @@ taken_keeps c d line took = ap (λ (e : Certificate). e.version) (sym (taken-bac
 
 -- room, by what is listed of it
 abbrev few_programs : Certificate → Line → Bool
-few_programs c line = nat_le (length (distinct bytes_eq (programs_of c ++ programs_in_line line))) most_programs
+few_programs c line = nat_le (length (distinct bytes_eq (programs_named c ++ programs_in_line line))) most_programs
 
 abbrev few_classes : Certificate → Line → Bool
 few_classes c line = nat_le (length (distinct same_class (classes_of c ++ classes_in_line line))) most_classes
@@ -94,15 +95,15 @@ listed_over same most xs ys is =
 
 pub record HasRoom (c : Certificate) (line : Line) (names : List (List ℕ)) (classes : ℕ) : Type 0 where
   pub room : has_room c line ≡ true
-  pub named : names ≡ distinct bytes_eq (programs_of c ++ programs_in_line line)
+  pub named : names ≡ distinct bytes_eq (programs_named c ++ programs_in_line line)
   pub counted : classes ≡ length (distinct same_class (classes_of c ++ classes_in_line line))
 
-pub room_yes : (c : Certificate) (line : Line) (names k : List (List ℕ)) (m : ℕ) → names ≡ distinct bytes_eq (programs_of c)
+pub room_yes : (c : Certificate) (line : Line) (names k : List (List ℕ)) (m : ℕ) → names ≡ distinct bytes_eq (programs_named c)
     → Some k ≡ listed_with bytes_eq most_programs names (programs_in_line line)
     → Some m ≡ option_map length (listed_with same_class most_classes (distinct same_class (classes_of c)) (classes_in_line line))
     → HasRoom c line k m
 room_yes c line names k m are names_listed classes_listed =
-    let named = listed_all bytes_eq most_programs (programs_of c) (programs_in_line line) k
+    let named = listed_all bytes_eq most_programs (programs_named c) (programs_in_line line) k
     (names_listed ∙ ap (λ list. listed_with bytes_eq most_programs list (programs_in_line line)) are) in
     let counted = map_some length _ m classes_listed in
     let classed = listed_all same_class most_classes (classes_of c) (classes_in_line line) counted.0 counted.1 in
@@ -112,11 +113,11 @@ room_yes c line names k m are names_listed classes_listed =
       counted = counted.2 ∙ ap length classed.1;
     }
 
-pub room_no_program : (c : Certificate) (line : Line) (names : List (List ℕ)) → names ≡ distinct bytes_eq (programs_of c)
+pub room_no_program : (c : Certificate) (line : Line) (names : List (List ℕ)) → names ≡ distinct bytes_eq (programs_named c)
     → None ≡ listed_with bytes_eq most_programs names (programs_in_line line) → has_room c line ≡ false
 room_no_program c line names are over =
     both_false_left (few_programs c line) (few_classes c line)
-    (listed_over bytes_eq most_programs (programs_of c) (programs_in_line line)
+    (listed_over bytes_eq most_programs (programs_named c) (programs_in_line line)
     (over ∙ ap (λ list. listed_with bytes_eq most_programs list (programs_in_line line)) are))
 
 pub room_no_class : (c : Certificate) (line : Line)

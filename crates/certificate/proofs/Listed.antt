@@ -15,7 +15,7 @@ use Rattle.certificate.specs.declared.lines.Line.{Line}
 use Rattle.certificate.specs.declared.lines.Line.TheVariants as line
 use Rattle.certificate.specs.Growth.{classes_in_line, programs_of_target}
 use Rattle.certificate.specs.Room.{listed_with}
-use Rattle.certificate.specs.GrowthViews.{names_in}
+use Rattle.certificate.specs.GrowthViews.{names_there}
 use Rattle.certificate.specs.CountViews.{programs_listed}
 use Rattle.certificate.specs.Views.{line_of, name_of, target_of}
 use Rattle.certificate.proofs.Distinct.{listed_nothing}
@@ -39,12 +39,12 @@ line-no_classes (line.Slot n s) not = refl
 line-no_classes (line.Channel c) not = absurd (not c refl)
 
 -- a name is put into the first empty place
-names-append : (xs ys : List (Option Name)) → names_in (xs ++ ys) ≡ names_in xs ++ names_in ys
+names-append : (xs ys : List (Option Name)) → names_there (xs ++ ys) ≡ names_there xs ++ names_there ys
 names-append [] ys = refl
 names-append (None ∷ xs) ys = names-append xs ys
 names-append (Some name ∷ xs) ys = ap (λ names. name_of name ∷ names) (names-append xs ys)
 
 pub programs_pushed : (count : ℕ) (names : List (Option Name)) (name : Name) → count < length names
-    → names_in (take (count + 1) (set names count (Some name))) ≡ names_in (take count names) ++ name_of name ∷ []
+    → names_there (take (count + 1) (set names count (Some name))) ≡ names_there (take count names) ++ name_of name ∷ []
 programs_pushed count names name room =
-    ap names_in (take_more_set names count (Some name) room) ∙ names-append (take count names) (Some name ∷ [])
+    ap names_there (take_more_set names count (Some name) room) ∙ names-append (take count names) (Some name ∷ [])

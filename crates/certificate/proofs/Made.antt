@@ -9,8 +9,9 @@ use Rattle.std.proofs.lemmas.Bool.Decides.{nat_tests}
 use Rattle.rights.specs.Limits.{most_descriptors}
 use Rattle.certificate.specs.Bounds.{Bound, Certificate, ChannelBound, PointBound, Slot, Closed, Open, Maybe, held_in, with_interval, with_slot}
 use Rattle.certificate.specs.Order.{same_class}
-use Rattle.certificate.specs.Lines.{Line, Begins_block, Bounds_register, Bounds_slot, Bounds_channel, are_numbered, is_closed, is_line, is_named, is_numbered, is_proper}
-use Rattle.certificate.specs.Growth.{IsCertificate, begins, grows, all_from, classes_of, distinct, has_none, may_bound_slot, on_last, programs_in_line, programs_of, programs_of_block, programs_of_channel, programs_of_slot, stands, with_line}
+use Rattle.certificate.specs.Lines.{Line, Begins_block, Bounds_register, Bounds_slot, Bounds_channel, are_numbered, is_closed, is_line, has_names, is_numbered, is_proper}
+use Rattle.certificate.specs.Growth.{IsCertificate, begins, grows, all_from, classes_of, distinct, has_none, may_bound_slot, on_last, programs_in_line, programs_named}
+use Rattle.certificate.specs.Growth.{programs_of_block, programs_of_channel, programs_of_slot, stands, with_line}
 use Rattle.certificate.proofs.Growing.{HasRoom, and_left, and_right, classes_made, taken-back, taken_ok}
 
 -- Blocks have rows of sixteen slots.
@@ -109,18 +110,18 @@ number_within n is = grind (arith, nat_tests, is)
 
 slot_number : (n : ℕ) (s : Slot) → is_line (Bounds_slot n s) ≡ true → n < most_descriptors
 slot_number n s proper =
-    let numbered = and_right (is_named (Bounds_slot n s) && is_proper (Bounds_slot n s)) (is_numbered (Bounds_slot n s)) proper in
+    let numbered = and_right (has_names (Bounds_slot n s) && is_proper (Bounds_slot n s)) (is_numbered (Bounds_slot n s)) proper in
     number_within n (and_left (nat_lt n most_descriptors) (are_numbered (held_in s)) numbered)
 
 pub programs_made : (c : Certificate) (line : Line) → IsCertificate c → is_line line ≡ true → stands c line ≡ true
-    → programs_of (with_line c line) ≡ programs_of c ++ programs_in_line line
+    → programs_named (with_line c line) ≡ programs_named c ++ programs_in_line line
 programs_made c (Begins_block program point mode) valid proper place =
     let no_channels = none c.channels (and_left (has_none c.channels) _ place) in
     ap (λ names. names ++ flat_map programs_of_channel c.channels) (flat_map-append programs_of_block c.points _)
     ∙ before_channels (flat_map programs_of_block c.points) (program ∷ []) c.channels no_channels
 programs_made c (Bounds_register register interval) valid proper place =
     ap (λ names. names ++ flat_map programs_of_channel c.channels) (registers_on_last (λ b. with_interval b register interval) (λ b. refl) c.points)
-    ∙ sym (append-nil (programs_of c))
+    ∙ sym (append-nil (programs_named c))
 programs_made c (Bounds_slot number slot) valid proper place =
     let no_channels = none c.channels (and_left (has_none c.channels) _ place) in
     let may = and_right (has_none c.channels) _ place in
@@ -134,9 +135,9 @@ programs_made c (Bounds_channel channel) valid proper place =
 -- a line that has room and its place makes a certificate, of which the same is listed
 pub grown : (c d : Certificate) (line : Line) (names : List (List ℕ)) (classes : ℕ) → IsCertificate c → is_line line ≡ true
     → HasRoom c line names classes → stands c line ≡ true → d ≡ with_line c line
-    → IsCertificate d × (names ≡ distinct bytes_eq (programs_of d)) × (classes ≡ length (distinct same_class (classes_of d)))
+    → IsCertificate d × (names ≡ distinct bytes_eq (programs_named d)) × (classes ≡ length (distinct same_class (classes_of d)))
 grown c d line names classes valid proper has place is =
-    subst (λ e. IsCertificate e × (names ≡ distinct bytes_eq (programs_of e)) × (classes ≡ length (distinct same_class (classes_of e)))) (sym is) (
+    subst (λ e. IsCertificate e × (names ≡ distinct bytes_eq (programs_named e)) × (classes ≡ length (distinct same_class (classes_of e)))) (sym is) (
       grows valid line proper (taken_ok c line has.room place),
       has.named ∙ ap (distinct bytes_eq) (sym (programs_made c line valid proper place)),
       has.counted ∙ ap (λ all. length (distinct same_class all)) (sym (classes_made c line)),

@@ -12,7 +12,8 @@ use Rattle.rights.specs.Limits.{most_descriptors, most_programs, register_count}
 use Rattle.certificate.specs.Bounds.{ModeBound, Interval, Slot, Closed, Open, Maybe, Bound, PointBound, ChannelBound, Version, Certificate, full_interval, with_interval, with_slot}
 use Rattle.certificate.specs.Order.{same_class}
 use Rattle.certificate.specs.Lines.{Begins_block, Bounds_register, Bounds_slot, Bounds_channel, block_lines, is_closed, is_full, register_lines, slot_lines}
-use Rattle.certificate.specs.Growth.{above_blocks, above_channels, all_from, classes_in, copies, distinct, distinct_behind, most_classes, nothing, on_last, programs_of, programs_of_block, programs_of_channel, programs_of_slot, taken}
+use Rattle.certificate.specs.Growth.{above_blocks, above_channels, all_from, classes_in, copies, distinct, distinct_behind, most_classes, empty, on_last, programs_named}
+use Rattle.certificate.specs.Growth.{programs_of_block, programs_of_channel, programs_of_slot, taken}
 use Rattle.certificate.specs.Growths.{IsGrown, grown, grown_behind, then_grown}
 use Rattle.certificate.specs.Rising.{places_of, precedes, rises}
 use Rattle.certificate.proofs.Distinct.{behind-append, behind-grows}
@@ -74,7 +75,7 @@ module _ (version : Version) (names : List (List ℕ)) (few : length (distinct b
     closed = copies most_descriptors Closed
 
     state_among : (registers : List Interval) (slots : List Slot) → list_all (is_fit_slot names) slots ≡ true
-        → are_among names (programs_of (state registers slots)) ≡ true
+        → are_among names (programs_named (state registers slots)) ≡ true
     state_among registers slots fit =
         let blocks = flat_map programs_of_block (before ++ block registers slots ∷ []) in
         ap (are_among names) (append-nil blocks ∙ flat_map-append programs_of_block before (block registers slots ∷ []))
@@ -218,7 +219,7 @@ module _ (version : Version) (names : List (List ℕ)) (few : length (distinct b
     with_channels channels = record { version = version; points = points; channels = channels }
 
     channels_among : (channels : List ChannelBound) → are_among names (flat_map programs_of_channel channels) ≡ true
-        → are_among names (programs_of (with_channels channels)) ≡ true
+        → are_among names (programs_named (with_channels channels)) ≡ true
     channels_among channels all = among_both names (flat_map programs_of_block points) (flat_map programs_of_channel channels) among all
 
     channel_taken : (done : List ChannelBound) (channel : ChannelBound) (todo : List ChannelBound)
@@ -264,6 +265,6 @@ pub record Fits (names : List (List ℕ)) (c : Certificate) : Type 0 where
 
 pub makes_itself : (names : List (List ℕ)) (c : Certificate) → Fits names c → IsGrown c
 makes_itself names c fits =
-    grown_append (flat_map block_lines c.points) (map Bounds_channel c.channels) (nothing c.version)
+    grown_append (flat_map block_lines c.points) (map Bounds_channel c.channels) (empty c.version)
     ∙ ap (then_grown (grown (map Bounds_channel c.channels))) (points_grown c.version names fits.few [] c.points refl fits.fit fits.up)
     ∙ channels_grown c.version names fits.few c.points (among_blocks names c.points fits.fit) [] c.channels refl fits.among fits.stand fits.classes

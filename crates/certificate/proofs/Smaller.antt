@@ -10,7 +10,8 @@ use Rattle.rights.proofs.Words.{same_bytes}
 use Rattle.certificate.specs.Bounds.{ModeBound, Off, On, Either, Interval, Target, In_grant, Any_node, Socket, Unknown, Held, Slot, Closed, Open, Maybe, Bound}
 use Rattle.certificate.specs.Order.{mode_within, interval_within, same_class, target_within, held_within, slot_within, each_within, bound_within, sends_within}
 use Rattle.certificate.specs.OrderLaws.{class_is}
-use Rattle.certificate.specs.Describes.{Subject, Node_at, End_of, Seen, Holds, target_describes, held_describes, slot_describes, mode_describes, interval_describes, registers_describe, slots_describe, describes, sends_describes}
+use Rattle.certificate.specs.Describes.{Subject, Node_at, End_of, Seen, Holds, target_describes, held_describes, slot_describes, mode_describes, interval_describes}
+use Rattle.certificate.specs.Describes.{registers_describe, slots_describe, describes, sends_describes}
 
 mode_smaller : (a b : ModeBound) (on : Bool) → mode_within a b ≡ true → mode_describes a on ≡ true → mode_describes b on ≡ true
 mode_smaller Off Off on within is = is
@@ -91,8 +92,11 @@ held_smaller holds a b d within is =
       target = target_smaller holds a.target b.target d.subject (both_left _ (is_within b.least a.least) two) facts.target;
       least = is_within-trans b.least a.least d.rights (both_right (target_within a.target b.target) _ two) facts.least;
       greatest = is_within-trans d.rights a.greatest b.greatest facts.greatest (both_right (target_within a.target b.target && is_within b.least a.least) _ three);
-      least_fcntls = is_within-trans b.least_fcntls a.least_fcntls d.fcntls (both_right (target_within a.target b.target && is_within b.least a.least && is_within a.greatest b.greatest) _ four) facts.least_fcntls;
-      greatest_fcntls = is_within-trans d.fcntls a.greatest_fcntls b.greatest_fcntls facts.greatest_fcntls (both_right (target_within a.target b.target && is_within b.least a.least && is_within a.greatest b.greatest && is_within b.least_fcntls a.least_fcntls) _ within);
+      least_fcntls = is_within-trans b.least_fcntls a.least_fcntls d.fcntls
+          (both_right (target_within a.target b.target && is_within b.least a.least && is_within a.greatest b.greatest) _ four) facts.least_fcntls;
+      greatest_fcntls = is_within-trans d.fcntls a.greatest_fcntls b.greatest_fcntls facts.greatest_fcntls
+          (both_right (target_within a.target b.target && is_within b.least a.least && is_within a.greatest b.greatest
+          && is_within b.least_fcntls a.least_fcntls) _ within);
     })
 
 pub slot_smaller : (holds : Holds) (a b : Slot) (o : Option Seen) → slot_within a b ≡ true → slot_describes holds a o ≡ true → slot_describes holds b o ≡ true
@@ -130,7 +134,8 @@ slots_smaller holds n (x ∷ a) (y ∷ b) table within is =
     (slots_smaller holds (n + 1) a b table (both_right (slot_within x y) _ within) (both_right (slot_describes holds x (table n)) _ is))
 
 -- the whole
-pub describes_smaller : (holds : Holds) (a b : Bound) (on : Bool) (values : List ℕ) (table : ℕ → Option Seen) → bound_within a b ≡ true → describes holds a on values table ≡ true → describes holds b on values table ≡ true
+pub describes_smaller : (holds : Holds) (a b : Bound) (on : Bool) (values : List ℕ) (table : ℕ → Option Seen) → bound_within a b ≡ true →
+    describes holds a on values table ≡ true → describes holds b on values table ≡ true
 describes_smaller holds a b on values table within is =
     let first = both_left _ (each_within slot_within a.slots b.slots) within in
     let here = both_left _ (slots_describe holds 0 a.slots table) is in
@@ -138,7 +143,9 @@ describes_smaller holds a b on values table within is =
     (both_true
     (mode_smaller a.mode b.mode on (both_left _ (each_within interval_within a.registers b.registers) first) (both_left _ (registers_describe a.registers values) here))
     (registers_smaller a.registers b.registers values (both_right (mode_within a.mode b.mode) _ first) (both_right (mode_describes a.mode on) _ here)))
-    (slots_smaller holds 0 a.slots b.slots table (both_right (mode_within a.mode b.mode && each_within interval_within a.registers b.registers) _ within) (both_right (mode_describes a.mode on && registers_describe a.registers values) _ is))
+    (slots_smaller holds 0 a.slots b.slots table
+    (both_right (mode_within a.mode b.mode && each_within interval_within a.registers b.registers) _ within)
+    (both_right (mode_describes a.mode on && registers_describe a.registers values) _ is))
 
 pub sends_smaller : (holds : Holds) (a b : Option Held) (d : Seen) → sends_within a b ≡ true → sends_describes holds a d ≡ true → sends_describes holds b d ≡ true
 sends_smaller holds None b d within is = absurd cc

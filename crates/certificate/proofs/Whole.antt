@@ -9,7 +9,8 @@ use Rattle.rights.specs.Limits.{most_descriptors, most_programs, register_count}
 use Rattle.certificate.specs.Bounds.{Bound, PointBound, ChannelBound, Certificate, with_interval, with_slot}
 use Rattle.certificate.specs.Order.{same_class}
 use Rattle.certificate.specs.Lines.{Line, Begins_block, Bounds_register, Bounds_slot, Bounds_channel}
-use Rattle.certificate.specs.Growth.{IsCertificate, begins, grows, above_channels, classes_in_line, classes_of, distinct, distinct_behind, most_classes, on_last, open_bound, programs_in_line, programs_of, programs_of_block, programs_of_channel, programs_of_slot, stands, with_line}
+use Rattle.certificate.specs.Growth.{IsCertificate, begins, grows, above_channels, classes_in_line, classes_of, distinct, distinct_behind, most_classes, on_last, open_bound}
+use Rattle.certificate.specs.Growth.{programs_in_line, programs_named, programs_of_block, programs_of_channel, programs_of_slot, stands, with_line}
 use Rattle.certificate.specs.Growths.{IsGrown}
 use Rattle.certificate.proofs.Fewer.{among_own, among_split, are_among, is_among}
 use Rattle.certificate.proofs.Fits.{all_together, is_fit, is_fit_point, is_fit_slot}
@@ -70,15 +71,15 @@ fit_of names (b ∷ points) whole among =
     (fit_of names points (and_right (is_whole b.bound) (are_whole points) whole) parts.1)
 
 -- EIGHT PROGRAMS at most
-names_few : (c : Certificate) → IsCertificate c → length (distinct bytes_eq (programs_of c)) ≤ most_programs
+names_few : (c : Certificate) → IsCertificate c → length (distinct bytes_eq (programs_named c)) ≤ most_programs
 unfolding distinct_behind
 names_few _ (begins version) = omega arith
 names_few _ (grows {c} {d} valid line proper took) =
     let is = taken-back c line d took in
-    let all = programs_of c ++ programs_in_line line in
+    let all = programs_named c ++ programs_in_line line in
     let few = le_true _ _ (and_left (nat_le (length (distinct bytes_eq all)) most_programs)
     (nat_le (length (distinct same_class (classes_of c ++ classes_in_line line))) most_classes) is.room) in
-    subst (λ e. length (distinct bytes_eq (programs_of e)) ≤ most_programs) is.made
+    subst (λ e. length (distinct bytes_eq (programs_named e)) ≤ most_programs) is.made
     (subst (λ names. length (distinct bytes_eq names) ≤ most_programs) (sym (programs_made c line valid proper is.place)) few)
 
 -- CHANNELS in their places
@@ -106,9 +107,9 @@ channels_stand _ (grows {c} {d} valid line proper took) =
     subst (λ (e : Certificate). stand_behind [] e.channels ≡ true) is.made (stand_made c line is.place (channels_stand c valid))
 
 -- A CERTIFICATE fits the programs that it names.
-pub fits_itself : (c : Certificate) → IsCertificate c → Fits (programs_of c) c
+pub fits_itself : (c : Certificate) → IsCertificate c → Fits (programs_named c) c
 fits_itself c valid =
-    let names = programs_of c in
+    let names = programs_named c in
     let parts = among_split names (flat_map programs_of_block c.points) (flat_map programs_of_channel c.channels) (among_own names) in
     record {
       few = names_few c valid;
@@ -120,4 +121,4 @@ fits_itself c valid =
     }
 
 pub certificates_grown : (c : Certificate) → IsCertificate c → IsGrown c
-certificates_grown c valid = makes_itself (programs_of c) c (fits_itself c valid)
+certificates_grown c valid = makes_itself (programs_named c) c (fits_itself c valid)

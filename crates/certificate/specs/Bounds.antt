@@ -3,6 +3,7 @@
 use Rattle.std.specs.Prelude.{◌==◌, ◌&&◌, ◌-◌, ◌^◌, ℕ, List, [], ◌∷◌, slice_set, Option, Some, None, if◌then◌else◌}
 use Rattle.std.specs.List.{slice_index_or}
 use Rattle.std.specs.Str.{bytes_eq}
+use Rattle.rights.specs.Values.{Name, DescriptorNumber, SideNumber, RightSet, CommandSet}
 use Rattle.rights.specs.Classes.{Class}
 
 -- whether a process is in capability mode
@@ -19,18 +20,18 @@ pub record Interval : Type 0 where
 -- What a descriptor is of: a node at or beneath the grant of this name, any file or directory, an end
 -- of a socket pair of this class and side, or any of these.
 pub data Target : Type 0 where
-  In_grant : (name : List ℕ) → Target
+  In_grant : (name : Name) → Target
   Any_node : Target
-  Socket : (class : Class) (side : ℕ) → Target
+  Socket : (class : Class) (side : SideNumber) → Target
   Unknown : Target
 
 -- a descriptor's bound: what it is of, and the sets between which its rights and fcntl commands lie
 pub record Held : Type 0 where
   pub target : Target
-  pub least : ℕ
-  pub greatest : ℕ
-  pub least_fcntls : ℕ
-  pub greatest_fcntls : ℕ
+  pub least : RightSet
+  pub greatest : RightSet
+  pub least_fcntls : CommandSet
+  pub greatest_fcntls : CommandSet
 
 -- A number of a process's table is closed, or surely open, or open or closed.
 pub data Slot : Type 0 where
@@ -45,7 +46,7 @@ pub record Bound : Type 0 where
   pub slots : List Slot
 
 pub record PointBound : Type 0 where
-  pub program : List ℕ
+  pub program : Name
   pub point : ℕ
   pub bound : Bound
 
@@ -53,7 +54,7 @@ pub record PointBound : Type 0 where
 -- within a bound.
 pub record ChannelBound : Type 0 where
   pub class : Class
-  pub side : ℕ
+  pub side : SideNumber
   pub sends : Option Held
 
 -- In version 1 each bound is written; in version 2 bounds are carried along between points where ways meet.
@@ -73,7 +74,7 @@ full_interval = record { low = 0; high = 2 ^ 32 - 1 }
 abbrev pub interval : List Interval → ℕ → Interval
 interval registers r = slice_index_or registers r full_interval
 
-abbrev pub slot : List Slot → ℕ → Slot
+abbrev pub slot : List Slot → DescriptorNumber → Slot
 slot slots n = slice_index_or slots n Closed
 
 -- the bound with a register in another interval
@@ -81,7 +82,7 @@ abbrev pub with_interval : Bound → ℕ → Interval → Bound
 with_interval b r i = record b { registers = slice_set b.registers r i }
 
 -- the bound with a number of the table being otherwise
-abbrev pub with_slot : Bound → ℕ → Slot → Bound
+abbrev pub with_slot : Bound → DescriptorNumber → Slot → Bound
 with_slot b n s = record b { slots = slice_set b.slots n s }
 
 -- what a slot that may be open holds
@@ -91,10 +92,10 @@ held_in (Open h) = Some h
 held_in (Maybe h) = Some h
 
 -- the bound of a point of the program of this name, the first that is listed
-unfoldable pub bound_in : List PointBound → List ℕ → ℕ → Option Bound
+unfoldable pub bound_in : List PointBound → Name → ℕ → Option Bound
 bound_in [] program point = None
 bound_in (b ∷ points) program point =
     if bytes_eq b.program program && (b.point == point) then Some b.bound else bound_in points program point
 
-abbrev pub bound_at : Certificate → List ℕ → ℕ → Option Bound
+abbrev pub bound_at : Certificate → Name → ℕ → Option Bound
 bound_at certificate program point = bound_in certificate.points program point

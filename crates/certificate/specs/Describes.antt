@@ -1,5 +1,6 @@
 -- The processes that a bound describes. (own)
 use Rattle.std.specs.Prelude.{◌+◌, ◌==◌, ◌&&◌, ℕ, Bool, true, false, not, nat_le, List, [], ◌∷◌, Option, Some, None}
+use Rattle.rights.specs.Values.{Place, SideNumber, RightSet, CommandSet}
 use Rattle.rights.specs.Limits.{most_descriptors}
 use Rattle.rights.specs.Sets.{is_within}
 use Rattle.rights.specs.Classes.{Class}
@@ -9,13 +10,13 @@ use Rattle.certificate.specs.Order.{same_class}
 -- A descriptor as a bound sees it: the place of its node, or the class and side of its end, with its
 -- rights and fcntl commands.
 pub data Subject : Type 0 where
-  Node_at : (place : List (List ℕ)) → Subject
-  End_of : (class : Class) (side : ℕ) → Subject
+  Node_at : (place : Place) → Subject
+  End_of : (class : Class) (side : SideNumber) → Subject
 
 pub record Seen : Type 0 where
   pub subject : Subject
-  pub rights : ℕ
-  pub fcntls : ℕ
+  pub rights : RightSet
+  pub fcntls : CommandSet
 
 -- What follows is said of a policy: whether the grant of this name holds this place.
 abbrev pub Holds : Type 0

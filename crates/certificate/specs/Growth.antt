@@ -6,9 +6,11 @@ use Rattle.std.specs.declared.cmp.Ordering.TheVariants.{Less, Greater}
 use Rattle.std.specs.Ordering.{is_lt, nat_cmp, ordering_then}
 use Rattle.std.specs.Cmp.Lexicographic.{slice_cmp}
 use Rattle.std.specs.Str.{bytes_eq}
+use Rattle.rights.specs.Values.{Name}
 use Rattle.rights.specs.Classes.{Class, Initial, Made_at}
 use Rattle.rights.specs.Limits.{most_descriptors, most_programs, register_count}
-use Rattle.certificate.specs.Bounds.{ModeBound, Target, In_grant, Any_node, Socket, Unknown, Held, Slot, Closed, Bound, PointBound, ChannelBound, Version, Certificate, full_interval, held_in, with_interval, with_slot}
+use Rattle.certificate.specs.Bounds.{ModeBound, Target, In_grant, Any_node, Socket, Unknown, Held, Slot, Closed, Bound, PointBound, ChannelBound, Version, Certificate}
+use Rattle.certificate.specs.Bounds.{full_interval, held_in, with_interval, with_slot}
 use Rattle.certificate.specs.Order.{same_class}
 use Rattle.certificate.specs.Lines.{Line, Begins_block, Bounds_register, Bounds_slot, Bounds_channel, is_closed, is_full, is_line}
 
@@ -30,7 +32,7 @@ abbrev pub channel_order : ChannelBound → ChannelBound → Ordering
 channel_order a b = ordering_then (class_order a.class b.class) (nat_cmp a.side b.side)
 
 -- whether the block of a point may stand behind these, of which the last is asked
-unfoldable pub above_blocks : List PointBound → List ℕ → ℕ → Bool
+unfoldable pub above_blocks : List PointBound → Name → ℕ → Bool
 above_blocks [] program point = true
 above_blocks (b ∷ []) program point = is_lt (point_order b.program b.point program point)
 above_blocks (b ∷ c ∷ points) program point = above_blocks (c ∷ points) program point
@@ -96,8 +98,8 @@ programs_of_block b = b.program ∷ flat_map programs_of_slot b.bound.slots
 abbrev pub programs_of_channel : ChannelBound → List (List ℕ)
 programs_of_channel c = programs_of_class c.class ++ programs_of_held c.sends
 
-abbrev pub programs_of : Certificate → List (List ℕ)
-programs_of c = flat_map programs_of_block c.points ++ flat_map programs_of_channel c.channels
+abbrev pub programs_named : Certificate → List (List ℕ)
+programs_named c = flat_map programs_of_block c.points ++ flat_map programs_of_channel c.channels
 
 abbrev pub classes_in : List ChannelBound → List Class
 classes_in channels = map (λ (channel : ChannelBound). channel.class) channels
@@ -128,7 +130,7 @@ distinct same xs = distinct_behind same [] xs
 
 abbrev pub has_room : Certificate → Line → Bool
 has_room c line =
-    nat_le (length (distinct bytes_eq (programs_of c ++ programs_in_line line))) most_programs
+    nat_le (length (distinct bytes_eq (programs_named c ++ programs_in_line line))) most_programs
     && nat_le (length (distinct same_class (classes_of c ++ classes_in_line line))) most_classes
 
 -- THE GROWTH.
@@ -160,10 +162,10 @@ pub data Refused : Type 0 where
 unfoldable pub taken : Certificate → Line → Result Certificate Refused
 taken c line = if has_room c line then (if stands c line then Ok (with_line c line) else Err Out_of_order) else Err No_room
 
-abbrev pub nothing : Version → Certificate
-nothing version = record { version = version; points = []; channels = [] }
+abbrev pub empty : Version → Certificate
+empty version = record { version = version; points = []; channels = [] }
 
--- A certificate of a version is what lines make of nothing, each taken by what the lines before it made.
+-- A certificate of a version is what lines make of empty, each taken by what the lines before it made.
 pub data IsCertificate : Certificate → Type 0 where
-  begins : (version : Version) → IsCertificate (nothing version)
+  begins : (version : Version) → IsCertificate (empty version)
   grows : {c : Certificate} {d : Certificate} → IsCertificate c → (line : Line) → is_line line ≡ true → taken c line ≡ Ok d → IsCertificate d

@@ -1,9 +1,7 @@
 -- What lines make of a certificate, one after another. (own)
 use Rattle.std.specs.Prelude.{◌≡◌, List, [], ◌∷◌, Option, Some, None, Result, Ok, Err}
-use Rattle.certificate.specs.declared.lines.Refusal.{Refusal}
-use Rattle.certificate.specs.declared.lines.Refusal.TheVariants.{Limit, Order, Memory}
 use Rattle.certificate.specs.Bounds.{PointBound, Certificate}
-use Rattle.certificate.specs.Growth.{Refused, nothing, taken}
+use Rattle.certificate.specs.Growth.{Refused, empty, taken}
 use Rattle.certificate.specs.Lines.{Line, block_lines, lines_of}
 
 abbrev pub grown_behind : (Certificate → Option Certificate) → Result Certificate Refused → Option Certificate
@@ -24,13 +22,6 @@ unfoldable pub grown_by : List PointBound → Certificate → Option Certificate
 grown_by [] c = Some c
 grown_by (b ∷ points) c = then_grown (grown_by points) (grown (block_lines b) c)
 
--- A certificate is what its own lines make of nothing.
+-- A certificate is what its own lines make of empty.
 abbrev pub IsGrown : Certificate → Type 0
-IsGrown c = grown (lines_of c) (nothing c.version) ≡ Some c
-
--- What the code's growing comes to: the certificate, or that a line is refused; unless memory is wanting.
-abbrev pub Grows : Result (Unit {0}) Refusal → Certificate → Option Certificate → Type 0
-Grows (Ok _) new answer = answer ≡ Some new
-Grows (Err Limit) new answer = answer ≡ None
-Grows (Err Order) new answer = answer ≡ None
-Grows (Err Memory) new answer = Unit {0}
+IsGrown c = grown (lines_of c) (empty c.version) ≡ Some c

@@ -1,4 +1,4 @@
--- A join is above both. These are theorems, which the laws of `Domain` cite.
+-- A join is join_above both. These are theorems, which the laws of `Domain` cite.
 use Rattle.std.proofs.Common.{◌≡◌, ℕ, Bool, true, false, cond, min, max, bit_and, bit_or, List, [], ◌∷◌, length, refl, sym, arith, subst}
 use Rattle.std.specs.Prelude.{◌==◌, ◌&&◌, Option, Some, None}
 use Rattle.std.specs.Cmp.Derive.{both_true}
@@ -114,7 +114,8 @@ pub range-left : (least greatest other_least other_greatest l g : ℕ) → l ≡
 range-left least greatest other_least other_greatest l g low high =
     both_true (subst (λ n. is_within n least ≡ true) (sym low) (and-left least other_least)) (subst (λ n. is_within greatest n ≡ true) (sym high) (or-left greatest other_greatest))
 
-pub range-right : (least greatest other_least other_greatest l g : ℕ) → l ≡ bit_and least other_least → g ≡ bit_or greatest other_greatest → (is_within l other_least && is_within other_greatest g) ≡ true
+pub range-right : (least greatest other_least other_greatest l g : ℕ) → l ≡ bit_and least other_least → g ≡ bit_or greatest other_greatest →
+    (is_within l other_least && is_within other_greatest g) ≡ true
 range-right least greatest other_least other_greatest l g low high =
     both_true (subst (λ n. is_within n other_least ≡ true) (sym low) (and-right least other_least)) (subst (λ n. is_within other_greatest n ≡ true) (sym high) (or-right greatest other_greatest))
 
@@ -159,12 +160,14 @@ slot-right (Maybe a) (Open b) = held-right a b
 slot-right (Maybe a) (Maybe b) = held-right a b
 
 -- of rows of one length
-pub each-left : {A : Type 0} (test : A → A → Bool) (join : A → A → A) → ((x y : A) → test x (join x y) ≡ true) → (xs ys : List A) → length xs ≡ length ys → each_within test xs (each_join join xs ys) ≡ true
+pub each-left : {A : Type 0} (test : A → A → Bool) (join : A → A → A) → ((x y : A) → test x (join x y) ≡ true) → (xs ys : List A) →
+    length xs ≡ length ys → each_within test xs (each_join join xs ys) ≡ true
 each-left test join law [] ys same = refl
 each-left test join law (x ∷ xs) [] same = absurd (omega arith)
 each-left test join law (x ∷ xs) (y ∷ ys) same = both_true (law x y) (each-left test join law xs ys (omega arith))
 
-pub each-right : {A : Type 0} (test : A → A → Bool) (join : A → A → A) → ((x y : A) → test y (join x y) ≡ true) → (xs ys : List A) → length xs ≡ length ys → each_within test ys (each_join join xs ys) ≡ true
+pub each-right : {A : Type 0} (test : A → A → Bool) (join : A → A → A) → ((x y : A) → test y (join x y) ≡ true) → (xs ys : List A) →
+    length xs ≡ length ys → each_within test ys (each_join join xs ys) ≡ true
 each-right test join law [] [] same = refl
 each-right test join law [] (y ∷ ys) same = absurd (omega arith)
 each-right test join law (x ∷ xs) [] same = absurd (omega arith)
@@ -192,6 +195,6 @@ sends-right None b = sends-refl b
 sends-right (Some a) None = refl
 sends-right (Some a) (Some b) = held-right a b
 
--- whatever is the join is above both, where a law says so of the join
-pub above : {A : Type 0} (test : A → A → Bool) (a b joined join : A) → join ≡ joined → test a joined ≡ true → test b joined ≡ true → (test a join ≡ true) × (test b join ≡ true)
-above test a b joined join is left right = (subst (λ j. test a j ≡ true) (sym is) left, subst (λ j. test b j ≡ true) (sym is) right)
+-- whatever is the join is join_above both, where a law says so of the join
+pub join_above : {A : Type 0} (test : A → A → Bool) (a b joined join : A) → join ≡ joined → test a joined ≡ true → test b joined ≡ true → (test a join ≡ true) × (test b join ≡ true)
+join_above test a b joined join is left right = (subst (λ j. test a j ≡ true) (sym is) left, subst (λ j. test b j ≡ true) (sym is) right)

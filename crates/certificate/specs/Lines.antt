@@ -1,6 +1,7 @@
 -- The lines of a certificate's body, as values. (own)
 use Rattle.std.specs.Prelude.{◌&&◌, ◌==◌, ◌+◌, ℕ, Bool, true, false, not, nat_le, nat_lt, List, [], ◌∷◌, ◌++◌, map, Option, Some, None, if◌then◌else◌}
 use Rattle.std.specs.List.{flat_map}
+use Rattle.rights.specs.Values.{Name, DescriptorNumber}
 use Rattle.rights.specs.Classes.{Class, Initial, Made_at}
 use Rattle.rights.specs.Limits.{most_descriptors, most_instructions, most_pairs, register_count}
 use Rattle.rights.specs.Sets.{all_commands, all_rights, is_within}
@@ -10,9 +11,9 @@ use Rattle.certificate.specs.Bounds.{ModeBound, Interval, full_interval, Target,
 -- The block of a point begins, with its mode; then a register of it isn't full, then a slot of it isn't closed; and
 -- what one side of a class of pairs sends.
 pub data Line : Type 0 where
-  Begins_block : (program : List ℕ) (point : ℕ) (mode : ModeBound) → Line
+  Begins_block : (program : Name) (point : ℕ) (mode : ModeBound) → Line
   Bounds_register : (register : ℕ) (interval : Interval) → Line
-  Bounds_slot : (number : ℕ) (slot : Slot) → Line
+  Bounds_slot : (number : DescriptorNumber) (slot : Slot) → Line
   Bounds_channel : (channel : ChannelBound) → Line
 
 -- What a line may say: an interval with a low end that isn't above its high end, and not the full one; sets of which
@@ -26,17 +27,17 @@ is_interval i = nat_le i.low i.high && not (is_full i)
 abbrev pub is_range : ℕ → ℕ → ℕ → Bool
 is_range all least greatest = is_within least greatest && is_within greatest all
 
-abbrev pub is_held : Held → Bool
-is_held h = is_range all_rights h.least h.greatest && is_range all_commands h.least_fcntls h.greatest_fcntls
+abbrev pub is_held_bound : Held → Bool
+is_held_bound h = is_range all_rights h.least h.greatest && is_range all_commands h.least_fcntls h.greatest_fcntls
 
 abbrev pub is_bound_slot : Slot → Bool
 is_bound_slot Closed = false
-is_bound_slot (Open h) = is_held h
-is_bound_slot (Maybe h) = is_held h
+is_bound_slot (Open h) = is_held_bound h
+is_bound_slot (Maybe h) = is_held_bound h
 
 abbrev pub are_held : Option Held → Bool
 are_held None = true
-are_held (Some h) = is_held h
+are_held (Some h) = is_held_bound h
 
 abbrev pub is_proper : Line → Bool
 is_proper (Begins_block program point mode) = true
@@ -80,14 +81,14 @@ abbrev pub are_named : Option Held → Bool
 are_named None = true
 are_named (Some h) = is_named_target h.target
 
-abbrev pub is_named : Line → Bool
-is_named (Begins_block program point mode) = is_name program
-is_named (Bounds_register register interval) = true
-is_named (Bounds_slot number slot) = are_named (held_in slot)
-is_named (Bounds_channel channel) = is_named_class channel.class && nat_lt channel.side 2 && are_named channel.sends
+abbrev pub has_names : Line → Bool
+has_names (Begins_block program point mode) = is_name program
+has_names (Bounds_register register interval) = true
+has_names (Bounds_slot number slot) = are_named (held_in slot)
+has_names (Bounds_channel channel) = is_named_class channel.class && nat_lt channel.side 2 && are_named channel.sends
 
 abbrev pub is_line : Line → Bool
-is_line line = is_named line && is_proper line && is_numbered line
+is_line line = has_names line && is_proper line && is_numbered line
 
 -- THE LINES OF A CERTIFICATE: block by block its mode, its registers that aren't full and its slots that aren't closed,
 -- rising; and then the channels.

@@ -191,7 +191,8 @@ slot-trans (Maybe x) (Maybe y) Closed ab bc = absurd cc
 slot-trans (Maybe x) (Maybe y) (Open z) ab bc = absurd cc
 slot-trans (Maybe x) (Maybe y) (Maybe z) ab bc = held-trans x y z ab bc
 
-pub each-trans : {A : Type 0} (test : A → A → Bool) → ((x y z : A) → test x y ≡ true → test y z ≡ true → test x z ≡ true) → (xs ys zs : List A) → each_within test xs ys ≡ true → each_within test ys zs ≡ true → each_within test xs zs ≡ true
+pub each-trans : {A : Type 0} (test : A → A → Bool) → ((x y z : A) → test x y ≡ true → test y z ≡ true → test x z ≡ true) → (xs ys zs : List A) →
+    each_within test xs ys ≡ true → each_within test ys zs ≡ true → each_within test xs zs ≡ true
 each-trans test law [] [] zs ab bc = bc
 each-trans test law [] (y ∷ ys) zs ab bc = absurd cc
 each-trans test law (x ∷ xs) [] zs ab bc = absurd cc
@@ -209,7 +210,9 @@ bound-trans a b c ab bc =
     (both_true
     (mode-trans a.mode b.mode c.mode (both_left _ (each_within interval_within a.registers b.registers) ab_two) (both_left _ (each_within interval_within b.registers c.registers) bc_two))
     (each-trans interval_within interval-trans a.registers b.registers c.registers (both_right (mode_within a.mode b.mode) _ ab_two) (both_right (mode_within b.mode c.mode) _ bc_two)))
-    (each-trans slot_within slot-trans a.slots b.slots c.slots (both_right (mode_within a.mode b.mode && each_within interval_within a.registers b.registers) _ ab) (both_right (mode_within b.mode c.mode && each_within interval_within b.registers c.registers) _ bc))
+    (each-trans slot_within slot-trans a.slots b.slots c.slots
+    (both_right (mode_within a.mode b.mode && each_within interval_within a.registers b.registers) _ ab)
+    (both_right (mode_within b.mode c.mode && each_within interval_within b.registers c.registers) _ bc))
 
 pub sends-trans : (a b c : Option Held) → sends_within a b ≡ true → sends_within b c ≡ true → sends_within a c ≡ true
 sends-trans None b c ab bc = refl

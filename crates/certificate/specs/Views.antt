@@ -23,7 +23,8 @@ use Rattle.certificate.specs.declared.lines.Line.{Line as LineCode}
 use Rattle.certificate.specs.declared.lines.Line.TheVariants as line
 use Rattle.rights.specs.Classes.{Class, Initial, Made_at}
 use Rattle.rights.specs.Limits.{most_descriptors}
-use Rattle.certificate.specs.Bounds.{ModeBound, Off, On, Either, Interval, Target, In_grant, Any_node, Socket, Unknown, Held, Slot, Closed, Open, Maybe, Bound, PointBound, ChannelBound, Version, One, Two, Certificate}
+use Rattle.certificate.specs.Bounds.{ModeBound, Off, On, Either, Interval, Target, In_grant, Any_node, Socket, Unknown, Held, Slot, Closed, Open, Maybe, Bound, PointBound}
+use Rattle.certificate.specs.Bounds.{ChannelBound, Version, One, Two, Certificate}
 use Rattle.certificate.specs.Growth.{copies}
 use Rattle.certificate.specs.Lines.{Line, Begins_block, Bounds_register, Bounds_slot, Bounds_channel}
 

@@ -3,7 +3,8 @@
 ghost use Rattle.std.specs.Prelude.{◌≡◌, ◌+◌, ◌≤◌, ◌<◌, length, map, true, false};
 ghost use Rattle.certificate.specs.Lines.{Bounds_channel, Bounds_register, Bounds_slot, block_lines, is_closed, is_full, is_line, register_lines, slot_lines};
 ghost use Rattle.certificate.specs.Views.{bound_of, channel_of, channels_of, interval_of, line_of, name_of, slot_of};
-ghost use Rattle.certificate.specs.Growths.{Grows, grown};
+ghost use Rattle.certificate.specs.Growths.{grown};
+ghost use Rattle.certificate.specs.GrowthViews.{Grows};
 
 use crate::bounds::{Bound, Interval, Slot};
 use crate::certs::Cert;

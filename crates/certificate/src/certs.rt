@@ -42,14 +42,14 @@ impl Model for Cert {
     ghost use Rattle.std.specs.Prelude.{◌≡◌, length};
     ghost use Rattle.std.specs.Str.{bytes_eq};
     ghost use Rattle.certificate.specs.Order.{same_class};
-    ghost use Rattle.certificate.specs.Growth.{IsCertificate, classes_of, distinct, programs_of};
+    ghost use Rattle.certificate.specs.Growth.{IsCertificate, classes_of, distinct, programs_named};
     ghost use Rattle.certificate.specs.Views.{certificate_with, version_of};
     ghost use Rattle.certificate.specs.CountViews.{programs_listed};
 
     ghost view = { λ c. certificate_with (version_of c.version) c.points.items c.channels.items };
 
     ghost invariant = { λ c. IsCertificate (certificate_with (version_of c.version) c.points.items c.channels.items)
-        × (programs_listed c.programs ≡ distinct bytes_eq (programs_of (certificate_with (version_of c.version) c.points.items c.channels.items)))
+        × (programs_listed c.programs ≡ distinct bytes_eq (programs_named (certificate_with (version_of c.version) c.points.items c.channels.items)))
         × (c.classes ≡ length (distinct same_class (classes_of (certificate_with (version_of c.version) c.points.items c.channels.items)))) };
 }
 
@@ -74,13 +74,13 @@ impl Cert {
     ghost use Rattle.std.specs.Prelude.{◌≡◌, option_map, true};
     ghost use Rattle.certificate.specs.Bounds.{bound_at};
     ghost use Rattle.certificate.specs.Lines.{is_line};
-    ghost use Rattle.certificate.specs.Growth.{IsCertificate, nothing, taken};
-    ghost use Rattle.certificate.specs.GrowthViews.{Takes};
+    ghost use Rattle.certificate.specs.Growth.{IsCertificate, empty, taken};
+    ghost use Rattle.certificate.specs.GrowthViews.{LineTaken};
     ghost use Rattle.certificate.specs.Views.{bound_of, channels_of, line_of, points_of, version_of};
 
     /// The certificate of this version without lines. Takes no memory.
     pub fn new(alloc: Global, version: Version) -> Cert
-        ensures { result ≡ nothing (version_of version) }
+        ensures { result ≡ empty (version_of version) }
     {
         Cert {
             version,
@@ -95,7 +95,7 @@ impl Cert {
     /// and `Memory` last.
     pub fn push(&mut self, line: &Line) -> Result<(), Refusal>
         requires { is_line (line_of line.now) ≡ true }
-        ensures { Takes result self.old self.new (taken self.old (line_of line.now)) }
+        ensures { LineTaken result self.old self.new (taken self.old (line_of line.now)) }
     {
         let Some(programs) = programs_with(self.programs, line) else {
             return Err(Refusal::Limit);
@@ -117,6 +117,13 @@ impl Cert {
         ensures { version_of result ≡ self.now.version }
     {
         self.version
+    }
+
+    /// Notes that it is a certificate, as each value of the type is, for a proof that goes on from there. It does nothing.
+    pub fn note_made(&self)
+        ensures { IsCertificate self.now }
+    {
+        let _points = &self.points;
     }
 
     /// Its points, rising. Who asks for them learns that it is a certificate.

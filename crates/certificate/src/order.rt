@@ -4,8 +4,10 @@ ghost use Rattle.std.specs.Prelude.{⊤, ◌≡◌, ◌&&◌, bit_and, bit_or, l
 ghost use Rattle.rights.specs.Sets.{is_within};
 ghost use Rattle.certificate.specs.Order.{bound_within, each_within, held_within, interval_within, mode_within, sends_within, slot_within, target_within};
 ghost use Rattle.certificate.specs.Joins.{bound_join, each_join, held_join, interval_join, mode_join, sends_join, slot_join, target_join};
-ghost use Rattle.certificate.specs.OrderLaws.{bound-refl, bound-trans, each-refl, each-trans, held-refl, held-trans, interval-refl, interval-trans, mode-refl, mode-trans, range-refl, range-trans, sends-refl, sends-trans, slot-refl, slot-trans, target-refl, target-trans};
-ghost use Rattle.certificate.specs.JoinLaws.{above, bound-left, bound-right, each-left, each-right, held-left, held-right, interval-left, interval-right, mode-left, mode-right, range-left, range-right, sends-left, sends-right, slot-left, slot-right, target-left, target-right};
+ghost use Rattle.certificate.specs.OrderLaws.{bound-refl, bound-trans, each-refl, each-trans, held-refl, held-trans, interval-refl, interval-trans, mode-refl, mode-trans};
+ghost use Rattle.certificate.specs.OrderLaws.{range-refl, range-trans, sends-refl, sends-trans, slot-refl, slot-trans, target-refl, target-trans};
+ghost use Rattle.certificate.specs.JoinLaws.{join_above, bound-left, bound-right, each-left, each-right, held-left, held-right, interval-left, interval-right, mode-left};
+ghost use Rattle.certificate.specs.JoinLaws.{mode-right, range-left, range-right, sends-left, sends-right, slot-left, slot-right, target-left, target-right};
 ghost use Rattle.certificate.specs.Views.{bound_of, held_of, interval_of, mode_of, slot_of, target_of};
 
 use crate::bounds::{Bound, FcntlsRange, Held, Interval, ModeBound, RightsRange, Slot, Target};
@@ -23,7 +25,7 @@ impl Domain for ModeBound {
 
     ghost transitive = { λ a b c. mode-trans (mode_of a) (mode_of b) (mode_of c) };
 
-    ghost above = { λ a b join fit is. above mode_within (mode_of a) (mode_of b) _ (mode_of join) is
+    ghost above = { λ a b join fit is. join_above mode_within (mode_of a) (mode_of b) _ (mode_of join) is
         (mode-left (mode_of a) (mode_of b)) (mode-right (mode_of a) (mode_of b)) };
 
     /// Whether this is the other, or the other is either.
@@ -62,7 +64,7 @@ impl Domain for Interval {
 
     ghost transitive = { λ a b c. interval-trans (interval_of a) (interval_of b) (interval_of c) };
 
-    ghost above = { λ a b join fit is. above interval_within (interval_of a) (interval_of b) _ (interval_of join) is
+    ghost above = { λ a b join fit is. join_above interval_within (interval_of a) (interval_of b) _ (interval_of join) is
         (interval-left (interval_of a) (interval_of b)) (interval-right (interval_of a) (interval_of b)) };
 
     /// Whether each number of this interval is in the other.
@@ -90,7 +92,7 @@ impl Domain for Target {
 
     ghost transitive = { λ a b c. target-trans (target_of a) (target_of b) (target_of c) };
 
-    ghost above = { λ a b join fit is. above target_within (target_of a) (target_of b) _ (target_of join) is
+    ghost above = { λ a b join fit is. join_above target_within (target_of a) (target_of b) _ (target_of join) is
         (target-left (target_of a) (target_of b)) (target-right (target_of a) (target_of b)) };
 
     /// Whether what a descriptor of this is of the other may be of too: a grant's nodes are among all nodes, an end
@@ -206,7 +208,7 @@ impl Domain for Held {
 
     ghost transitive = { λ a b c. held-trans (held_of a) (held_of b) (held_of c) };
 
-    ghost above = { λ a b join fit is. above held_within (held_of a) (held_of b) _ (held_of join) is
+    ghost above = { λ a b join fit is. join_above held_within (held_of a) (held_of b) _ (held_of join) is
         (held-left (held_of a) (held_of b)) (held-right (held_of a) (held_of b)) };
 
     /// Whether the target is within the other's, and the sets lie between the other's.
@@ -237,7 +239,7 @@ impl Domain for Slot {
 
     ghost transitive = { λ a b c. slot-trans (slot_of a) (slot_of b) (slot_of c) };
 
-    ghost above = { λ a b join fit is. above slot_within (slot_of a) (slot_of b) _ (slot_of join) is
+    ghost above = { λ a b join fit is. join_above slot_within (slot_of a) (slot_of b) _ (slot_of join) is
         (slot-left (slot_of a) (slot_of b)) (slot-right (slot_of a) (slot_of b)) };
 
     /// Whether this is the other, with what it holds within what the other holds; and what is closed or
@@ -281,7 +283,7 @@ impl Domain for Option<Held> {
 
     ghost transitive = { λ a b c. sends-trans (option_map held_of a) (option_map held_of b) (option_map held_of c) };
 
-    ghost above = { λ a b join fit is. above sends_within (option_map held_of a) (option_map held_of b) _ (option_map held_of join) is
+    ghost above = { λ a b join fit is. join_above sends_within (option_map held_of a) (option_map held_of b) _ (option_map held_of join) is
         (sends-left (option_map held_of a) (option_map held_of b)) (sends-right (option_map held_of a) (option_map held_of b)) };
 
     /// Whether no descriptor is sent here, or only such as are within those that are sent there.
@@ -368,7 +370,7 @@ impl Domain for [Interval; REGISTERS] {
     ghost transitive = { λ a b c. each-trans interval_within interval-trans (map interval_of a) (map interval_of b)
         (map interval_of c) };
 
-    ghost above = { λ a b join fit is. above (each_within interval_within) (map interval_of a) (map interval_of b) _
+    ghost above = { λ a b join fit is. join_above (each_within interval_within) (map interval_of a) (map interval_of b) _
         (map interval_of join) is
         (each-left interval_within interval_join interval-left (map interval_of a) (map interval_of b) fit)
         (each-right interval_within interval_join interval-right (map interval_of a) (map interval_of b) fit) };
@@ -397,7 +399,7 @@ impl Domain for [Slot; MAX_DESCRIPTORS] {
 
     ghost transitive = { λ a b c. each-trans slot_within slot-trans (map slot_of a) (map slot_of b) (map slot_of c) };
 
-    ghost above = { λ a b join fit is. above (each_within slot_within) (map slot_of a) (map slot_of b) _
+    ghost above = { λ a b join fit is. join_above (each_within slot_within) (map slot_of a) (map slot_of b) _
         (map slot_of join) is
         (each-left slot_within slot_join slot-left (map slot_of a) (map slot_of b) fit)
         (each-right slot_within slot_join slot-right (map slot_of a) (map slot_of b) fit) };
@@ -427,7 +429,7 @@ impl Domain for Bound {
 
     ghost transitive = { λ a b c. bound-trans (bound_of a) (bound_of b) (bound_of c) };
 
-    ghost above = { λ a b join fit is. above bound_within (bound_of a) (bound_of b) _ (bound_of join) is
+    ghost above = { λ a b join fit is. join_above bound_within (bound_of a) (bound_of b) _ (bound_of join) is
         (bound-left (bound_of a) (bound_of b) fit.0 fit.1) (bound-right (bound_of a) (bound_of b) fit.0 fit.1) };
 
     /// Whether the mode, each register and each slot is within the other's.

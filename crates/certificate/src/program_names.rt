@@ -5,7 +5,7 @@ ghost use Rattle.std.specs.List.{list_any};
 ghost use Rattle.std.specs.Str.{bytes_eq};
 ghost use Rattle.rights.specs.Limits.{most_programs};
 ghost use Rattle.certificate.specs.Room.{listed_with};
-ghost use Rattle.certificate.specs.GrowthViews.{names_in};
+ghost use Rattle.certificate.specs.GrowthViews.{names_there};
 ghost use Rattle.certificate.specs.Views.{name_of};
 
 use crate::names::Name;
@@ -17,12 +17,12 @@ pub(crate) struct ProgramNames {
     count: usize,
     names: [Option<Name>; MAX_PROGRAMS],
     pub ghost few: { count ≤ 8 },
-    pub ghost filled: { length (names_in (take count names)) ≡ count },
+    pub ghost filled: { length (names_there (take count names)) ≡ count },
 }
 
 /// Whether this name is among those.
 fn is_among(names: &[Option<Name>], name: &[u8]) -> bool
-    ensures { result ≡ list_any (λ y. bytes_eq y name.now) (names_in names.now) }
+    ensures { result ≡ list_any (λ y. bytes_eq y name.now) (names_there names.now) }
 {
     for place in names {
         if let Some(known) = *place {

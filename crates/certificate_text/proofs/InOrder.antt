@@ -3,7 +3,8 @@ use Rattle.std.proofs.Common.{◌≡◌, ℕ, ◌+◌, ◌<◌, ◌≤◌, zero,
 use Rattle.std.specs.List.{slice_index_or}
 use Rattle.certificate_text.specs.Pieces.{in_order}
 
-pub in-order-here : {A B : Type 0} (view : A → B) (text : ℕ → B → List ℕ) (xs : List A) (i : ℕ) (d : A) → i < length xs → in_order text i (map view (drop i xs)) ≡ text i (view (slice_index_or xs i d)) ++ in_order text (i + 1) (map view (drop (i + 1) xs))
+pub in-order-here : {A B : Type 0} (view : A → B) (text : ℕ → B → List ℕ) (xs : List A) (i : ℕ) (d : A) → i < length xs →
+    in_order text i (map view (drop i xs)) ≡ text i (view (slice_index_or xs i d)) ++ in_order text (i + 1) (map view (drop (i + 1) xs))
 unfolding in_order
 in-order-here view text xs i d within =
     ap (λ rest. in_order text i (map view rest)) (drop-cons xs i d within ∙ ap (λ n. slice_index_or xs i d ∷ drop n xs) (sym (add-one i)))

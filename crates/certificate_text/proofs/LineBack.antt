@@ -20,11 +20,11 @@ use Rattle.texts.proofs.HexTexts.{digits-hex, hex-back}
 use Rattle.texts.proofs.NumberTexts.{digits-decimal, number-decimal}
 use Rattle.texts.proofs.WordLaws.{lacks-by, parts-joined, parts-more, parts-one}
 use Rattle.certificate.specs.Bounds.{ModeBound, Off, On, Either, Interval, Target, In_grant, Any_node, Socket, Unknown, Held, Slot, Closed, Open, Maybe, full_interval, held_in}
-use Rattle.certificate.specs.Lines.{Line, Begins_block, Bounds_register, Bounds_slot, Bounds_channel, are_held, are_named, are_numbered, is_bound_slot, is_held, is_interval, is_line}
+use Rattle.certificate.specs.Lines.{Line, Begins_block, Bounds_register, Bounds_slot, Bounds_channel, are_held, are_named, are_numbered, is_bound_slot, is_held_bound, is_interval, is_line}
 use Rattle.certificate.specs.Lines.{is_named_class, is_named_target, is_numbered_class, is_numbered_target, is_range}
 use Rattle.certificate_text.specs.Faults.{Fault, Syntax, Limit, both, formed, with_part}
 use Rattle.certificate_text.specs.Readings.{line_of_text}
-use Rattle.certificate_text.specs.Texts.{class_word, held_words, last_line, line_text, line_words, mode_word, side_word, slot_words, sends_words, target_words}
+use Rattle.certificate_text.specs.Texts.{class_word, held_words, end_line, line_text, line_words, mode_word, side_word, slot_words, sends_words, target_words}
 use Rattle.certificate_text.specs.Words.{block_with, channel_with, class_of_word, held_behind, held_of_words, held_with, interval_from, line_of_words, mode_of_word, name_of_word}
 use Rattle.certificate_text.specs.Words.{point_of_program, range_from, sends_of_words, side_of_word, slot_of_words, up_to}
 
@@ -148,12 +148,12 @@ dark-line (Bounds_register register interval) is =
 dark-line (Bounds_slot number Closed) is =
     let each = three-parts true false (nat_lt number 16 && true) is in absurd (let none : false ≡ true = each.1 in cc)
 dark-line (Bounds_slot number (Open held)) is =
-    let each = three-parts (is_named_target held.target) (is_held held) (nat_lt number 16 && is_numbered_target held.target) is in
+    let each = three-parts (is_named_target held.target) (is_held_bound held) (nat_lt number 16 && is_numbered_target held.target) is in
     let numbers = and_parts (nat_lt number 16) (is_numbered_target held.target) each.2 in
     let below = ltb-true number 16 numbers.0 in
     dark-more (decimal number) (slot_words (Open held)) (dark-number number (omega (arith, below))) (dark-held held each.0 numbers.1)
 dark-line (Bounds_slot number (Maybe held)) is =
-    let each = three-parts (is_named_target held.target) (is_held held) (nat_lt number 16 && is_numbered_target held.target) is in
+    let each = three-parts (is_named_target held.target) (is_held_bound held) (nat_lt number 16 && is_numbered_target held.target) is in
     let numbers = and_parts (nat_lt number 16) (is_numbered_target held.target) each.2 in
     let below = ltb-true number 16 numbers.0 in
     dark-more (decimal number) (slot_words (Maybe held)) (dark-number number (omega (arith, below))) (dark-held held each.0 numbers.1)
@@ -232,7 +232,7 @@ range-back all count least greatest known is =
     ∙ ap (λ (b : Bool). cond b (Ok (least, greatest)) (Err Syntax)) is
 
 -- the sets behind what a descriptor is of
-sets-back : (target : Result Target Fault) (held : Held) → target ≡ Ok held.target → is_held held ≡ true
+sets-back : (target : Result Target Fault) (held : Held) → target ≡ Ok held.target → is_held_bound held ≡ true
     → held_behind target (hex_text 4 held.least ∷ hex_text 4 held.greatest ∷ hex_text 1 held.least_fcntls ∷ hex_text 1 held.greatest_fcntls ∷ []) ≡ Ok held
 sets-back target held read is =
     let each = and_parts (is_range all_rights held.least held.greatest) (is_range all_commands held.least_fcntls held.greatest_fcntls) is in
@@ -242,7 +242,7 @@ sets-back target held read is =
 
 target-back : (target : Target) (least greatest least_fcntls greatest_fcntls : ℕ)
     → is_named_target target ≡ true → is_numbered_target target ≡ true
-    → is_held (record { target = target; least = least; greatest = greatest; least_fcntls = least_fcntls; greatest_fcntls = greatest_fcntls }) ≡ true
+    → is_held_bound (record { target = target; least = least; greatest = greatest; least_fcntls = least_fcntls; greatest_fcntls = greatest_fcntls }) ≡ true
     → held_of_words (held_words (record { target = target; least = least; greatest = greatest; least_fcntls = least_fcntls; greatest_fcntls = greatest_fcntls }))
     ≡ Ok (record { target = target; least = least; greatest = greatest; least_fcntls = least_fcntls; greatest_fcntls = greatest_fcntls })
 target-back (In_grant name) l g m h named numbered is =
@@ -258,7 +258,7 @@ target-back (Socket class side) l g m h named numbered is =
 target-back Unknown l g m h named numbered is =
     sets-back (Ok Unknown) (record { target = Unknown; least = l; greatest = g; least_fcntls = m; greatest_fcntls = h }) refl is
 
-held-back : (held : Held) → is_named_target held.target ≡ true → is_numbered_target held.target ≡ true → is_held held ≡ true → held_of_words (held_words held) ≡ Ok held
+held-back : (held : Held) → is_named_target held.target ≡ true → is_numbered_target held.target ≡ true → is_held_bound held ≡ true → held_of_words (held_words held) ≡ Ok held
 held-back held named numbered is = target-back held.target held.least held.greatest held.least_fcntls held.greatest_fcntls named numbered is
 
 sends-some : (target : Target) (sets : List (List ℕ)) → is_some_word sets ≡ true → sends_of_words (target_words target ++ sets) ≡ with_part Some (held_of_words (target_words target ++ sets))
@@ -347,16 +347,16 @@ pub text-lacks : (line : Line) → is_line line ≡ true → lacks 10 (line_text
 unfolding line_text is_dark
 text-lacks line is = joined-lacks 10 32 (line_words line) refl (dark-lack 10 (line_words line) refl (dark-line line is))
 
-last-fails : line_of_text last_line ≡ Err Syntax
+last-fails : line_of_text end_line ≡ Err Syntax
 unfolding line_of_text
 last-fails = refl
 
 -- It isn't the last line.
-pub text-goes-on : (line : Line) → is_line line ≡ true → bytes_eq (line_text line) last_line ≡ false
-text-goes-on line is = go (bytes_eq (line_text line) last_line) refl
+pub text-goes-on : (line : Line) → is_line line ≡ true → bytes_eq (line_text line) end_line ≡ false
+text-goes-on line is = go (bytes_eq (line_text line) end_line) refl
   where
-    go : (same : Bool) → bytes_eq (line_text line) last_line ≡ same → same ≡ false
+    go : (same : Bool) → bytes_eq (line_text line) end_line ≡ same → same ≡ false
     go false same = refl
     go true same =
-        let read : line_of_text last_line ≡ Ok line = ap line_of_text (sym (same_bytes (line_text line) last_line same)) ∙ line-back line is in
+        let read : line_of_text end_line ≡ Ok line = ap line_of_text (sym (same_bytes (line_text line) end_line same)) ∙ line-back line is in
         absurd (let fails : Err Syntax ≡ Ok line = sym last-fails ∙ read in cc)

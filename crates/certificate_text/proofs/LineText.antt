@@ -14,7 +14,7 @@ use Rattle.texts.proofs.HexTexts.{hex-text}
 use Rattle.texts.proofs.NumberTexts.{decimal-number}
 use Rattle.texts.proofs.WordLaws.{joined-parts}
 use Rattle.certificate.specs.Bounds.{ModeBound, Off, On, Either, Interval, Target, In_grant, Any_node, Socket, Unknown, Held, Slot, Open, Maybe, full_interval, held_in}
-use Rattle.certificate.specs.Lines.{Line, Bounds_register, Bounds_slot, are_held, are_named, are_numbered, is_bound_slot, is_held, is_interval, is_line}
+use Rattle.certificate.specs.Lines.{Line, Bounds_register, Bounds_slot, are_held, are_named, are_numbered, is_bound_slot, is_held_bound, is_interval, is_line}
 use Rattle.certificate.specs.Lines.{is_named_class, is_named_target, is_numbered_class, is_numbered_target, is_range}
 use Rattle.certificate_text.specs.Faults.{Fault, Syntax, Limit, both, formed, with_part}
 use Rattle.certificate_text.specs.Readings.{line_of_text}
@@ -200,7 +200,7 @@ set_words h = hex_text 4 h.least ∷ hex_text 4 h.greatest ∷ hex_text 1 h.leas
 record SetsAre (target : Result Target Fault) (words : List (List ℕ)) (h : Held) : Type 0 where
   target_is : target ≡ Ok h.target
   words_are : set_words h ≡ words
-  proper : is_held h ≡ true
+  proper : is_held_bound h ≡ true
 
 sets-are : (target : Result Target Fault) (words : List (List ℕ)) (h : Held) → held_behind target words ≡ Ok h → SetsAre target words h
 sets-are target [] h is = absurd cc
@@ -223,11 +223,11 @@ record HeldIs (words : List (List ℕ)) (h : Held) : Type 0 where
   words_are : held_words h ≡ words
   named : is_named_target h.target ≡ true
   numbered : is_numbered_target h.target ≡ true
-  proper : is_held h ≡ true
+  proper : is_held_bound h ≡ true
 
 -- a descriptor of which it is known what it is of
 held-of : (target : Target) (words : List (List ℕ)) (h : Held) → h.target ≡ target → is_named_target target ≡ true → is_numbered_target target ≡ true
-    → set_words h ≡ words → is_held h ≡ true → HeldIs (target_words target ++ words) h
+    → set_words h ≡ words → is_held_bound h ≡ true → HeldIs (target_words target ++ words) h
 held-of target words h is named numbered words_are proper = record {
   words_are = λ i. target_words (is i) ++ words_are i;
   named = ap is_named_target is ∙ named;

@@ -4,7 +4,7 @@ use Rattle.std.specs.List.{slice_index_or}
 use Rattle.std.specs.Prelude.{Option, Result, Ok, Err}
 use Rattle.rights.specs.declared.stops.Stop.{Stop}
 use Rattle.certificate_text.specs.Pieces.{in_order}
-use Rattle.certificate_text.specs.Writings.{Writes}
+use Rattle.certificate_text.specs.WritingViews.{Writes}
 use Rattle.certificate_text.proofs.InOrder.{in-order-here, in-order-end}
 use Rattle.certificate_text.proofs.Written.{Written, written-next, written-failed, written-all}
 
@@ -25,6 +25,7 @@ module _ {A B : Type 0} (view : A → B) (text : ℕ → B → List ℕ) (xs : L
           subst (λ r. Writes r before after faults failed whole) (sym is)
           (written-failed before now after faults so failed whole (text i (view x)) (left_from (i + 1)) here stop wrote)
 
-  pub loop-end : (before now : Option (List ℕ)) (faults failed i : ℕ) (whole : List ℕ) (u : Unit {0}) → length xs ≤ i → Written before now faults failed whole (left_from i) → Writes (Ok u) before now faults failed whole
+  pub loop-end : (before now : Option (List ℕ)) (faults failed i : ℕ) (whole : List ℕ) (u : Unit {0}) → length xs ≤ i →
+      Written before now faults failed whole (left_from i) → Writes (Ok u) before now faults failed whole
   loop-end before now faults failed i whole u past so_far =
       written-all before now faults failed whole u (subst (Written before now faults failed whole) (in-order-end view text xs i past) so_far)

@@ -9,25 +9,25 @@ use Rattle.texts.specs.Lines.{Line as TextLine, lines_from}
 use Rattle.texts.specs.Parts.{joined, lacks, parts, parts_from}
 use Rattle.texts.proofs.WordLaws.{joined-parts, parts-more}
 use Rattle.certificate.specs.Bounds.{Version, One, Two, Certificate}
-use Rattle.certificate.specs.Growth.{IsCertificate, begins, grows, nothing, No_room, Out_of_order, Refused, taken}
+use Rattle.certificate.specs.Growth.{IsCertificate, begins, grows, empty, No_room, Out_of_order, Refused, taken}
 use Rattle.certificate.specs.Lines.{Line, is_line, lines_of}
 use Rattle.certificate.proofs.Growing.{taken_keeps}
 use Rattle.certificate_text.specs.Faults.{Fault, Syntax}
-use Rattle.certificate_text.specs.Readings.{answered, certificate_of_text, closed, fails, going_on, grown, line_of_text, read_behind, read_lines, read_versioned, version_of_line}
-use Rattle.certificate_text.specs.Texts.{certificate_text, ended, first_line, last_line, line_text}
+use Rattle.certificate_text.specs.Readings.{line_taken, certificate_of_text, closed, fails, going_on, grown_by_line, line_of_text, read_behind, read_lines, read_versioned, version_of_line}
+use Rattle.certificate_text.specs.Texts.{certificate_text, ended_line, first_line, end_line, line_text}
 use Rattle.certificate_text.proofs.Growing.{lines-grow}
 use Rattle.certificate_text.proofs.LineBack.{line-back, text-goes-on, text-lacks}
 use Rattle.certificate_text.proofs.LineText.{line-text}
 
 -- the texts of some lines, each with its line feed
 abbrev body : List Line → List ℕ
-body lines = flat_map (λ line. ended (line_text line)) lines
+body lines = flat_map (λ line. ended_line (line_text line)) lines
 
 -- the body with one line more, and what stands behind it
-body-more : (lines : List Line) (line : Line) (rest : List ℕ) → body (lines ++ line ∷ []) ++ rest ≡ body lines ++ (ended (line_text line) ++ rest)
+body-more : (lines : List Line) (line : Line) (rest : List ℕ) → body (lines ++ line ∷ []) ++ rest ≡ body lines ++ (ended_line (line_text line) ++ rest)
 body-more lines line rest =
-    ap (λ text. text ++ rest) (flat_map-append (λ l. ended (line_text l)) lines (line ∷ []) ∙ ap (λ last. body lines ++ last) (append-nil (ended (line_text line))))
-    ∙ append_assoc (body lines) (ended (line_text line)) rest
+    ap (λ text. text ++ rest) (flat_map-append (λ l. ended_line (line_text l)) lines (line ∷ []) ∙ ap (λ last. body lines ++ last) (append-nil (ended_line (line_text line))))
+    ∙ append_assoc (body lines) (ended_line (line_text line)) rest
 
 -- a text has a line at least
 is_some_text : List (List ℕ) → Bool
@@ -63,7 +63,7 @@ lines-more offset part (b ∷ text) begun = go (b == 10) (lines-more offset part
 
 -- the first line of a text
 first-line : (offset : ℕ) (line rest : List ℕ) → lacks 10 line ≡ true
-    → lines_from offset (parts 10 (ended line ++ rest)) ≡ (record { text = line; offset = offset; is_ended = true }) ∷ lines_from (offset + length line + 1) (parts 10 rest)
+    → lines_from offset (parts 10 (ended_line line ++ rest)) ≡ (record { text = line; offset = offset; is_ended = true }) ∷ lines_from (offset + length line + 1) (parts 10 rest)
 first-line offset line rest lack =
     ap (λ text. lines_from offset (parts 10 text)) (append_assoc line (10 ∷ []) rest)
     ∙ ap (lines_from offset) (parts-more 10 line rest lack) ∙ lines-more offset line rest []
@@ -73,30 +73,30 @@ one-line : (c d : Certificate) (line : Line) (offset : ℕ) (lines : List TextLi
     → read_behind c ((record { text = line_text line; offset = offset; is_ended = true }) ∷ lines) ≡ read_behind d lines
 unfolding read_behind
 one-line c d line offset lines proper take =
-    ap (λ (last : Bool). cond last (closed c lines) (going_on offset (λ e. read_behind e lines) (grown c (line_of_text (line_text line))))) (text-goes-on line proper)
-    ∙ ap (λ read. going_on offset (λ e. read_behind e lines) (grown c read)) (line-back line proper)
-    ∙ ap (λ after. going_on offset (λ e. read_behind e lines) (answered after)) take
+    ap (λ (last : Bool). cond last (closed c lines) (going_on offset (λ e. read_behind e lines) (grown_by_line c (line_of_text (line_text line))))) (text-goes-on line proper)
+    ∙ ap (λ read. going_on offset (λ e. read_behind e lines) (grown_by_line c read)) (line-back line proper)
+    ∙ ap (λ after. going_on offset (λ e. read_behind e lines) (line_taken after)) take
 
 -- the lines of a certificate are read as it, whatever follows them
 read-body : (c : Certificate) → IsCertificate c → (offset : ℕ) (rest : List ℕ)
-    → (behind : ℕ) × (read_behind (nothing c.version) (lines_from offset (parts 10 (body (lines_of c) ++ rest))) ≡ read_behind c (lines_from behind (parts 10 rest)))
+    → (behind : ℕ) × (read_behind (empty c.version) (lines_from offset (parts 10 (body (lines_of c) ++ rest))) ≡ read_behind c (lines_from behind (parts 10 rest)))
 read-body _ (begins version) offset rest = (offset, refl)
 read-body d (grows {c = c} is line proper take) offset rest =
-    let before = read-body c is offset (ended (line_text line) ++ rest) in
+    let before = read-body c is offset (ended_line (line_text line) ++ rest) in
     let text = ap (λ lines. body lines ++ rest) (lines-grow c d line is proper take) ∙ body-more (lines_of c) line rest in (
       before.0 + length (line_text line) + 1,
-      ap (λ version. read_behind (nothing version) (lines_from offset (parts 10 (body (lines_of d) ++ rest)))) (taken_keeps c d line take)
-          ∙ ap (λ t. read_behind (nothing c.version) (lines_from offset (parts 10 t))) text ∙ before.1
+      ap (λ version. read_behind (empty version) (lines_from offset (parts 10 (body (lines_of d) ++ rest)))) (taken_keeps c d line take)
+          ∙ ap (λ t. read_behind (empty c.version) (lines_from offset (parts 10 t))) text ∙ before.1
           ∙ ap (read_behind c) (first-line before.0 (line_text line) rest (text-lacks line proper))
           ∙ one-line c d line before.0 (lines_from (before.0 + length (line_text line) + 1) (parts 10 rest)) proper take,
     )
 
-at-end : (c : Certificate) (offset : ℕ) → read_behind c (lines_from offset (parts 10 (ended last_line))) ≡ Ok c
+at-end : (c : Certificate) (offset : ℕ) → read_behind c (lines_from offset (parts 10 (ended_line end_line))) ≡ Ok c
 unfolding read_behind
 at-end c offset = refl
 
 -- the first line of each version is read as it
-version-back : (version : Version) (lines : List TextLine) → read_versioned 0 (version_of_line (first_line version)) lines ≡ read_behind (nothing version) lines
+version-back : (version : Version) (lines : List TextLine) → read_versioned 0 (version_of_line (first_line version)) lines ≡ read_behind (empty version) lines
 version-back One lines = refl
 version-back Two lines = refl
 
@@ -110,20 +110,20 @@ unfolding certificate_of_text
 text-back c is =
     let first = first_line c.version in
     let behind = 0 + length first + 1 in
-    let read = read-body c is behind (ended last_line) in
-    ap (λ text. read_lines (lines_from 0 (parts 10 text))) (append_assoc (ended first) (body (lines_of c)) (ended last_line))
-    ∙ ap read_lines (first-line 0 first (body (lines_of c) ++ ended last_line) (version-lacks c.version))
-    ∙ version-back c.version (lines_from behind (parts 10 (body (lines_of c) ++ ended last_line))) ∙ read.1 ∙ at-end c read.0
+    let read = read-body c is behind (ended_line end_line) in
+    ap (λ text. read_lines (lines_from 0 (parts 10 text))) (append_assoc (ended_line first) (body (lines_of c)) (ended_line end_line))
+    ∙ ap read_lines (first-line 0 first (body (lines_of c) ++ ended_line end_line) (version-lacks c.version))
+    ∙ version-back c.version (lines_from behind (parts 10 (body (lines_of c) ++ ended_line end_line))) ∙ read.1 ∙ at-end c read.0
 
 -- A READING IS OF A TEXT
 
 -- a certificate of this version of which these bytes are the lines and the last line
 record Spelled (version : Version) (bytes : List ℕ) (c : Certificate) : Type 0 where
   same : c.version ≡ version
-  text : body (lines_of c) ++ ended last_line ≡ bytes
+  text : body (lines_of c) ++ ended_line end_line ≡ bytes
   made : IsCertificate c
 
--- nothing stands behind the last line
+-- empty stands behind the last line
 closed-is : (c d : Certificate) (next : List ℕ) (texts : List (List ℕ)) (offset : ℕ) → closed c (lines_from offset (next ∷ texts)) ≡ Ok d → (next ∷ texts ≡ [] ∷ []) × (c ≡ d)
 closed-is c d next [] offset is = go (bytes_eq next []) refl is
   where
@@ -134,11 +134,11 @@ closed-is c d next (text ∷ []) offset is = absurd cc
 closed-is c d next (text ∷ more ∷ texts) offset is = absurd cc
 
 -- the last line
-end-line : (c d : Certificate) (first next : List ℕ) (texts : List (List ℕ)) (offset : ℕ) → IsCertificate c → bytes_eq first last_line ≡ true
+end-line : (c d : Certificate) (first next : List ℕ) (texts : List (List ℕ)) (offset : ℕ) → IsCertificate c → bytes_eq first end_line ≡ true
     → closed c (lines_from offset (next ∷ texts)) ≡ Ok d → Spelled c.version (body (lines_of c) ++ joined 10 (first ∷ next ∷ texts)) d
 end-line c d first next texts offset is last closes =
     let rest = closed-is c d next texts offset closes in
-    let first_is = same_bytes first last_line last in
+    let first_is = same_bytes first end_line last in
     record {
       same = ap (λ (e : Certificate). e.version) (sym rest.1);
       text = λ i. body (lines_of (sym rest.1 i)) ++ joined 10 (sym first_is i ∷ sym rest.0 i);
@@ -152,7 +152,7 @@ taken-line c d e line first rest is read take more =
     let fact = line-text first line read in
     let bytes =
     ap (λ lines. body lines ++ rest) (lines-grow c e line is fact.1 take) ∙ body-more (lines_of c) line rest
-    ∙ ap (λ text. body (lines_of c) ++ (ended text ++ rest)) fact.0 ∙ ap (λ text. body (lines_of c) ++ text) (append_assoc first (10 ∷ []) rest)
+    ∙ ap (λ text. body (lines_of c) ++ (ended_line text ++ rest)) fact.0 ∙ ap (λ text. body (lines_of c) ++ text) (append_assoc first (10 ∷ []) rest)
     in
     subst (λ version. Spelled version (body (lines_of c) ++ (first ++ 10 ∷ rest)) d) (taken_keeps c e line take)
     (subst (λ text. Spelled e.version text d) bytes (more (grows is line fact.1 take)))
@@ -160,16 +160,17 @@ taken-line c d e line first rest is read take more =
 -- a line that isn't the last one
 next-line : (c d : Certificate) (first rest : List ℕ) (offset : ℕ) (lines : List TextLine) → IsCertificate c
     → ((e : Certificate) → IsCertificate e → read_behind e lines ≡ Ok d → Spelled e.version (body (lines_of e) ++ rest) d)
-    → going_on offset (λ e. read_behind e lines) (grown c (line_of_text first)) ≡ Ok d → Spelled c.version (body (lines_of c) ++ (first ++ 10 ∷ rest)) d
+    → going_on offset (λ e. read_behind e lines) (grown_by_line c (line_of_text first)) ≡ Ok d → Spelled c.version (body (lines_of c) ++ (first ++ 10 ∷ rest)) d
 next-line c d first rest offset lines is more reads = go (line_of_text first) refl reads
   where
     grow : (line : Line) → line_of_text first ≡ Ok line → (after : Result Certificate Refused) → taken c line ≡ after
-        → going_on offset (λ e. read_behind e lines) (answered after) ≡ Ok d → Spelled c.version (body (lines_of c) ++ (first ++ 10 ∷ rest)) d
+        → going_on offset (λ e. read_behind e lines) (line_taken after) ≡ Ok d → Spelled c.version (body (lines_of c) ++ (first ++ 10 ∷ rest)) d
     grow line read (Ok e) take reads = taken-line c d e line first rest is read take (λ made. more e made reads)
     grow line read (Err No_room) take reads = absurd cc
     grow line read (Err Out_of_order) take reads = absurd cc
 
-    go : (read : Result Line Fault) → line_of_text first ≡ read → going_on offset (λ e. read_behind e lines) (grown c read) ≡ Ok d → Spelled c.version (body (lines_of c) ++ (first ++ 10 ∷ rest)) d
+    go : (read : Result Line Fault) → line_of_text first ≡ read → going_on offset (λ e. read_behind e lines) (grown_by_line c read) ≡ Ok d →
+        Spelled c.version (body (lines_of c) ++ (first ++ 10 ∷ rest)) d
     go (Ok line) read reads = grow line read (taken c line) refl reads
     go (Err fault) read reads = absurd cc
 
@@ -179,14 +180,14 @@ read-texts : (c d : Certificate) (first : List ℕ) (texts : List (List ℕ)) (o
 unfolding read_behind
 read-texts c d first [] offset is reads = absurd cc
 read-texts c d first (next ∷ texts) offset is reads =
-    go (bytes_eq first last_line) refl (λ e made more. read-texts e d next texts (offset + length first + 1) made more) reads
+    go (bytes_eq first end_line) refl (λ e made more. read-texts e d next texts (offset + length first + 1) made more) reads
   where
     lines : List TextLine
     lines = lines_from (offset + length first + 1) (next ∷ texts)
 
-    go : (last : Bool) → bytes_eq first last_line ≡ last
+    go : (last : Bool) → bytes_eq first end_line ≡ last
         → ((e : Certificate) → IsCertificate e → read_behind e lines ≡ Ok d → Spelled e.version (body (lines_of e) ++ joined 10 (next ∷ texts)) d)
-        → cond last (closed c lines) (going_on offset (λ e. read_behind e lines) (grown c (line_of_text first))) ≡ Ok d
+        → cond last (closed c lines) (going_on offset (λ e. read_behind e lines) (grown_by_line c (line_of_text first))) ≡ Ok d
         → Spelled c.version (body (lines_of c) ++ joined 10 (first ∷ next ∷ texts)) d
     go true last more reads = end-line c d first next texts (offset + length first + 1) is last reads
     go false last more reads = next-line c d first (joined 10 (next ∷ texts)) offset lines is more reads
@@ -211,9 +212,9 @@ whole-text c (first ∷ next ∷ texts) some reads = go (version_of_line first) 
     go : (told : Option Version) → version_of_line first ≡ told → read_versioned 0 told (lines_from (0 + length first + 1) (next ∷ texts)) ≡ Ok c
         → (certificate_text c ≡ joined 10 (first ∷ next ∷ texts)) × IsCertificate c
     go (Some version) tells reads =
-        let rest = read-texts (nothing version) c next texts (0 + length first + 1) (begins version) reads in
+        let rest = read-texts (empty version) c next texts (0 + length first + 1) (begins version) reads in
         let first_is : first_line c.version ≡ first = ap first_line rest.same ∙ sym (version-line first version tells) in (
-          append_assoc (ended (first_line c.version)) (body (lines_of c)) (ended last_line) ∙ ap (λ text. ended (first_line c.version) ++ text) rest.text
+          append_assoc (ended_line (first_line c.version)) (body (lines_of c)) (ended_line end_line) ∙ ap (λ text. ended_line (first_line c.version) ++ text) rest.text
               ∙ append_assoc (first_line c.version) (10 ∷ []) (joined 10 (next ∷ texts)) ∙ ap (λ line. line ++ 10 ∷ joined 10 (next ∷ texts)) first_is,
           rest.made,
         )

@@ -25,4 +25,6 @@ no_class (Some side) (Err e) = refl
 
 -- the words of a line whose second one is no class
 pub no_class_in : (class side : List ℕ) (words : List (List ℕ)) (a : Result Class Fault) → class_of_word class ≡ a → a ≡ Err Syntax → channel_of_words (class ∷ side ∷ words) ≡ Err Syntax
-no_class_in class side words a is err = ap (λ a. both (λ (given : Option Held → Line) sends. given sends) (both channel_with a (formed (side_of_word side))) (sends_of_words words)) (is ∙ err) ∙ no_class (side_of_word side) (sends_of_words words)
+no_class_in class side words a is err = ap
+    (λ a. both (λ (given : Option Held → Line) sends. given sends) (both channel_with a (formed (side_of_word side))) (sends_of_words words))
+    (is ∙ err) ∙ no_class (side_of_word side) (sends_of_words words)

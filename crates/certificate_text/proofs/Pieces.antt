@@ -4,7 +4,7 @@ use Rattle.std.specs.List.{flat_map}
 use Rattle.certificate.specs.Bounds.{Interval, Slot, PointBound, ChannelBound, Certificate}
 use Rattle.certificate.specs.Lines.{Begins_block, Bounds_channel, Bounds_register, Bounds_slot, block_lines, is_closed, is_full, lines_of, register_lines, slot_lines}
 use Rattle.certificate_text.specs.Pieces.{block_text, channel_text, in_order, line_ended, register_text, slot_text}
-use Rattle.certificate_text.specs.Texts.{certificate_text, ended, first_line, last_line}
+use Rattle.certificate_text.specs.Texts.{certificate_text, ended_line, first_line, end_line}
 
 pub flat-more : {A : Type 0} (f : A → List ℕ) (xs ys : List A) → flat_map f (xs ++ ys) ≡ flat_map f xs ++ flat_map f ys
 flat-more f [] ys = refl
@@ -15,7 +15,9 @@ unfolding in_order register_lines
 registers-text n [] = refl
 registers-text n (i ∷ intervals) = go (is_full i) (registers-text (n + 1) intervals)
   where
-    go : (full : Bool) → in_order register_text (n + 1) intervals ≡ flat_map line_ended (register_lines (n + 1) intervals) → cond full [] (line_ended (Bounds_register n i)) ++ in_order register_text (n + 1) intervals ≡ flat_map line_ended (cond full (register_lines (n + 1) intervals) (Bounds_register n i ∷ register_lines (n + 1) intervals))
+    go : (full : Bool) → in_order register_text (n + 1) intervals ≡ flat_map line_ended (register_lines (n + 1) intervals) →
+        cond full [] (line_ended (Bounds_register n i)) ++ in_order register_text (n + 1) intervals ≡ flat_map line_ended
+        (cond full (register_lines (n + 1) intervals) (Bounds_register n i ∷ register_lines (n + 1) intervals))
     go true rest = rest
     go false rest = ap (λ text. line_ended (Bounds_register n i) ++ text) rest
 
@@ -24,7 +26,10 @@ unfolding in_order slot_lines
 slots-text n [] = refl
 slots-text n (s ∷ slots) = go (is_closed s) (slots-text (n + 1) slots)
   where
-    go : (closed : Bool) → in_order slot_text (n + 1) slots ≡ flat_map line_ended (slot_lines (n + 1) slots) → cond closed [] (line_ended (Bounds_slot n s)) ++ in_order slot_text (n + 1) slots ≡ flat_map line_ended (cond closed (slot_lines (n + 1) slots) (Bounds_slot n s ∷ slot_lines (n + 1) slots))
+    go : (closed : Bool) → in_order slot_text (n + 1) slots ≡ flat_map line_ended (slot_lines (n + 1) slots) →
+        cond closed [] (line_ended (Bounds_slot n s))
+        ++ in_order slot_text (n + 1) slots ≡ flat_map line_ended
+        (cond closed (slot_lines (n + 1) slots) (Bounds_slot n s ∷ slot_lines (n + 1) slots))
     go true rest = rest
     go false rest = ap (λ text. line_ended (Bounds_slot n s) ++ text) rest
 
@@ -45,11 +50,12 @@ unfolding in_order
 channels-text n [] = refl
 channels-text n (channel ∷ channels) = ap (λ rest. channel_text channel ++ rest) (channels-text (n + 1) channels)
 
-pub whole-text : (c : Certificate) → ended (first_line c.version) ++ (in_order (λ n. block_text) 0 c.points ++ (in_order (λ n. channel_text) 0 c.channels ++ ended last_line)) ≡ certificate_text c
+pub whole-text : (c : Certificate) → ended_line (first_line c.version)
+    ++ (in_order (λ n. block_text) 0 c.points ++ (in_order (λ n. channel_text) 0 c.channels ++ ended_line end_line)) ≡ certificate_text c
 whole-text c =
-    ap (λ rest. ended (first_line c.version) ++ rest)
-    (ap (λ text. text ++ (in_order (λ n. channel_text) 0 c.channels ++ ended last_line)) (blocks-text 0 c.points)
-    ∙ ap (λ text. flat_map line_ended (flat_map block_lines c.points) ++ (text ++ ended last_line)) (channels-text 0 c.channels)
-    ∙ sym (append_assoc (flat_map line_ended (flat_map block_lines c.points)) (flat_map line_ended (map Bounds_channel c.channels)) (ended last_line))
-    ∙ ap (λ text. text ++ ended last_line) (sym (flat-more line_ended (flat_map block_lines c.points) (map Bounds_channel c.channels))))
-    ∙ sym (append_assoc (ended (first_line c.version)) (flat_map line_ended (lines_of c)) (ended last_line))
+    ap (λ rest. ended_line (first_line c.version) ++ rest)
+    (ap (λ text. text ++ (in_order (λ n. channel_text) 0 c.channels ++ ended_line end_line)) (blocks-text 0 c.points)
+    ∙ ap (λ text. flat_map line_ended (flat_map block_lines c.points) ++ (text ++ ended_line end_line)) (channels-text 0 c.channels)
+    ∙ sym (append_assoc (flat_map line_ended (flat_map block_lines c.points)) (flat_map line_ended (map Bounds_channel c.channels)) (ended_line end_line))
+    ∙ ap (λ text. text ++ ended_line end_line) (sym (flat-more line_ended (flat_map block_lines c.points) (map Bounds_channel c.channels))))
+    ∙ sym (append_assoc (ended_line (first_line c.version)) (flat_map line_ended (lines_of c)) (ended_line end_line))

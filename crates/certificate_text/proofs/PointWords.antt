@@ -9,7 +9,8 @@ three_from : (program point text begun : List ℕ) → point_of_program (program
 three_from program point [] begun = refl
 three_from program point (b ∷ text) begun = go (b == 58) (three_from program point text (begun ++ b ∷ []))
   where
-    go : (ends : Bool) → point_of_program (program ∷ point ∷ parts_from 58 text (begun ++ b ∷ [])) ≡ Err Syntax → point_of_program (program ∷ point ∷ cond ends (begun ∷ parts_from 58 text []) (parts_from 58 text (begun ++ b ∷ []))) ≡ Err Syntax
+    go : (ends : Bool) → point_of_program (program ∷ point ∷ parts_from 58 text (begun ++ b ∷ [])) ≡ Err Syntax →
+        point_of_program (program ∷ point ∷ cond ends (begun ∷ parts_from 58 text []) (parts_from 58 text (begun ++ b ∷ []))) ≡ Err Syntax
     go true rest = refl
     go false rest = rest
 

@@ -4,10 +4,10 @@ use Rattle.std.specs.List.{flat_map}
 use Rattle.rights.specs.Classes.{Initial, Made_at}
 use Rattle.certificate.specs.Bounds.{ModeBound, Off, On, Either, In_grant, Socket, Unknown, Held, Open, Maybe, Bound, PointBound, One, Certificate, with_interval, with_slot}
 use Rattle.certificate.specs.Growth.{open_bound}
-use Rattle.certificate_text.specs.Texts.{ended}
+use Rattle.certificate_text.specs.Texts.{ended_line}
 
 abbrev pub text : List (List ℕ) → List ℕ
-text lines = flat_map ended lines
+text lines = flat_map ended_line lines
 
 -- all rights and commands, of what is at or beneath a grant
 abbrev pub all_in : List ℕ → Held

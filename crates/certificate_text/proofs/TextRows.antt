@@ -3,7 +3,7 @@ use Rattle.std.proofs.Common.{◌≡◌, ap, arith, refl}
 use Rattle.std.specs.List.{slice_index_or}
 use Rattle.std.specs.Prelude.{[], ◌∷◌, codes, length, Ok}
 use Rattle.certificate.specs.Bounds.{Off, Version, One, Two, Certificate}
-use Rattle.certificate.specs.Growth.{nothing, open_bound, taken, distinct_behind, above_blocks, above_channels, may_bound_register, may_bound_slot, all_from, on_last}
+use Rattle.certificate.specs.Growth.{empty, open_bound, taken, distinct_behind, above_blocks, above_channels, may_bound_register, may_bound_slot, all_from, on_last}
 use Rattle.certificate.specs.Lines.{register_lines, slot_lines}
 use Rattle.std.specs.Fmt.{digits}
 use Rattle.certificate_text.specs.Texts.{certificate_text, line_text}
@@ -29,11 +29,11 @@ with_channels_read : certificate_of_text (text channel_lines) ≡ Ok with_channe
 unfolding certificate_of_text read_behind line_of_text taken distinct_behind above_blocks above_channels may_bound_register may_bound_slot all_from on_last
 with_channels_read = refl
 
-nothing_read : certificate_of_text (text (codes "capcert 1" ∷ codes "end" ∷ [])) ≡ Ok (nothing One)
+nothing_read : certificate_of_text (text (codes "capcert 1" ∷ codes "end" ∷ [])) ≡ Ok (empty One)
 unfolding certificate_of_text read_behind line_of_text taken distinct_behind above_blocks above_channels may_bound_register may_bound_slot all_from on_last
 nothing_read = refl
 
-nothing_of_version_2_read : certificate_of_text (text (codes "capcert 2" ∷ codes "end" ∷ [])) ≡ Ok (nothing Two)
+nothing_of_version_2_read : certificate_of_text (text (codes "capcert 2" ∷ codes "end" ∷ [])) ≡ Ok (empty Two)
 unfolding certificate_of_text read_behind line_of_text taken distinct_behind above_blocks above_channels may_bound_register may_bound_slot all_from on_last
 nothing_of_version_2_read = refl
 

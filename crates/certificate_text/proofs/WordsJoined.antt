@@ -4,7 +4,8 @@ use Rattle.std.specs.List.{slice_index_or}
 use Rattle.std.proofs.lemmas.List.{take_all}
 use Rattle.texts.specs.Parts.{joined}
 
-pub joined-first : {A : Type 0} (f : A → List ℕ) (xs : List A) (x : A) → 2 ≤ length xs → x ≡ slice_index_or xs 0 x → (f x ++ 32 ∷ []) ++ joined 32 (map f (take (length xs - 1) (drop 1 xs))) ≡ joined 32 (map f xs)
+pub joined-first : {A : Type 0} (f : A → List ℕ) (xs : List A) (x : A) → 2 ≤ length xs → x ≡ slice_index_or xs 0 x →
+    (f x ++ 32 ∷ []) ++ joined 32 (map f (take (length xs - 1) (drop 1 xs))) ≡ joined 32 (map f xs)
 joined-first f [] x some is = absurd (omega arith)
 joined-first f (a ∷ []) x some is = absurd (omega arith)
 joined-first f (a ∷ b ∷ xs) x some is =

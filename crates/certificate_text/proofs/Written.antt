@@ -6,7 +6,7 @@ use Rattle.rights.specs.declared.stops.Stop.{Stop}
 use Rattle.rights.specs.declared.stops.Stop.TheVariants.{Memory, Device, Spent}
 use Rattle.rights.specs.Output.{Took, TookFront}
 use Rattle.rights.proofs.Taken.{took_more, front_after}
-use Rattle.certificate_text.specs.Writings.{Writes}
+use Rattle.certificate_text.specs.WritingViews.{Writes}
 
 -- So much of the whole is written, without a failure, and this is left.
 pub record Written (before now : Option (List ℕ)) (faults failed : ℕ) (whole left : List ℕ) : Type 0 where
@@ -47,7 +47,8 @@ written-all before now faults failed whole u so_far = (
 )
 
 -- the last piece
-pub written-last : (before now after : Option (List ℕ)) (faults so failed : ℕ) (whole piece : List ℕ) (r : Result (Unit {0}) Stop) → Written before now faults so whole piece → Writes r now after so failed piece → Writes r before after faults failed whole
+pub written-last : (before now after : Option (List ℕ)) (faults so failed : ℕ) (whole piece : List ℕ) (r : Result (Unit {0}) Stop) →
+    Written before now faults so whole piece → Writes r now after so failed piece → Writes r before after faults failed whole
 written-last before now after faults so failed whole piece (Ok u) so_far wrote =
     written-all before after faults failed whole u
     (written-next before now after faults so failed whole piece []
@@ -57,14 +58,16 @@ written-last before now after faults so failed whole piece (Err stop) so_far wro
     (subst (Written before now faults so whole) (sym (append-nil piece)) so_far) stop wrote
 
 -- the first of two pieces, and then both
-pub written-front : (before after : Option (List ℕ)) (faults failed : ℕ) (piece rest : List ℕ) (stop : Stop) (r : Result (Unit {0}) Stop) → r ≡ Err stop → Writes (Err stop) before after faults failed piece → Writes r before after faults failed (piece ++ rest)
+pub written-front : (before after : Option (List ℕ)) (faults failed : ℕ) (piece rest : List ℕ) (stop : Stop) (r : Result (Unit {0}) Stop) →
+    r ≡ Err stop → Writes (Err stop) before after faults failed piece → Writes r before after faults failed (piece ++ rest)
 written-front before after faults failed piece rest Device r is wrote =
     subst (λ r. Writes r before after faults failed (piece ++ rest)) (sym is)
     (record { front = wrote.0.front; rest = wrote.0.rest ++ rest; whole = sym (append_assoc wrote.0.front wrote.0.rest rest) ∙ ap (λ p. p ++ rest) wrote.0.whole; took = wrote.0.took }, wrote.1)
 written-front before after faults failed piece rest Memory r is wrote = absurd wrote
 written-front before after faults failed piece rest Spent r is wrote = absurd wrote
 
-pub written-both : (before now after : Option (List ℕ)) (faults so failed : ℕ) (piece rest : List ℕ) (u : Unit {0}) (r : Result (Unit {0}) Stop) → Writes (Ok u) before now faults so piece → Writes r now after so failed rest → Writes r before after faults failed (piece ++ rest)
+pub written-both : (before now after : Option (List ℕ)) (faults so failed : ℕ) (piece rest : List ℕ) (u : Unit {0}) (r : Result (Unit {0}) Stop) →
+    Writes (Ok u) before now faults so piece → Writes r now after so failed rest → Writes r before after faults failed (piece ++ rest)
 written-both before now after faults so failed piece rest u (Ok v) wrote then = (took_more before now after piece rest wrote.0 then.0, then.1 ∙ wrote.1)
 written-both before now after faults so failed piece rest u (Err Device) wrote then = (front_after before now after piece rest wrote.0 then.0, subst (λ n. n < failed) wrote.1 then.1)
 written-both before now after faults so failed piece rest u (Err Memory) wrote then = then
@@ -76,5 +79,6 @@ passed_on (Ok a) e is = absurd is.1
 passed_on (Err x) e is = ap Err is.1
 
 -- the same text, otherwise said
-pub written-as : (r : Result (Unit {0}) Stop) (before after : Option (List ℕ)) (faults failed : ℕ) (text said : List ℕ) → text ≡ said → Writes r before after faults failed text → Writes r before after faults failed said
+pub written-as : (r : Result (Unit {0}) Stop) (before after : Option (List ℕ)) (faults failed : ℕ) (text said : List ℕ) → text ≡ said →
+    Writes r before after faults failed text → Writes r before after faults failed said
 written-as r before after faults failed text said same wrote = subst (Writes r before after faults failed) same wrote

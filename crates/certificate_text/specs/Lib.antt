@@ -1,9 +1,9 @@
-pub mod Texts
 pub mod Faults
-pub mod Words
-pub mod Readings
-pub mod Views
 pub mod KeywordViews
-pub mod WordViews
-pub mod Writings
 pub mod Pieces
+pub mod Readings
+pub mod Texts
+pub mod Views
+pub mod WordViews
+pub mod Words
+pub mod WritingViews

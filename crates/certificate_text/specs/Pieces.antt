@@ -3,10 +3,10 @@ use Rattle.std.specs.Prelude.{◌+◌, ℕ, List, [], ◌∷◌, ◌++◌, if◌
 use Rattle.std.specs.List.{flat_map}
 use Rattle.certificate.specs.Bounds.{Interval, Slot, PointBound, ChannelBound}
 use Rattle.certificate.specs.Lines.{Line, Bounds_register, Bounds_slot, Bounds_channel, block_lines, is_closed, is_full}
-use Rattle.certificate_text.specs.Texts.{ended, line_text}
+use Rattle.certificate_text.specs.Texts.{ended_line, line_text}
 
 abbrev pub line_ended : Line → List ℕ
-line_ended line = ended (line_text line)
+line_ended line = ended_line (line_text line)
 
 abbrev pub register_text : ℕ → Interval → List ℕ
 register_text n i = if is_full i then [] else line_ended (Bounds_register n i)

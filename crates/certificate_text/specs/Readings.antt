@@ -5,24 +5,24 @@ use Rattle.texts.specs.Bytes.{space}
 use Rattle.texts.specs.Lines.{Line as TextLine, lines_of}
 use Rattle.texts.specs.Parts.{parts}
 use Rattle.certificate.specs.Bounds.{Version, One, Two, Certificate}
-use Rattle.certificate.specs.Growth.{Refused, No_room, Out_of_order, nothing, taken}
+use Rattle.certificate.specs.Growth.{Refused, No_room, Out_of_order, empty, taken}
 use Rattle.certificate.specs.Lines.{Line}
 use Rattle.certificate_text.specs.Faults.{Fault, Syntax, Limit, Order, Faulty}
-use Rattle.certificate_text.specs.Texts.{first_line, last_line}
+use Rattle.certificate_text.specs.Texts.{first_line, end_line}
 use Rattle.certificate_text.specs.Words.{line_of_words}
 
 unfoldable pub line_of_text : List ℕ → Result Line Fault
 line_of_text text = line_of_words (parts space text)
 
 -- what a certificate makes of a line: one more line of it, or the fault
-abbrev pub answered : Result Certificate Refused → Result Certificate Fault
-answered (Ok c) = Ok c
-answered (Err No_room) = Err Limit
-answered (Err Out_of_order) = Err Order
+abbrev pub line_taken : Result Certificate Refused → Result Certificate Fault
+line_taken (Ok c) = Ok c
+line_taken (Err No_room) = Err Limit
+line_taken (Err Out_of_order) = Err Order
 
-abbrev pub grown : Certificate → Result Line Fault → Result Certificate Fault
-grown c (Ok line) = answered (taken c line)
-grown c (Err fault) = Err fault
+abbrev pub grown_by_line : Certificate → Result Line Fault → Result Certificate Fault
+grown_by_line c (Ok line) = line_taken (taken c line)
+grown_by_line c (Err fault) = Err fault
 
 abbrev pub Reading : Type 0
 Reading = Result Certificate Faulty
@@ -49,7 +49,7 @@ unfoldable pub read_behind : Certificate → List TextLine → Reading
 read_behind c [] = fails Syntax 0
 read_behind c (line ∷ lines) =
     if line.is_ended
-    then (if bytes_eq line.text last_line then closed c lines else going_on line.offset (λ d. read_behind d lines) (grown c (line_of_text line.text)))
+    then (if bytes_eq line.text end_line then closed c lines else going_on line.offset (λ d. read_behind d lines) (grown_by_line c (line_of_text line.text)))
     else fails Syntax line.offset
 
 -- the version that a first line tells, if it is one
@@ -61,7 +61,7 @@ version_of_line text =
 
 -- The lines behind the first one, which begins there and may tell a version.
 abbrev pub read_versioned : ℕ → Option Version → List TextLine → Reading
-read_versioned offset (Some version) lines = read_behind (nothing version) lines
+read_versioned offset (Some version) lines = read_behind (empty version) lines
 read_versioned offset None lines = fails Syntax offset
 
 abbrev pub read_lines : List TextLine → Reading

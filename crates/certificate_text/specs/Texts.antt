@@ -66,11 +66,11 @@ abbrev pub first_line : Version → List ℕ
 first_line One = codes "capcert 1"
 first_line Two = codes "capcert 2"
 
-abbrev pub last_line : List ℕ
-last_line = codes "end"
+abbrev pub end_line : List ℕ
+end_line = codes "end"
 
-abbrev pub ended : List ℕ → List ℕ
-ended text = text ++ line_feed ∷ []
+abbrev pub ended_line : List ℕ → List ℕ
+ended_line text = text ++ line_feed ∷ []
 
 abbrev pub certificate_text : Certificate → List ℕ
-certificate_text c = ended (first_line c.version) ++ flat_map (λ line. ended (line_text line)) (lines_of c) ++ ended last_line
+certificate_text c = ended_line (first_line c.version) ++ flat_map (λ line. ended_line (line_text line)) (lines_of c) ++ ended_line end_line

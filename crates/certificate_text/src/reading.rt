@@ -2,7 +2,7 @@
 
 ghost use Rattle.std.specs.Prelude.{◌≡◌, IfOk, option_map};
 ghost use Rattle.certificate.specs.Views.{version_of};
-ghost use Rattle.certificate_text.specs.Readings.{certificate_of_text, closed, grown, line_of_text, read_behind, read_lines, version_of_line};
+ghost use Rattle.certificate_text.specs.Readings.{certificate_of_text, closed, grown_by_line, line_of_text, read_behind, read_lines, version_of_line};
 ghost use Rattle.certificate_text.specs.Texts.{certificate_text};
 ghost use Rattle.certificate_text.specs.Views.{ReadsCert, TakesLine};
 
@@ -14,7 +14,7 @@ use texts::Lines;
 
 /// Adds a line of the body, which begins at this offset.
 fn take_line(cert: &mut Cert, text: &[u8], offset: usize) -> Result<(), CertFault>
-    ensures { TakesLine result cert.new offset (grown cert.old (line_of_text text.now)) }
+    ensures { TakesLine result cert.new offset (grown_by_line cert.old (line_of_text text.now)) }
 {
     let line = match read_line(text) {
         Ok(line) => line,

@@ -6,11 +6,11 @@ ghost use Rattle.texts.specs.Bytes.{colon, space};
 ghost use Rattle.texts.specs.Parts.{joined};
 ghost use Rattle.certificate.specs.Lines.{Begins_block};
 ghost use Rattle.certificate.specs.Views.{bound_of, channel_of, channels_of, class_of, interval_of, line_of, point_of, points_of, slot_of, version_of};
-ghost use Rattle.certificate_text.specs.Texts.{certificate_text, class_word, ended, first_line, last_line, line_text};
+ghost use Rattle.certificate_text.specs.Texts.{certificate_text, class_word, ended_line, first_line, end_line, line_text};
 ghost use Rattle.certificate_text.specs.Readings.{certificate_of_text};
 ghost use Rattle.certificate_text.specs.Pieces.{block_text, channel_text, in_order, register_text, slot_text};
 ghost use Rattle.certificate_text.specs.WordViews.{word_text};
-ghost use Rattle.certificate_text.specs.Writings.{Writes};
+ghost use Rattle.certificate_text.specs.WritingViews.{Writes};
 
 use crate::line_words::{Word, words_of_line};
 use bitflags::Flags;
@@ -113,7 +113,7 @@ fn write_words<W: Out>(out: &mut W, words: &[Word]) -> Result<(), Stop>
 fn write_line<W: Out>(out: &mut W, line: &Line) -> Result<(), Stop>
     requires { W.faults out.old < 2 ^ 64 - 1 }
     ensures { Writes result (W.taken out.old) (W.taken out.new) (W.faults out.old) (W.faults out.new)
-        (ended (line_text (line_of line.now))) }
+        (ended_line (line_text (line_of line.now))) }
 {
     let words = words_of_line(line);
     write_words(out, words.as_slice())?;
@@ -250,7 +250,7 @@ fn write_channels<W: Out>(out: &mut W, channels: &[Channel]) -> Result<(), Stop>
 fn write_end<W: Out>(out: &mut W, channels: &[Channel]) -> Result<(), Stop>
     requires { W.faults out.old < 2 ^ 64 - 1 }
     ensures { Writes result (W.taken out.old) (W.taken out.new) (W.faults out.old) (W.faults out.new)
-        (in_order (λ n. channel_text) 0 (channels_of channels.now) ++ ended last_line) }
+        (in_order (λ n. channel_text) 0 (channels_of channels.now) ++ ended_line end_line) }
 {
     write_channels(out, channels)?;
     write_bytes(out, b"end\n")
@@ -261,7 +261,7 @@ fn write_body<W: Out>(out: &mut W, points: &[Point], channels: &[Channel]) -> Re
     requires { W.faults out.old < 2 ^ 64 - 1 }
     ensures { Writes result (W.taken out.old) (W.taken out.new) (W.faults out.old) (W.faults out.new)
         (in_order (λ n. block_text) 0 (points_of points.now)
-        ++ (in_order (λ n. channel_text) 0 (channels_of channels.now) ++ ended last_line)) }
+        ++ (in_order (λ n. channel_text) 0 (channels_of channels.now) ++ ended_line end_line)) }
 {
     write_points(out, points)?;
     write_end(out, channels)
@@ -269,7 +269,7 @@ fn write_body<W: Out>(out: &mut W, points: &[Point], channels: &[Channel]) -> Re
 
 /// The first line of a certificate of this version, with its line feed.
 fn version_line(version: Version) -> &'static [u8]
-    ensures { result.now ≡ ended (first_line (version_of version)) }
+    ensures { result.now ≡ ended_line (first_line (version_of version)) }
 {
     match version {
         Version::One => b"capcert 1\n",

@@ -9,9 +9,10 @@ use Rattle.certificate.specs.Bounds.{Bound, PointBound, Version, One, Two, Certi
 use Rattle.certificate.specs.declared.points.Point.{Point as PointCode}
 use Rattle.certificate.specs.declared.lines.Refusal.{Refusal}
 use Rattle.certificate.specs.declared.lines.Refusal.TheVariants.{Limit, Order, Memory}
-use Rattle.certificate.specs.Growths.{Grows, grown, grown_by, then_grown}
+use Rattle.certificate.specs.Growths.{grown, grown_by, then_grown}
+use Rattle.certificate.specs.GrowthViews.{Grows}
 use Rattle.certificate.specs.Views.{name_of, points_of}
-use Rattle.certificate.specs.Growth.{IsCertificate, nothing}
+use Rattle.certificate.specs.Growth.{IsCertificate, empty}
 use Rattle.certificate.specs.Lines.{Bounds_channel, block_lines, lines_of}
 use Rattle.certificate.proofs.Growths.{by_append, grown_append}
 use Rattle.task.specs.Plans.{Plan}
@@ -65,7 +66,7 @@ module _ (plan : Plan) (c : Certificate) (name : List ℕ) (carried : Option Bou
   along_failed r stop new d whole is failed same =
       failed_first r stop new (grown_by here d) (grown_by rest) whole is failed (sym same ∙ grown_parts d)
 
--- At a program's end nothing is left to take.
+-- At a program's end empty is left to take.
 pub along_end : (plan : Plan) (c : Certificate) (name : List ℕ) (carried : Option Bound) (point : ℕ) (d : Certificate) (whole : Option Certificate) → 256 ≤ point
     → grown_by (points_along plan c name carried point (256 - point)) d ≡ whole → whole ≡ Some d
 unfolding points_along grown_by
@@ -149,9 +150,9 @@ expansion_is_one One plan c is = is
 expansion_is_one Two plan c is = refl
 
 -- No line of an expansion is refused.
-pub lines_taken : (plan : Plan) (c start : Certificate) → IsCertificate c → start ≡ nothing One → grown (lines_of (expansion plan c)) start ≡ Some (expansion plan c)
+pub lines_taken : (plan : Plan) (c start : Certificate) → IsCertificate c → start ≡ empty One → grown (lines_of (expansion plan c)) start ≡ Some (expansion plan c)
 lines_taken plan c start made begun =
-    ap (grown (lines_of (expansion plan c))) (begun ∙ sym (ap nothing (expansion_is_one c.version plan c refl))) ∙ expansion_grown plan c made
+    ap (grown (lines_of (expansion plan c))) (begun ∙ sym (ap empty (expansion_is_one c.version plan c refl))) ∙ expansion_grown plan c made
 
 -- Lines that are all taken are refused for want of memory alone.
 pub wants_memory : (stop : Refusal) (new d : Certificate) (whole : Option Certificate) → whole ≡ Some d → Grows (Err stop) new whole → stop ≡ Memory

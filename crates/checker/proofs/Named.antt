@@ -8,24 +8,24 @@ use Rattle.rights.proofs.Tests.{both_left, both_right}
 use Rattle.texts.specs.Names.{is_name}
 use Rattle.prog_asm.specs.Programs.{is_program}
 use Rattle.task.specs.Plans.{NamedProgram, Plan, code_in, name_in, program_name}
-use Rattle.task.specs.Limits.{is_tree, are_grants, is_named, are_named_apart, all_apart, are_programs, are_starts, is_plan}
+use Rattle.task.specs.Limits.{is_tree, are_grants, is_program_named, are_named_apart, all_apart, are_programs, are_starts, is_plan}
 use Rattle.rules.specs.Points.{instruction_at}
 
-programs_named : (plan : Plan) → is_plan plan ≡ true → list_all is_named plan.programs ≡ true
+programs_named : (plan : Plan) → is_plan plan ≡ true → list_all is_program_named plan.programs ≡ true
 programs_named plan valid =
     let before = is_tree plan.nodes && are_grants plan.nodes plan.grants in
     let programs = are_programs plan.programs in
     let are : programs ≡ true =
     both_right before programs (both_left (before && programs) (are_starts plan.nodes (length plan.programs) plan.starts) valid) in
     let few = nat_le (length plan.programs) most_programs in
-    let each = list_all is_named plan.programs in
+    let each = list_all is_program_named plan.programs in
     both_right few each (both_left (few && each) (all_apart are_named_apart plan.programs) are)
 
-none_there : (plan : Plan) (program point : ℕ) (o : Option NamedProgram) → slice_get plan.programs program ≡ o → list_all is_named plan.programs ≡ true
+none_there : (plan : Plan) (program point : ℕ) (o : Option NamedProgram) → slice_get plan.programs program ≡ o → list_all is_program_named plan.programs ≡ true
     → is_name (name_in o) ≡ false → slice_get (code_in o) point ≡ None
 none_there plan program point None is named unnamed = refl
 none_there plan program point (Some p) is named unnamed =
-    let here : is_name p.name ≡ true = both_left (is_name p.name) (is_program p.code) (list_all-slice_get is_named plan.programs program p named is) in
+    let here : is_name p.name ≡ true = both_left (is_name p.name) (is_program p.code) (list_all-slice_get is_program_named plan.programs program p named is) in
     absurd cc
 
 -- where one has no name, it isn't there, and has no instructions

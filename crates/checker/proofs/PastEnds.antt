@@ -27,13 +27,16 @@ past_programs plan certificate program point past =
     no_instruction plan certificate program point (ap (λ p. slice_get (code_in p) point) (slice_get_past plan.programs program past))
 
 -- the code of a program at a place of the list
-pub program_here : (plan : Plan) (items : List NamedProgramCode) (n : ℕ) (x : NamedProgramCode) → programs_of items ≡ plan.programs → n < length items → x ≡ slice_index_or items n x → programs_of_plan plan n ≡ x.program
+pub program_here : (plan : Plan) (items : List NamedProgramCode) (n : ℕ) (x : NamedProgramCode) → programs_of items ≡ plan.programs →
+    n < length items → x ≡ slice_index_or items n x → programs_of_plan plan n ≡ x.program
 program_here plan items n x same below is =
     ap (λ programs. code_in (slice_get programs n)) (sym same)
     ∙ ap code_in (slice_get-map program_of items n)
     ∙ ap (λ p. code_in (option_map program_of p)) (slice_get_read items (length items) n x refl below is)
 
-pub past_points : (plan : Plan) (certificate : Certificate) (items : List NamedProgramCode) (n point : ℕ) (x : NamedProgramCode) → programs_of items ≡ plan.programs → n < length items → x ≡ slice_index_or items n x → length x.program ≤ point → found_at plan certificate n point ≡ None
+pub past_points : (plan : Plan) (certificate : Certificate) (items : List NamedProgramCode) (n point : ℕ) (x : NamedProgramCode) →
+    programs_of items ≡ plan.programs → n < length items → x ≡ slice_index_or items n x → length x.program ≤ point →
+    found_at plan certificate n point ≡ None
 past_points plan certificate items n point x same below is past =
     no_instruction plan certificate n point
     (ap (λ code. slice_get code point) (program_here plan items n x same below is) ∙ slice_get_past x.program point past)

@@ -84,7 +84,8 @@ pub carried_is : (plan : Plan) (c : Certificate) (name : List ℕ) (point : ℕ)
     → carried_on plan.grants c name point b i ≡ carried_past plan c name point carried
 carried_is plan c name point carried code i b is here bound may =
     let more : suc point ≡ point + 1 = omega arith in
-    sym (ap (λ may. if may then carried_on plan.grants c name point b i else None) (λ k. may_carry c.version (sym is k) (more k)) ∙ ap (λ may. if may then carried_on plan.grants c name point b i else None) may)
+    sym (ap (λ may. if may then carried_on plan.grants c name point b i else None) (λ k. may_carry c.version (sym is k) (more k))
+    ∙ ap (λ may. if may then carried_on plan.grants c name point b i else None) may)
     ∙ (λ k. carried_by plan c name point (there k) (bound k))
   where
     there : Some i ≡ slice_get (code_named plan.programs name) point

@@ -1,3 +1,3 @@
+pub mod SiteViews
 pub mod Verdicts
 pub mod Views
-pub mod Sites

@@ -3,12 +3,12 @@
 ghost use Rattle.std.specs.Prelude.{◌≡◌, ◌+◌, None, is_some, option_map, true};
 ghost use Rattle.certificate.specs.Bounds.{bound_at};
 ghost use Rattle.certificate.specs.Views.{bound_of, name_of};
-ghost use Rattle.checker.specs.Sites.{CarriesOn, StandsAt, expansion_at, name_at, successes_in};
+ghost use Rattle.checker.specs.SiteViews.{CarriesOn, SiteHas, expansion_at, site_name, successes_in};
 ghost use Rattle.prog_asm.specs.Views.{instruction_of};
 ghost use Rattle.rules.specs.Expansions.{bound_met};
 ghost use Rattle.rules.specs.Outcomes.{error_outcomes};
 ghost use Rattle.rules.specs.Rules.{all_there, all_within, within_if_there};
-ghost use Rattle.transfer.specs.Calls.{successes_at};
+ghost use Rattle.transfer.specs.CallViews.{successes_at};
 ghost use Rattle.transfer.specs.Limits.{leaves_known};
 
 use certificate::{Bound, Cert, Name};
@@ -104,13 +104,13 @@ pub(crate) fn successes_within(
     carried: &Option<Bound>,
     instruction: &Instruction,
 ) -> bool
-    requires stands { StandsAt site.now (instruction_of instruction.now) }
+    requires stands { SiteHas site.now (instruction_of instruction.now) }
     requires carries { CarriesOn site.now carried.now }
     requires known { leaves_known (instruction_of instruction.now) ≡ true }
-    ensures { result ≡ all_within (expansion_at site.now) (name_at site.now) (successes_in site.now (instruction_of instruction.now)) }
+    ensures { result ≡ all_within (expansion_at site.now) (site_name site.now) (successes_in site.now (instruction_of instruction.now)) }
 {
-    let _programs = site.task.programs();
-    let _points = site.cert.points();
+    site.task.note_valid();
+    site.cert.note_made();
     let mut test = IsWithin {
         met: Met::of(site, carried),
     };
@@ -123,13 +123,13 @@ pub(crate) fn successes_there(
     carried: &Option<Bound>,
     instruction: &Instruction,
 ) -> bool
-    requires stands { StandsAt site.now (instruction_of instruction.now) }
+    requires stands { SiteHas site.now (instruction_of instruction.now) }
     requires carries { CarriesOn site.now carried.now }
     requires known { leaves_known (instruction_of instruction.now) ≡ true }
-    ensures { result ≡ all_there (expansion_at site.now) (name_at site.now) (successes_in site.now (instruction_of instruction.now)) }
+    ensures { result ≡ all_there (expansion_at site.now) (site_name site.now) (successes_in site.now (instruction_of instruction.now)) }
 {
-    let _programs = site.task.programs();
-    let _points = site.cert.points();
+    site.task.note_valid();
+    site.cert.note_made();
     let mut test = IsThere {
         met: Met::of(site, carried),
     };
@@ -142,13 +142,13 @@ pub(crate) fn failure_within(
     carried: &Option<Bound>,
     instruction: &Instruction,
 ) -> bool
-    requires stands { StandsAt site.now (instruction_of instruction.now) }
+    requires stands { SiteHas site.now (instruction_of instruction.now) }
     requires carries { CarriesOn site.now carried.now }
-    ensures { result ≡ all_within (expansion_at site.now) (name_at site.now)
+    ensures { result ≡ all_within (expansion_at site.now) (site_name site.now)
         (error_outcomes (bound_of site.now.bound.now) (instruction_of instruction.now)) }
 {
-    let _programs = site.task.programs();
-    let _points = site.cert.points();
+    site.task.note_valid();
+    site.cert.note_made();
     let mut test = IsWithin {
         met: Met::of(site, carried),
     };
@@ -164,13 +164,13 @@ pub(crate) fn failure_there(
     carried: &Option<Bound>,
     instruction: &Instruction,
 ) -> bool
-    requires stands { StandsAt site.now (instruction_of instruction.now) }
+    requires stands { SiteHas site.now (instruction_of instruction.now) }
     requires carries { CarriesOn site.now carried.now }
-    ensures { result ≡ all_there (expansion_at site.now) (name_at site.now)
+    ensures { result ≡ all_there (expansion_at site.now) (site_name site.now)
         (error_outcomes (bound_of site.now.bound.now) (instruction_of instruction.now)) }
 {
-    let _programs = site.task.programs();
-    let _points = site.cert.points();
+    site.task.note_valid();
+    site.cert.note_made();
     let mut test = IsThere {
         met: Met::of(site, carried),
     };

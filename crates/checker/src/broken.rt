@@ -2,7 +2,7 @@
 
 ghost use Rattle.std.specs.Prelude.{◌≡◌, ◌+◌, ℕ, IfSome, None, drop, not, option_map, take, true};
 ghost use Rattle.certificate.specs.Views.{bound_of, name_of};
-ghost use Rattle.checker.specs.Sites.{CarriesOn, StandsAt, expansion_at, tests_at};
+ghost use Rattle.checker.specs.SiteViews.{CarriesOn, SiteHas, expansion_at, tests_at};
 ghost use Rattle.prog_asm.specs.Views.{instruction_of};
 ghost use Rattle.rules.specs.Channels.{all_have_channels};
 ghost use Rattle.rules.specs.Demands.{demands, keeps_beneath, keeps_numbers, keeps_single};
@@ -90,7 +90,7 @@ fn broken_first(
     instruction: &Instruction,
 ) -> Option<u8>
     requires name { name_of site.now.name.now ≡ program_name site.now.task.now program }
-    requires stands { StandsAt site.now (instruction_of instruction.now) }
+    requires stands { SiteHas site.now (instruction_of instruction.now) }
     requires carries { CarriesOn site.now carried.now }
     requires known { leaves_known (instruction_of instruction.now) ≡ true }
     ensures { result ≡ least_broken (take 8 (tests_at site.now program (instruction_of instruction.now))) }
@@ -132,7 +132,7 @@ fn broken_last(
     instruction: &Instruction,
 ) -> Option<u8>
     requires name { name_of site.now.name.now ≡ program_name site.now.task.now program }
-    requires stands { StandsAt site.now (instruction_of instruction.now) }
+    requires stands { SiteHas site.now (instruction_of instruction.now) }
     requires carries { CarriesOn site.now carried.now }
     requires known { leaves_known (instruction_of instruction.now) ≡ true }
     ensures { result ≡ least_broken (drop 8 (tests_at site.now program (instruction_of instruction.now))) }
@@ -173,7 +173,7 @@ fn broken_with(
     instruction: &Instruction,
 ) -> Option<u8>
     requires name { name_of site.now.name.now ≡ program_name site.now.task.now program }
-    requires stands { StandsAt site.now (instruction_of instruction.now) }
+    requires stands { SiteHas site.now (instruction_of instruction.now) }
     requires carries { CarriesOn site.now carried.now }
     requires known { leaves_known (instruction_of instruction.now) ≡ true }
     ensures { result ≡ least_broken (tests_at site.now program (instruction_of instruction.now)) }
@@ -189,7 +189,7 @@ pub(crate) fn name_at(task: &Task, program: u8) -> Option<Name>
     ensures some { IfSome result (λ name. name_of name ≡ program_name task.now program) }
     ensures none { result ≡ None → (point : ℕ) → instruction_at task.now program point ≡ None }
 {
-    let _programs = task.programs();
+    task.note_valid();
     Name::read(task.program_name(program))
 }
 
@@ -210,8 +210,8 @@ pub(crate) fn found_at(
     requires next { option_map bound_of next.now ≡ carried_to task.now cert.now (name_of name.now) (point + 1) }
     ensures { result ≡ found_at task.now (expansion task.now cert.now) program point }
 {
-    let _programs = task.programs();
-    let _points = cert.points();
+    task.note_valid();
+    cert.note_made();
     let instruction = instruction_at(task, program, point)?;
     match bound_with(cert, name, point, carried) {
         Some(bound) => {

@@ -2,7 +2,8 @@
 
 ghost use Rattle.std.specs.Prelude.{◌≡◌, ◌↔◌, None, IfOk, option_map};
 ghost use Rattle.std.specs.List.{flat_map};
-ghost use Rattle.certificate.specs.Growths.{Grows, grown, grown_by};
+ghost use Rattle.certificate.specs.Growths.{grown, grown_by};
+ghost use Rattle.certificate.specs.GrowthViews.{Grows};
 ghost use Rattle.certificate.specs.Lines.{lines_of};
 ghost use Rattle.certificate.specs.Views.{bound_of, name_of, points_of};
 ghost use Rattle.checker.specs.Verdicts.{Verdict, IsVerdict};
@@ -128,7 +129,7 @@ pub fn expand(alloc: Global, task: &Task, cert: &Cert) -> Result<Cert, Memory>
     ensures value { IfOk result (λ expanded. expanded ≡ expansion task.now cert.now) }
     ensures same { IfOk result (λ expanded. (verdict : Verdict) → IsVerdict task.now expanded verdict ↔ IsVerdict task.now cert.now verdict) }
 {
-    let _points = cert.points();
+    cert.note_made();
     let mut expanded = Cert::new(alloc, Version::One);
     match push_expansion(&mut expanded, task, cert) {
         Ok(()) => Ok(expanded),

@@ -50,7 +50,7 @@ fn first_found(task: &Task, cert: &Cert, program: u8, code: &[Instruction]) -> O
         (λ found. (found_at task.now (expansion task.now cert.now) program found.point ≡ Some found.rule)
         × ((point : ℕ) → point < found.point → found_at task.now (expansion task.now cert.now) program point ≡ None)) }
 {
-    let _programs = task.programs();
+    task.note_valid();
     let name = &name_at(task, program)?;
     let mut carried = None;
     for point in 0..code.len() {

@@ -9,8 +9,8 @@ use Rattle.std.proofs.lemmas.List.Sums.{sum_by-cons}
 use Rattle.fd_table.specs.Descriptions.{Object, Descriptor, Message}
 use Rattle.fd_table.specs.OpenFiles.{OpenFiles, any_below, any_named, names, names_end, is_end, is_open, IsOther, AreOther, IsUnnamed, IsUnused, Alike, SameDescription, SameDescriptions}
 use Rattle.fd_table.specs.Filled.{IsNamed, by_entry, by_message, IsEndThere, MayPass}
-use Rattle.fd_table.specs.Kept.{Held, Pair, Kept, entry, slot, queue, object_in, state_in, half_in, end_of, open_files}
-use Rattle.fd_table.specs.Holders.{named, in_queue, in_pair, holders, IsCounted, IsKept, IsThere, empty_hand}
+use Rattle.fd_table.specs.Kept.{Counted, Pair, Kept, entry_at, item_at, queue, object_in, state_in, half_in, end_of, open_files}
+use Rattle.fd_table.specs.Holders.{names_count, in_queue, in_pair, holders, IsCounted, IsKept, IsDescriptionThere, empty_hand}
 use Rattle.fd_table.specs.Follows.{ShowsAt, Follows}
 use Rattle.fd_table.proofs.Scans.{or_false, left_false, right_false, nothing_below}
 use Rattle.fd_table.proofs.Ending.{end_itself}
@@ -23,7 +23,8 @@ below_less zero test less so none = refl
 below_less (suc n) test less so none =
     or_false (less n) (any_below n less) (so n (left_false (test n) (any_below n test) none)) (below_less n test less so (right_false (test n) (any_below n test) none))
 
-list_less : (test less : Option Descriptor → Bool) → ((o : Option Descriptor) → test o ≡ false → less o ≡ false) → (ms : List Message) → list_any (λ (m : Message). test m.passed) ms ≡ false → list_any (λ (m : Message). less m.passed) ms ≡ false
+list_less : (test less : Option Descriptor → Bool) → ((o : Option Descriptor) → test o ≡ false → less o ≡ false) → (ms : List Message) →
+    list_any (λ (m : Message). test m.passed) ms ≡ false → list_any (λ (m : Message). less m.passed) ms ≡ false
 list_less test less so [] none = refl
 list_less test less so (m ∷ ms) none =
     or_false (less m.passed) _ (so m.passed (left_false (test m.passed) _ none)) (list_less test less so ms (right_false (test m.passed) _ none))
@@ -54,40 +55,41 @@ unfolding open_files
 open_is k pair side kept = go (end_of k.pairs pair side) refl (is_open (open_files k) pair side) refl
   where
     objects : ℕ → Object
-    objects n = object_in (slot k.descriptions n)
+    objects n = object_in (item_at k.descriptions n)
 
-    closed_one : end_of k.pairs pair side ≡ None → (o : Option Descriptor) → names_end (λ n. object_in (slot k.descriptions n)) pair side o ≡ false
+    closed_one : end_of k.pairs pair side ≡ None → (o : Option Descriptor) → names_end (λ n. object_in (item_at k.descriptions n)) pair side o ≡ false
     closed_one closed None = refl
-    closed_one closed (Some d) = decide (is_end pair side (object_in (slot k.descriptions d.description))) refl
+    closed_one closed (Some d) = decide (is_end pair side (object_in (item_at k.descriptions d.description))) refl
       where
-        decide : (b : Bool) → is_end pair side (object_in (slot k.descriptions d.description)) ≡ b → is_end pair side (object_in (slot k.descriptions d.description)) ≡ false
+        decide : (b : Bool) → is_end pair side (object_in (item_at k.descriptions d.description)) ≡ b → is_end pair side (object_in (item_at k.descriptions d.description)) ≡ false
         decide true is =
             let some = kept.known pair side d.description is in
             absurd cc
         decide false is = is
 
-    less : (n : ℕ) → is_end pair side (object_in (slot k.descriptions n)) ≡ true → (o : Option Descriptor) → names_end (λ n. object_in (slot k.descriptions n)) pair side o ≡ false → names n o ≡ false
+    less : (n : ℕ) → is_end pair side (object_in (item_at k.descriptions n)) ≡ true → (o : Option Descriptor) →
+        names_end (λ n. object_in (item_at k.descriptions n)) pair side o ≡ false → names n o ≡ false
     less n end None none = refl
     less n end (Some d) none = decide (nat_eq d.description n) refl
       where
         decide : (b : Bool) → nat_eq d.description n ≡ b → nat_eq d.description n ≡ false
         decide true is =
             let same = eqb-true d.description n is in
-            let own : is_end pair side (object_in (slot k.descriptions d.description)) ≡ true = ap (λ i. is_end pair side (object_in (slot k.descriptions i))) same ∙ end in
+            let own : is_end pair side (object_in (item_at k.descriptions d.description)) ≡ true = ap (λ i. is_end pair side (object_in (item_at k.descriptions i))) same ∙ end in
             absurd cc
         decide false is = is
 
-    some_at : (n : ℕ) (o : Option Held) → slot k.descriptions n ≡ o → is_end pair side (object_in o) ≡ true → is_some (slot k.descriptions n) ≡ true
+    some_at : (n : ℕ) (o : Option Counted) → item_at k.descriptions n ≡ o → is_end pair side (object_in o) ≡ true → is_some (item_at k.descriptions n) ≡ true
     some_at n None there end = absurd cc
     some_at n (Some h) there end = ap is_some there
 
     go : (e : Option ℕ) → end_of k.pairs pair side ≡ e → (b : Bool) → is_open (open_files k) pair side ≡ b → b ≡ is_some e
-    go None closed b is = sym is ∙ any_none (open_files k) (names_end (λ n. object_in (slot k.descriptions n)) pair side) (closed_one closed)
+    go None closed b is = sym is ∙ any_none (open_files k) (names_end (λ n. object_in (item_at k.descriptions n)) pair side) (closed_one closed)
     go (Some n) opened true is = refl
     go (Some n) opened false is =
         let end = kept.ends pair side n opened in
-        let none = any_less (open_files k) (names_end (λ n. object_in (slot k.descriptions n)) pair side) (names n) (less n end) is in
-        let named = named_is k n kept ∙ some_at n (slot k.descriptions n) refl end in
+        let none = any_less (open_files k) (names_end (λ n. object_in (item_at k.descriptions n)) pair side) (names n) (less n end) is in
+        let names_count = named_is k n kept ∙ some_at n (item_at k.descriptions n) refl end in
         absurd cc
 
 -- an end that is there is open
@@ -98,14 +100,14 @@ end_open k pair side hand kept there =
     subst (λ (o : Option ℕ). IsSome o) (sym own) refl
 
 -- a number without a pair is not in use
-pub unused_vacant : (k : Kept) (pair : ℕ) → IsKept k empty_hand → slot k.pairs pair ≡ None → IsUnused (open_files k) pair
+pub unused_vacant : (k : Kept) (pair : ℕ) → IsKept k empty_hand → item_at k.pairs pair ≡ None → IsUnused (open_files k) pair
 unfolding open_files
 unused_vacant k pair kept vacant = record {
   closed = λ side. open_is k pair side kept ∙ ap (λ o. is_some ((half_in o side).description)) vacant;
   empty = λ side. ap (λ o. (half_in o side).sent) vacant;
 }
 
--- what is named is there
+-- what is names_count is there
 other_at : (n : ℕ) (ms : List Message) (at : ℕ) (m : Message) → AreOther n ms → slice_get ms at ≡ Some m → IsOther n m.passed
 other_at n [] at m other is = absurd cc
 other_at n (x ∷ ms) zero m other is =
@@ -118,25 +120,27 @@ not_both f n unnamed (by_entry p m d is names) = subst (IsOther n) is (unnamed.e
 not_both f n unnamed (by_message pair side at m d is passed names) =
     subst (IsOther n) passed (other_at n (f.queue pair side) at m (unnamed.messages pair side) is) names
 
-pub there_named : (k : Kept) (n : ℕ) (hand : ℕ → ℕ) → IsKept k hand → IsNamed (open_files k) n → IsSome (slot k.descriptions n)
-there_named k n hand kept named = go (slot k.descriptions n) refl
+pub there_named : (k : Kept) (n : ℕ) (hand : ℕ → ℕ) → IsKept k hand → IsNamed (open_files k) n → IsSome (item_at k.descriptions n)
+there_named k n hand kept names_count = go (item_at k.descriptions n) refl
   where
-    go : (o : Option Held) → slot k.descriptions n ≡ o → IsSome o
-    go None vacant = absurd (not_both (open_files k) n (unnamed_vacant k n hand kept vacant) named)
+    go : (o : Option Counted) → item_at k.descriptions n ≡ o → IsSome o
+    go None vacant = absurd (not_both (open_files k) n (unnamed_vacant k n hand kept vacant) names_count)
     go (Some h) there = refl
 
-pub there_passed : (k : Kept) (o : Option Descriptor) (hand : ℕ → ℕ) → IsKept k hand → MayPass (open_files k) o → IsThere (slot k.descriptions) o
+pub there_passed : (k : Kept) (o : Option Descriptor) (hand : ℕ → ℕ) → IsKept k hand → MayPass (open_files k) o → IsDescriptionThere (item_at k.descriptions) o
 there_passed k None hand kept may = tt
 there_passed k (Some d) hand kept may = there_named k d.description hand kept may
 
--- what an entry or a message names is as the lists show it
+-- what an entry_at or a message names is as the lists show it
 module _ (f : OpenFiles) (k : Kept) (follows : Follows f k empty_hand) where
   same_one : (o : Option Descriptor) → ((n : ℕ) → holders k n ≡ 0 → names n o ≡ false) → SameDescription f (open_files k) o
   unfolding open_files
   same_one None silent = tt
-  same_one (Some d) silent = go (slot k.descriptions d.description) refl (follows.shows.described d.description)
+  same_one (Some d) silent = go (item_at k.descriptions d.description) refl (follows.shows.described d.description)
     where
-      go : (o : Option Held) → slot k.descriptions d.description ≡ o → ShowsAt f d.description o → (object_in (slot k.descriptions d.description) ≡ f.objects d.description) × (state_in (slot k.descriptions d.description) ≡ f.states d.description)
+      go : (o : Option Counted) → item_at k.descriptions d.description ≡ o → ShowsAt f d.description o →
+          (object_in (item_at k.descriptions d.description) ≡ f.objects d.description)
+          × (state_in (item_at k.descriptions d.description) ≡ f.states d.description)
       go None vacant shown =
           let none = silent d.description (holders_vacant k d.description empty_hand follows.kept vacant) in
           let own = eq-eqb d.description d.description refl in
@@ -154,14 +158,14 @@ unfolding open_files
 alike_follows f k follows = record {
   table = follows.shows.table;
   queue = follows.shows.queue;
-  entries = λ p n. subst (SameDescription f (open_files k)) (follows.shows.table p n) (same_one f k follows (entry k.entries p n) (λ m none. entry_silent k m none p n));
+  entries = λ p n. subst (SameDescription f (open_files k)) (follows.shows.table p n) (same_one f k follows (entry_at k.entries p n) (λ m none. entry_silent k m none p n));
   messages = λ pair side.
       subst (SameDescriptions f (open_files k)) (follows.shows.queue pair side)
       (same_all f k follows (queue k.pairs pair side) (λ n none. queue_zero n (queue k.pairs pair side) (queue_silent k n none pair side)));
   idle = λ pair side far. ap (λ o. (half_in o side).sent) (get_or_past k.pairs pair None far);
 }
 
-shows_itself : (k : Kept) (n : ℕ) (o : Option Held) → slot k.descriptions n ≡ o → ShowsAt (open_files k) n o
+shows_itself : (k : Kept) (n : ℕ) (o : Option Counted) → item_at k.descriptions n ≡ o → ShowsAt (open_files k) n o
 unfolding open_files
 shows_itself k n None there = tt
 shows_itself k n (Some h) there = (sym (ap object_in there), sym (ap state_in there))
@@ -171,32 +175,32 @@ pub follows_itself : (k : Kept) (hand : ℕ → ℕ) → IsKept k hand → Follo
 unfolding open_files
 follows_itself k hand kept = record {
   kept = kept;
-  shows = record { table = λ p n. refl; queue = λ pair side. refl; described = λ n. shows_itself k n (slot k.descriptions n) refl };
+  shows = record { table = λ p n. refl; queue = λ pair side. refl; described = λ n. shows_itself k n (item_at k.descriptions n) refl };
 }
 
 -- there are few holders
-named_most : (n : ℕ) (o : Option Descriptor) → named n o ≤ 1
+named_most : (n : ℕ) (o : Option Descriptor) → names_count n o ≤ 1
 named_most n o = go (names n o)
   where
     go : (b : Bool) → cond b 1 0 ≤ 1
     go true = omega arith
     go false = omega arith
 
-entries_most : (n : ℕ) (os : List (Option Descriptor)) → sum_by (named n) os ≤ length os
+entries_most : (n : ℕ) (os : List (Option Descriptor)) → sum_by (names_count n) os ≤ length os
 entries_most n [] = omega arith
-entries_most n (o ∷ os) = omega (arith, sum_by-cons (named n) o os, named_most n o, entries_most n os)
+entries_most n (o ∷ os) = omega (arith, sum_by-cons (names_count n) o os, named_most n o, entries_most n os)
 
 queue_most : (n : ℕ) (ms : List Message) → in_queue n ms ≤ length ms
 queue_most n [] = omega arith
-queue_most n (m ∷ ms) = omega (arith, sum_by-cons (λ (m : Message). named n m.passed) m ms, named_most n m.passed, queue_most n ms)
+queue_most n (m ∷ ms) = omega (arith, sum_by-cons (λ (m : Message). names_count n m.passed) m ms, named_most n m.passed, queue_most n ms)
 
-pairs_most : (n : ℕ) (ps : List (Option Pair)) → ((i s : ℕ) → length ((half_in (slot ps i) s).sent) ≤ 16) → sum_by (in_pair n) ps ≤ 32 * length ps
+pairs_most : (n : ℕ) (ps : List (Option Pair)) → ((i s : ℕ) → length ((half_in (item_at ps i) s).sent) ≤ 16) → sum_by (in_pair n) ps ≤ 32 * length ps
 pairs_most n [] few = omega arith
 pairs_most n (None ∷ ps) few = omega (arith, sum_by-cons (in_pair n) None ps, pairs_most n ps (λ i. few (suc i)))
 pairs_most n (Some p ∷ ps) few =
     omega (arith, sum_by-cons (in_pair n) (Some p) ps, queue_most n p.a.sent, queue_most n p.b.sent, few 0 0, few 0 1, pairs_most n ps (λ i. few (suc i)))
 
-pub count_most : (k : Kept) (n : ℕ) (h : Held) → IsKept k empty_hand → slot k.descriptions n ≡ Some h → h.count ≤ 256 + 32 * length k.pairs
+pub count_most : (k : Kept) (n : ℕ) (h : Counted) → IsKept k empty_hand → item_at k.descriptions n ≡ Some h → h.count ≤ 256 + 32 * length k.pairs
 count_most k n h kept there =
-    let counted : IsCounted (Some h) (holders k n + 0) = subst (λ (o : Option Held). IsCounted o (holders k n + 0)) there (kept.counts n) in
+    let counted : IsCounted (Some h) (holders k n + 0) = subst (λ (o : Option Counted). IsCounted o (holders k n + 0)) there (kept.counts n) in
     omega (arith, counted.0, entries_most n k.entries, kept.room, pairs_most n k.pairs (λ i s. kept.few i s))

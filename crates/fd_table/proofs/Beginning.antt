@@ -4,30 +4,30 @@ use Rattle.std.specs.Prelude.{Option, None, Bool, true, false, cond, nat_lt}
 use Rattle.std.proofs.Math.ListN.{length-map}
 use Rattle.fd_table.specs.declared.descriptors.Descriptor.{Descriptor as DescriptorCode}
 use Rattle.fd_table.specs.Filled.{IsEmpty}
-use Rattle.fd_table.specs.Kept.{entry, slot, open_files}
-use Rattle.fd_table.specs.Holders.{IsKept, empty_hand, named}
-use Rattle.fd_table.specs.Stored.{entry_kept, entries_kept}
+use Rattle.fd_table.specs.Kept.{entry_at, item_at, open_files}
+use Rattle.fd_table.specs.Holders.{IsKept, empty_hand, names_count}
+use Rattle.fd_table.specs.StoredViews.{entry_kept, entries_kept}
 use Rattle.fd_table.proofs.Sums.{sum_zero}
 
-none_at : (n i : ℕ) → slot (map entry_kept (replicate n None)) i ≡ None
+none_at : (n i : ℕ) → item_at (map entry_kept (replicate n None)) i ≡ None
 none_at zero i = refl
 none_at (suc n) zero = refl
 none_at (suc n) (suc i) = none_at n i
 
-none_in : (es : List (Option DescriptorCode)) → es ≡ replicate 256 None → (i : ℕ) → slot (entries_kept es) i ≡ None
-none_in es is i = ap (λ xs. slot (entries_kept xs) i) is ∙ none_at 256 i
+none_in : (es : List (Option DescriptorCode)) → es ≡ replicate 256 None → (i : ℕ) → item_at (entries_kept es) i ≡ None
+none_in es is i = ap (λ xs. item_at (entries_kept xs) i) is ∙ none_at 256 i
 
-no_entry : (es : List (Option DescriptorCode)) → es ≡ replicate 256 None → (p n : ℕ) → entry (entries_kept es) p n ≡ None
+no_entry : (es : List (Option DescriptorCode)) → es ≡ replicate 256 None → (p n : ℕ) → entry_at (entries_kept es) p n ≡ None
 no_entry es is p n = go (nat_lt n 16)
   where
-    go : (b : Bool) → cond b (slot (entries_kept es) (p * 16 + n)) None ≡ None
+    go : (b : Bool) → cond b (item_at (entries_kept es) (p * 16 + n)) None ≡ None
     go true = none_in es is (p * 16 + n)
     go false = refl
 
 pub new_is_kept : (es : List (Option DescriptorCode)) → es ≡ replicate 256 None → IsKept (record { entries = entries_kept es; descriptions = []; pairs = [] }) empty_hand
 new_is_kept es is = record {
   room = length-map es entry_kept ∙ ap length is;
-  counts = λ n. let none = sum_zero (named n) (entries_kept es) (λ i below. ap (named n) (none_in es is i)) in omega (arith, none);
+  counts = λ n. let none = sum_zero (names_count n) (entries_kept es) (λ i below. ap (names_count n) (none_in es is i)) in omega (arith, none);
   ends = λ pair side n opened. absurd cc;
   known = λ pair side n end. absurd cc;
   needed = λ pair. tt;

@@ -2,7 +2,7 @@
 use Rattle.std.proofs.Common.{◌≡◌, ◌≢◌, ℕ, zero, suc, ◌<◌, ◌≤◌, Bool, true, false, ◌&&◌, ◌||◌, List, [], ◌∷◌, length, refl, ap, ◌∙◌, sym, arith, add-one, ◌⊎◌, inl, inr}
 use Rattle.std.specs.Prelude.{Option, None, is_some, take, cond, not, nat_eq}
 use Rattle.std.proofs.lemmas.Bool.Decides.{eqb_tells}
-use Rattle.fd_table.specs.Counts.{Counts, is_among, are_apart}
+use Rattle.fd_table.specs.Counts.{Counts, is_number_among, are_numbers_apart}
 use Rattle.std.specs.List.{count_by}
 use Rattle.std.specs.Option.{option_map}
 use Rattle.std.proofs.lemmas.List.Sums.{sum_by-cons}
@@ -10,7 +10,7 @@ use Rattle.std.proofs.Common.{map, Some}
 use Rattle.std.proofs.Math.Seq.{take-length}
 use Rattle.std.proofs.lemmas.List.Sums.{count_by_more_no, count_by_more_yes}
 use Rattle.std.proofs.lemmas.List.{get_or_past}
-use Rattle.fd_table.specs.Kept.{Kept, slot, open_files}
+use Rattle.fd_table.specs.Kept.{Kept, item_at, open_files}
 use Rattle.fd_table.specs.Holders.{IsKept, empty_hand}
 use Rattle.fd_table.proofs.Scans.{or_false}
 use Rattle.fd_table.proofs.Naming.{named_is}
@@ -32,26 +32,27 @@ others : (n m : ℕ) → n ≢ m → nat_eq n m ≡ false
 others n m other = elim (eqb_tells n m) [ inl is ↦ absurd (other is.1) | inr apart ↦ apart.0 ]
 
 -- numbers from n on are not among those below it
-among_none : (test : ℕ → Bool) (n m : ℕ) → n ≤ m → is_among m (chosen test n) ≡ false
+among_none : (test : ℕ → Bool) (n m : ℕ) → n ≤ m → is_number_among m (chosen test n) ≡ false
 unfolding chosen
 among_none test zero m far = refl
 among_none test (suc n) m far = go (test n) (among_none test n m (omega arith))
   where
-    go : (b : Bool) → is_among m (chosen test n) ≡ false → is_among m (cond b (n ∷ chosen test n) (chosen test n)) ≡ false
-    go true none = or_false (nat_eq n m) (is_among m (chosen test n)) (others n m (λ same. omega (arith, same))) none
+    go : (b : Bool) → is_number_among m (chosen test n) ≡ false → is_number_among m (cond b (n ∷ chosen test n) (chosen test n)) ≡ false
+    go true none = or_false (nat_eq n m) (is_number_among m (chosen test n)) (others n m (λ same. omega (arith, same))) none
     go false none = none
 
-among_is : (test : ℕ → Bool) (n m : ℕ) → m < n → is_among m (chosen test n) ≡ test m
+among_is : (test : ℕ → Bool) (n m : ℕ) → m < n → is_number_among m (chosen test n) ≡ test m
 unfolding chosen
 among_is test zero m less = absurd (omega arith)
 among_is test (suc n) m less = go (lt_or_le m n) (test n) refl (λ below. among_is test n m below) (λ far. among_none test n m far)
   where
-    go : (m < n) ⊎ (n ≤ m) → (b : Bool) → test n ≡ b → (m < n → is_among m (chosen test n) ≡ test m) → (n ≤ m → is_among m (chosen test n) ≡ false) → is_among m (cond b (n ∷ chosen test n) (chosen test n)) ≡ test m
-    go (inl below) true is rest none = ap (λ b. b || is_among m (chosen test n)) (others n m (λ same. omega (arith, same))) ∙ rest below
+    go : (m < n) ⊎ (n ≤ m) → (b : Bool) → test n ≡ b → (m < n → is_number_among m (chosen test n) ≡ test m) →
+        (n ≤ m → is_number_among m (chosen test n) ≡ false) → is_number_among m (cond b (n ∷ chosen test n) (chosen test n)) ≡ test m
+    go (inl below) true is rest none = ap (λ b. b || is_number_among m (chosen test n)) (others n m (λ same. omega (arith, same))) ∙ rest below
     go (inl below) false is rest none = rest below
     go (inr far) true is rest none =
         let same : n ≡ m = omega arith in
-        ap (λ b. b || is_among m (chosen test n)) (itself n m same) ∙ sym (ap test (sym same) ∙ is)
+        ap (λ b. b || is_number_among m (chosen test n)) (itself n m same) ∙ sym (ap test (sym same) ∙ is)
     go (inr far) false is rest none =
         let same : n ≡ m = omega arith in
         none far ∙ sym (ap test (sym same) ∙ is)
@@ -60,30 +61,32 @@ both : (a b : Bool) → a ≡ true → b ≡ true → (a && b) ≡ true
 both true b left right = right
 both false b left right = absurd cc
 
-chosen_apart : (test : ℕ → Bool) (n : ℕ) → are_apart (chosen test n) ≡ true
+chosen_apart : (test : ℕ → Bool) (n : ℕ) → are_numbers_apart (chosen test n) ≡ true
 unfolding chosen
 chosen_apart test zero = refl
 chosen_apart test (suc n) = go (test n) (chosen_apart test n)
   where
-    go : (b : Bool) → are_apart (chosen test n) ≡ true → are_apart (cond b (n ∷ chosen test n) (chosen test n)) ≡ true
-    go true rest = both (not (is_among n (chosen test n))) (are_apart (chosen test n)) (ap not (among_none test n n (omega arith))) rest
+    go : (b : Bool) → are_numbers_apart (chosen test n) ≡ true → are_numbers_apart (cond b (n ∷ chosen test n) (chosen test n)) ≡ true
+    go true rest = both (not (is_number_among n (chosen test n))) (are_numbers_apart (chosen test n)) (ap not (among_none test n n (omega arith))) rest
     go false rest = rest
 
 -- as many are chosen as there are values
-chosen_many : {A : Type 0} (xs : List (Option A)) (n : ℕ) → n ≤ length xs → length (chosen (λ m. is_some (slot xs m)) n) ≡ count_by is_some (take n xs)
+chosen_many : {A : Type 0} (xs : List (Option A)) (n : ℕ) → n ≤ length xs → length (chosen (λ m. is_some (item_at xs m)) n) ≡ count_by is_some (take n xs)
 unfolding chosen
 chosen_many xs zero within = refl
-chosen_many xs (suc n) within = go (is_some (slot xs n)) refl (chosen_many xs n (omega (arith, within)))
+chosen_many xs (suc n) within = go (is_some (item_at xs n)) refl (chosen_many xs n (omega (arith, within)))
   where
     below : n < length xs
     below = omega (arith, within)
 
-    go : (b : Bool) → is_some (slot xs n) ≡ b → length (chosen (λ m. is_some (slot xs m)) n) ≡ count_by is_some (take n xs) → length (cond (is_some (slot xs n)) (n ∷ chosen (λ m. is_some (slot xs m)) n) (chosen (λ m. is_some (slot xs m)) n)) ≡ count_by is_some (take (suc n) xs)
+    go : (b : Bool) → is_some (item_at xs n) ≡ b → length (chosen (λ m. is_some (item_at xs m)) n) ≡ count_by is_some (take n xs) →
+        length (cond (is_some (item_at xs n)) (n ∷ chosen (λ m. is_some (item_at xs m)) n)
+        (chosen (λ m. is_some (item_at xs m)) n)) ≡ count_by is_some (take (suc n) xs)
     go true is rest =
-        ap (λ b. length (cond b (n ∷ chosen (λ m. is_some (slot xs m)) n) (chosen (λ m. is_some (slot xs m)) n))) is
+        ap (λ b. length (cond b (n ∷ chosen (λ m. is_some (item_at xs m)) n) (chosen (λ m. is_some (item_at xs m)) n))) is
         ∙ omega (arith, rest, rw (add-one n) at (count_by_more_yes is_some xs n None below is))
     go false is rest =
-        ap (λ b. length (cond b (n ∷ chosen (λ m. is_some (slot xs m)) n) (chosen (λ m. is_some (slot xs m)) n))) is
+        ap (λ b. length (cond b (n ∷ chosen (λ m. is_some (item_at xs m)) n) (chosen (λ m. is_some (item_at xs m)) n))) is
         ∙ rest ∙ sym (rw (add-one n) at (count_by_more_no is_some xs n None below is))
 
 -- the descriptions that are there are those that are named
@@ -96,9 +99,9 @@ counts_is k count kept is = record {
 }
   where
     test : ℕ → Bool
-    test m = is_some (slot k.descriptions m)
+    test m = is_some (item_at k.descriptions m)
 
-    at : (n : ℕ) → (n < length k.descriptions) ⊎ (length k.descriptions ≤ n) → is_among n (chosen test (length k.descriptions)) ≡ is_some (slot k.descriptions n)
+    at : (n : ℕ) → (n < length k.descriptions) ⊎ (length k.descriptions ≤ n) → is_number_among n (chosen test (length k.descriptions)) ≡ is_some (item_at k.descriptions n)
     at n (inl below) = among_is test (length k.descriptions) n below
     at n (inr far) = among_none test (length k.descriptions) n far ∙ sym (ap is_some (get_or_past k.descriptions n None far))
 

@@ -3,9 +3,9 @@ use Rattle.std.proofs.Common.{◌≡◌, ◌≢◌, ℕ, zero, suc, ◌+◌, ◌
 use Rattle.std.specs.Prelude.{Option, Some, None, nat_eq, ◌&&◌, is_none, cond}
 use Rattle.std.specs.List.{sum_by}
 use Rattle.std.proofs.lemmas.Bool.{eqb-true, eq-eqb}
-use Rattle.fd_table.specs.Descriptions.{Object, At_end, Class, Message}
+use Rattle.fd_table.specs.Descriptions.{Object, At_end, PairClass, Message}
 use Rattle.fd_table.specs.OpenFiles.{is_end}
-use Rattle.fd_table.specs.Kept.{Held, Pair, Kept, slot, queue, object_in, half_in, end_of}
+use Rattle.fd_table.specs.Kept.{Counted, Pair, Kept, item_at, queue, object_in, half_in, end_of}
 use Rattle.fd_table.specs.Holders.{in_queue, in_pair, holders, IsCounted, is_idle, is_empty, IsNeeded, IsKept}
 use Rattle.fd_table.specs.Changes.{Changed, unless_idle, with_closed}
 use Rattle.fd_table.proofs.Sums.{changed-cases, sum_changed}
@@ -105,30 +105,32 @@ closed_there p (suc zero) (suc (suc s)) other = refl
 closed_there p (suc (suc side)) s other = refl
 
 -- which end an object is
-pub end_itself : (pair side : ℕ) (class : Class) → is_end pair side (At_end pair side class) ≡ true
+pub end_itself : (pair side : ℕ) (class : PairClass) → is_end pair side (At_end pair side class) ≡ true
 end_itself pair side class = ap (λ b. b && nat_eq side side) (eq-eqb pair pair refl) ∙ eq-eqb side side refl
 
 pub record IsSameEnd (pair side r s : ℕ) : Type 0 where
   pub pair_is : r ≡ pair
   pub side_is : s ≡ side
 
-pub same_end : (pair side r s : ℕ) (class : Class) → is_end r s (At_end pair side class) ≡ true → IsSameEnd pair side r s
+pub same_end : (pair side r s : ℕ) (class : PairClass) → is_end r s (At_end pair side class) ≡ true → IsSameEnd pair side r s
 same_end pair side r s class is =
     let both = both_true (nat_eq pair r) (nat_eq side s) is in
     record { pair_is = sym (eqb-true pair r both.0); side_is = sym (eqb-true side s both.1) }
 
 -- the last holder of a node's description is gone
-pub kept_gone_node : (k : Kept) (ds : List (Option Held)) (n : ℕ) (h : Held) (hand left : ℕ → ℕ) → IsKept k hand → Changed k.descriptions ds n None → slot k.descriptions n ≡ Some h → h.count ≤ 1 → ((r s : ℕ) → is_end r s h.description.object ≡ false) → hand n ≡ 1 + left n → ((m : ℕ) → m ≢ n → left m ≡ hand m) → IsKept (record k { descriptions = ds }) left
+pub kept_gone_node : (k : Kept) (ds : List (Option Counted)) (n : ℕ) (h : Counted) (hand left : ℕ → ℕ) → IsKept k hand →
+    Changed k.descriptions ds n None → item_at k.descriptions n ≡ Some h → h.count ≤ 1 → ((r s : ℕ) → is_end r s h.description.object ≡ false) →
+    hand n ≡ 1 + left n → ((m : ℕ) → m ≢ n → left m ≡ hand m) → IsKept (record k { descriptions = ds }) left
 kept_gone_node k ds n h hand left kept change there few no_end here same = record {
   room = kept.room;
   counts = λ m.
       changed-cases (λ o. IsCounted o (holders k m + left m)) k.descriptions ds n None change m
       (λ is. subst (λ (i : ℕ). IsCounted None (holders k i + left i)) (sym is) gone)
-      (λ other. subst (IsCounted (slot k.descriptions m)) (ap (λ x. holders k m + x) (sym (same m other))) (kept.counts m));
+      (λ other. subst (IsCounted (item_at k.descriptions m)) (ap (λ x. holders k m + x) (sym (same m other))) (kept.counts m));
   ends = λ r s m is.
       changed-cases (λ o. is_end r s (object_in o) ≡ true) k.descriptions ds n None change m
-      (λ at. let was = subst (λ (i : ℕ). is_end r s (object_in (slot k.descriptions i)) ≡ true) at (kept.ends r s m is) in
-      absurd (clash r s (subst (λ (o : Option Held). is_end r s (object_in o) ≡ true) there was)))
+      (λ at. let was = subst (λ (i : ℕ). is_end r s (object_in (item_at k.descriptions i)) ≡ true) at (kept.ends r s m is) in
+      absurd (clash r s (subst (λ (o : Option Counted). is_end r s (object_in o) ≡ true) there was)))
       (λ other. kept.ends r s m is);
   known = λ r s m. changed-cases (λ o. is_end r s (object_in o) ≡ true → end_of k.pairs r s ≡ Some m) k.descriptions ds n None change m
       (λ at is. absurd cc)
@@ -138,7 +140,7 @@ kept_gone_node k ds n h hand left kept change there few no_end here same = recor
 }
   where
     was : IsCounted (Some h) (holders k n + hand n)
-    was = subst (λ (o : Option Held). IsCounted o (holders k n + hand n)) there (kept.counts n)
+    was = subst (λ (o : Option Counted). IsCounted o (holders k n + hand n)) there (kept.counts n)
 
     gone : holders k n + left n ≡ 0
     gone = omega (arith, was.0, here, few)
@@ -147,11 +149,11 @@ kept_gone_node k ds n h hand left kept change there few no_end here same = recor
     clash r s is = let no = no_end r s in absurd cc
 
 -- the pair of an end that is closed
-module _ (ks ps : List (Option Pair)) (pair side : ℕ) (p : Pair) (change : Changed ks ps pair (unless_idle (with_closed p side))) (there : slot ks pair ≡ Some p) where
+module _ (ks ps : List (Option Pair)) (pair side : ℕ) (p : Pair) (change : Changed ks ps pair (unless_idle (with_closed p side))) (there : item_at ks pair ≡ Some p) where
   pub left_sent : (r s : ℕ) → queue ps r s ≡ queue ks r s
   left_sent r s =
       changed-cases (λ o. (half_in o s).sent ≡ queue ks r s) ks ps pair (unless_idle (with_closed p side)) change r
-      (λ same. sent_left (with_closed p side) s ∙ closed_sent p side s ∙ ap (λ o. (half_in o s).sent) (sym (ap (slot ks) same ∙ there)))
+      (λ same. sent_left (with_closed p side) s ∙ closed_sent p side s ∙ ap (λ o. (half_in o s).sent) (sym (ap (item_at ks) same ∙ there)))
       (λ other. refl)
 
   left_here : end_of ps pair side ≡ None
@@ -160,13 +162,13 @@ module _ (ks ps : List (Option Pair)) (pair side : ℕ) (p : Pair) (change : Cha
   left_there : (r s : ℕ) → (r ≡ pair → s ≢ side) → end_of ps r s ≡ end_of ks r s
   left_there r s apart =
       changed-cases (λ o. (half_in o s).description ≡ end_of ks r s) ks ps pair (unless_idle (with_closed p side)) change r
-      (λ same. end_left (with_closed p side) s ∙ closed_there p side s (apart same) ∙ ap (λ o. (half_in o s).description) (sym (ap (slot ks) same ∙ there)))
+      (λ same. end_left (with_closed p side) s ∙ closed_there p side s (apart same) ∙ ap (λ o. (half_in o s).description) (sym (ap (item_at ks) same ∙ there)))
       (λ other. refl)
 
   left_in : (m : ℕ) → sum_by (in_pair m) ps ≡ sum_by (in_pair m) ks
   left_in m =
       let sums = sum_changed (in_pair m) ks ps pair (unless_idle (with_closed p side)) refl change in
-      let was : in_pair m (slot ks pair) ≡ in_pair m (Some p) = ap (in_pair m) there in
+      let was : in_pair m (item_at ks pair) ≡ in_pair m (Some p) = ap (in_pair m) there in
       omega (arith, sums, was, in_left m (with_closed p side), closed_in m p side)
 
 -- an end of a pair that is there
@@ -175,7 +177,10 @@ half_there None s n is = absurd cc
 half_there (Some p) s n is = (p, refl)
 
 -- the last holder of an end's description is gone
-pub kept_gone_end : (k : Kept) (ds : List (Option Held)) (ps : List (Option Pair)) (n : ℕ) (h : Held) (pair side : ℕ) (class : Class) (p : Pair) (hand left : ℕ → ℕ) → IsKept k hand → Changed k.descriptions ds n None → slot k.descriptions n ≡ Some h → h.count ≤ 1 → h.description.object ≡ At_end pair side class → slot k.pairs pair ≡ Some p → Changed k.pairs ps pair (unless_idle (with_closed p side)) → hand n ≡ 1 + left n → ((m : ℕ) → m ≢ n → left m ≡ hand m) → IsKept (record k { descriptions = ds; pairs = ps }) left
+pub kept_gone_end : (k : Kept) (ds : List (Option Counted)) (ps : List (Option Pair)) (n : ℕ) (h : Counted) (pair side : ℕ) (class : PairClass)
+    (p : Pair) (hand left : ℕ → ℕ) → IsKept k hand → Changed k.descriptions ds n None → item_at k.descriptions n ≡ Some h → h.count ≤ 1 →
+    h.description.object ≡ At_end pair side class → item_at k.pairs pair ≡ Some p → Changed k.pairs ps pair (unless_idle (with_closed p side)) →
+    hand n ≡ 1 + left n → ((m : ℕ) → m ≢ n → left m ≡ hand m) → IsKept (record k { descriptions = ds; pairs = ps }) left
 kept_gone_end k ds ps n h pair side class p hand left kept change there few object pair_there closes here same = record {
   room = kept.room;
   counts = λ m.
@@ -183,11 +188,11 @@ kept_gone_end k ds ps n h pair side class p hand left kept change there few obje
       (λ is. subst (λ (i : ℕ). IsCounted None (holders (record k { descriptions = ds; pairs = ps }) i + left i)) (sym is) gone)
       (λ other.
       let total : holders k m + hand m ≡ holders (record k { descriptions = ds; pairs = ps }) m + left m = omega (arith, same m other, left_in k.pairs ps pair side p closes pair_there m) in
-      subst (IsCounted (slot k.descriptions m)) total (kept.counts m));
+      subst (IsCounted (item_at k.descriptions m)) total (kept.counts m));
   ends = λ r s m is.
       let old = was_open r s m is in
       changed-cases (λ o. is_end r s (object_in o) ≡ true) k.descriptions ds n None change m
-      (λ at. absurd (not_here r s (subst (λ (i : ℕ). is_end r s (object_in (slot k.descriptions i)) ≡ true) at (kept.ends r s m old)) (open_apart r s m is)))
+      (λ at. absurd (not_here r s (subst (λ (i : ℕ). is_end r s (object_in (item_at k.descriptions i)) ≡ true) at (kept.ends r s m old)) (open_apart r s m is)))
       (λ other. kept.ends r s m old);
   known = λ r s m. changed-cases (λ o. is_end r s (object_in o) ≡ true → end_of ps r s ≡ Some m) k.descriptions ds n None change m
       (λ at is. absurd cc)
@@ -197,12 +202,12 @@ kept_gone_end k ds ps n h pair side class p hand left kept change there few obje
 }
   where
     was : IsCounted (Some h) (holders k n + hand n)
-    was = subst (λ (o : Option Held). IsCounted o (holders k n + hand n)) there (kept.counts n)
+    was = subst (λ (o : Option Counted). IsCounted o (holders k n + hand n)) there (kept.counts n)
 
     gone : holders (record k { descriptions = ds; pairs = ps }) n + left n ≡ 0
     gone = omega (arith, was.0, here, few, left_in k.pairs ps pair side p closes pair_there n)
 
-    object_is : object_in (slot k.descriptions n) ≡ At_end pair side class
+    object_is : object_in (item_at k.descriptions n) ≡ At_end pair side class
     object_is = ap object_in there ∙ object
 
     own : end_of k.pairs pair side ≡ Some n
@@ -217,12 +222,12 @@ kept_gone_end k ds ps n h pair side class p hand left kept change there few obje
     was_open : (r s m : ℕ) → end_of ps r s ≡ Some m → end_of k.pairs r s ≡ Some m
     was_open r s m is = sym (left_there k.pairs ps pair side p closes pair_there r s (open_apart r s m is)) ∙ is
 
-    not_here : (r s : ℕ) → is_end r s (object_in (slot k.descriptions n)) ≡ true → (r ≡ pair → s ≢ side) → ⊥
+    not_here : (r s : ℕ) → is_end r s (object_in (item_at k.descriptions n)) ≡ true → (r ≡ pair → s ≢ side) → ⊥
     not_here r s is apart =
         let end = same_end pair side r s class (subst (λ (o : Object). is_end r s o ≡ true) object_is is) in
         apart end.pair_is end.side_is
 
-    only : (r s m : ℕ) → is_end r s (object_in (slot k.descriptions m)) ≡ true → r ≡ pair → s ≡ side → m ≡ n
+    only : (r s m : ℕ) → is_end r s (object_in (item_at k.descriptions m)) ≡ true → r ≡ pair → s ≡ side → m ≡ n
     only r s m is same_pair same_side =
         let mine : end_of k.pairs pair side ≡ Some m = ap (λ i. end_of k.pairs i side) (sym same_pair) ∙ ap (λ i. end_of k.pairs r i) (sym same_side) ∙ kept.known r s m is in
         let both : Some m ≡ Some n = sym mine ∙ own in

@@ -6,16 +6,16 @@ use Rattle.std.proofs.lemmas.List.Folds.{sum_by-replicate}
 use Rattle.std.proofs.lemmas.List.Sums.{sum_by-cons}
 use Rattle.fd_table.proofs.Releasing.{named_other}
 use Rattle.fd_table.specs.Descriptions.{At_node, At_end, Initial, Descriptor, Message, descriptor_of, message_of, new_state}
-use Rattle.fd_table.specs.Kept.{Held, Half, Kept, end_of, object_in, slot}
+use Rattle.fd_table.specs.Kept.{Counted, Half, Kept, end_of, object_in, item_at}
 use Rattle.fd_table.specs.OpenFiles.{is_end}
-use Rattle.fd_table.specs.Holders.{IsCounted, IsKept, empty_hand, holders, named, with_hand}
+use Rattle.fd_table.specs.Holders.{IsCounted, IsKept, empty_hand, holders, names_count, with_hand}
 use Rattle.fd_table.specs.Changes.{lowered, ended_in, after_close, with_less, with_more, pair_new}
 
 -- a file's description with so many holders, and one of side b of a pair
-abbrev file : ℕ → Held
+abbrev file : ℕ → Counted
 file count = record { description = record { object = At_node 4 (record { readable = true; writable = false }); state = new_state false }; count = count }
 
-abbrev side_b : ℕ → ℕ → Held
+abbrev side_b : ℕ → ℕ → Counted
 side_b pair count = record { description = record { object = At_end pair 1 (Initial 0); state = new_state false }; count = count }
 
 abbrev naming : ℕ → Option Descriptor
@@ -86,10 +86,10 @@ taken_in_front = refl
 abbrev one_entry : ℕ → Kept
 one_entry count = record { entries = naming 0 ∷ replicate 255 None; descriptions = Some (file count) ∷ []; pairs = [] }
 
-others : (n : ℕ) (entries : List (Option Descriptor)) → sum_by (named (suc n)) entries ≡ 0 → sum_by (named (suc n)) (naming 0 ∷ entries) ≡ 0
+others : (n : ℕ) (entries : List (Option Descriptor)) → sum_by (names_count (suc n)) entries ≡ 0 → sum_by (names_count (suc n)) (naming 0 ∷ entries) ≡ 0
 others n entries none =
     let first = named_other (descriptor_of 0 3 0) (suc n) (λ same. omega (arith, same)) in
-    omega (arith, first, sum_by-cons (named (suc n)) (naming 0) entries, none)
+    omega (arith, first, sum_by-cons (names_count (suc n)) (naming 0) entries, none)
 
 one_is_kept : IsKept (one_entry 1) empty_hand
 one_is_kept = record {
@@ -101,11 +101,11 @@ one_is_kept = record {
   few = λ pair side. omega arith;
 }
   where
-    counts : (n : ℕ) → IsCounted (slot (one_entry 1).descriptions n) (holders (one_entry 1) n + 0)
+    counts : (n : ℕ) → IsCounted (item_at (one_entry 1).descriptions n) (holders (one_entry 1) n + 0)
     counts zero = (refl, omega arith)
-    counts (suc n) = omega (arith, others n (replicate 255 None) (sum_by-replicate (named (suc n)) 255 None))
+    counts (suc n) = omega (arith, others n (replicate 255 None) (sum_by-replicate (names_count (suc n)) 255 None))
 
-    known : (pair side n : ℕ) → is_end pair side (object_in (slot (one_entry 1).descriptions n)) ≡ true → end_of [] pair side ≡ Some n
+    known : (pair side n : ℕ) → is_end pair side (object_in (item_at (one_entry 1).descriptions n)) ≡ true → end_of [] pair side ≡ Some n
     known pair side zero end = absurd cc
     known pair side (suc n) end = absurd cc
 

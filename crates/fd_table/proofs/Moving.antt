@@ -1,4 +1,4 @@
--- A descriptor moves between the hand, an entry and a message.
+-- A descriptor moves between the hand, an entry_at and a message.
 use Rattle.std.proofs.Common.{◌≡◌, ◌≢◌, ℕ, zero, suc, ◌+◌, ◌*◌, ◌<◌, ◌≤◌, Bool, true, false, List, [], ◌∷◌, ◌++◌, length, drop, refl, ap, ◌∙◌, sym, subst, arith}
 use Rattle.std.specs.Prelude.{Option, Some, None, ◌&&◌, is_none, cond, slice_set}
 use Rattle.std.specs.List.{sum_by}
@@ -12,9 +12,9 @@ use Rattle.rights.proofs.Changes.{put-cases, put-same, put-other}
 use Rattle.fd_table.specs.Descriptions.{Descriptor, Message}
 use Rattle.fd_table.specs.OpenFiles.{OpenFiles}
 use Rattle.fd_table.specs.Openings.{with_entry}
-use Rattle.fd_table.specs.Filled.{with_queue, limited, sent}
-use Rattle.fd_table.specs.Kept.{Pair, Kept, entry, slot, queue, half_in}
-use Rattle.fd_table.specs.Holders.{named, in_queue, in_pair, is_idle, is_empty, IsKept, with_hand}
+use Rattle.fd_table.specs.Filled.{with_queue, with_limit, sent}
+use Rattle.fd_table.specs.Kept.{Pair, Kept, entry_at, item_at, queue, half_in}
+use Rattle.fd_table.specs.Holders.{names_count, in_queue, in_pair, is_idle, is_empty, IsKept, with_hand}
 use Rattle.fd_table.specs.Changes.{Changed, with_sent}
 use Rattle.fd_table.specs.Follows.{Follows, with_taken}
 use Rattle.fd_table.proofs.Sums.{changed-cases}
@@ -31,32 +31,38 @@ put2_own f p n q m =
     (λ _. ap (λ k. f k m) (sym same)))
     (λ _. refl)
 
--- what an entry is in the list
-entry_slot : (es : List (Option Descriptor)) (p n : ℕ) → n < 16 → entry es p n ≡ slot es (p * 16 + n)
-entry_slot es p n small = ap (λ b. cond b (slot es (p * 16 + n)) None) (lt-ltb n 16 small)
+-- what an entry_at is in the list
+entry_slot : (es : List (Option Descriptor)) (p n : ℕ) → n < 16 → entry_at es p n ≡ item_at es (p * 16 + n)
+entry_slot es p n small = ap (λ b. cond b (item_at es (p * 16 + n)) None) (lt-ltb n 16 small)
 
--- an entry is exchanged with the hand
-pub follows_exchange : (f : OpenFiles) (k : Kept) (es : List (Option Descriptor)) (p n : ℕ) (v : Option Descriptor) (hand : ℕ → ℕ) → Follows f k (with_hand v hand) → p < 16 → n < 16 → es ≡ slice_set k.entries (p * 16 + n) v → entry es ≡ put2 (entry k.entries) p n v → Follows (with_entry f p n v) (record k { entries = es }) (with_hand (entry k.entries p n) hand)
+-- an entry_at is exchanged with the hand
+pub follows_exchange : (f : OpenFiles) (k : Kept) (es : List (Option Descriptor)) (p n : ℕ) (v : Option Descriptor) (hand : ℕ → ℕ) →
+    Follows f k (with_hand v hand) → p < 16 → n < 16 → es ≡ slice_set k.entries (p * 16 + n) v → entry_at es ≡ put2 (entry_at k.entries) p n v →
+    Follows (with_entry f p n v) (record k { entries = es }) (with_hand (entry_at k.entries p n) hand)
 follows_exchange f k es p n v hand follows process number set is = record {
   kept =
-      subst (λ (es : List (Option Descriptor)). IsKept (record k { entries = es }) (with_hand (entry k.entries p n) hand)) (sym set)
+      subst (λ (es : List (Option Descriptor)). IsKept (record k { entries = es }) (with_hand (entry_at k.entries p n) hand)) (sym set)
       (subst (λ (o : Option Descriptor). IsKept (record k { entries = slice_set k.entries (p * 16 + n) v }) (with_hand o hand)) (sym (entry_slot k.entries p n number))
       (kept_exchange k (p * 16 + n) v hand follows.kept (omega (arith, process, number, follows.kept.room))));
   shows = record {
-    table = λ q m. (λ i. is i q m) ∙ put2_of (entry k.entries) f.table p n v follows.shows.table q m;
+    table = λ q m. (λ i. is i q m) ∙ put2_of (entry_at k.entries) f.table p n v follows.shows.table q m;
     queue = follows.shows.queue;
     described = follows.shows.described;
   };
 }
 
--- an entry names the same description with other rights
-pub follows_limit : (f : OpenFiles) (k : Kept) (es : List (Option Descriptor)) (p n : ℕ) (d : Descriptor) (rights fcntls : ℕ) (hand : ℕ → ℕ) → Follows f k hand → p < 16 → n < 16 → Some d ≡ entry k.entries p n → es ≡ slice_set k.entries (p * 16 + n) (Some (record d { rights = rights; fcntls = fcntls })) → entry es ≡ put2 (entry k.entries) p n (Some (record d { rights = rights; fcntls = fcntls })) → Follows (limited f p n rights fcntls) (record k { entries = es }) hand
+-- an entry_at names the same description with other rights
+pub follows_limit : (f : OpenFiles) (k : Kept) (es : List (Option Descriptor)) (p n : ℕ) (d : Descriptor) (rights fcntls : ℕ) (hand : ℕ → ℕ) →
+    Follows f k hand → p < 16 → n < 16 → Some d ≡ entry_at k.entries p n →
+    es ≡ slice_set k.entries (p * 16 + n) (Some (record d { rights = rights; fcntls = fcntls })) →
+    entry_at es ≡ put2 (entry_at k.entries) p n (Some (record d { rights = rights; fcntls = fcntls })) →
+    Follows (with_limit f p n rights fcntls) (record k { entries = es }) hand
 follows_limit f k es p n d rights fcntls hand follows process number there set is = record {
   kept =
       subst (λ (es : List (Option Descriptor)). IsKept (record k { entries = es }) hand) (sym set)
       (kept_entries k (slice_set k.entries (p * 16 + n) v) hand hand follows.kept (length-set k.entries (p * 16 + n) v ∙ follows.kept.room) same);
   shows = record {
-    table = λ q m. (λ i. is i q m) ∙ put2_of (entry k.entries) f.table p n v follows.shows.table q m ∙ ap (λ o. put2 f.table p n o q m) given;
+    table = λ q m. (λ i. is i q m) ∙ put2_of (entry_at k.entries) f.table p n v follows.shows.table q m ∙ ap (λ o. put2 f.table p n o q m) given;
     queue = follows.shows.queue;
     described = follows.shows.described;
   };
@@ -68,11 +74,11 @@ follows_limit f k es p n d rights fcntls hand follows process number there set i
     given : Some (record d { rights = rights; fcntls = fcntls }) ≡ option_map (λ (d : Descriptor). record d { rights = rights; fcntls = fcntls }) (f.table p n)
     given = ap (option_map (λ (d : Descriptor). record d { rights = rights; fcntls = fcntls })) (there ∙ follows.shows.table p n)
 
-    same : (m : ℕ) → sum_by (named m) (slice_set k.entries (p * 16 + n) (Some (record d { rights = rights; fcntls = fcntls }))) + hand m ≡ sum_by (named m) k.entries + hand m
+    same : (m : ℕ) → sum_by (names_count m) (slice_set k.entries (p * 16 + n) (Some (record d { rights = rights; fcntls = fcntls }))) + hand m ≡ sum_by (names_count m) k.entries + hand m
     same m =
         let within : p * 16 + n < length k.entries = omega (arith, process, number, follows.kept.room) in
-        let was : named m (slot k.entries (p * 16 + n)) ≡ named m (Some d) = ap (named m) (sym (there ∙ entry_slot k.entries p n number)) in
-        omega (arith, sum_by-set (named m) k.entries (p * 16 + n) (Some (record d { rights = rights; fcntls = fcntls })) None within, was)
+        let was : names_count m (item_at k.entries (p * 16 + n)) ≡ names_count m (Some d) = ap (names_count m) (sym (there ∙ entry_slot k.entries p n number)) in
+        omega (arith, sum_by-set (names_count m) k.entries (p * 16 + n) (Some (record d { rights = rights; fcntls = fcntls })) None within, was)
 
 -- the queues of a pair, of which one is another one
 in_sent : (n : ℕ) (p : Pair) (side : ℕ) (ms : List Message) → side < 2 → in_pair n (Some (with_sent p side ms)) + in_queue n ((half_in (Some p) side).sent) ≡ in_pair n (Some p) + in_queue n ms
@@ -129,7 +135,10 @@ sent_open p side (suc zero) ms there = subst (λ (o : Option ℕ). IsSome o) (sy
 sent_open p side (suc (suc s)) ms there = absurd cc
 
 -- a pair with an open end has another queue
-pub follows_queue : (f : OpenFiles) (k : Kept) (ps : List (Option Pair)) (pair side s : ℕ) (p : Pair) (ms : List Message) (hand left : ℕ → ℕ) → Follows f k hand → slot k.pairs pair ≡ Some p → Changed k.pairs ps pair (Some (with_sent p side ms)) → side < 2 → length ms ≤ 16 → IsSome ((half_in (Some p) s).description) → ((n : ℕ) → in_queue n ms + left n ≡ in_queue n ((half_in (Some p) side).sent) + hand n) → Follows (with_queue f pair side ms) (record k { pairs = ps }) left
+pub follows_queue : (f : OpenFiles) (k : Kept) (ps : List (Option Pair)) (pair side s : ℕ) (p : Pair) (ms : List Message) (hand left : ℕ → ℕ) →
+    Follows f k hand → item_at k.pairs pair ≡ Some p → Changed k.pairs ps pair (Some (with_sent p side ms)) → side < 2 → length ms ≤ 16 →
+    IsSome ((half_in (Some p) s).description) → ((n : ℕ) → in_queue n ms + left n ≡ in_queue n ((half_in (Some p) side).sent) + hand n) →
+    Follows (with_queue f pair side ms) (record k { pairs = ps }) left
 follows_queue f k ps pair side s p ms hand left follows there change small few busy same = record {
   kept =
       kept_pair k ps pair p (with_sent p side ms) hand left follows.kept change there (sent_ends_a p side ms) (sent_ends_b p side ms)
@@ -161,16 +170,22 @@ follows_queue f k ps pair side s p ms hand left follows there change small few b
         ∙ put2_of (queue k.pairs) f.queue pair side ms follows.shows.queue r t
 
 -- a message is sent with what is in hand
-pub follows_sent : (f : OpenFiles) (k : Kept) (ps : List (Option Pair)) (pair side s : ℕ) (p : Pair) (m : Message) (hand : ℕ → ℕ) → Follows f k (with_hand m.passed hand) → slot k.pairs pair ≡ Some p → Changed k.pairs ps pair (Some (with_sent p side (queue k.pairs pair side ++ m ∷ []))) → side < 2 → length (queue k.pairs pair side) < 16 → IsSome ((half_in (Some p) s).description) → Follows (sent f pair side m) (record k { pairs = ps }) hand
+pub follows_sent : (f : OpenFiles) (k : Kept) (ps : List (Option Pair)) (pair side s : ℕ) (p : Pair) (m : Message) (hand : ℕ → ℕ) →
+    Follows f k (with_hand m.passed hand) → item_at k.pairs pair ≡ Some p →
+    Changed k.pairs ps pair (Some (with_sent p side (queue k.pairs pair side ++ m ∷ []))) → side < 2 → length (queue k.pairs pair side) < 16 →
+    IsSome ((half_in (Some p) s).description) → Follows (sent f pair side m) (record k { pairs = ps }) hand
 follows_sent f k ps pair side s p m hand follows there change small few busy =
     subst (λ (ms : List Message). Follows (with_queue f pair side (ms ++ m ∷ [])) (record k { pairs = ps }) hand) (follows.shows.queue pair side)
     (follows_queue f k ps pair side s p (queue k.pairs pair side ++ m ∷ []) (with_hand m.passed hand) hand follows there change small
     (omega (arith, length-append (queue k.pairs pair side) (m ∷ []), few)) busy
     (λ n. let was : in_queue n (queue k.pairs pair side) ≡ in_queue n ((half_in (Some p) side).sent) = ap (λ o. in_queue n ((half_in o side).sent)) there in
-    omega (arith, sum_by_push (λ (m : Message). named n m.passed) (queue k.pairs pair side) m, was)))
+    omega (arith, sum_by_push (λ (m : Message). names_count n m.passed) (queue k.pairs pair side) m, was)))
 
 -- the message in front is taken, and what it carries is in hand
-pub follows_taken : (f : OpenFiles) (k : Kept) (ps : List (Option Pair)) (pair side s : ℕ) (p : Pair) (m : Message) (ms : List Message) (hand : ℕ → ℕ) → Follows f k hand → slot k.pairs pair ≡ Some p → (half_in (Some p) side).sent ≡ m ∷ ms → Changed k.pairs ps pair (Some (with_sent p side ms)) → side < 2 → IsSome ((half_in (Some p) s).description) → Follows (with_taken f pair side) (record k { pairs = ps }) (with_hand m.passed hand)
+pub follows_taken : (f : OpenFiles) (k : Kept) (ps : List (Option Pair)) (pair side s : ℕ) (p : Pair) (m : Message) (ms : List Message) (hand : ℕ →
+    ℕ) → Follows f k hand → item_at k.pairs pair ≡ Some p → (half_in (Some p) side).sent ≡ m ∷ ms →
+    Changed k.pairs ps pair (Some (with_sent p side ms)) → side < 2 → IsSome ((half_in (Some p) s).description) →
+    Follows (with_taken f pair side) (record k { pairs = ps }) (with_hand m.passed hand)
 follows_taken f k ps pair side s p m ms hand follows there front change small busy =
     let whole : queue k.pairs pair side ≡ m ∷ ms = ap (λ o. (half_in o side).sent) there ∙ front in
     let shown : f.queue pair side ≡ m ∷ ms = sym (follows.shows.queue pair side) ∙ whole in
@@ -178,7 +193,7 @@ follows_taken f k ps pair side s p m ms hand follows there front change small bu
     (follows_queue f k ps pair side s p ms hand (with_hand m.passed hand) follows there change small
     (omega (arith, follows.kept.few pair side, ap length whole)) busy
     (λ n. let was : in_queue n ((half_in (Some p) side).sent) ≡ in_queue n (m ∷ ms) = ap (in_queue n) front in
-    omega (arith, sum_by-cons (λ (m : Message). named n m.passed) m ms, was)))
+    omega (arith, sum_by-cons (λ (m : Message). names_count n m.passed) m ms, was)))
 
 -- no descriptor in hand is nothing in hand
 pub with_none : (hand : ℕ → ℕ) → with_hand None hand ≡ hand

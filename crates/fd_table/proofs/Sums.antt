@@ -4,21 +4,22 @@ use Rattle.std.specs.Prelude.{Option, None}
 use Rattle.std.specs.List.{sum_by}
 use Rattle.std.proofs.lemmas.List.Sums.{sum_by-cons}
 use Rattle.std.proofs.Math.Decide.{ℕ_discrete}
-use Rattle.fd_table.specs.Kept.{slot}
+use Rattle.fd_table.specs.Kept.{item_at}
 use Rattle.fd_table.specs.Changes.{Changed}
 
-pub changed-cases : {A : Type 0} (Q : Option A → Type 0) (old new : List (Option A)) (key : ℕ) (v : Option A) → Changed old new key v → (n : ℕ) → (n ≡ key → Q v) → (n ≢ key → Q (slot old n)) → Q (slot new n)
+pub changed-cases : {A : Type 0} (Q : Option A → Type 0) (old new : List (Option A)) (key : ℕ) (v : Option A) → Changed old new key v → (n : ℕ) →
+    (n ≡ key → Q v) → (n ≢ key → Q (item_at old n)) → Q (item_at new n)
 changed-cases Q old new key v change n here there = go (ℕ_discrete n key)
   where
-    go : Dec (n ≡ key) → Q (slot new n)
-    go (yes same) = subst Q (sym (ap (λ i. slot new i) same ∙ change.changed)) (here same)
+    go : Dec (n ≡ key) → Q (item_at new n)
+    go (yes same) = subst Q (sym (ap (λ i. item_at new i) same ∙ change.changed)) (here same)
     go (no other) = subst Q (sym (change.others n other)) (there other)
 
 sum_nil : {A : Type 0} (f : Option A → ℕ) → sum_by f [] ≡ 0
 sum_nil f = refl
 
 -- what has nothing anywhere sums up to nothing
-sum_none : {A : Type 0} (f : Option A → ℕ) (xs : List (Option A)) → f None ≡ 0 → ((n : ℕ) → slot xs n ≡ None) → sum_by f xs ≡ 0
+sum_none : {A : Type 0} (f : Option A → ℕ) (xs : List (Option A)) → f None ≡ 0 → ((n : ℕ) → item_at xs n ≡ None) → sum_by f xs ≡ 0
 sum_none f [] nothing none = sum_nil f
 sum_none f (x ∷ xs) nothing none =
     let rest = sum_none f xs nothing (λ n. none (suc n)) in
@@ -26,7 +27,7 @@ sum_none f (x ∷ xs) nothing none =
     omega (arith, sum_by-cons f x xs, rest, head)
 
 -- lists that have the same at each number have the same sum
-pub sum_same : {A : Type 0} (f : Option A → ℕ) (xs ys : List (Option A)) → f None ≡ 0 → ((n : ℕ) → slot ys n ≡ slot xs n) → sum_by f ys ≡ sum_by f xs
+pub sum_same : {A : Type 0} (f : Option A → ℕ) (xs ys : List (Option A)) → f None ≡ 0 → ((n : ℕ) → item_at ys n ≡ item_at xs n) → sum_by f ys ≡ sum_by f xs
 sum_same f [] ys nothing same = sum_none f ys nothing same ∙ sym (sum_nil f)
 sum_same f (x ∷ xs) [] nothing same = sum_nil f ∙ sym (sum_none f (x ∷ xs) nothing (λ n. sym (same n)))
 sum_same f (x ∷ xs) (y ∷ ys) nothing same =
@@ -37,8 +38,8 @@ sum_same f (x ∷ xs) (y ∷ ys) nothing same =
 apart_suc : (n key : ℕ) → n ≢ key → suc n ≢ suc key
 apart_suc n key other same = other (omega (arith, same))
 
--- one slot is changed
-pub sum_changed : {A : Type 0} (f : Option A → ℕ) (xs ys : List (Option A)) (key : ℕ) (v : Option A) → f None ≡ 0 → Changed xs ys key v → sum_by f ys + f (slot xs key) ≡ sum_by f xs + f v
+-- one item_at is changed
+pub sum_changed : {A : Type 0} (f : Option A → ℕ) (xs ys : List (Option A)) (key : ℕ) (v : Option A) → f None ≡ 0 → Changed xs ys key v → sum_by f ys + f (item_at xs key) ≡ sum_by f xs + f v
 sum_changed f [] [] key v nothing change =
     let gone : f v ≡ 0 = ap f (sym change.changed) ∙ nothing in
     omega (arith, nothing, gone)
@@ -68,12 +69,12 @@ sum_changed f (x ∷ xs) (y ∷ ys) (suc key) v nothing change =
     omega (arith, sum_by-cons f x xs, sum_by-cons f y ys, rest, head)
 
 -- each part is at most the sum, and a sum of nothings is nothing
-pub sum_at : {A : Type 0} (f : Option A → ℕ) (xs : List (Option A)) (i : ℕ) → f None ≡ 0 → f (slot xs i) ≤ sum_by f xs
+pub sum_at : {A : Type 0} (f : Option A → ℕ) (xs : List (Option A)) (i : ℕ) → f None ≡ 0 → f (item_at xs i) ≤ sum_by f xs
 sum_at f [] i nothing = omega (arith, nothing)
 sum_at f (x ∷ xs) zero nothing = omega (arith, sum_by-cons f x xs)
 sum_at f (x ∷ xs) (suc i) nothing = omega (arith, sum_by-cons f x xs, sum_at f xs i nothing)
 
-pub sum_zero : {A : Type 0} (f : Option A → ℕ) (xs : List (Option A)) → ((i : ℕ) → i < length xs → f (slot xs i) ≡ 0) → sum_by f xs ≡ 0
+pub sum_zero : {A : Type 0} (f : Option A → ℕ) (xs : List (Option A)) → ((i : ℕ) → i < length xs → f (item_at xs i) ≡ 0) → sum_by f xs ≡ 0
 sum_zero f [] none = sum_nil f
 sum_zero f (x ∷ xs) none =
     let rest = sum_zero f xs (λ i below. none (suc i) (omega (arith, below))) in

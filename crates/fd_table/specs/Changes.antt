@@ -2,39 +2,39 @@
 use Rattle.std.specs.Prelude.{◌≡◌, ◌≢◌, ◌+◌, ◌-◌, ℕ, zero, suc, Bool, nat_lt, ◌++◌, drop, List, [], ◌∷◌, Option, Some, None, if◌then◌else◌}
 use Rattle.std.specs.Option.{IsSome, option_map}
 use Rattle.fd_table.specs.Descriptions.{Object, At_node, At_end, Descriptor, Message, new_state}
-use Rattle.fd_table.specs.Kept.{Description, Held, Pair, slot, half_in}
+use Rattle.fd_table.specs.Kept.{Description, Counted, Pair, item_at, half_in}
 use Rattle.fd_table.specs.Holders.{is_idle}
 
 -- one number has this, and the others what they had
 pub record Changed {A : Type 0} (old new : List (Option A)) (key : ℕ) (v : Option A) : Type 0 where
-  pub changed : slot new key ≡ v
-  pub others : (n : ℕ) → n ≢ key → slot new n ≡ slot old n
+  pub changed : item_at new key ≡ v
+  pub others : (n : ℕ) → n ≢ key → item_at new n ≡ item_at old n
 
 -- a description with one holder more, and with another state
-abbrev pub raised : Option Held → Option Held
-raised o = option_map (λ (h : Held). record h { count = h.count + 1 }) o
+abbrev pub raised : Option Counted → Option Counted
+raised o = option_map (λ (h : Counted). record h { count = h.count + 1 }) o
 
 -- A description with one holder less: nothing is left, where that was the last.
-abbrev pub lowered : Option Held → Option Held
+abbrev pub lowered : Option Counted → Option Counted
 lowered None = None
 lowered (Some h) = if nat_lt 1 h.count then Some (record h { count = h.count - 1 }) else None
 
 -- the description whose last holder goes
-abbrev pub ended_in : Option Held → Option Description
+abbrev pub ended_in : Option Counted → Option Description
 ended_in None = None
 ended_in (Some h) = if nat_lt 1 h.count then None else Some h.description
 
-abbrev pub described_as : Description → Option Held → Option Held
-described_as description o = option_map (λ (h : Held). record h { description = description }) o
+abbrev pub described_as : Description → Option Counted → Option Counted
+described_as description o = option_map (λ (h : Counted). record h { description = description }) o
 
 -- a description that begins with one holder
-abbrev pub held_new : Object → Bool → Held
+abbrev pub held_new : Object → Bool → Counted
 held_new object append = record { description = record { object = object; state = new_state append }; count = 1 }
 
 -- the descriptions after one holder more of what a descriptor names, if there is one
-abbrev pub IsHeld : List (Option Held) → List (Option Held) → Option Descriptor → Type 0
+abbrev pub IsHeld : List (Option Counted) → List (Option Counted) → Option Descriptor → Type 0
 IsHeld old new None = new ≡ old
-IsHeld old new (Some d) = Changed old new d.description (raised (slot old d.description))
+IsHeld old new (Some d) = Changed old new d.description (raised (item_at old d.description))
 
 -- a pair after one of its ends is closed, and nothing, where nobody needs it then
 abbrev pub with_closed : Pair → ℕ → Pair
@@ -69,7 +69,7 @@ pair_new first second = record { a = record { description = Some first; sent = [
 -- The pairs after a description has lost its last holder: its end is closed, if it was of one.
 abbrev pub Closes : List (Option Pair) → List (Option Pair) → Object → Type 0
 Closes old new (At_node node access) = new ≡ old
-Closes old new (At_end pair side class) = Changed old new pair (after_close side (slot old pair))
+Closes old new (At_end pair side class) = Changed old new pair (after_close side (item_at old pair))
 
 abbrev pub Ends : List (Option Pair) → List (Option Pair) → Option Description → Type 0
 Ends old new None = new ≡ old
@@ -78,7 +78,7 @@ Ends old new (Some d) = Closes old new d.object
 -- the pair of a description that has ended is there, if it was of an end
 abbrev pub IsClosable : List (Option Pair) → Object → Type 0
 IsClosable pairs (At_node node access) = Unit {0}
-IsClosable pairs (At_end pair side class) = IsSome (slot pairs pair)
+IsClosable pairs (At_end pair side class) = IsSome (item_at pairs pair)
 
 abbrev pub IsEndable : List (Option Pair) → Option Description → Type 0
 IsEndable pairs None = Unit {0}

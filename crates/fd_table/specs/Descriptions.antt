@@ -1,6 +1,7 @@
 -- Open descriptions, descriptors and messages. (open(2), rights(4), cap_fcntls_limit(2); the parts
 -- are own)
 use Rattle.std.specs.Prelude.{◌+◌, ◌%◌, ◌==◌, ℕ, zero, suc, Bool, true, false, nat_le, List, [], ◌∷◌, Option, Some, None}
+use Rattle.rights.specs.Values.{NodeNumber, DescriptionNumber, PairNumber, SideNumber, RightSet, CommandSet}
 
 -- what a file or directory was opened for
 pub record Access : Type 0 where
@@ -9,15 +10,15 @@ pub record Access : Type 0 where
 
 -- where a socket pair was made: an initial pair by its number, or a point of a program, by the
 -- program's place in the task
-pub data Class : Type 0 where
-  Initial : (pair : ℕ) → Class
-  Made_at : (program point : ℕ) → Class
+pub data PairClass : Type 0 where
+  Initial : (pair : PairNumber) → PairClass
+  Made_at : (program point : ℕ) → PairClass
 
 -- What a description is of, for as long as it is open: a node, or an end of a pair, which is side 0
 -- (a) or side 1 (b).
 pub data Object : Type 0 where
-  At_node : (node : ℕ) (access : Access) → Object
-  At_end : (pair side : ℕ) (class : Class) → Object
+  At_node : (node : NodeNumber) (access : Access) → Object
+  At_end : (pair : PairNumber) (side : SideNumber) (class : PairClass) → Object
 
 -- what calls change of a description: the offset of the next byte, and the status flags
 pub record State : Type 0 where
@@ -27,9 +28,9 @@ pub record State : Type 0 where
 
 -- a descriptor: a description's number, the rights and the fcntl commands, as sets
 pub record Descriptor : Type 0 where
-  pub description : ℕ
-  pub rights : ℕ
-  pub fcntls : ℕ
+  pub description : DescriptionNumber
+  pub rights : RightSet
+  pub fcntls : CommandSet
 
 -- a byte on its way through a pair, with or without a descriptor
 pub record Message : Type 0 where
@@ -45,7 +46,7 @@ abbrev pub EachPassed : (Descriptor → Type 0) → List Message → Type 0
 EachPassed Good [] = Unit {0}
 EachPassed Good (m ∷ messages) = IfHeld Good m.passed × EachPassed Good messages
 
-abbrev pub other_side : ℕ → ℕ
+abbrev pub other_side : SideNumber → SideNumber
 other_side zero = 1
 other_side (suc n) = 0
 
@@ -65,7 +66,7 @@ with_status state flags = record state { append = (flags % 2) == 1; nonblock = n
 abbrev pub new_state : Bool → State
 new_state append = record { offset = 0; append = append; nonblock = false }
 
-abbrev pub descriptor_of : ℕ → ℕ → ℕ → Descriptor
+abbrev pub descriptor_of : DescriptionNumber → RightSet → CommandSet → Descriptor
 descriptor_of description rights fcntls = record { description = description; rights = rights; fcntls = fcntls }
 
 abbrev pub message_of : ℕ → Option Descriptor → Message

@@ -6,8 +6,8 @@ use Rattle.std.specs.Option.{option_map}
 use Rattle.rights.specs.Limits.{most_messages, most_processes, most_descriptors}
 use Rattle.rights.specs.Sets.{all_rights, all_commands, is_within}
 use Rattle.rights.specs.Maps.{put, put2}
-use Rattle.fd_table.specs.Descriptions.{Access, Class, At_end, State, Descriptor, Message, other_side, descriptor_of}
-use Rattle.fd_table.specs.Openings.{with_table, with_entry, described, opened}
+use Rattle.fd_table.specs.Descriptions.{Access, PairClass, At_end, State, Descriptor, Message, other_side, descriptor_of}
+use Rattle.fd_table.specs.Openings.{with_table, with_entry, described, with_opened}
 use Rattle.fd_table.specs.OpenFiles.{OpenFiles, IsUnnamed, IsUnused, Alike, is_open}
 
 -- nothing is open and nothing queued
@@ -32,8 +32,8 @@ abbrev pub with_flags : OpenFiles → ℕ → Bool → Bool → OpenFiles
 with_flags f n append nonblock = with_state f n (record (f.states n) { append = append; nonblock = nonblock })
 
 -- a descriptor with other rights and commands, and whether they are within those that it has
-abbrev pub limited : OpenFiles → ℕ → ℕ → ℕ → ℕ → OpenFiles
-limited f p n rights fcntls = with_entry f p n (option_map (λ (d : Descriptor). record d { rights = rights; fcntls = fcntls }) (f.table p n))
+abbrev pub with_limit : OpenFiles → ℕ → ℕ → ℕ → ℕ → OpenFiles
+with_limit f p n rights fcntls = with_entry f p n (option_map (λ (d : Descriptor). record d { rights = rights; fcntls = fcntls }) (f.table p n))
 
 abbrev pub MayLimit : Option Descriptor → ℕ → ℕ → Type 0
 MayLimit None rights fcntls = ⊥
@@ -42,26 +42,26 @@ MayLimit (Some d) rights fcntls = (is_within rights d.rights ≡ true) × (is_wi
 pub record Opens (f g : OpenFiles) (p n node : ℕ) (access : Access) (append : Bool) (rights fcntls : ℕ) : Type 0 where
   pub description : ℕ
   pub fresh : IsUnnamed f description
-  pub alike : Alike (opened f description p n node access append rights fcntls) g
+  pub alike : Alike (with_opened f description p n node access append rights fcntls) g
 
 -- Where an end of a pair goes: to an entry, or nowhere.
 pub record Entry : Type 0 where
   pub process : ℕ
   pub number : ℕ
 
-abbrev pub ended : (ℕ → ℕ → Option Descriptor) → Option Entry → ℕ → ℕ → ℕ → Option Descriptor
-ended table None description = table
-ended table (Some e) description = put2 table e.process e.number (Some (descriptor_of description all_rights all_commands))
+abbrev pub end_entered : (ℕ → ℕ → Option Descriptor) → Option Entry → ℕ → ℕ → ℕ → Option Descriptor
+end_entered table None description = table
+end_entered table (Some e) description = put2 table e.process e.number (Some (descriptor_of description all_rights all_commands))
 
 abbrev pub with_end : OpenFiles → ℕ → Option Entry → OpenFiles
-with_end f description to = with_table f (ended f.table to description)
+with_end f description to = with_table f (end_entered f.table to description)
 
 -- Both ends of a pair that nobody uses, with all rights.
-abbrev pub paired : OpenFiles → ℕ → ℕ → ℕ → Class → Option Entry → Option Entry → OpenFiles
+abbrev pub paired : OpenFiles → ℕ → ℕ → ℕ → PairClass → Option Entry → Option Entry → OpenFiles
 paired f first second pair class a b =
     with_end (with_end (described (described f first (At_end pair 0 class) false) second (At_end pair 1 class) false) first a) second b
 
-pub record Pairs (f g : OpenFiles) (class : Class) (a b : Option Entry) : Type 0 where
+pub record Pairs (f g : OpenFiles) (class : PairClass) (a b : Option Entry) : Type 0 where
   pub first : ℕ
   pub second : ℕ
   pub pair : ℕ
@@ -97,7 +97,7 @@ MayPass f (Some d) = IsNamed f d.description
 -- some description that is named is of an end of that pair and side
 pub record IsEndThere (f : OpenFiles) (pair side : ℕ) : Type 0 where
   pub description : ℕ
-  pub class : Class
+  pub class : PairClass
   pub named : IsNamed f description
   pub is : f.objects description ≡ At_end pair side class
 
@@ -120,9 +120,9 @@ pub record Front : Type 0 where
   pub byte : ℕ
   pub carries : Bool  -- whether it carries a descriptor
 
-abbrev pub front_of : List Message → Option Front
-front_of [] = None
-front_of (m ∷ messages) = Some (record { byte = m.byte; carries = is_some m.passed })
+abbrev pub front_shown : List Message → Option Front
+front_shown [] = None
+front_shown (m ∷ messages) = Some (record { byte = m.byte; carries = is_some m.passed })
 
 abbrev pub front_byte : List Message → Option ℕ
 front_byte [] = None
@@ -132,8 +132,8 @@ abbrev pub front_passed : List Message → Option Descriptor
 front_passed [] = None
 front_passed (m ∷ messages) = m.passed
 
-abbrev pub taken : OpenFiles → ℕ → ℕ → OpenFiles
-taken f pair side = with_queue f pair (other_side side) (drop 1 (f.queue pair (other_side side)))
+abbrev pub with_received : OpenFiles → ℕ → ℕ → OpenFiles
+with_received f pair side = with_queue f pair (other_side side) (drop 1 (f.queue pair (other_side side)))
 
 abbrev pub taken_to : OpenFiles → ℕ → ℕ → ℕ → ℕ → OpenFiles
-taken_to f pair side p n = with_entry (taken f pair side) p n (front_passed (f.queue pair (other_side side)))
+taken_to f pair side p n = with_entry (with_received f pair side) p n (front_passed (f.queue pair (other_side side)))

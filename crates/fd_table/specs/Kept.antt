@@ -10,7 +10,7 @@ pub record Description : Type 0 where
   pub state : State
 
 -- an open description, and how many entries and messages name it
-pub record Held : Type 0 where
+pub record Counted : Type 0 where
   pub description : Description
   pub count : ℕ
 
@@ -27,22 +27,22 @@ pub record Pair : Type 0 where
 -- Sixteen entries for each of sixteen processes, the descriptions by number, and the pairs by number.
 pub record Kept : Type 0 where
   pub entries : List (Option Descriptor)
-  pub descriptions : List (Option Held)
+  pub descriptions : List (Option Counted)
   pub pairs : List (Option Pair)
 
-abbrev pub entry : List (Option Descriptor) → ℕ → ℕ → Option Descriptor
-entry entries p n = if nat_lt n most_descriptors then slice_index_or entries (p * most_descriptors + n) None else None
+abbrev pub entry_at : List (Option Descriptor) → ℕ → ℕ → Option Descriptor
+entry_at entries p n = if nat_lt n most_descriptors then slice_index_or entries (p * most_descriptors + n) None else None
 
 -- what is at a number, if anything is
-abbrev pub slot : {A : Type 0} → List (Option A) → ℕ → Option A
-slot slots n = slice_index_or slots n None
+abbrev pub item_at : {A : Type 0} → List (Option A) → ℕ → Option A
+item_at slots n = slice_index_or slots n None
 
 -- A number without a description counts as a node that is open for nothing.
-abbrev pub object_in : Option Held → Object
+abbrev pub object_in : Option Counted → Object
 object_in None = At_node 0 (record { readable = false; writable = false })
 object_in (Some h) = h.description.object
 
-abbrev pub state_in : Option Held → State
+abbrev pub state_in : Option Counted → State
 state_in None = new_state false
 state_in (Some h) = h.description.state
 
@@ -56,17 +56,17 @@ half_in (Some p) (suc zero) = p.b
 half_in (Some p) (suc (suc side)) = no_half
 
 abbrev pub queue : List (Option Pair) → ℕ → ℕ → List Message
-queue pairs pair side = (half_in (slot pairs pair) side).sent
+queue pairs pair side = (half_in (item_at pairs pair) side).sent
 
 -- the description of an end, while it is open
 abbrev pub end_of : List (Option Pair) → ℕ → ℕ → Option ℕ
-end_of pairs pair side = (half_in (slot pairs pair) side).description
+end_of pairs pair side = (half_in (item_at pairs pair) side).description
 
 unfoldable pub open_files : Kept → OpenFiles
 open_files k = record {
-  objects = λ n. object_in (slot k.descriptions n);
-  states = λ n. state_in (slot k.descriptions n);
+  objects = λ n. object_in (item_at k.descriptions n);
+  states = λ n. state_in (item_at k.descriptions n);
   queue = queue k.pairs;
   pairs = length k.pairs;
-  table = entry k.entries;
+  table = entry_at k.entries;
 }

@@ -15,7 +15,7 @@ use Rattle.fd_table.specs.declared.faults.SendFault.TheVariants as fault
 use Rattle.fd_table.specs.declared.ends.Side.{Side as SideCode}
 use Rattle.fd_table.specs.declared.ends.Side.TheVariants as side
 use Rattle.fd_table.specs.declared.ends.Front.{Front as FrontCode}
-use Rattle.fd_table.specs.Descriptions.{Access, Class, Initial, Made_at, Object, At_node, At_end, State, Descriptor}
+use Rattle.fd_table.specs.Descriptions.{Access, PairClass, Initial, Made_at, Object, At_node, At_end, State, Descriptor}
 use Rattle.fd_table.specs.Filled.{Entry, Front, SendRefusal, Closed, Full}
 
 -- the state of a description with these flags, at its beginning
@@ -32,7 +32,7 @@ access_seen a = record { readable = a.readable; writable = a.writable }
 abbrev pub access_asked : OpenRequest → Access
 access_asked flags = record { readable = flags.read; writable = flags.write }
 
-abbrev pub class_seen : ClassCode → Class
+abbrev pub class_seen : ClassCode → PairClass
 class_seen (class.Initial pair) = Initial pair
 class_seen (class.MadeAt program point) = Made_at program point
 

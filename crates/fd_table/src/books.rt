@@ -7,13 +7,13 @@ ghost use Rattle.rights.specs.Sets.{all_commands, all_rights};
 ghost use Rattle.fd_table.specs.Descriptions.{At_node, Descriptor as SeenDescriptor, descriptor_of, message_of, other_side};
 ghost use Rattle.fd_table.specs.OpenFiles.{IsUnnamed, OpenFiles};
 ghost use Rattle.fd_table.specs.Openings.{described, with_entry};
-ghost use Rattle.fd_table.specs.Filled.{IsEmpty, limited, sent, with_end, with_row};
-ghost use Rattle.fd_table.specs.Kept.{end_of, entry, open_files, queue, slot};
-ghost use Rattle.fd_table.specs.Holders.{IsInHand, IsKept, IsThere, empty_hand, with_hand};
+ghost use Rattle.fd_table.specs.Filled.{IsEmpty, with_limit, sent, with_end, with_row};
+ghost use Rattle.fd_table.specs.Kept.{end_of, entry_at, open_files, queue, item_at};
+ghost use Rattle.fd_table.specs.Holders.{IsInHand, IsKept, IsDescriptionThere, empty_hand, with_hand};
 ghost use Rattle.fd_table.specs.Changes.{front_message, passed_in};
 ghost use Rattle.fd_table.specs.Follows.{Follows, Makes, Moves, same_hand, with_taken};
 ghost use Rattle.fd_table.specs.Views.{access_asked, class_seen, entry_seen, side_seen};
-ghost use Rattle.fd_table.specs.Stored.{IsWithinTables, books_kept, entry_kept, message_kept};
+ghost use Rattle.fd_table.specs.StoredViews.{IsWithinTables, books_kept, entry_kept, message_kept};
 ghost use Rattle.fd_table.specs.declared.faults.SendFault.TheVariants as fault;
 
 use crate::descriptions::{Held, describe, hold_named, opened_end, opened_node, release_one};
@@ -56,7 +56,7 @@ impl Books {
         requires room { length (books_kept self.old).entries ≡ 256 }
         requires process { p < 16 }
         requires number { n < 16 }
-        ensures given { entry_kept result ≡ entry (books_kept self.old).entries p n }
+        ensures given { entry_kept result ≡ entry_at (books_kept self.old).entries p n }
         ensures follows { Moves (books_kept self.old) (books_kept self.new) (λ f. with_entry f p n (entry_kept descriptor))
             (with_hand (entry_kept descriptor)) (with_hand (entry_kept result)) }
     {
@@ -80,8 +80,8 @@ impl Books {
     /// Leaves an entry these rights and commands.
     pub(crate) fn limit(&mut self, p: u8, n: u8, rights: Rights, fcntls: Fcntls)
         requires room { length (books_kept self.old).entries ≡ 256 }
-        requires there { IsSome (entry (books_kept self.old).entries p n) }
-        ensures { Moves (books_kept self.old) (books_kept self.new) (λ f. limited f p n rights.0 fcntls.0) same_hand same_hand }
+        requires there { IsSome (entry_at (books_kept self.old).entries p n) }
+        ensures { Moves (books_kept self.old) (books_kept self.new) (λ f. with_limit f p n rights.0 fcntls.0) same_hand same_hand }
     {
         if let Some(descriptor) = entry_at(self.entries.as_slice(), p, n) {
             let left = Descriptor {
@@ -96,7 +96,7 @@ impl Books {
     /// Counts a descriptor, if there is one, that will be put into an entry.
     pub(crate) fn hold(&mut self, held: Option<Descriptor>)
         requires kept { IsKept (books_kept self.old) empty_hand }
-        requires there { IsThere (slot (books_kept self.old).descriptions) (entry_kept held) }
+        requires there { IsDescriptionThere (item_at (books_kept self.old).descriptions) (entry_kept held) }
         ensures { (f : OpenFiles) → Follows f (books_kept self.old) empty_hand → Follows f (books_kept self.new) (with_hand (entry_kept held) empty_hand) }
     {
         note_few(&self.pairs);
@@ -124,7 +124,7 @@ impl Books {
     ) -> Result<(), SendFault>
         requires kept { IsKept (books_kept self.old) empty_hand }
         requires opened { IsSome (end_of (books_kept self.old).pairs end.pair (side_seen end.side)) }
-        requires there { IsThere (slot (books_kept self.old).descriptions) (entry_kept passed) }
+        requires there { IsDescriptionThere (item_at (books_kept self.old).descriptions) (entry_kept passed) }
         requires few { length (queue (books_kept self.old).pairs end.pair (side_seen end.side)) < 16 }
         ensures ok { OnOk result (Follows (sent (open_files (books_kept self.old)) end.pair (side_seen end.side) (message_of byte (entry_kept passed))) (books_kept self.new) empty_hand) }
         ensures err { OnErr result (books_kept self.new ≡ books_kept self.old) }

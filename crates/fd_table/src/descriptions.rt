@@ -4,11 +4,11 @@ ghost use Rattle.std.specs.Prelude.{◌≡◌, ◌+◌, ◌<◌, ◌^◌, Some, 
 ghost use Rattle.std.specs.Option.{IsSome};
 ghost use Rattle.slab.specs.Slab.{HasRoomFor, slab_len};
 ghost use Rattle.fd_table.specs.Descriptions.{At_end, At_node};
-ghost use Rattle.fd_table.specs.Kept.{object_in, slot, state_in};
-ghost use Rattle.fd_table.specs.Holders.{IsFew, IsThere, count_in};
+ghost use Rattle.fd_table.specs.Kept.{object_in, item_at, state_in};
+ghost use Rattle.fd_table.specs.Holders.{IsFew, IsDescriptionThere, count_in};
 ghost use Rattle.fd_table.specs.Changes.{Changed, IsHeld, described_as, ended_in, lowered, raised};
 ghost use Rattle.fd_table.specs.Views.{access_asked, class_seen, object_seen, side_seen, state_seen};
-ghost use Rattle.fd_table.specs.Stored.{description_kept, descriptions_kept, entry_kept, new_description};
+ghost use Rattle.fd_table.specs.StoredViews.{description_kept, descriptions_kept, entry_kept, new_description};
 
 use crate::descriptors::{Access, Class, Description, Descriptor, Object};
 use crate::ends::End;
@@ -26,35 +26,35 @@ pub(crate) struct Held {
 
 /// The description of a number that is in use.
 pub(crate) fn description_of(descriptions: &Slab<Held>, n: usize) -> Description
-    requires { IsSome (slot (descriptions_kept descriptions.now.slots) n) }
-    ensures object { object_seen result.object ≡ object_in (slot (descriptions_kept descriptions.now.slots) n) }
-    ensures state { state_seen result ≡ state_in (slot (descriptions_kept descriptions.now.slots) n) }
+    requires { IsSome (item_at (descriptions_kept descriptions.now.slots) n) }
+    ensures object { object_seen result.object ≡ object_in (item_at (descriptions_kept descriptions.now.slots) n) }
+    ensures state { state_seen result ≡ state_in (item_at (descriptions_kept descriptions.now.slots) n) }
 {
     descriptions[n].description
 }
 
 /// Puts another description at a number that is in use. Its holders stay.
 pub(crate) fn set_description(descriptions: &mut Slab<Held>, n: usize, description: Description)
-    requires { IsSome (slot (descriptions_kept descriptions.old.slots) n) }
+    requires { IsSome (item_at (descriptions_kept descriptions.old.slots) n) }
     ensures { Changed (descriptions_kept descriptions.old.slots) (descriptions_kept descriptions.new.slots) n
-        (described_as (description_kept description) (slot (descriptions_kept descriptions.old.slots) n)) }
+        (described_as (description_kept description) (item_at (descriptions_kept descriptions.old.slots) n)) }
 {
     descriptions[n].description = description;
 }
 
 /// Counts one holder more of a number that is in use.
 pub(crate) fn hold_one(descriptions: &mut Slab<Held>, n: usize)
-    requires there { IsSome (slot (descriptions_kept descriptions.old.slots) n) }
-    requires few { count_in (slot (descriptions_kept descriptions.old.slots) n) < 2 ^ 127 }
-    ensures { Changed (descriptions_kept descriptions.old.slots) (descriptions_kept descriptions.new.slots) n (raised (slot (descriptions_kept descriptions.old.slots) n)) }
+    requires there { IsSome (item_at (descriptions_kept descriptions.old.slots) n) }
+    requires few { count_in (item_at (descriptions_kept descriptions.old.slots) n) < 2 ^ 127 }
+    ensures { Changed (descriptions_kept descriptions.old.slots) (descriptions_kept descriptions.new.slots) n (raised (item_at (descriptions_kept descriptions.old.slots) n)) }
 {
     descriptions[n].count += 1;
 }
 
 /// Counts one holder more of what a descriptor names, if there is one.
 pub(crate) fn hold_named(descriptions: &mut Slab<Held>, held: Option<Descriptor>)
-    requires there { IsThere (slot (descriptions_kept descriptions.old.slots)) (entry_kept held) }
-    requires few { IsFew (slot (descriptions_kept descriptions.old.slots)) (entry_kept held) }
+    requires there { IsDescriptionThere (item_at (descriptions_kept descriptions.old.slots)) (entry_kept held) }
+    requires few { IsFew (item_at (descriptions_kept descriptions.old.slots)) (entry_kept held) }
     ensures { IsHeld (descriptions_kept descriptions.old.slots) (descriptions_kept descriptions.new.slots) (entry_kept held) }
 {
     if let Some(descriptor) = held {
@@ -64,8 +64,8 @@ pub(crate) fn hold_named(descriptions: &mut Slab<Held>, held: Option<Descriptor>
 
 /// Counts one holder less of a number. A description without holders is taken out and given back.
 pub(crate) fn release_one(descriptions: &mut Slab<Held>, n: usize) -> Option<Description>
-    ensures change { Changed (descriptions_kept descriptions.old.slots) (descriptions_kept descriptions.new.slots) n (lowered (slot (descriptions_kept descriptions.old.slots) n)) }
-    ensures ended { option_map description_kept result ≡ ended_in (slot (descriptions_kept descriptions.old.slots) n) }
+    ensures change { Changed (descriptions_kept descriptions.old.slots) (descriptions_kept descriptions.new.slots) n (lowered (item_at (descriptions_kept descriptions.old.slots) n)) }
+    ensures ended { option_map description_kept result ≡ ended_in (item_at (descriptions_kept descriptions.old.slots) n) }
 {
     let held = *descriptions.get(n)?;
     if held.count > 1 {
@@ -81,7 +81,7 @@ pub(crate) fn release_one(descriptions: &mut Slab<Held>, n: usize) -> Option<Des
 /// Makes a description with one holder, in room that is there.
 pub(crate) fn describe(descriptions: &mut Slab<Held>, description: Description) -> usize
     requires { HasRoomFor descriptions.old 1 }
-    ensures vacant { slot (descriptions_kept descriptions.old.slots) result ≡ None }
+    ensures vacant { item_at (descriptions_kept descriptions.old.slots) result ≡ None }
     ensures change { Changed (descriptions_kept descriptions.old.slots) (descriptions_kept descriptions.new.slots) result (Some (record { description = description_kept description; count = 1 })) }
     ensures len { slab_len descriptions.new ≡ slab_len descriptions.old + 1 }
     ensures capacity { descriptions.new.capacity ≡ descriptions.old.capacity }

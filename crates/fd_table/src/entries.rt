@@ -2,9 +2,9 @@
 
 ghost use Rattle.std.specs.Prelude.{◌≡◌, ◌+◌, ◌*◌, ◌-◌, ◌≤◌, ◌<◌, None, length, replicate, slice_set, IfOk};
 ghost use Rattle.rights.specs.Maps.{put2};
-ghost use Rattle.fd_table.specs.Kept.{entry};
+ghost use Rattle.fd_table.specs.Kept.{entry_at};
 ghost use Rattle.fd_table.specs.OpenFiles.{lowest_from};
-ghost use Rattle.fd_table.specs.Stored.{entries_kept, entry_kept};
+ghost use Rattle.fd_table.specs.StoredViews.{entries_kept, entry_kept};
 
 use crate::descriptors::Descriptor;
 use rights::limits::{MAX_DESCRIPTORS, MAX_PROCESSES};
@@ -22,7 +22,7 @@ const ENTRIES: usize = MAX_PROCESSES * MAX_DESCRIPTORS;
 /// The entry of a process at a number.
 pub(crate) fn entry_at(entries: &[Option<Descriptor>], p: u8, n: u8) -> Option<Descriptor>
     requires { length entries.now ≡ 256 }
-    ensures { entry_kept result ≡ entry (entries_kept entries.now) p n }
+    ensures { entry_kept result ≡ entry_at (entries_kept entries.now) p n }
 {
     if p >= PROCESSES || n >= NUMBERS {
         return None;
@@ -34,7 +34,7 @@ pub(crate) fn entry_at(entries: &[Option<Descriptor>], p: u8, n: u8) -> Option<D
 pub(crate) fn lowest_in(entries: &[Option<Descriptor>], p: u8, from: u8) -> Option<u8>
     requires entries { length entries.now ≡ 256 }
     requires from { from ≤ 16 }
-    ensures { result ≡ lowest_from (16 - from) from (entry (entries_kept entries.now) p) }
+    ensures { result ≡ lowest_from (16 - from) from (entry_at (entries_kept entries.now) p) }
 {
     for n in from..NUMBERS {
         if entry_at(entries, p, n).is_none() {
@@ -65,8 +65,8 @@ pub(crate) fn set_entry(
     requires room { length entries.old.items ≡ 256 }
     requires process { p < 16 }
     requires number { n < 16 }
-    ensures entries { entry (entries_kept entries.new.items)
-        ≡ put2 (entry (entries_kept entries.old.items)) p n (entry_kept descriptor) }
+    ensures entries { entry_at (entries_kept entries.new.items)
+        ≡ put2 (entry_at (entries_kept entries.old.items)) p n (entry_kept descriptor) }
     ensures items { entries.new.items ≡ slice_set entries.old.items (p * 16 + n) descriptor }
     ensures room { length entries.new.items ≡ 256 }
 {

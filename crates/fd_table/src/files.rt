@@ -6,7 +6,8 @@ ghost use Rattle.std.specs.Option.{IsSome};
 ghost use Rattle.fd_table.specs.Descriptions.{message_of, other_side};
 ghost use Rattle.fd_table.specs.OpenFiles.{Alike, is_open as is_end_open, lowest_free as lowest_number, lowest_from};
 ghost use Rattle.fd_table.specs.Openings.{with_entry};
-ghost use Rattle.fd_table.specs.Filled.{AreApart, IsEmpty, IsEndThere, IsFree, IsFreeAt, IsNamed, MayLimit, MayPass, Opens, Pairs, front_byte, front_of, front_passed, limited, send_refusal, sent, taken, taken_to, with_flags, with_offset, with_row};
+ghost use Rattle.fd_table.specs.Filled.{AreApart, IsEmpty, IsEndThere, IsFree, IsFreeAt, IsNamed, MayLimit, MayPass, Opens, Pairs, front_byte, front_shown, front_passed};
+ghost use Rattle.fd_table.specs.Filled.{with_limit, send_refusal, sent, with_received, taken_to, with_flags, with_offset, with_row};
 ghost use Rattle.fd_table.specs.Counts.{Counts};
 ghost use Rattle.fd_table.specs.Views.{TellsSendFault, access_asked, class_seen, descriptor_seen, entry_seen, front_seen, object_seen, side_seen, state_seen};
 
@@ -34,7 +35,7 @@ pub struct Files {
 impl Model for Files {
     ghost use Rattle.fd_table.specs.Kept.{Kept};
     ghost use Rattle.fd_table.specs.Holders.{IsKept, empty_hand};
-    ghost use Rattle.fd_table.specs.Stored.{books_kept};
+    ghost use Rattle.fd_table.specs.StoredViews.{books_kept};
 
     ghost Value = { Kept };
 
@@ -92,7 +93,7 @@ impl Files {
     /// What the end would receive next: the byte, and whether a descriptor comes with it.
     #[tactic(auto, unfolding(crate::specs::Kept::open_files))]
     pub fn front(&self, end: End) -> Option<Front>
-        ensures { option_map front_seen result ≡ front_of ((open_files self.now).queue end.pair (other_side (side_seen end.side))) }
+        ensures { option_map front_seen result ≡ front_shown ((open_files self.now).queue end.pair (other_side (side_seen end.side))) }
     {
         front_in(&self.books.pairs, end.pair.number(), end.side.other())
     }
@@ -152,7 +153,7 @@ impl Files {
     #[tactic(auto, unfolding(crate::specs::Kept::open_files))]
     pub fn limit(&mut self, p: u8, n: u8, rights: Rights, fcntls: Fcntls)
         requires { MayLimit ((open_files self.old).table p n) rights.0 fcntls.0 }
-        ensures { Alike (limited (open_files self.old) p n rights.0 fcntls.0) (open_files self.new) }
+        ensures { Alike (with_limit (open_files self.old) p n rights.0 fcntls.0) (open_files self.new) }
     {
         self.books.limit(p, n, rights, fcntls);
     }
@@ -244,7 +245,7 @@ impl Files {
     pub fn receive(&mut self, end: End) -> Option<u8>
         requires { IsEndThere (open_files self.old) end.pair (side_seen end.side) }
         ensures byte { result ≡ front_byte ((open_files self.old).queue end.pair (other_side (side_seen end.side))) }
-        ensures taken { Alike (taken (open_files self.old) end.pair (side_seen end.side)) (open_files self.new) }
+        ensures taken { Alike (with_received (open_files self.old) end.pair (side_seen end.side)) (open_files self.new) }
     {
         match self.books.take(end) {
             Some(message) => {

@@ -3,13 +3,13 @@
 ghost use Rattle.std.specs.Prelude.{◌≡◌, ◌<◌, ◌^◌, ◌++◌, ◌∷◌, [], IfErr, None, OnErr, OnOk, Some, drop, is_some, length, map, option_map};
 ghost use Rattle.std.specs.Option.{IsSome};
 ghost use Rattle.slab.specs.Slab.{HasRoomFor};
-ghost use Rattle.fd_table.specs.Filled.{front_of};
+ghost use Rattle.fd_table.specs.Filled.{front_shown};
 ghost use Rattle.fd_table.specs.Descriptions.{message_of};
-ghost use Rattle.fd_table.specs.Kept.{end_of, half_in, queue, slot};
+ghost use Rattle.fd_table.specs.Kept.{end_of, half_in, queue, item_at};
 ghost use Rattle.fd_table.specs.Holders.{is_idle};
 ghost use Rattle.fd_table.specs.Changes.{Changed, Ends, IsEndable, after_close, front_message, pair_new, with_closed, with_less, with_more, with_sent};
 ghost use Rattle.fd_table.specs.Views.{front_seen, side_seen};
-ghost use Rattle.fd_table.specs.Stored.{description_kept, entry_kept, half_kept, message_kept, pair_kept, pairs_kept};
+ghost use Rattle.fd_table.specs.StoredViews.{description_kept, entry_kept, half_kept, message_kept, pair_kept, pairs_kept};
 ghost use Rattle.fd_table.specs.declared.faults.SendFault.TheVariants as fault;
 
 use crate::descriptors::{Description, Descriptor, Object};
@@ -68,7 +68,7 @@ fn take_first(messages: &mut Vec<Message>) -> Option<Message>
 
 /// What stands first among some messages.
 fn front_among(messages: &[Message]) -> Option<Front>
-    ensures { option_map front_seen result ≡ front_of (map message_kept messages.now) }
+    ensures { option_map front_seen result ≡ front_shown (map message_kept messages.now) }
 {
     match messages {
         [] => None,
@@ -165,7 +165,7 @@ pub(crate) fn is_end_open(pairs: &Slab<Pair>, end: End) -> bool
 
 /// What stands first in the queue of a pair and a side.
 pub(crate) fn front_in(pairs: &Slab<Pair>, pair: usize, side: Side) -> Option<Front>
-    ensures { option_map front_seen result ≡ front_of (queue (pairs_kept pairs.now.slots) pair (side_seen side)) }
+    ensures { option_map front_seen result ≡ front_shown (queue (pairs_kept pairs.now.slots) pair (side_seen side)) }
 {
     match pairs.get(pair) {
         Some(pair) => front_among(pair.half(side).sent.as_slice()),
@@ -191,9 +191,9 @@ pub(crate) fn send_in(
     byte: u8,
     passed: Option<Descriptor>,
 ) -> Result<(), SendFault>
-    requires { IsSome (slot (pairs_kept pairs.old.slots) pair) }
+    requires { IsSome (item_at (pairs_kept pairs.old.slots) pair) }
     ensures ok { OnOk result (Changed (pairs_kept pairs.old.slots) (pairs_kept pairs.new.slots) pair
-        (with_more (side_seen side) (message_of byte (entry_kept passed)) (slot (pairs_kept pairs.old.slots) pair))) }
+        (with_more (side_seen side) (message_of byte (entry_kept passed)) (item_at (pairs_kept pairs.old.slots) pair))) }
     ensures err { OnErr result (pairs_kept pairs.new.slots ≡ pairs_kept pairs.old.slots) }
     ensures memory { IfErr result (λ error. error ≡ fault.Memory) }
 {
@@ -202,17 +202,17 @@ pub(crate) fn send_in(
 
 /// Takes the message in front in the queue of a pair and a side, if there is one.
 pub(crate) fn take_in(pairs: &mut Slab<Pair>, pair: usize, side: Side) -> Option<Message>
-    requires { IsSome (slot (pairs_kept pairs.old.slots) pair) }
+    requires { IsSome (item_at (pairs_kept pairs.old.slots) pair) }
     ensures front { option_map message_kept result ≡ front_message (queue (pairs_kept pairs.old.slots) pair (side_seen side)) }
-    ensures rest { Changed (pairs_kept pairs.old.slots) (pairs_kept pairs.new.slots) pair (with_less (side_seen side) (slot (pairs_kept pairs.old.slots) pair)) }
+    ensures rest { Changed (pairs_kept pairs.old.slots) (pairs_kept pairs.new.slots) pair (with_less (side_seen side) (item_at (pairs_kept pairs.old.slots) pair)) }
 {
     pairs[pair].take(side)
 }
 
 /// Closes an end of a pair. A pair without an open end and with nothing on its way is taken out.
 pub(crate) fn close_end(pairs: &mut Slab<Pair>, end: End)
-    requires { IsSome (slot (pairs_kept pairs.old.slots) end.pair) }
-    ensures { Changed (pairs_kept pairs.old.slots) (pairs_kept pairs.new.slots) end.pair (after_close (side_seen end.side) (slot (pairs_kept pairs.old.slots) end.pair)) }
+    requires { IsSome (item_at (pairs_kept pairs.old.slots) end.pair) }
+    ensures { Changed (pairs_kept pairs.old.slots) (pairs_kept pairs.new.slots) end.pair (after_close (side_seen end.side) (item_at (pairs_kept pairs.old.slots) end.pair)) }
 {
     let number = end.pair.number();
     if pairs[number].close(end.side) {
@@ -236,7 +236,7 @@ pub(crate) fn close_ended(pairs: &mut Slab<Pair>, ended: Option<Description>)
 pub(crate) fn make_pair(alloc: Global, pairs: &mut Slab<Pair>, first: usize, second: usize) -> usize
     requires { HasRoomFor pairs.old 1 }
     ensures key { result ≡ pairs.old.vacant_key }
-    ensures vacant { slot (pairs_kept pairs.old.slots) result ≡ None }
+    ensures vacant { item_at (pairs_kept pairs.old.slots) result ≡ None }
     ensures change { Changed (pairs_kept pairs.old.slots) (pairs_kept pairs.new.slots) result (Some (pair_new first second)) }
 {
     pairs.insert_reserved(Pair::new(alloc, first, second))

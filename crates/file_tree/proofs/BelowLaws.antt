@@ -8,7 +8,8 @@ use Rattle.file_tree.proofs.PlaceLaws.{same_place_is, begins_above_other, begins
 use Rattle.file_tree.proofs.NodeLaws.{Directory, held_above, any_found, node_at_none, stands_from}
 
 -- a linked node below a place has all its directories up to it
-pub directory_above : (t : List Node) → IsTree t → (p : List (List ℕ)) (most k : ℕ) → (node t k).linked ≡ true → begins p (node t k).place ≡ true → length p < length (node t k).place → length (node t k).place ≤ most → Directory t p
+pub directory_above : (t : List Node) → IsTree t → (p : List (List ℕ)) (most k : ℕ) → (node t k).linked ≡ true → begins p (node t k).place ≡ true →
+    length p < length (node t k).place → length (node t k).place ≤ most → Directory t p
 directory_above t tree p zero k linked front longer few = absurd (omega arith)
 directory_above t tree p (suc most) k linked front longer few =
     at (directory_above t tree p most) (same_place p (above (node t k).place)) refl
@@ -19,7 +20,8 @@ directory_above t tree p (suc most) k linked front longer few =
     shorter : length (above (node t k).place) ≡ length (node t k).place - 1
     shorter = above_length (node t k).place
 
-    at : ((j : ℕ) → (node t j).linked ≡ true → begins p (node t j).place ≡ true → length p < length (node t j).place → length (node t j).place ≤ most → Directory t p) → (b : Bool) → same_place p (above (node t k).place) ≡ b → Directory t p
+    at : ((j : ℕ) → (node t j).linked ≡ true → begins p (node t j).place ≡ true → length p < length (node t j).place →
+        length (node t j).place ≤ most → Directory t p) → (b : Bool) → same_place p (above (node t k).place) ≡ b → Directory t p
     at on true is = subst (Directory t) (sym (same_place_is p (above (node t k).place) is)) d
     at on false is =
         let off : begins p (above (node t k).place) ≡ true = begins_above_other p (node t k).place front (longer_place p (node t k).place longer) in

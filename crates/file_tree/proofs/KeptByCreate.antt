@@ -5,11 +5,11 @@ use Rattle.std.specs.List.{list_all}
 use Rattle.std.specs.Cmp.Derive.{both_true}
 use Rattle.std.proofs.lemmas.List.{get_or_append_left}
 use Rattle.std.proofs.lemmas.Bool.{and_parts, both_ways, ltb-true, not-false}
-use Rattle.file_tree.specs.Places.{is_name, at_name, above}
+use Rattle.file_tree.specs.Places.{is_file_name, at_name, above}
 use Rattle.file_tree.specs.Nodes.{Kind, Dir, Node, node, nowhere, node_at, stands_at}
 use Rattle.rights.specs.Limits.{most_nodes}
 use Rattle.file_tree.specs.Refusals.{created, create_fault}
-use Rattle.file_tree.specs.WellFormed.{IsTree, is_held, is_within_limits, is_content, is_byte}
+use Rattle.file_tree.specs.WellFormed.{IsTree, has_parent, is_within_limits, is_content, is_byte}
 use Rattle.file_tree.proofs.PlaceLaws.{above_at_name}
 use Rattle.file_tree.proofs.NodeLaws.{linked_there, stands_from, node_at_none, Directory, held_above, held_from, more_cases, passed, passed_last, none_from}
 
@@ -38,7 +38,7 @@ all_after test (suc k) (x ∷ xs) h = all_after test k xs (and_parts (test x) (l
 
 -- the limits of a node, part by part
 pub record Limits (m : Node) : Type 0 where
-  pub names : list_all is_name m.place ≡ true
+  pub names : list_all is_file_name m.place ≡ true
   pub content : is_content m.kind m.content ≡ true
   pub bytes : list_all is_byte m.content ≡ true
 
@@ -51,7 +51,7 @@ unfolding is_within_limits
 limits_from m l = both_true (both_true l.names l.content) l.bytes
 
 -- a node's place has no more than it has: the names of a node of the tree
-pub names_kept : (t : List Node) → IsTree t → (n : ℕ) → (node t n).linked ≡ true → list_all is_name (node t n).place ≡ true
+pub names_kept : (t : List Node) → IsTree t → (n : ℕ) → (node t n).linked ≡ true → list_all is_file_name (node t n).place ≡ true
 names_kept t tree n linked = (limits_of (node t n) (tree.limits n (linked_there t n linked))).names
 
 -- a directory stays one where its node does
@@ -80,25 +80,27 @@ module _ (t : List Node) (m : Node) where
       ]
 
   -- Two linked nodes at one place are one, if the new one's place was free.
-  apart_after : IsTree t → (missing : (k : ℕ) → stands_at m.place (node t k) ≡ false) → (i j : ℕ) → (node (t ++ m ∷ []) i).linked ≡ true → (node (t ++ m ∷ []) j).linked ≡ true → (node (t ++ m ∷ []) i).place ≡ (node (t ++ m ∷ []) j).place → i ≡ j
+  apart_after : IsTree t → (missing : (k : ℕ) → stands_at m.place (node t k) ≡ false) → (i j : ℕ) → (node (t ++ m ∷ []) i).linked ≡ true →
+      (node (t ++ m ∷ []) j).linked ≡ true → (node (t ++ m ∷ []) i).place ≡ (node (t ++ m ∷ []) j).place → i ≡ j
   apart_after tree missing i j linked_i linked_j same = both (new_or_old i linked_i) (new_or_old j linked_j)
     where
       taken : (k : ℕ) → (node t k).linked ≡ true → m.place ≡ (node t k).place → ⊥
       taken k linked place = both_ways (stands_at m.place (node t k)) (missing k) (stands_from m.place (node t k) linked place)
 
-      both : ((i ≡ length t) × (node (t ++ m ∷ []) i ≡ m)) ⊎ (((node t i).linked ≡ true) × (node (t ++ m ∷ []) i ≡ node t i)) → ((j ≡ length t) × (node (t ++ m ∷ []) j ≡ m)) ⊎ (((node t j).linked ≡ true) × (node (t ++ m ∷ []) j ≡ node t j)) → i ≡ j
+      both : ((i ≡ length t) × (node (t ++ m ∷ []) i ≡ m)) ⊎ (((node t i).linked ≡ true) × (node (t ++ m ∷ []) i ≡ node t i)) →
+          ((j ≡ length t) × (node (t ++ m ∷ []) j ≡ m)) ⊎ (((node t j).linked ≡ true) × (node (t ++ m ∷ []) j ≡ node t j)) → i ≡ j
       both (inl a) (inl b) = a.0 ∙ sym b.0
       both (inl a) (inr b) = absurd (taken j b.0 (sym (ap (λ (x : Node). x.place) a.1) ∙ same ∙ ap (λ (x : Node). x.place) b.1))
       both (inr a) (inl b) = absurd (taken i a.0 (sym (ap (λ (x : Node). x.place) b.1) ∙ sym same ∙ ap (λ (x : Node). x.place) a.1))
       both (inr a) (inr b) = tree.apart i j a.0 b.0 (sym (ap (λ (x : Node). x.place) a.1) ∙ same ∙ ap (λ (x : Node). x.place) b.1)
 
-  held_after : IsTree t → (0 < length m.place → Directory t (above m.place)) → (n : ℕ) → (node (t ++ m ∷ []) n).linked ≡ true → is_held (t ++ m ∷ []) (node (t ++ m ∷ []) n).place ≡ true
+  held_after : IsTree t → (0 < length m.place → Directory t (above m.place)) → (n : ℕ) → (node (t ++ m ∷ []) n).linked ≡ true → has_parent (t ++ m ∷ []) (node (t ++ m ∷ []) n).place ≡ true
   held_after tree holder n linked = held (new_or_old n linked)
     where
       still : (p : List (List ℕ)) → Directory t p → Directory (t ++ m ∷ []) p
       still p d = same_directory t (t ++ m ∷ []) p d (old_linked d.number d.linked)
 
-      held : ((n ≡ length t) × (node (t ++ m ∷ []) n ≡ m)) ⊎ (((node t n).linked ≡ true) × (node (t ++ m ∷ []) n ≡ node t n)) → is_held (t ++ m ∷ []) (node (t ++ m ∷ []) n).place ≡ true
+      held : ((n ≡ length t) × (node (t ++ m ∷ []) n ≡ m)) ⊎ (((node t n).linked ≡ true) × (node (t ++ m ∷ []) n ≡ node t n)) → has_parent (t ++ m ∷ []) (node (t ++ m ∷ []) n).place ≡ true
       held (inl new) = rw new.1 (held_from (t ++ m ∷ []) m.place (λ low. still (above m.place) (holder low)))
       held (inr old) = rw old.1 (held_from (t ++ m ∷ []) (node t n).place (λ low. still (above (node t n).place) (held_above t (node t n).place (tree.held n old.0) low)))
 
@@ -111,7 +113,8 @@ module _ (t : List Node) (m : Node) where
       ]
 
 -- a tree to which a node is added, at a free place in a linked directory
-added_is_tree : (t : List Node) (m : Node) → IsTree t → ((k : ℕ) → stands_at m.place (node t k) ≡ false) → (0 < length m.place → Directory t (above m.place)) → is_within_limits m ≡ true → length t < most_nodes → IsTree (t ++ m ∷ [])
+added_is_tree : (t : List Node) (m : Node) → IsTree t → ((k : ℕ) → stands_at m.place (node t k) ≡ false) →
+    (0 < length m.place → Directory t (above m.place)) → is_within_limits m ≡ true → length t < most_nodes → IsTree (t ++ m ∷ [])
 added_is_tree t m tree missing holder fits room =
     let root = old_linked t m 0 tree.root_linked in
     record {
@@ -124,12 +127,14 @@ added_is_tree t m tree missing holder fits room =
       limits = limits_after t m tree fits;
     }
 
-pub created_is_tree : (t : List Node) (d : ℕ) (name : List ℕ) (kind : Kind) (content : List ℕ) → IsTree t → (node t d).kind ≡ Dir → is_name name ≡ true → is_content kind content ≡ true → list_all is_byte content ≡ true → create_fault t d name ≡ None → IsTree (created t d name kind content)
+pub created_is_tree : (t : List Node) (d : ℕ) (name : List ℕ) (kind : Kind) (content : List ℕ) → IsTree t → (node t d).kind ≡ Dir →
+    is_file_name name ≡ true → is_content kind content ≡ true → list_all is_byte content ≡ true → create_fault t d name ≡ None →
+    IsTree (created t d name kind content)
 unfolding created
 created_is_tree t d name kind content tree directory named fits bytes allowed =
     let may = may_create t d name allowed in
     let dir : Directory t (above (at_name (node t d).place name)) = record { number = d; linked = may.linked; kind = directory; place = sym (above_at_name (node t d).place name) } in
-    let names = all_of_both is_name (node t d).place (name ∷ []) (names_kept t tree d may.linked) (both_true named refl) in
+    let names = all_of_both is_file_name (node t d).place (name ∷ []) (names_kept t tree d may.linked) (both_true named refl) in
     added_is_tree t (record { kind = kind; place = at_name (node t d).place name; linked = true; content = content }) tree
     (node_at_none t (at_name (node t d).place name) may.free)
     (λ _. dir)

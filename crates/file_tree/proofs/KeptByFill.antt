@@ -1,5 +1,6 @@
 -- A list that is a tree stays one when a file gets another content. This is of the lists alone.
-use Rattle.std.proofs.Common.{◌≡◌, ℕ, zero, suc, ◌<◌, ◌≤◌, ◌+◌, ◌-◌, inl, inr, List, [], ◌∷◌, Bool, true, None, length, take, drop, replicate, ap, sym, ◌∙◌, refl, arith, length-append, length-take, length-drop}
+use Rattle.std.proofs.Common.{◌≡◌, ℕ, zero, suc, ◌<◌, ◌≤◌, ◌+◌, ◌-◌, inl, inr, List, [], ◌∷◌, Bool, true, None, length, take, drop, replicate, ap, sym, ◌∙◌, refl, arith}
+use Rattle.std.proofs.Common.{length-append, length-take, length-drop}
 use Rattle.std.specs.List.{list_all}
 use Rattle.std.specs.Cmp.Derive.{both_true}
 use Rattle.std.proofs.lemmas.Bool.{and_parts, ltb-true, leb-true, le-leb, lt-ltb, ltb-false}
@@ -31,7 +32,8 @@ frames t n content there k =
       | inr other ↦ record { kind = ap (λ (m : Node). m.kind) other.1; place = ap (λ (m : Node). m.place) other.1; linked = ap (λ (m : Node). m.linked) other.1 }
     ]
 
-filled_limits : (t : List Node) (n : ℕ) (content : List ℕ) → IsTree t → (node t n).kind ≡ File → n < length t → length content ≤ most_bytes → list_all is_byte content ≡ true → (k : ℕ) → k < length t → is_within_limits (node (filled t n content) k) ≡ true
+filled_limits : (t : List Node) (n : ℕ) (content : List ℕ) → IsTree t → (node t n).kind ≡ File → n < length t → length content ≤ most_bytes →
+    list_all is_byte content ≡ true → (k : ℕ) → k < length t → is_within_limits (node (filled t n content) k) ≡ true
 unfolding filled
 filled_limits t n content tree file there short bytes k k_there =
     let new : Node = record { kind = (node t n).kind; place = (node t n).place; linked = (node t n).linked; content = content } in
@@ -41,7 +43,8 @@ filled_limits t n content tree file there short bytes k k_there =
       | inr other ↦ ap is_within_limits other.1 ∙ tree.limits k k_there
     ]
 
-pub filled_is_tree : (t : List Node) (n : ℕ) (content : List ℕ) → IsTree t → (node t n).kind ≡ File → n < length t → length content ≤ most_bytes → list_all is_byte content ≡ true → IsTree (filled t n content)
+pub filled_is_tree : (t : List Node) (n : ℕ) (content : List ℕ) → IsTree t → (node t n).kind ≡ File → n < length t → length content ≤ most_bytes →
+    list_all is_byte content ≡ true → IsTree (filled t n content)
 filled_is_tree t n content tree file there short bytes =
     let same = frames t n content there in
     let was = λ (k : ℕ) (linked : (node (filled t n content) k).linked ≡ true). sym (same k).linked ∙ linked in
@@ -72,7 +75,8 @@ list_all-replicate test zero x h = refl
 list_all-replicate test (suc k) x h = both_true h (list_all-replicate test k x h)
 
 resized_bytes : (content : List ℕ) (len : ℕ) → list_all is_byte content ≡ true → list_all is_byte (resized content len) ≡ true
-resized_bytes content len h = all_of_both is_byte (take len content) (replicate (len - length content) 0) (list_all-take is_byte len content h) (list_all-replicate is_byte (len - length content) 0 refl)
+resized_bytes content len h = all_of_both is_byte (take len content) (replicate (len - length content) 0) (list_all-take is_byte len content h)
+    (list_all-replicate is_byte (len - length content) 0 refl)
 
 written_bytes : (content : List ℕ) (at b : ℕ) → b < 256 → list_all is_byte content ≡ true → list_all is_byte (written content at b) ≡ true
 written_bytes content at b small h =

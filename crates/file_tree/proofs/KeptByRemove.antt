@@ -7,7 +7,7 @@ use Rattle.file_tree.specs.Places.{same_place, begins, above}
 use Rattle.file_tree.specs.Nodes.{Node, node, lies_below, has_below}
 use Rattle.file_tree.specs.Changes.{unlinked, removed}
 use Rattle.file_tree.specs.Refusals.{remove_fault, is_root}
-use Rattle.file_tree.specs.WellFormed.{IsTree, is_held, is_within_limits}
+use Rattle.file_tree.specs.WellFormed.{IsTree, has_parent, is_within_limits}
 use Rattle.file_tree.proofs.PlaceLaws.{same_place_from, begins_above, above_length, longer_place}
 use Rattle.file_tree.proofs.NodeLaws.{linked_there, none_at, Directory, held_above, held_from, set_cases, passed}
 use Rattle.file_tree.proofs.KeptByCreate.{limits_of, limits_from, same_directory}
@@ -68,7 +68,7 @@ module _ (t : List Node) (n : ℕ) (tree : IsTree t) (may : MayRemove t n) where
   linked_was : (k : ℕ) → (node (slice_set t n (unlinked (node t n))) k).linked ≡ true → (node t k).linked ≡ true
   linked_was k linked = sym (ap (λ (m : Node). m.linked) (still_linked k linked).1) ∙ linked
 
-  held_stays : (k : ℕ) → (node (slice_set t n (unlinked (node t n))) k).linked ≡ true → is_held (slice_set t n (unlinked (node t n))) (node (slice_set t n (unlinked (node t n))) k).place ≡ true
+  held_stays : (k : ℕ) → (node (slice_set t n (unlinked (node t n))) k).linked ≡ true → has_parent (slice_set t n (unlinked (node t n))) (node (slice_set t n (unlinked (node t n))) k).place ≡ true
   held_stays k linked =
       rw (place_was k linked) (held_from _ (node t k).place (λ low.
       directory_stays k (linked_was k linked) low (held_above t (node t k).place (tree.held k (linked_was k linked)) low)))
@@ -77,7 +77,8 @@ module _ (t : List Node) (n : ℕ) (tree : IsTree t) (may : MayRemove t n) where
   limits_stay k there =
       let k_there : k < length t = omega (arith, length-set t n (unlinked (node t n))) in
       elim (set_cases t n k (unlinked (node t n)) (linked_there t n may.linked)) [
-        | inl same ↦ let old = limits_of (node t n) (tree.limits n (linked_there t n may.linked)) in ap is_within_limits same.1 ∙ limits_from (unlinked (node t n)) (record { names = old.names; content = old.content; bytes = old.bytes })
+        | inl same ↦ let old = limits_of (node t n) (tree.limits n (linked_there t n may.linked)) in ap is_within_limits same.1
+            ∙ limits_from (unlinked (node t n)) (record { names = old.names; content = old.content; bytes = old.bytes })
         | inr kept ↦ ap is_within_limits kept.1 ∙ tree.limits k k_there
       ]
 

@@ -1,5 +1,6 @@
 -- A list that is a tree stays one when a node is renamed. This is of the lists alone.
-use Rattle.std.proofs.Common.{◌≡◌, ℕ, ◌<◌, ◌⊎◌, inl, inr, List, [], ◌∷◌, ◌++◌, Bool, true, false, Option, Some, None, length, drop, map, ap, sym, ◌∙◌, refl, arith, cond, length-drop, subst, append-nil}
+use Rattle.std.proofs.Common.{◌≡◌, ℕ, ◌<◌, ◌⊎◌, inl, inr, List, [], ◌∷◌, ◌++◌, Bool, true, false, Option, Some, None, length, drop, map, ap, sym, ◌∙◌, refl, arith, cond}
+use Rattle.std.proofs.Common.{length-drop, subst, append-nil}
 use Rattle.std.specs.Prelude.{not, ◌&&◌}
 use Rattle.std.specs.List.{list_all}
 use Rattle.std.specs.Cmp.Derive.{both_true}
@@ -7,12 +8,13 @@ use Rattle.std.proofs.lemmas.List.{length-map}
 use Rattle.std.proofs.Math.ListN.{get_or-map}
 use Rattle.std.proofs.Math.Seq.{drop-append_seam, drop-length}
 use Rattle.std.proofs.lemmas.Bool.{and_parts, both_ways, not-false, cases_Bool, cond_both, false_from_ne_true}
-use Rattle.file_tree.specs.Places.{is_name, same_place, begins, at_name, above}
+use Rattle.file_tree.specs.Places.{is_file_name, same_place, begins, at_name, above}
 use Rattle.file_tree.specs.Nodes.{Dir, Node, node, nowhere, stands_at, lies_below, has_below}
 use Rattle.file_tree.specs.Changes.{unlinked, moved, replaced_at, renamed}
-use Rattle.file_tree.specs.Refusals.{Fault, NotEmpty, IntoItself, Gone, rename_fault}
-use Rattle.file_tree.specs.WellFormed.{IsTree, is_held, is_within_limits}
-use Rattle.file_tree.proofs.PlaceLaws.{same_place_is, begins_is, begins_from, begins_trans, begins_above, begins_above_other, begins_append, begins_longer, rest_same, above_append, above_at_name, at_name_length}
+use Rattle.file_tree.specs.Refusals.{ChangeFault, NotEmpty, IntoItself, Gone, rename_fault}
+use Rattle.file_tree.specs.WellFormed.{IsTree, has_parent, is_within_limits}
+use Rattle.file_tree.proofs.PlaceLaws.{same_place_is, begins_is, begins_from, begins_trans, begins_above, begins_above_other, begins_append, begins_longer, rest_same, above_append}
+use Rattle.file_tree.proofs.PlaceLaws.{above_at_name, at_name_length}
 use Rattle.file_tree.proofs.NodeLaws.{none_at, Directory, held_above, held_from, passed}
 use Rattle.file_tree.proofs.KeptByCreate.{Limits, limits_of, limits_from, same_directory, all_of_both, all_after, names_kept}
 
@@ -27,17 +29,18 @@ pub record MayMove (t : List Node) (n d : ℕ) (to : List (List ℕ)) : Type 0 w
 pub both_or : (a b : Bool) → not (a && b) ≡ false → (a ≡ true) × (b ≡ true)
 both_or a b h = and_parts a b (not-false (a && b) h)
 
-skipped : (b : Bool) (rest : Option Fault) → b ≡ false → cond b None rest ≡ None → rest ≡ None
+skipped : (b : Bool) (rest : Option ChangeFault) → b ≡ false → cond b None rest ≡ None → rest ≡ None
 skipped true rest h g = cc
 skipped false rest h g = g
 
-pub may_rename : (t : List Node) (n d : ℕ) (name : List ℕ) → rename_fault t n d name ≡ None → same_place (at_name (node t d).place name) (node t n).place ≡ false → MayMove t n d (at_name (node t d).place name)
+pub may_rename : (t : List Node) (n d : ℕ) (name : List ℕ) → rename_fault t n d name ≡ None →
+    same_place (at_name (node t d).place name) (node t n).place ≡ false → MayMove t n d (at_name (node t d).place name)
 unfolding rename_fault
 may_rename t n d name h other =
     let to = at_name (node t d).place name in
-    let over : Option Fault = cond (has_below t to) (Some NotEmpty) None in
-    let into : Option Fault = cond (begins (node t n).place to) (Some IntoItself) over in
-    let elsewhere : Option Fault = cond (same_place to (node t n).place) None into in
+    let over : Option ChangeFault = cond (has_below t to) (Some NotEmpty) None in
+    let into : Option ChangeFault = cond (begins (node t n).place to) (Some IntoItself) over in
+    let elsewhere : Option ChangeFault = cond (same_place to (node t n).place) None into in
     let first = passed (not ((node t n).linked && (node t d).linked)) Gone elsewhere h in
     let linked = both_or (node t n).linked (node t d).linked first.0 in
     let second = passed (begins (node t n).place to) IntoItself over (skipped (same_place to (node t n).place) into other first.1) in
@@ -56,7 +59,8 @@ module _ (p q : List (List ℕ)) (m : Node) where
   pub not_replaced : stands_at q m ≡ false → replaced_at q m ≡ m
   not_replaced off = rw off refl
 
-  pub is_moved : stands_at q m ≡ false → (m.linked && begins p m.place) ≡ true → moved p q (replaced_at q m) ≡ record { kind = m.kind; place = q ++ drop (length p) m.place; linked = m.linked; content = m.content }
+  pub is_moved : stands_at q m ≡ false → (m.linked && begins p m.place) ≡ true →
+      moved p q (replaced_at q m) ≡ record { kind = m.kind; place = q ++ drop (length p) m.place; linked = m.linked; content = m.content }
   is_moved off front = ap (moved p q) (not_replaced off) ∙ (rw front refl)
 
   pub is_kept : stands_at q m ≡ false → (m.linked && begins p m.place) ≡ false → moved p q (replaced_at q m) ≡ m
@@ -77,7 +81,8 @@ still p q m linked = by_cases (cases_Bool m.linked) (cases_Bool (same_place q m.
     unlink : {x : Node} → moved p q (replaced_at q m) ≡ x → x.linked ≡ false → ⊥
     unlink is gone = both_ways (moved p q (replaced_at q m)).linked (ap (λ (y : Node). y.linked) is ∙ gone) linked
 
-    by_cases : (m.linked ≡ true) ⊎ (m.linked ≡ false) → (same_place q m.place ≡ true) ⊎ (same_place q m.place ≡ false) → (begins p m.place ≡ true) ⊎ (begins p m.place ≡ false) → Still p q m (moved p q (replaced_at q m))
+    by_cases : (m.linked ≡ true) ⊎ (m.linked ≡ false) → (same_place q m.place ≡ true) ⊎ (same_place q m.place ≡ false) →
+        (begins p m.place ≡ true) ⊎ (begins p m.place ≡ false) → Still p q m (moved p q (replaced_at q m))
     by_cases (inr gone) at front = absurd (unlink (is_kept p q m (rw gone refl) (rw gone refl)) gone)
     by_cases (inl there) (inl at) front = absurd (unlink (replaced p q m (both_true there at)) refl)
     by_cases (inl there) (inr off) (inl front) = record {
@@ -92,18 +97,24 @@ still p q m linked = by_cases (cases_Bool m.linked) (cases_Bool (same_place q m.
     }
 
 -- a node keeps its limits
-moved_limits : (p q : List (List ℕ)) (m : Node) → list_all is_name q ≡ true → is_within_limits m ≡ true → is_within_limits (moved p q (replaced_at q m)) ≡ true
+moved_limits : (p q : List (List ℕ)) (m : Node) → list_all is_file_name q ≡ true → is_within_limits m ≡ true → is_within_limits (moved p q (replaced_at q m)) ≡ true
 moved_limits p q m names h = by_cases (cases_Bool (stands_at q m)) (cases_Bool (m.linked && begins p m.place))
   where
     old : Limits m
     old = limits_of m h
 
-    by_cases : (stands_at q m ≡ true) ⊎ (stands_at q m ≡ false) → ((m.linked && begins p m.place) ≡ true) ⊎ ((m.linked && begins p m.place) ≡ false) → is_within_limits (moved p q (replaced_at q m)) ≡ true
+    by_cases : (stands_at q m ≡ true) ⊎ (stands_at q m ≡ false) → ((m.linked && begins p m.place) ≡ true) ⊎ ((m.linked && begins p m.place) ≡ false) →
+        is_within_limits (moved p q (replaced_at q m)) ≡ true
     by_cases (inl at) front = ap is_within_limits (replaced p q m at) ∙ limits_from (unlinked m) (record { names = old.names; content = old.content; bytes = old.bytes })
     by_cases (inr off) (inl front) =
         let there : Node = record { kind = m.kind; place = q ++ drop (length p) m.place; linked = m.linked; content = m.content } in
         ap is_within_limits (is_moved p q m off front)
-        ∙ limits_from there (record { names = all_of_both is_name q (drop (length p) m.place) names (all_after is_name (length p) m.place old.names); content = old.content; bytes = old.bytes })
+        ∙ limits_from there (record {
+          names = all_of_both is_file_name q (drop (length p) m.place) names
+              (all_after is_file_name (length p) m.place old.names);
+          content = old.content;
+          bytes = old.bytes;
+        })
     by_cases (inr off) (inr back) = ap is_within_limits (is_kept p q m off back) ∙ h
 
 -- the tree after a rename, node by node
@@ -188,7 +199,10 @@ module _ (t : List Node) (p q : List (List ℕ)) (tree : IsTree t) (apart : begi
   apart_after : (i j : ℕ) → (node (after t p q) i).linked ≡ true → (node (after t p q) j).linked ≡ true → (node (after t p q) i).place ≡ (node (after t p q) j).place → i ≡ j
   apart_after i j linked_i linked_j same = by_cases (still_at t p q i linked_i).place (still_at t p q j linked_j).place
     where
-      by_cases : ((begins p (node t i).place ≡ true) × ((node (after t p q) i).place ≡ q ++ drop (length p) (node t i).place)) ⊎ ((begins p (node t i).place ≡ false) × ((node (after t p q) i).place ≡ (node t i).place)) → ((begins p (node t j).place ≡ true) × ((node (after t p q) j).place ≡ q ++ drop (length p) (node t j).place)) ⊎ ((begins p (node t j).place ≡ false) × ((node (after t p q) j).place ≡ (node t j).place)) → i ≡ j
+      by_cases : ((begins p (node t i).place ≡ true) × ((node (after t p q) i).place ≡ q ++ drop (length p) (node t i).place))
+          ⊎ ((begins p (node t i).place ≡ false) × ((node (after t p q) i).place ≡ (node t i).place)) →
+          ((begins p (node t j).place ≡ true) × ((node (after t p q) j).place ≡ q ++ drop (length p) (node t j).place))
+          ⊎ ((begins p (node t j).place ≡ false) × ((node (after t p q) j).place ≡ (node t j).place)) → i ≡ j
       by_cases (inl a) (inl b) =
           let rest : drop (length p) (node t i).place ≡ drop (length p) (node t j).place = rest_same q _ _ (sym a.1 ∙ same ∙ b.1) in
           let place : (node t i).place ≡ (node t j).place = begins_is p _ a.0 ∙ ap (λ r. p ++ r) rest ∙ sym (begins_is p _ b.0) in
@@ -210,7 +224,8 @@ module _ (t : List Node) (p q : List (List ℕ)) (tree : IsTree t) (apart : begi
       in directory_stays t p q (above (node t k).place) d off above_back
 
   -- a node that moves, but for the one at the top, is held by the moved directory
-  held_moving : (k : ℕ) → Still p q (node t k) (node (after t p q) k) → begins p (node t k).place ≡ true → same_place p (node t k).place ≡ false → Directory (after t p q) (above (q ++ drop (length p) (node t k).place))
+  held_moving : (k : ℕ) → Still p q (node t k) (node (after t p q) k) → begins p (node t k).place ≡ true → same_place p (node t k).place ≡ false →
+      Directory (after t p q) (above (q ++ drop (length p) (node t k).place))
   held_moving k was front other =
       let longer : length p < length (node t k).place = begins_longer p (node t k).place front other in
       let low : 0 < length (node t k).place = omega arith in
@@ -223,24 +238,28 @@ module _ (t : List Node) (p q : List (List ℕ)) (tree : IsTree t) (apart : begi
       let place : above (q ++ drop (length p) (node t k).place) ≡ q ++ drop (length p) (above (node t k).place) = above_append q _ rest.0 ∙ ap (λ r. q ++ r) (sym rest.1) in
       rw place (directory_moves t p q (above (node t k).place) d off front_above)
 
-  held_after : Directory (after t p q) (above q) → (k : ℕ) → (node (after t p q) k).linked ≡ true → is_held (after t p q) (node (after t p q) k).place ≡ true
+  held_after : Directory (after t p q) (above q) → (k : ℕ) → (node (after t p q) k).linked ≡ true → has_parent (after t p q) (node (after t p q) k).place ≡ true
   held_after top k linked = by_cases (still_at t p q k linked).place (cases_Bool (same_place p (node t k).place))
     where
       was : Still p q (node t k) (node (after t p q) k)
       was = still_at t p q k linked
 
-      by_cases : ((begins p (node t k).place ≡ true) × ((node (after t p q) k).place ≡ q ++ drop (length p) (node t k).place)) ⊎ ((begins p (node t k).place ≡ false) × ((node (after t p q) k).place ≡ (node t k).place)) → (same_place p (node t k).place ≡ true) ⊎ (same_place p (node t k).place ≡ false) → is_held (after t p q) (node (after t p q) k).place ≡ true
+      by_cases : ((begins p (node t k).place ≡ true) × ((node (after t p q) k).place ≡ q ++ drop (length p) (node t k).place))
+          ⊎ ((begins p (node t k).place ≡ false) × ((node (after t p q) k).place ≡ (node t k).place)) →
+          (same_place p (node t k).place ≡ true) ⊎ (same_place p (node t k).place ≡ false) →
+          has_parent (after t p q) (node (after t p q) k).place ≡ true
       by_cases (inl a) (inl at) = rw (a.1, ← same_place_is p (node t k).place at, drop-length p, append-nil q) (held_from (after t p q) q (λ _. top))
       by_cases (inl a) (inr other) = rw a.1 (held_from (after t p q) (q ++ drop (length p) (node t k).place) (λ _. held_moving k was a.0 other))
       by_cases (inr a) at = rw a.1 (held_from (after t p q) (node t k).place (λ low. held_staying k was a.0 low))
 
-moved_is_tree : (t : List Node) (n d : ℕ) (name : List ℕ) → IsTree t → (node t d).kind ≡ Dir → is_name name ≡ true → MayMove t n d (at_name (node t d).place name) → IsTree (after t (node t n).place (at_name (node t d).place name))
+moved_is_tree : (t : List Node) (n d : ℕ) (name : List ℕ) → IsTree t → (node t d).kind ≡ Dir → is_file_name name ≡ true →
+    MayMove t n d (at_name (node t d).place name) → IsTree (after t (node t n).place (at_name (node t d).place name))
 moved_is_tree t n d name tree directory named may =
     let from = (node t n).place in
     let to = at_name (node t d).place name in
     let root = root_stays t n d name tree directory may in
     let top : Directory (after t from to) (above to) = rw (above_at_name (node t d).place name) (target_stays t n d name tree directory may) in
-    let names : list_all is_name to ≡ true = all_of_both is_name (node t d).place (name ∷ []) (names_kept t tree d may.dir_linked) (both_true named refl) in
+    let names : list_all is_file_name to ≡ true = all_of_both is_file_name (node t d).place (name ∷ []) (names_kept t tree d may.dir_linked) (both_true named refl) in
     record {
       root_linked = ap (λ (x : Node). x.linked) root ∙ tree.root_linked;
       root_kind = ap (λ (x : Node). x.kind) root ∙ tree.root_kind;
@@ -251,7 +270,8 @@ moved_is_tree t n d name tree directory named may =
       limits = λ k there. ap is_within_limits (after_node t from to k) ∙ moved_limits from to (node t k) names (tree.limits k (omega (arith, after_length t from to)));
     }
 
-pub renamed_is_tree : (t : List Node) (n d : ℕ) (name : List ℕ) → IsTree t → (node t d).kind ≡ Dir → is_name name ≡ true → rename_fault t n d name ≡ None → IsTree (renamed t n (at_name (node t d).place name))
+pub renamed_is_tree : (t : List Node) (n d : ℕ) (name : List ℕ) → IsTree t → (node t d).kind ≡ Dir → is_file_name name ≡ true →
+    rename_fault t n d name ≡ None → IsTree (renamed t n (at_name (node t d).place name))
 unfolding after
 renamed_is_tree t n d name tree directory named allowed =
     cond_both (same_place (at_name (node t d).place name) (node t n).place) t (after t (node t n).place (at_name (node t d).place name)) IsTree

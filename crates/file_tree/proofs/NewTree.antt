@@ -2,7 +2,7 @@
 use Rattle.std.proofs.Common.{◌≡◌, ℕ, zero, suc, ◌<◌, true, refl, arith}
 use Rattle.file_tree.specs.Nodes.{node}
 use Rattle.file_tree.specs.Refusals.{new_tree}
-use Rattle.file_tree.specs.WellFormed.{IsTree, is_held, is_within_limits}
+use Rattle.file_tree.specs.WellFormed.{IsTree, has_parent, is_within_limits}
 use Rattle.file_tree.proofs.NodeLaws.{linked_there}
 
 only_root : (n : ℕ) → n < 1 → n ≡ 0
@@ -16,7 +16,7 @@ unfolding is_within_limits
 root_limits zero h = refl
 root_limits (suc n) h = absurd (omega arith)
 
-root_held : (n : ℕ) → (node new_tree n).linked ≡ true → is_held new_tree (node new_tree n).place ≡ true
+root_held : (n : ℕ) → (node new_tree n).linked ≡ true → has_parent new_tree (node new_tree n).place ≡ true
 root_held zero h = refl
 root_held (suc n) h = cc
 

@@ -8,8 +8,8 @@ use Rattle.std.proofs.lemmas.List.{get_or-set_same, get_or-set_other}
 use Rattle.std.specs.Cmp.Derive.{both_true}
 use Rattle.file_tree.specs.Places.{above}
 use Rattle.file_tree.specs.Nodes.{Kind, File, Dir, Link, Node, node, nowhere, is_dir, stands_at, node_from, node_at}
-use Rattle.file_tree.specs.Refusals.{Fault}
-use Rattle.file_tree.specs.WellFormed.{is_directory_at, has_directory, is_held}
+use Rattle.file_tree.specs.Refusals.{ChangeFault}
+use Rattle.file_tree.specs.WellFormed.{is_directory_at, has_directory, has_parent}
 use Rattle.file_tree.proofs.PlaceLaws.{same_place_is, same_place_refl}
 
 -- only numbers of the list name linked nodes
@@ -96,11 +96,11 @@ directory_from t p d =
     any_at (is_directory_at p) t d.number refl (both_true (stands_from p (node t d.number) d.linked (sym d.place)) (rw d.kind refl))
 
 -- a place but the root's is in a linked directory
-pub held_above : (t : List Node) (p : List (List ℕ)) → is_held t p ≡ true → 0 < length p → Directory t (above p)
+pub held_above : (t : List Node) (p : List (List ℕ)) → has_parent t p ≡ true → 0 < length p → Directory t (above p)
 held_above t [] h low = absurd (omega arith)
 held_above t (name ∷ p) h low = directory t (above (name ∷ p)) h
 
-pub held_from : (t : List Node) (p : List (List ℕ)) → (0 < length p → Directory t (above p)) → is_held t p ≡ true
+pub held_from : (t : List Node) (p : List (List ℕ)) → (0 < length p → Directory t (above p)) → has_parent t p ≡ true
 held_from t [] h = refl
 held_from t (name ∷ p) h = let low : 0 < length (name ∷ p) = omega arith in directory_from t (above (name ∷ p)) (h low)
 
@@ -125,11 +125,11 @@ more_cases (n ∷ t) m (suc k) h =
     ]
 
 -- a chain of refusals that gives none
-pub passed : (b : Bool) (f : Fault) (rest : Option Fault) → cond b (Some f) rest ≡ None → (b ≡ false) × (rest ≡ None)
+pub passed : (b : Bool) (f : ChangeFault) (rest : Option ChangeFault) → cond b (Some f) rest ≡ None → (b ≡ false) × (rest ≡ None)
 passed true f rest h = cc
 passed false f rest h = (refl, h)
 
-pub passed_last : (b : Bool) (f : Fault) → cond b None (Some f) ≡ None → b ≡ true
+pub passed_last : (b : Bool) (f : ChangeFault) → cond b None (Some f) ≡ None → b ≡ true
 passed_last true f h = refl
 passed_last false f h = cc
 

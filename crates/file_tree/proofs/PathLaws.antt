@@ -21,12 +21,17 @@ begun_more path from i low there =
     rw (sum, take_more (drop from path) (i - from) 0 short, get_or-drop from path (i - from) 0, place) refl
 
 -- what is left of a place decides the same after a name of the path, and after a byte of a name
-pub after_slash : (path : List ℕ) (from i j : ℕ) (rest left : List (List ℕ)) (whole : Bool) → i < length path → get_or path i 0 ≡ 47 → j ≡ i + 1 → ((names : List (List ℕ)) → begins (with_name (take (i - from) (drop from path)) names) rest ≡ begins names left) → begins (names_from (take (i - from) (drop from path)) (drop i path)) rest ≡ whole → begins (names_from (take (i + 1 - j) (drop j path)) (drop (i + 1) path)) left ≡ whole
+pub after_slash : (path : List ℕ) (from i j : ℕ) (rest left : List (List ℕ)) (whole : Bool) → i < length path → get_or path i 0 ≡ 47 → j ≡ i + 1 →
+    ((names : List (List ℕ)) → begins (with_name (take (i - from) (drop from path)) names) rest ≡ begins names left) →
+    begins (names_from (take (i - from) (drop from path)) (drop i path)) rest ≡ whole →
+    begins (names_from (take (i + 1 - j) (drop j path)) (drop (i + 1) path)) left ≡ whole
 after_slash path from i j rest left whole there slash next step same =
     let none : i + 1 - j ≡ 0 = omega arith in
     rw none (sym (step (names_from [] (drop (i + 1) path))) ∙ ap (λ names. begins names rest) (sym (names_at_slash (take (i - from) (drop from path)) path i there slash)) ∙ same)
 
-pub after_byte : (path : List ℕ) (from i : ℕ) (rest : List (List ℕ)) (whole : Bool) → from ≤ i → i < length path → get_or path i 0 ≢ 47 → begins (names_from (take (i - from) (drop from path)) (drop i path)) rest ≡ whole → begins (names_from (take (i + 1 - from) (drop from path)) (drop (i + 1) path)) rest ≡ whole
+pub after_byte : (path : List ℕ) (from i : ℕ) (rest : List (List ℕ)) (whole : Bool) → from ≤ i → i < length path → get_or path i 0 ≢ 47 →
+    begins (names_from (take (i - from) (drop from path)) (drop i path)) rest ≡ whole →
+    begins (names_from (take (i + 1 - from) (drop from path)) (drop (i + 1) path)) rest ≡ whole
 after_byte path from i rest whole low there other same =
     rw (begun_more path from i low there) (ap (λ names. begins names rest) (sym (names_at_byte (take (i - from) (drop from path)) path i there other)) ∙ same)
 
@@ -48,7 +53,9 @@ with_name_some : (begun : List ℕ) (names : List (List ℕ)) → 0 < length beg
 with_name_some [] names h = absurd (omega arith)
 with_name_some (b ∷ begun) names h = refl
 
-pub name_at_slash : (path : List ℕ) (from i : ℕ) → from < i → i < length path → get_or path i 0 ≡ 47 → names_from (take (i - from) (drop from path)) (drop i path) ≡ path_components path → path_components path ≡ take (i - from) (drop from path) ∷ path_components (take (length path - (i + 1)) (drop (i + 1) path))
+pub name_at_slash : (path : List ℕ) (from i : ℕ) → from < i → i < length path → get_or path i 0 ≡ 47 →
+    names_from (take (i - from) (drop from path)) (drop i path) ≡ path_components path →
+    path_components path ≡ take (i - from) (drop from path) ∷ path_components (take (length path - (i + 1)) (drop (i + 1) path))
 unfolding path_components
 name_at_slash path from i some there slash same =
     let count : length (take (i - from) (drop from path)) ≡ i - from = length-take (i - from) (drop from path) ∙ omega (arith, length-drop from path) in
@@ -58,32 +65,40 @@ pub none_begun : (path : List ℕ) → names_from [] path ≡ path_components pa
 unfolding path_components
 none_begun path = refl
 
-pub slash_next : (path : List ℕ) (from i : ℕ) → i ≤ from → from ≤ i → i < length path → get_or path i 0 ≡ 47 → names_from (take (i - from) (drop from path)) (drop i path) ≡ path_components path → names_from (take (i + 1 - (i + 1)) (drop (i + 1) path)) (drop (i + 1) path) ≡ path_components path
+pub slash_next : (path : List ℕ) (from i : ℕ) → i ≤ from → from ≤ i → i < length path → get_or path i 0 ≡ 47 →
+    names_from (take (i - from) (drop from path)) (drop i path) ≡ path_components path →
+    names_from (take (i + 1 - (i + 1)) (drop (i + 1) path)) (drop (i + 1) path) ≡ path_components path
 slash_next path from i low high there slash same =
     let none : i - from ≡ 0 = omega arith in
     let next : i + 1 - (i + 1) ≡ 0 = omega arith in
     let begun : names_from [] (drop i path) ≡ path_components path = rw none at same in
     rw next (sym (names_at_slash [] path i there slash) ∙ begun)
 
-pub byte_next : (path : List ℕ) (from i : ℕ) → from ≤ i → i < length path → get_or path i 0 ≢ 47 → names_from (take (i - from) (drop from path)) (drop i path) ≡ path_components path → names_from (take (i + 1 - from) (drop from path)) (drop (i + 1) path) ≡ path_components path
+pub byte_next : (path : List ℕ) (from i : ℕ) → from ≤ i → i < length path → get_or path i 0 ≢ 47 →
+    names_from (take (i - from) (drop from path)) (drop i path) ≡ path_components path →
+    names_from (take (i + 1 - from) (drop from path)) (drop (i + 1) path) ≡ path_components path
 byte_next path from i low there other same =
     rw (begun_more path from i low there) (sym (names_at_byte (take (i - from) (drop from path)) path i there other) ∙ same)
 
-at_end : (path : List ℕ) (from i : ℕ) → length path ≤ i → i ≤ length path → names_from (take (i - from) (drop from path)) (drop i path) ≡ path_components path → with_name (drop from path) [] ≡ path_components path
+at_end : (path : List ℕ) (from i : ℕ) → length path ≤ i → i ≤ length path →
+    names_from (take (i - from) (drop from path)) (drop i path) ≡ path_components path → with_name (drop from path) [] ≡ path_components path
 at_end path from i low high same =
     let whole : i ≡ length path = omega arith in
     let rest : drop i path ≡ [] = rw whole (drop-length path) in
     let begun : take (i - from) (drop from path) ≡ drop from path = rw whole (take_rest path from) in
     rw (begun, rest) at same
 
-pub name_at_end : (path : List ℕ) (from i : ℕ) → from < length path → length path ≤ i → i ≤ length path → names_from (take (i - from) (drop from path)) (drop i path) ≡ path_components path → path_components path ≡ take (length path - from) (drop from path) ∷ path_components (take (length path - length path) (drop (length path) path))
+pub name_at_end : (path : List ℕ) (from i : ℕ) → from < length path → length path ≤ i → i ≤ length path →
+    names_from (take (i - from) (drop from path)) (drop i path) ≡ path_components path →
+    path_components path ≡ take (length path - from) (drop from path) ∷ path_components (take (length path - length path) (drop (length path) path))
 unfolding path_components
 name_at_end path from i some low high same =
     let none : length path - length path ≡ 0 = omega arith in
     let count : length (drop from path) ≡ length path - from = length-drop from path in
     rw (take_rest path from, none) (sym (at_end path from i low high same) ∙ with_name_some (drop from path) [] (omega arith))
 
-pub no_name : (path : List ℕ) (from i : ℕ) → length path ≤ from → length path ≤ i → i ≤ length path → names_from (take (i - from) (drop from path)) (drop i path) ≡ path_components path → path_components path ≡ []
+pub no_name : (path : List ℕ) (from i : ℕ) → length path ≤ from → length path ≤ i → i ≤ length path →
+    names_from (take (i - from) (drop from path)) (drop i path) ≡ path_components path → path_components path ≡ []
 no_name path from i none low high same =
     let rest : drop from path ≡ [] = drop_all from path none in
     sym (rw rest at (at_end path from i low high same))

@@ -1,7 +1,7 @@
 -- Rows of the definitions: the values of worked examples, which the definitions compute.
 use Rattle.std.specs.Prelude.{◌≡◌, true, false, List, [], ◌∷◌, ◌++◌, Some, None, codes, replicate, length, refl}
-use Rattle.file_tree.specs.Places.{begins, place_text, path_components, is_name, is_target}
-use Rattle.file_tree.specs.Nodes.{File, Dir, Link, Node, node, nowhere, node_at, child_of, parent_of, target_of, byte_of}
+use Rattle.file_tree.specs.Places.{begins, place_text, path_components, is_file_name, is_target}
+use Rattle.file_tree.specs.Nodes.{File, Dir, Link, Node, node, nowhere, node_at, child_of, parent_of, link_target, byte_of}
 use Rattle.file_tree.specs.Changes.{removed, renamed, written, resized}
 use Rattle.file_tree.specs.Refusals.{Exists, NotEmpty, Full, IntoItself, Gone, new_tree, created, create_fault, remove_fault, rename_fault, put_byte_fault, truncate_fault}
 
@@ -25,8 +25,8 @@ base_places : length base ≡ 12
 unfolding base created
 base_places = refl
 
-same_target : target_of base 4 ≡ Some (codes "out/../in")
-unfolding base created target_of
+same_target : link_target base 4 ≡ Some (codes "out/../in")
+unfolding base created link_target
 same_target = refl
 
 work_in : child_of base 1 (codes "in") ≡ Some 2
@@ -247,20 +247,20 @@ slash_alone : path_components (codes "/") ≡ []
 unfolding path_components
 slash_alone = refl
 
-longest_name : is_name (replicate 255 97) ≡ true
-unfolding is_name
+longest_name : is_file_name (replicate 255 97) ≡ true
+unfolding is_file_name
 longest_name = refl
 
-too_long_name : is_name (replicate 256 97) ≡ false
-unfolding is_name
+too_long_name : is_file_name (replicate 256 97) ≡ false
+unfolding is_file_name
 too_long_name = refl
 
-dots_name_nothing : is_name (codes "..") ≡ false
-unfolding is_name
+dots_name_nothing : is_file_name (codes "..") ≡ false
+unfolding is_file_name
 dots_name_nothing = refl
 
-slash_in_name : is_name (codes "a/b") ≡ false
-unfolding is_name
+slash_in_name : is_file_name (codes "a/b") ≡ false
+unfolding is_file_name
 slash_in_name = refl
 
 long_name_in_target : is_target (codes "a/" ++ replicate 256 97) ≡ false

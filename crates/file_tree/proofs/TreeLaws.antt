@@ -97,7 +97,8 @@ unfolding parent_of
 parent_above t n linked low = rw linked (holder_above t (node t n).place low)
 
 -- in a tree what stands above a node is a directory
-above_is_directory : (t : List Node) (n d : ℕ) → IsTree t → (node t n).linked ≡ true → 0 < length (node t n).place → (node t d).linked ≡ true → (node t d).place ≡ above (node t n).place → (node t d).kind ≡ Dir
+above_is_directory : (t : List Node) (n d : ℕ) → IsTree t → (node t n).linked ≡ true → 0 < length (node t n).place → (node t d).linked ≡ true →
+    (node t d).place ≡ above (node t n).place → (node t d).kind ≡ Dir
 above_is_directory t n d tree linked low holder place =
     let at = held_above t (node t n).place (tree.held n linked) low in
     let same : at.number ≡ d = tree.apart at.number d at.linked holder (at.place ∙ sym place) in
@@ -131,7 +132,8 @@ pub created_length : (t : List Node) (d : ℕ) (name : List ℕ) (kind : Kind) (
 unfolding created
 created_length t d name kind content = length-append t _
 
-pub created_new : (t : List Node) (d : ℕ) (name : List ℕ) (kind : Kind) (content : List ℕ) → node (created t d name kind content) (length t) ≡ record { kind = kind; place = at_name (node t d).place name; linked = true; content = content }
+pub created_new : (t : List Node) (d : ℕ) (name : List ℕ) (kind : Kind) (content : List ℕ) →
+    node (created t d name kind content) (length t) ≡ record { kind = kind; place = at_name (node t d).place name; linked = true; content = content }
 unfolding created
 created_new t d name kind content = get_or-append_seam t _ [] nowhere
 
@@ -156,7 +158,8 @@ pub filled_length : (t : List Node) (n : ℕ) (content : List ℕ) → length (f
 unfolding filled
 filled_length t n content = length-set t n _
 
-pub filled_same : (t : List Node) (n : ℕ) (content : List ℕ) → n < length t → node (filled t n content) n ≡ record { kind = (node t n).kind; place = (node t n).place; linked = (node t n).linked; content = content }
+pub filled_same : (t : List Node) (n : ℕ) (content : List ℕ) → n < length t →
+    node (filled t n content) n ≡ record { kind = (node t n).kind; place = (node t n).place; linked = (node t n).linked; content = content }
 unfolding filled
 filled_same t n content there = get_or-set_same t n _ nowhere there
 
@@ -168,12 +171,15 @@ filled_other t n content m other = get_or-set_other t n m _ nowhere other
 pub renamed_length : (t : List Node) (n d : ℕ) (name : List ℕ) → length (renamed t n (at_name (node t d).place name)) ≡ length t
 renamed_length t n d name = by_place (cases_Bool (same_place (at_name (node t d).place name) (node t n).place))
   where
-    by_place : (same_place (at_name (node t d).place name) (node t n).place ≡ true) ⊎ (same_place (at_name (node t d).place name) (node t n).place ≡ false) → length (renamed t n (at_name (node t d).place name)) ≡ length t
+    by_place : (same_place (at_name (node t d).place name) (node t n).place ≡ true)
+        ⊎ (same_place (at_name (node t d).place name) (node t n).place ≡ false) → length (renamed t n (at_name (node t d).place name)) ≡ length t
     by_place (inl own) = rw own refl
     by_place (inr other) = rw other (length-map t _)
 
 pub renamed_own : (t : List Node) (n d : ℕ) (name : List ℕ) → same_place (at_name (node t d).place name) (node t n).place ≡ true → renamed t n (at_name (node t d).place name) ≡ t
 renamed_own t n d name own = rw own refl
 
-pub renamed_node : (t : List Node) (n d : ℕ) (name : List ℕ) (k : ℕ) → same_place (at_name (node t d).place name) (node t n).place ≡ false → node (renamed t n (at_name (node t d).place name)) k ≡ moved (node t n).place (at_name (node t d).place name) (replaced_at (at_name (node t d).place name) (node t k))
+pub renamed_node : (t : List Node) (n d : ℕ) (name : List ℕ) (k : ℕ) → same_place (at_name (node t d).place name) (node t n).place ≡ false →
+    node (renamed t n (at_name (node t d).place name)) k ≡ moved (node t n).place (at_name (node t d).place name)
+    (replaced_at (at_name (node t d).place name) (node t k))
 renamed_node t n d name k other = rw other (get_or-map (λ m. moved (node t n).place (at_name (node t d).place name) (replaced_at (at_name (node t d).place name) m)) t k nowhere)

@@ -5,19 +5,22 @@ use Rattle.std.specs.List.{list_all}
 use Rattle.std.specs.Cmp.Derive.{both_true}
 use Rattle.std.proofs.lemmas.Bool.{lt-ltb}
 use Rattle.file_tree.specs.Nodes.{Node}
-use Rattle.file_tree.specs.Refusals.{Fault}
+use Rattle.file_tree.specs.Refusals.{ChangeFault}
 use Rattle.file_tree.specs.WellFormed.{IsTree, is_byte}
 use Rattle.file_tree.specs.Views.{is_new, new_kind, new_content}
 use Rattle.file_tree.specs.declared.nodes.New.{New}
 use Rattle.file_tree.specs.declared.nodes.New.TheVariants as new
 use Rattle.file_tree.specs.WellFormed.{is_content}
 
-pub kept_by : {A E : Type 0} (t u v : List Node) (fault : Option Fault) (r : Result A E) → IsTree t → OnOk r (u ≡ v) → OnOk r (fault ≡ None) → OnErr r (u ≡ t) → (fault ≡ None → IsTree v) → IsTree u
+pub kept_by : {A E : Type 0} (t u v : List Node) (fault : Option ChangeFault) (r : Result A E) → IsTree t → OnOk r (u ≡ v) → OnOk r (fault ≡ None) →
+    OnErr r (u ≡ t) → (fault ≡ None → IsTree v) → IsTree u
 kept_by t u v fault (Ok x) tree ok allowed err kept = rw ok (kept allowed)
 kept_by t u v fault (Err e) tree ok allowed err kept = rw err tree
 
 -- the same, of a new node's content too
-pub kept_by_create : {E : Type 0} (t u v : List Node) (number : ℕ) (fault : Option Fault) (bytes : Bool) (r : Result ℕ E) → IsTree t → IfOk r (λ n. (n ≡ number) × (u ≡ v)) → OnOk r (fault ≡ None) → OnOk r (bytes ≡ true) → OnErr r (u ≡ t) → (fault ≡ None → bytes ≡ true → IsTree v) → IsTree u
+pub kept_by_create : {E : Type 0} (t u v : List Node) (number : ℕ) (fault : Option ChangeFault) (bytes : Bool) (r : Result ℕ E) → IsTree t →
+    IfOk r (λ n. (n ≡ number) × (u ≡ v)) → OnOk r (fault ≡ None) → OnOk r (bytes ≡ true) → OnErr r (u ≡ t) →
+    (fault ≡ None → bytes ≡ true → IsTree v) → IsTree u
 kept_by_create t u v number fault bytes (Ok x) tree ok allowed small err kept = rw ok.1 (kept allowed small)
 kept_by_create t u v number fault bytes (Err e) tree ok allowed small err kept = rw err tree
 

@@ -2,6 +2,7 @@
 -- place in the list. Nodes are never taken out of it. (own)
 use Rattle.std.specs.Prelude.{ℕ, ◌+◌, Bool, true, false, ◌&&◌, not, List, [], ◌∷◌, Option, Some, None, slice_index_or, slice_get, if◌then◌else◌}
 use Rattle.std.specs.List.{list_any}
+use Rattle.rights.specs.Values.{Name, Place, Content, NodeNumber}
 use Rattle.file_tree.specs.Places.{same_place, begins, above, at_name}
 
 pub data Kind : Type 0 where
@@ -28,52 +29,52 @@ is_link Link = true
 -- bytes or a link's target, and empty for a directory.
 pub record Node : Type 0 where
   pub kind : Kind
-  pub place : List (List ℕ)
+  pub place : Place
   pub linked : Bool
-  pub content : List ℕ
+  pub content : Content
 
 -- what a number names that no node has: a link that is nowhere
 abbrev pub nowhere : Node
 nowhere = record { kind = Link; place = []; linked = false; content = [] }
 
-abbrev pub node : List Node → ℕ → Node
+abbrev pub node : List Node → NodeNumber → Node
 node t n = slice_index_or t n nowhere
 
-abbrev pub stands_at : List (List ℕ) → Node → Bool
+abbrev pub stands_at : Place → Node → Bool
 stands_at p m = m.linked && same_place p m.place
 
-abbrev pub lies_below : List (List ℕ) → Node → Bool
+abbrev pub lies_below : Place → Node → Bool
 lies_below p m = m.linked && begins p m.place && not (same_place p m.place)
 
 -- whether some linked node lies below a place
-abbrev pub has_below : List Node → List (List ℕ) → Bool
+abbrev pub has_below : List Node → Place → Bool
 has_below t p = list_any (lies_below p) t
 
 -- the number of the first linked node at a place, counted from k
-abbrev pub node_from : ℕ → List (List ℕ) → List Node → Option ℕ
+abbrev pub node_from : NodeNumber → Place → List Node → Option NodeNumber
 node_from k p [] = None
 node_from k p (m ∷ t) = if stands_at p m then Some k else node_from (k + 1) p t
 
 -- the number of the linked node at a place
-unfoldable pub node_at : List Node → List (List ℕ) → Option ℕ
+unfoldable pub node_at : List Node → Place → Option NodeNumber
 node_at t p = node_from 0 p t
 
 -- the node of that name in a directory; in one that was removed there is none
-unfoldable pub child_of : List Node → ℕ → List ℕ → Option ℕ
+unfoldable pub child_of : List Node → NodeNumber → Name → Option NodeNumber
 child_of t d name = if (node t d).linked then node_at t (at_name (node t d).place name) else None
 
 -- the directory that holds a node; the root and removed nodes have none
-abbrev pub holder_at : List Node → List (List ℕ) → Option ℕ
+abbrev pub holder_at : List Node → Place → Option NodeNumber
 holder_at t [] = None
 holder_at t (name ∷ p) = node_at t (above (name ∷ p))
 
-unfoldable pub parent_of : List Node → ℕ → Option ℕ
+unfoldable pub parent_of : List Node → NodeNumber → Option NodeNumber
 parent_of t n = if (node t n).linked then holder_at t (node t n).place else None
 
 -- what a link holds; the other nodes hold no target
-unfoldable pub target_of : List Node → ℕ → Option (List ℕ)
-target_of t n = if is_link (node t n).kind then Some (node t n).content else None
+unfoldable pub link_target : List Node → NodeNumber → Option Content
+link_target t n = if is_link (node t n).kind then Some (node t n).content else None
 
 -- the byte at an offset of a content, if it is so long
-abbrev pub byte_of : List Node → ℕ → ℕ → Option ℕ
+abbrev pub byte_of : List Node → NodeNumber → ℕ → Option ℕ
 byte_of t n at = slice_get (node t n).content at

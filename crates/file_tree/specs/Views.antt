@@ -8,7 +8,7 @@ use Rattle.file_tree.specs.declared.faults.TreeFault.{TreeFault}
 use Rattle.file_tree.specs.declared.faults.TreeFault.TheVariants as fault
 use Rattle.file_tree.specs.Places.{is_target}
 use Rattle.file_tree.specs.Nodes.{Kind, File, Dir, Link}
-use Rattle.file_tree.specs.Refusals.{Fault, Exists, NotEmpty, Full, IntoItself, Gone}
+use Rattle.file_tree.specs.Refusals.{ChangeFault, Exists, NotEmpty, Full, IntoItself, Gone}
 
 abbrev pub kind_of : KindCode → Kind
 kind_of kind.File = File
@@ -33,7 +33,7 @@ is_new new.Dir = true
 is_new (new.Link target) = is_target target.now
 
 -- the refusal; want of memory is none of the tree's
-abbrev pub fault_of : TreeFault → Option Fault
+abbrev pub fault_of : TreeFault → Option ChangeFault
 fault_of fault.Exists = Some Exists
 fault_of fault.NotEmpty = Some NotEmpty
 fault_of fault.Full = Some Full
@@ -42,7 +42,7 @@ fault_of fault.Gone = Some Gone
 fault_of fault.Memory = None
 
 -- The error tells what is refused; want of memory may come in place of any other answer.
-abbrev pub TellsTreeFault : Option Fault → TreeFault → Type 0
+abbrev pub TellsTreeFault : Option ChangeFault → TreeFault → Type 0
 TellsTreeFault refusal error = error ≢ fault.Memory → refusal ≡ fault_of error
 
 -- the numbers of the refusals

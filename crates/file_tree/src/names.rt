@@ -2,13 +2,13 @@
 
 ghost use Rattle.std.specs.Prelude.{◌≡◌};
 ghost use Rattle.std.specs.List.{list_all};
-ghost use Rattle.file_tree.specs.Places.{is_dots, is_name, is_name_byte, is_target, names_fit};
+ghost use Rattle.file_tree.specs.Places.{is_dots, is_file_name, is_file_name_byte, is_target, names_fit};
 
 use rights::limits::{MAX_NAME, MAX_PATH};
 
 /// Whether a byte may stand in a name.
 fn may_stand_in_name(byte: u8) -> bool
-    ensures { result ≡ is_name_byte byte }
+    ensures { result ≡ is_file_name_byte byte }
 {
     byte >= 33 && byte <= 126 && !(byte == b'"' || byte == b'/' || byte == b'\\')
 }
@@ -22,7 +22,7 @@ fn is_dot_name(name: &[u8]) -> bool
 
 /// Whether each byte may stand in a name.
 fn has_name_bytes(name: &[u8]) -> bool
-    ensures { result ≡ list_all is_name_byte name.now }
+    ensures { result ≡ list_all is_file_name_byte name.now }
 {
     for byte in name {
         if !may_stand_in_name(*byte) {
@@ -34,9 +34,9 @@ fn has_name_bytes(name: &[u8]) -> bool
 
 /// Whether a node may have the name: 1 to 255 bytes from 33 to 126 without `/`, `"` and `\`, and neither
 /// `.` nor `..`. (own)
-#[tactic(auto, unfolding(crate::specs::Places::is_name))]
+#[tactic(auto, unfolding(crate::specs::Places::is_file_name))]
 pub fn is_valid_name(name: &[u8]) -> bool
-    ensures { result ≡ is_name name.now }
+    ensures { result ≡ is_file_name name.now }
 {
     let has_name_bytes = has_name_bytes(name);
     let is_dot_name = is_dot_name(name);

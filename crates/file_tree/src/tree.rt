@@ -2,8 +2,8 @@
 
 ghost use Rattle.std.specs.Prelude.{◌≡◌, ◌<◌, ◌++◌, List, Option, None, length, IsTrue, IfOk, IfErr, OnOk, OnErr};
 ghost use Rattle.std.specs.Option.{option_copied};
-ghost use Rattle.file_tree.specs.Places.{at_name, begins, is_name, path_components, place_text};
-ghost use Rattle.file_tree.specs.Nodes.{Dir, File, Node, byte_of, child_of, node, parent_of, target_of};
+ghost use Rattle.file_tree.specs.Places.{at_name, begins, is_file_name, path_components, place_text};
+ghost use Rattle.file_tree.specs.Nodes.{Dir, File, Node, byte_of, child_of, node, parent_of, link_target};
 ghost use Rattle.file_tree.specs.Changes.{filled, removed, renamed, resized, written};
 ghost use Rattle.file_tree.specs.Refusals.{create_fault, created, new_tree, put_byte_fault, remove_fault, rename_fault, truncate_fault};
 ghost use Rattle.file_tree.specs.WellFormed.{IsTree};
@@ -58,7 +58,7 @@ pub trait Tree: Sized + Drop {
     /// The target of a symbolic link, or nothing for other nodes. (readlink(2))
     fn target(&self, n: NodeId) -> Option<&[u8]>
         requires { n < length (nodes self.now) }
-        ensures { option_copied result ≡ target_of (nodes self.now) n };
+        ensures { option_copied result ≡ link_target (nodes self.now) n };
 
     /// Whether the node's place begins with the names of a path, which is cut at each `/`. It goes by
     /// names: `/workshop` doesn't begin with `/work`. (own)
@@ -80,7 +80,7 @@ pub trait Tree: Sized + Drop {
     fn create(&mut self, dir: NodeId, name: &[u8], what: New<'_>) -> Result<NodeId, TreeFault>
         requires there { dir < length (nodes self.old) }
         requires directory { (node (nodes self.old) dir).kind ≡ Dir }
-        requires name { IsTrue (is_name name.now) }
+        requires name { IsTrue (is_file_name name.now) }
         requires target { IsTrue (is_new what) }
         ensures ok { IfOk result (λ n. (n ≡ length (nodes self.old))
             × (nodes self.new ≡ created (nodes self.old) dir name.now (new_kind what.entry) (new_content what.entry))) }
@@ -106,7 +106,7 @@ pub trait Tree: Sized + Drop {
         requires there { n < length (nodes self.old) }
         requires dir_there { dir < length (nodes self.old) }
         requires directory { (node (nodes self.old) dir).kind ≡ Dir }
-        requires name { IsTrue (is_name name.now) }
+        requires name { IsTrue (is_file_name name.now) }
         ensures ok { OnOk result (nodes self.new ≡ renamed (nodes self.old) n (at_name (node (nodes self.old) dir).place name.now)) }
         ensures allowed { OnOk result (rename_fault (nodes self.old) n dir name.now ≡ None) }
         ensures refused { IfErr result (TellsTreeFault (rename_fault (nodes self.old) n dir name.now)) }

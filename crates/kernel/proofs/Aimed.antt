@@ -5,12 +5,12 @@ use Rattle.std.proofs.lemmas.Bool.{eq-eqb, both_ways}
 use Rattle.std.proofs.lemmas.Bool.Decides.{eqb_tells}
 use Rattle.rights.specs.Maps.{put}
 use Rattle.rights.proofs.Changes.{put-cases, put-same, put-other}
-use Rattle.fd_table.specs.Descriptions.{Class, Object, At_node, At_end, Descriptor, Message, IfHeld}
+use Rattle.fd_table.specs.Descriptions.{PairClass, Object, At_node, At_end, Descriptor, Message, IfHeld}
 use Rattle.fd_table.specs.OpenFiles.{OpenFiles, is_end}
 use Rattle.kernel.specs.World.{World, Choice, IsFresh}
 use Rattle.kernel.specs.Steps.{Programs, step}
 use Rattle.kernel.specs.WellFormed.{Numbering, EachMessage, IsWorld}
-use Rattle.kernel.specs.Renamings.{Renaming, SameDescription, EachNamed, SameFiles, NumbersDoNotMatter, renamed_object, renamed_entry, renamed_messages}
+use Rattle.kernel.specs.Renamings.{Renaming, SameObject, EachNamed, SameFiles, NumbersDoNotMatter, renamed_object, renamed_entry, renamed_messages}
 use Rattle.kernel.proofs.Brings.{ground, Known}
 use Rattle.kernel.proofs.Fresh.{IsApart, known_entries, known_messages}
 use Rattle.kernel.proofs.ChangedAlike.{Aims, each_named}
@@ -91,11 +91,11 @@ aims r j k one two =
 
 -- ## What is named keeps its other number
 pub record Separate (r : Renaming) (w v : OpenFiles) (j k : Choice) (n : ℕ) : Type 0 where
-  pub twin : SameDescription r w v n
+  pub twin : SameObject r w v n
   pub here : IsApart w j n
   pub there : IsApart v k (r.description n)
 
-not_end : (pair q side : ℕ) (class : Class) → is_end pair side (At_end q side class) ≡ false → q ≢ pair
+not_end : (pair q side : ℕ) (class : PairClass) → is_end pair side (At_end q side class) ≡ false → q ≢ pair
 not_end pair q side class none same = both_ways (is_end pair side (At_end q side class)) none (rw (eq-eqb q pair same, eq-eqb side side refl) refl)
 
 module _ (r : Renaming) (w v : OpenFiles) (j k : Choice) where
@@ -105,7 +105,8 @@ module _ (r : Renaming) (w v : OpenFiles) (j k : Choice) where
       let once : turned.description n ≡ r.description n = aim-kept r j.first k.first n apart.here.first apart.there.first in
       aim-kept turned j.second k.second n apart.here.second (λ same. apart.there.second (sym once ∙ same)) ∙ once
 
-  object_again : (o other : Object) → other ≡ renamed_object r o → ((side : ℕ) → is_end j.pair side o ≡ false) → ((side : ℕ) → is_end k.pair side other ≡ false) → other ≡ renamed_object (aimed_at r j k) o
+  object_again : (o other : Object) → other ≡ renamed_object r o → ((side : ℕ) → is_end j.pair side o ≡ false) →
+      ((side : ℕ) → is_end k.pair side other ≡ false) → other ≡ renamed_object (aimed_at r j k) o
   object_again (At_node n access) other is here there = is
   object_again (At_end q side class) other is here there =
       is
@@ -114,7 +115,7 @@ module _ (r : Renaming) (w v : OpenFiles) (j k : Choice) where
       (not_end j.pair q side class (here side))
       (not_end k.pair (r.pair q) side class (ap (is_end k.pair side) (sym is) ∙ there side))))
 
-  twin_again : (n : ℕ) → Separate r w v j k n → SameDescription (aimed_at r j k) w v n
+  twin_again : (n : ℕ) → Separate r w v j k n → SameObject (aimed_at r j k) w v n
   twin_again n apart = record {
     object = ap v.objects (number_again n apart) ∙ object_again (w.objects n) (v.objects (r.description n)) apart.twin.object apart.here.ends apart.there.ends;
     state = ap v.states (number_again n apart) ∙ apart.twin.state;
@@ -128,7 +129,7 @@ module _ (r : Renaming) (w v : OpenFiles) (j k : Choice) where
   messages_again [] apart = refl
   messages_again (m ∷ messages) apart = λ i. record { byte = m.byte; passed = entry_again m.passed apart.0 i } ∷ messages_again messages apart.1 i
 
-  held_again : (o : Option Descriptor) → IfHeld (λ d. Separate r w v j k d.description) o → IfHeld (λ d. SameDescription (aimed_at r j k) w v d.description) o
+  held_again : (o : Option Descriptor) → IfHeld (λ d. Separate r w v j k d.description) o → IfHeld (λ d. SameObject (aimed_at r j k) w v d.description) o
   held_again None apart = tt
   held_again (Some d) apart = twin_again d.description apart
 
@@ -136,12 +137,14 @@ module _ (r : Renaming) (w v : OpenFiles) (j k : Choice) where
   no_messages [] is = refl
   no_messages (m ∷ messages) is = absurd cc
 
-  pub aimed_files : SameFiles r w v → ((p n : ℕ) → IfHeld (λ d. Separate r w v j k d.description) (w.table p n)) → ((pair side : ℕ) → EachNamed (Separate r w v j k) (w.queue pair side)) → ((side : ℕ) → w.queue j.pair side ≡ []) → ((side : ℕ) → v.queue k.pair side ≡ []) → SameFiles (aimed_at r j k) w v
+  pub aimed_files : SameFiles r w v → ((p n : ℕ) → IfHeld (λ d. Separate r w v j k d.description) (w.table p n)) →
+      ((pair side : ℕ) → EachNamed (Separate r w v j k) (w.queue pair side)) → ((side : ℕ) → w.queue j.pair side ≡ []) →
+      ((side : ℕ) → v.queue k.pair side ≡ []) → SameFiles (aimed_at r j k) w v
   aimed_files same entries messages empty there = record {
     table = λ p n. same.table p n ∙ entry_again (w.table p n) (entries p n);
     queue = queue;
     entries = λ p n. held_again (w.table p n) (entries p n);
-    messages = λ pair side. each_named (Separate r w v j k) (SameDescription (aimed_at r j k) w v) twin_again (w.queue pair side) (messages pair side);
+    messages = λ pair side. each_named (Separate r w v j k) (SameObject (aimed_at r j k) w v) twin_again (w.queue pair side) (messages pair side);
   }
     where
       queue : (pair side : ℕ) → v.queue ((aimed_at r j k).pair pair) side ≡ renamed_messages (aimed_at r j k) (w.queue pair side)
@@ -163,19 +166,27 @@ module _ (r : Renaming) (w v : OpenFiles) (j k : Choice) where
 
 -- ## What is named in two well-formed worlds
 module _ (r : Renaming) (w v : World) (one two : Numbering) (j k : Choice) where
-  separate_one : (o : Option Descriptor) → IfHeld (λ d. SameDescription r w.files v.files d.description) o → IfHeld (Known (ground one w (IsApart w.files j))) o → IfHeld (Known (ground two v (IsApart v.files k))) (renamed_entry r o) → IfHeld (λ d. Separate r w.files v.files j k d.description) o
+  separate_one : (o : Option Descriptor) → IfHeld (λ d. SameObject r w.files v.files d.description) o →
+      IfHeld (Known (ground one w (IsApart w.files j))) o → IfHeld (Known (ground two v (IsApart v.files k))) (renamed_entry r o) →
+      IfHeld (λ d. Separate r w.files v.files j k d.description) o
   separate_one None twin here there = tt
   separate_one (Some d) twin here there = record { twin = twin; here = here.1; there = there.1 }
 
-  separate_each : (messages : List Message) → EachNamed (SameDescription r w.files v.files) messages → EachMessage (Known (ground one w (IsApart w.files j))) messages → EachMessage (Known (ground two v (IsApart v.files k))) (renamed_messages r messages) → EachNamed (Separate r w.files v.files j k) messages
+  separate_each : (messages : List Message) → EachNamed (SameObject r w.files v.files) messages →
+      EachMessage (Known (ground one w (IsApart w.files j))) messages →
+      EachMessage (Known (ground two v (IsApart v.files k))) (renamed_messages r messages) → EachNamed (Separate r w.files v.files j k) messages
   separate_each [] twin here there = tt
   separate_each (m ∷ messages) twin here there = (separate_one m.passed twin.0 here.1 there.1, separate_each messages twin.1 here.2 there.2)
 
-  aimed_worlds : (programs : Programs) → IsWorld programs one w → IsWorld programs two v → SameFiles r w.files v.files → IsFresh w.files j → IsFresh v.files k → SameFiles (aimed_at r j k) w.files v.files
+  aimed_worlds : (programs : Programs) → IsWorld programs one w → IsWorld programs two v → SameFiles r w.files v.files → IsFresh w.files j →
+      IsFresh v.files k → SameFiles (aimed_at r j k) w.files v.files
   aimed_worlds programs good fine same fresh also =
       aimed_files r w.files v.files j k same
-      (λ p n. separate_one (w.files.table p n) (same.entries p n) (known_entries programs one w good j fresh p n) (subst (IfHeld (Known (ground two v (IsApart v.files k)))) (same.table p n) (known_entries programs two v fine k also p n)))
-      (λ pair side. separate_each (w.files.queue pair side) (same.messages pair side) (known_messages programs one w good j fresh pair side) (subst (EachMessage (Known (ground two v (IsApart v.files k)))) (same.queue pair side) (known_messages programs two v fine k also (r.pair pair) side)))
+      (λ p n. separate_one (w.files.table p n) (same.entries p n) (known_entries programs one w good j fresh p n)
+      (subst (IfHeld (Known (ground two v (IsApart v.files k)))) (same.table p n) (known_entries programs two v fine k also p n)))
+      (λ pair side. separate_each (w.files.queue pair side) (same.messages pair side) (known_messages programs one w good j fresh pair side)
+      (subst (EachMessage (Known (ground two v (IsApart v.files k)))) (same.queue pair side)
+      (known_messages programs two v fine k also (r.pair pair) side)))
       fresh.pair.empty also.pair.empty
 
 -- Whatever is chosen in both, the lines are the same, and the next worlds differ only in numbers again.

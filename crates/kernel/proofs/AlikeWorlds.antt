@@ -9,11 +9,12 @@ use Rattle.fd_table.specs.Descriptions.{Object, At_node, At_end, State, Descript
 use Rattle.fd_table.specs.OpenFiles.{OpenFiles, Alike, SameDescriptions, IsOther, AreOther, IsUnnamed, IsUnused, is_open}
 use Rattle.fd_table.specs.OpenFiles as open_files
 use Rattle.kernel.specs.World.{World, Choice, IsFresh}
-use Rattle.kernel.specs.Answers.{Event, TableChange, Same_table, Set_entry, Clear_entry, New_file, New_pair, New_process, QueueChange, Same_queue, Push, Pop, StateChange, Same_state, Set_state, Answer, Fails, Waits, Gives, IsEvent}
+use Rattle.kernel.specs.Answers.{Event, TableChange, Same_table, Set_entry, Clear_entry, New_file, New_pair, New_process, QueueChange, Same_queue, Push, Pop, StateChange}
+use Rattle.kernel.specs.Answers.{Same_state, Set_state, Answer, Fails, Waits, Gives, IsEvent}
 use Rattle.kernel.specs.Calls.{answer}
 use Rattle.kernel.specs.Steps.{Programs, step}
 use Rattle.kernel.specs.WellFormed.{ArePrograms, Numbering, IsObject, IsDescriptor, EachMessage, HasNone, IsWorld, IsWellFormed}
-use Rattle.kernel.specs.Renamings.{Renaming, SameDescription, EachNamed, SameFiles, renamed_object, renamed_entry, renamed_messages}
+use Rattle.kernel.specs.Renamings.{Renaming, SameObject, EachNamed, SameFiles, renamed_object, renamed_entry, renamed_messages}
 use Rattle.kernel.specs.Alike.{AlikeWorldsTwice, StepsAsOne, ActsAs, AlikeWorldsActAlike}
 use Rattle.kernel.proofs.Keeping.{kept}
 use Rattle.kernel.proofs.Opens.{same_open}
@@ -81,12 +82,12 @@ module _ where
   aims_own choice = record { first = refl; second = refl; pair = refl }
 
 -- ## Alike, as the same under the same numbers
-named_same : (f g : OpenFiles) (o : Option Descriptor) → open_files.SameDescription f g o → IfHeld (λ d. SameDescription own_numbers f g d.description) o
+named_same : (f g : OpenFiles) (o : Option Descriptor) → open_files.SameDescription f g o → IfHeld (λ d. SameObject own_numbers f g d.description) o
 unfolding own_numbers
 named_same f g None same = tt
 named_same f g (Some d) same = record { object = same.0 ∙ sym (object_own (f.objects d.description)); state = same.1 }
 
-each_same : (f g : OpenFiles) (messages : List Message) → SameDescriptions f g messages → EachNamed (SameDescription own_numbers f g) messages
+each_same : (f g : OpenFiles) (messages : List Message) → SameDescriptions f g messages → EachNamed (SameObject own_numbers f g) messages
 each_same f g [] same = tt
 each_same f g (m ∷ messages) same = (named_same f g m.passed same.0, each_same f g messages same.1)
 
@@ -100,14 +101,14 @@ same_files f g alike = record {
 }
 
 -- what is open is the same as itself
-held_own : (f : OpenFiles) (o : Option Descriptor) → IfHeld (λ d. SameDescription own_numbers f f d.description) o
+held_own : (f : OpenFiles) (o : Option Descriptor) → IfHeld (λ d. SameObject own_numbers f f d.description) o
 held_own f o = named_same f f o (itself o)
   where
     itself : (o : Option Descriptor) → open_files.SameDescription f f o
     itself None = tt
     itself (Some d) = (refl, refl)
 
-each_own : (f : OpenFiles) (messages : List Message) → EachNamed (SameDescription own_numbers f f) messages
+each_own : (f : OpenFiles) (messages : List Message) → EachNamed (SameObject own_numbers f f) messages
 each_own f [] = tt
 each_own f (m ∷ messages) = (held_own f m.passed, each_own f messages)
 
@@ -120,12 +121,12 @@ own_files f = record {
   messages = λ pair side. each_own f (f.queue pair side);
 }
 
-same_named : (f g : OpenFiles) (o : Option Descriptor) → IfHeld (λ d. SameDescription own_numbers f g d.description) o → open_files.SameDescription f g o
+same_named : (f g : OpenFiles) (o : Option Descriptor) → IfHeld (λ d. SameObject own_numbers f g d.description) o → open_files.SameDescription f g o
 unfolding own_numbers
 same_named f g None same = tt
 same_named f g (Some d) same = (same.object ∙ object_own (f.objects d.description), same.state)
 
-same_each : (f g : OpenFiles) (messages : List Message) → EachNamed (SameDescription own_numbers f g) messages → SameDescriptions f g messages
+same_each : (f g : OpenFiles) (messages : List Message) → EachNamed (SameObject own_numbers f g) messages → SameDescriptions f g messages
 same_each f g [] same = tt
 same_each f g (m ∷ messages) same = (same_named f g m.passed same.0, same_each f g messages same.1)
 
@@ -141,7 +142,8 @@ alike_files f g same idle = record {
 
 -- ## Well formed
 module _ (programs : Programs) (numbering : Numbering) (w : World) (good : IsWorld programs numbering w) (g : OpenFiles) (alike : Alike w.files g) where
-  descriptor_alike : (o : Option Descriptor) → open_files.SameDescription w.files g o → IfHeld (IsDescriptor w.tree numbering w.files.objects w.files.states) o → IfHeld (IsDescriptor w.tree numbering g.objects g.states) o
+  descriptor_alike : (o : Option Descriptor) → open_files.SameDescription w.files g o →
+      IfHeld (IsDescriptor w.tree numbering w.files.objects w.files.states) o → IfHeld (IsDescriptor w.tree numbering g.objects g.states) o
   descriptor_alike None same fine = tt
   descriptor_alike (Some d) same fine = record {
     number = fine.number;
@@ -151,7 +153,9 @@ module _ (programs : Programs) (numbering : Numbering) (w : World) (good : IsWor
     offset = subst (λ (state : State). state.offset ≤ most_bytes) (sym same.1) fine.offset;
   }
 
-  messages_alike : (messages : List Message) → SameDescriptions w.files g messages → EachMessage (IsDescriptor w.tree numbering w.files.objects w.files.states) messages → EachMessage (IsDescriptor w.tree numbering g.objects g.states) messages
+  messages_alike : (messages : List Message) → SameDescriptions w.files g messages →
+      EachMessage (IsDescriptor w.tree numbering w.files.objects w.files.states) messages →
+      EachMessage (IsDescriptor w.tree numbering g.objects g.states) messages
   messages_alike [] same fine = tt
   messages_alike (m ∷ messages) same fine = (fine.0, descriptor_alike m.passed same.0 fine.1, messages_alike messages same.1 fine.2)
 
@@ -168,7 +172,8 @@ module _ (programs : Programs) (numbering : Numbering) (w : World) (good : IsWor
     entries = λ p n. subst (IfHeld (IsDescriptor w.tree numbering g.objects g.states)) (sym (alike.table p n)) (descriptor_alike (w.files.table p n) (alike.entries p n) (good.entries p n));
     numbers = λ p n far. alike.table p n ∙ good.numbers p n far;
     gone = λ p. none_alike p (slice_get w.processes p) (good.gone p);
-    messages = λ pair side. subst (EachMessage (IsDescriptor w.tree numbering g.objects g.states)) (sym (alike.queue pair side)) (messages_alike (w.files.queue pair side) (alike.messages pair side) (good.messages pair side));
+    messages = λ pair side. subst (EachMessage (IsDescriptor w.tree numbering g.objects g.states)) (sym (alike.queue pair side))
+        (messages_alike (w.files.queue pair side) (alike.messages pair side) (good.messages pair side));
     short = λ pair side. subst (λ messages. length messages ≤ most_messages) (sym (alike.queue pair side)) (good.short pair side);
     idle = alike.idle;
     sides = λ pair side far. alike.queue pair side ∙ good.sides pair side far;

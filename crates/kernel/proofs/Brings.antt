@@ -7,11 +7,12 @@ use Rattle.rights.specs.Errors.{Errno, Cause}
 use Rattle.file_tree.specs.Nodes.{Kind, File, Dir, Link, Node, node, is_dir, is_file, is_link}
 use Rattle.rights.specs.Limits.{most_bytes, most_messages, most_processes}
 use Rattle.file_tree.specs.WellFormed.{IsTree}
-use Rattle.lookup.specs.Answers.{Fault, Escape, No_entry, Not_dir, Loop, Too_long, Bad_last}
+use Rattle.lookup.specs.Answers.{LookupFault, Escape, No_entry, Not_dir, Loop, Too_long, Bad_last}
 use Rattle.fd_table.specs.Descriptions.{Access, Object, At_node, At_end, Descriptor, Message, IfHeld}
 use Rattle.fd_table.specs.OpenFiles.{lowest_from, lowest_free}
 use Rattle.kernel.specs.World.{World}
-use Rattle.kernel.specs.Answers.{TableChange, Same_table, Set_entry, Clear_entry, New_file, New_pair, New_process, QueueChange, Same_queue, Push, Pop, StateChange, Same_state, Set_state, Change, Answer, Fails, Waits, Gives, unless, held, at_object, at_number, lookup_fails}
+use Rattle.kernel.specs.Answers.{TableChange, Same_table, Set_entry, Clear_entry, New_file, New_pair, New_process, QueueChange, Same_queue, Push, Pop, StateChange, Same_state}
+use Rattle.kernel.specs.Answers.{Set_state, Change, Answer, Fails, Waits, Gives, unless, held, at_object, at_number, lookup_fails}
 use Rattle.kernel.specs.Changes.{tree_after}
 use Rattle.kernel.specs.WellFormed.{Numbering, IsObject, IsDescriptor}
 
@@ -120,7 +121,10 @@ module _ (g : Ground) where
   sound-held None rest good sound = sound-fails _ _
   sound-held (Some d) rest good sound = sound d refl good
 
-  pub sound-object : (description : ℕ) (o : Object) (on_node : ℕ → Access → Answer) (on_end : ℕ → ℕ → Answer) → IsObject g.world.tree g.numbering description o → ((n : ℕ) (access : Access) → is_link (node g.world.tree n).kind ≡ false → Sound g (on_node n access)) → ((pair side : ℕ) → side < 2 → Sound g (on_end pair side)) → Sound g (at_object o on_node on_end)
+  pub sound-object : (description : ℕ) (o : Object) (on_node : ℕ → Access → Answer) (on_end : ℕ → ℕ → Answer) →
+      IsObject g.world.tree g.numbering description o →
+      ((n : ℕ) (access : Access) → is_link (node g.world.tree n).kind ≡ false → Sound g (on_node n access)) →
+      ((pair side : ℕ) → side < 2 → Sound g (on_end pair side)) → Sound g (at_object o on_node on_end)
   unfolding at_object
   sound-object description (At_node n access) on_node on_end good nodes ends = nodes n access good
   sound-object description (At_end pair side class) on_node on_end good nodes ends = ends pair side good.1
@@ -130,7 +134,7 @@ module _ (g : Ground) where
   sound-number None rest sound = sound-fails _ _
   sound-number (Some n) rest sound = sound n refl
 
-  pub sound-lookup_fails : (fault : Fault) → Sound g (lookup_fails fault)
+  pub sound-lookup_fails : (fault : LookupFault) → Sound g (lookup_fails fault)
   sound-lookup_fails Escape = sound-fails _ _
   sound-lookup_fails No_entry = sound-fails _ _
   sound-lookup_fails Not_dir = sound-fails _ _

@@ -19,20 +19,24 @@ use Rattle.file_tree.proofs.KeptByFill.{filled_is_tree, written_is_tree, resized
 use Rattle.lookup.specs.Answers.{Way, Last, Beneath, Global, Follow, Keep, Found_node, Found_free, Not_found}
 use Rattle.lookup.specs.Answers as lookups
 use Rattle.lookup.specs.Paths.{last_component}
-use Rattle.lookup.specs.Promises.{IsLinked, IsThere, HasName, IsUnderName}
+use Rattle.lookup.specs.Promises.{IsLinked, IsFindingThere, HasName, IsUnderName}
 use Rattle.process.specs.State.{ProcessState}
-use Rattle.prog_asm.specs.Programs.{Syscall, Open, Openat, Read, Write, Sendfd, Recvfd, Lseek, Ftruncate, Fsync, Fstat, Fcntl_getfl, Fcntl_setfl, Fstatat, Stat, Mkdirat, Mkdir, Unlinkat, Unlink, Renameat, Dup, Close, Cap_rights_limit, Cap_fcntls_limit, Cap_enter, Cap_getmode, Socketpair, Fork, is_syscall, is_operand, is_path}
+use Rattle.prog_asm.specs.Programs.{Syscall, Open, Openat, Read, Write, Sendfd, Recvfd, Lseek, Ftruncate, Fsync, Fstat, Fcntl_getfl, Fcntl_setfl, Fstatat, Stat, Mkdirat, Mkdir}
+use Rattle.prog_asm.specs.Programs.{Unlinkat, Unlink, Renameat, Dup, Close, Cap_rights_limit, Cap_fcntls_limit, Cap_enter, Cap_getmode, Socketpair, Fork, is_syscall, is_operand}
+use Rattle.prog_asm.specs.Programs.{is_path}
 use Rattle.fd_table.specs.Descriptions.{Access, State, Descriptor, Message, other_side, bit_of, status_number, IfHeld}
 use Rattle.fd_table.specs.OpenFiles.{is_open, lowest_from, lowest_free}
 use Rattle.kernel.specs.World.{World}
 use Rattle.kernel.specs.Answers.{Event, TreeChange, Answer, same, held, value_of}
-use Rattle.kernel.specs.Calls.{looks, looks_twice, answer, truncated, opened, opened_as, read_byte, read_node, read_end, write_node, write_at, sent_end, received, receive_end, looked, looked_at, kind_number, made_directory, unlinked, renamed_to, renamed_from, pair_at, blocked, in_directory, at_file, at_socket}
+use Rattle.kernel.specs.Calls.{looks, looks_twice, answer, truncated, opened, opened_as, read_byte, read_node, read_end, write_node, write_at, sent_end, received, receive_end}
+use Rattle.kernel.specs.Calls.{stats, stats_at, kind_number, made_directory, unlinks, renamed_to, renamed_from, pair_at, blocked, in_directory, at_file, at_socket}
 use Rattle.kernel.specs.Changes.{tree_after}
 use Rattle.kernel.specs.Steps.{Programs}
 use Rattle.kernel.specs.WellFormed.{EachMessage, IsWorld}
 use Rattle.kernel.proofs.Trees.{made_is_tree, emptied_is_tree, unlinked_is_tree, moved_to_free, there_if_opened, opened_kept}
 use Rattle.kernel.proofs.Lookups.{MayMake, Sure, find_sure, moved_over}
-use Rattle.kernel.proofs.Brings.{Ground, Known, Brings, Sound, free_low, second_low, file_kind, no_directory, sound-fails, sound-waits, sound-gives, sound-unless, sound-if, sound-held, sound-object, sound-number, sound-lookup_fails}
+use Rattle.kernel.proofs.Brings.{Ground, Known, Brings, Sound, free_low, second_low, file_kind, no_directory, sound-fails, sound-waits, sound-gives, sound-unless, sound-if}
+use Rattle.kernel.proofs.Brings.{sound-held, sound-object, sound-number, sound-lookup_fails}
 
 dir_opened : (kind : Kind) → is_dir kind ≡ true → is_link kind ≡ false
 dir_opened File is = refl
@@ -117,7 +121,8 @@ module _ (programs : Programs) (g : Ground) (standing : Standing programs g) (p 
       (λ n access opened. sound-unless g _ _ _ _ (λ dir. sound n opened))
       (λ pair side low. sound-fails g _ _)
 
-  sound-file : (d : Descriptor) (rest : ℕ → Access → Answer) → Known g d → ((n : ℕ) (access : Access) → (node w.tree n).kind ≡ File → Sound g (rest n access)) → Sound g (at_file w p s e d.description rest)
+  sound-file : (d : Descriptor) (rest : ℕ → Access → Answer) → Known g d →
+      ((n : ℕ) (access : Access) → (node w.tree n).kind ≡ File → Sound g (rest n access)) → Sound g (at_file w p s e d.description rest)
   sound-file d rest fine sound =
       sound-object g d.description (w.files.objects d.description) _ _ fine.0.object
       (λ n access opened. sound-unless g _ _ _ _ (λ file. sound n access (file_kind (node w.tree n).kind file)))
@@ -144,7 +149,8 @@ module _ (programs : Programs) (g : Ground) (standing : Standing programs g) (p 
       let within : offset < length (node w.tree n).content = slice_get_within (node w.tree n).content offset byte here in
       (ltb-true byte 256 (list_all-slice_get is_byte (node w.tree n).content offset byte old.bytes here), omega arith)
 
-  sound-byte : (d : Descriptor) (n : ℕ) (place : List (List ℕ)) (o : Option ℕ) → (node w.tree n).kind ≡ File → slice_get (node w.tree n).content (w.files.states d.description).offset ≡ o → Sound g (read_byte w p s e d.description place o)
+  sound-byte : (d : Descriptor) (n : ℕ) (place : List (List ℕ)) (o : Option ℕ) → (node w.tree n).kind ≡ File →
+      slice_get (node w.tree n).content (w.files.states d.description).offset ≡ o → Sound g (read_byte w p s e d.description place o)
   sound-byte d n place None file here = sound-gives g _ _ _ (nothing 256 (omega arith))
   sound-byte d n place (Some byte) file here =
       let facts = file_byte n (w.files.states d.description).offset byte file here in
@@ -179,7 +185,8 @@ module _ (programs : Programs) (g : Ground) (standing : Standing programs g) (p 
   -- ## Pairs
   sound-read_end : (d : Descriptor) (pair side : ℕ) (messages : List Message) → EachMessage (Known g) messages → Sound g (read_end w p s e d.description pair side messages)
   sound-read_end d pair side [] fine =
-      sound-if g (is_open w.files pair (other_side side)) (blocked w p s e (w.files.states d.description).nonblock) _ (λ _. sound-blocked (w.files.states d.description).nonblock) (sound-gives g _ _ [] (nothing 256 (omega arith)))
+      sound-if g (is_open w.files pair (other_side side)) (blocked w p s e (w.files.states d.description).nonblock) _
+      (λ _. sound-blocked (w.files.states d.description).nonblock) (sound-gives g _ _ [] (nothing 256 (omega arith)))
   sound-read_end d pair side (m ∷ messages) fine =
       let low : m.byte < 256 = fine.0 in
       let small : m.byte < 2 ^ 32 = omega arith in
@@ -203,21 +210,28 @@ module _ (programs : Programs) (g : Ground) (standing : Standing programs g) (p 
   sound-received pair side number (Some d) low fine =
       sound-gives g _ _ _ (record { small = low_small number low; tree = standing.good.tree; table = (low, fine); queue = tt; state = tt })
 
-  sound-receive_end : (d : Descriptor) (pair side number : ℕ) (messages : List Message) → number < 16 → EachMessage (Known g) messages → Sound g (receive_end w p s e d.description pair side number messages)
+  sound-receive_end : (d : Descriptor) (pair side number : ℕ) (messages : List Message) → number < 16 → EachMessage (Known g) messages →
+      Sound g (receive_end w p s e d.description pair side number messages)
   sound-receive_end d pair side number [] low fine = sound-unless g _ _ _ _ (λ there. sound-blocked (w.files.states d.description).nonblock)
   sound-receive_end d pair side number (m ∷ messages) low fine = sound-received pair side number m.passed low fine.1
 
   -- ## Lookups
-  sound-looks : (start : ℕ) (way : Way) (path : List ℕ) (last : Last) (rest : lookups.Answer → Answer) → is_link (node w.tree start).kind ≡ false → is_path path ≡ true → ((found : lookups.Answer) → Sure w.tree path last found → Sound g (rest found)) → Sound g (looks w p s e start way path last rest)
+  sound-looks : (start : ℕ) (way : Way) (path : List ℕ) (last : Last) (rest : lookups.Finding → Answer) → is_link (node w.tree start).kind ≡ false →
+      is_path path ≡ true → ((found : lookups.Finding) → Sure w.tree path last found → Sound g (rest found)) →
+      Sound g (looks w p s e start way path last rest)
   unfolding looks
   sound-looks start way path last rest opened valid sound = sound _ (find_sure w.tree start path way last standing.good.tree opened valid)
 
-  sound-looks_twice : (n : ℕ) (from : List ℕ) (m : ℕ) (to : List ℕ) (rest : lookups.Answer → lookups.Answer → Answer) → is_link (node w.tree n).kind ≡ false → is_path from ≡ true → is_link (node w.tree m).kind ≡ false → is_path to ≡ true → ((found place : lookups.Answer) → Sure w.tree from Keep found → Sure w.tree to Keep place → Sound g (rest found place)) → Sound g (looks_twice w p s e n from m to rest)
+  sound-looks_twice : (n : ℕ) (from : List ℕ) (m : ℕ) (to : List ℕ) (rest : lookups.Finding → lookups.Finding → Answer) →
+      is_link (node w.tree n).kind ≡ false → is_path from ≡ true → is_link (node w.tree m).kind ≡ false → is_path to ≡ true →
+      ((found place : lookups.Finding) → Sure w.tree from Keep found → Sure w.tree to Keep place → Sound g (rest found place)) →
+      Sound g (looks_twice w p s e n from m to rest)
   unfolding looks_twice
   sound-looks_twice n from m to rest opened valid also other sound =
       sound _ _ (find_sure w.tree n from Beneath Keep standing.good.tree opened valid) (find_sure w.tree m to Beneath Keep standing.good.tree also other)
 
-  sound-opened_as : (f : OpenRequest) (rights fcntls n : ℕ) (kind : Kind) → is_within rights all_rights ≡ true → is_within fcntls all_commands ≡ true → (node w.tree n).kind ≡ kind → Sound g (opened_as w p s e f rights fcntls n kind)
+  sound-opened_as : (f : OpenRequest) (rights fcntls n : ℕ) (kind : Kind) → is_within rights all_rights ≡ true →
+      is_within fcntls all_commands ≡ true → (node w.tree n).kind ≡ kind → Sound g (opened_as w p s e f rights fcntls n kind)
   sound-opened_as f rights fcntls n Link all also is = sound-fails g _ _
   sound-opened_as f rights fcntls n Dir all also is =
       sound-unless g _ _ _ _ (λ plain. sound-number g (lowest_free (w.files.table p)) _ (λ number free.
@@ -236,7 +250,8 @@ module _ (programs : Programs) (g : Ground) (standing : Standing programs g) (p 
         state = tt;
       })))
 
-  sound-opened : (f : OpenRequest) (rights fcntls : ℕ) (path : List ℕ) (found : lookups.Answer) → is_within rights all_rights ≡ true → is_within fcntls all_commands ≡ true → MayMake w.tree path found → Sound g (opened w p s e f rights fcntls path found)
+  sound-opened : (f : OpenRequest) (rights fcntls : ℕ) (path : List ℕ) (found : lookups.Finding) → is_within rights all_rights ≡ true →
+      is_within fcntls all_commands ≡ true → MayMake w.tree path found → Sound g (opened w p s e f rights fcntls path found)
   sound-opened f rights fcntls path (Not_found fault) all also may = sound-lookup_fails g fault
   sound-opened f rights fcntls path (Found_free d) all also may =
       sound-number g (lowest_free (w.files.table p)) _ (λ number free.
@@ -251,15 +266,15 @@ module _ (programs : Programs) (g : Ground) (standing : Standing programs g) (p 
       }))))
   sound-opened f rights fcntls path (Found_node n) all also may = sound-opened_as f rights fcntls n (node w.tree n).kind all also refl
 
-  sound-looked : (n : ℕ) → Sound g (looked w p s e n)
+  sound-looked : (n : ℕ) → Sound g (stats w p s e n)
   sound-looked n = sound-gives g _ _ _ (nothing (kind_number (node w.tree n).kind) (small_kind (node w.tree n).kind))
 
-  sound-looked_at : (found : lookups.Answer) → Sound g (looked_at w p s e found)
+  sound-looked_at : (found : lookups.Finding) → Sound g (stats_at w p s e found)
   sound-looked_at (Not_found fault) = sound-lookup_fails g fault
   sound-looked_at (Found_free d) = sound-fails g _ _
   sound-looked_at (Found_node n) = sound-looked n
 
-  sound-made_directory : (path : List ℕ) (found : lookups.Answer) → MayMake w.tree path found → Sound g (made_directory w p s e path found)
+  sound-made_directory : (path : List ℕ) (found : lookups.Finding) → MayMake w.tree path found → Sound g (made_directory w p s e path found)
   sound-made_directory path (Not_found fault) may = sound-lookup_fails g fault
   sound-made_directory path (Found_node n) may = sound-fails g _ _
   sound-made_directory path (Found_free d) may =
@@ -270,7 +285,7 @@ module _ (programs : Programs) (g : Ground) (standing : Standing programs g) (p 
   under_name : (n : ℕ) (name : List ℕ) → HasName w.tree n name → 0 < length (node w.tree n).place
   under_name n name named = subst (λ place. 0 < length place) (sym named.place) (longer (node w.tree named.parent).place name)
 
-  sound-unlinked : (directory : Bool) (path : List ℕ) (found : lookups.Answer) → IsThere w.tree found → IsUnderName w.tree path found → Sound g (unlinked w p s e directory found)
+  sound-unlinked : (directory : Bool) (path : List ℕ) (found : lookups.Finding) → IsFindingThere w.tree found → IsUnderName w.tree path found → Sound g (unlinks w p s e directory found)
   sound-unlinked directory path (Not_found fault) there named = sound-lookup_fails g fault
   sound-unlinked directory path (Found_free d) there named = sound-fails g _ _
   sound-unlinked true path (Found_node n) there named =
@@ -282,7 +297,8 @@ module _ (programs : Programs) (g : Ground) (standing : Standing programs g) (p 
       sound-unless g _ _ _ _ (λ leaf.
       sound-gives g _ _ _ (alters 0 _ zero_small (unlinked_is_tree w.tree n standing.good.tree there.linked some (not_true _ leaf))))
 
-  sound-renamed_to : (call : Syscall) (target : Descriptor) (n : ℕ) (path : List ℕ) (found : lookups.Answer) → IsLinked w.tree n → IsThere w.tree found → MayMake w.tree path found → IsUnderName w.tree path found → Sound g (renamed_to w p s e call target n path found)
+  sound-renamed_to : (call : Syscall) (target : Descriptor) (n : ℕ) (path : List ℕ) (found : lookups.Finding) → IsLinked w.tree n →
+      IsFindingThere w.tree found → MayMake w.tree path found → IsUnderName w.tree path found → Sound g (renamed_to w p s e call target n path found)
   sound-renamed_to call target n path (Not_found fault) linked there may named = sound-lookup_fails g fault
   sound-renamed_to call target n path (Found_free d) linked there may named =
       sound-unless g _ _ _ _ (λ outside.
@@ -295,7 +311,7 @@ module _ (programs : Programs) (g : Ground) (standing : Standing programs g) (p 
       sound-gives g _ _ _ (alters 0 _ zero_small
       (moved_over w.tree n m (last_component path) standing.good.tree linked.linked there.linked named (not_true _ outside) (not_true _ empty)))))))))
 
-  sound-renamed_from : (found : lookups.Answer) (rest : ℕ → Answer) → IsThere w.tree found → ((n : ℕ) → IsLinked w.tree n → Sound g (rest n)) → Sound g (renamed_from w p s e found rest)
+  sound-renamed_from : (found : lookups.Finding) (rest : ℕ → Answer) → IsFindingThere w.tree found → ((n : ℕ) → IsLinked w.tree n → Sound g (rest n)) → Sound g (renamed_from w p s e found rest)
   sound-renamed_from (Not_found fault) rest there sound = sound-lookup_fails g fault
   sound-renamed_from (Found_free d) rest there sound = sound-fails g _ _
   sound-renamed_from (Found_node n) rest there sound = sound n there
@@ -420,11 +436,30 @@ module _ (programs : Programs) (g : Ground) (standing : Standing programs g) (p 
       sound-gives g _ _ _ (record { small = zero_small; tree = standing.good.tree; table = tt; queue = tt; state = tt }))
   sound (Cap_rights_limit x rights) valid =
       sound-entry (value_of s x) _ (λ d low fine. sound-unless g _ _ _ _ (λ within.
-      let narrowed : Known g (record d { rights = rights }) = (record { number = fine.0.number; rights = is_within-trans rights d.rights all_rights within fine.0.rights; fcntls = fine.0.fcntls; object = fine.0.object; offset = fine.0.offset }, fine.1) in
+      let narrowed : Known g (record d { rights = rights }) = (
+        record {
+          number = fine.0.number;
+          rights = is_within-trans rights d.rights all_rights within fine.0.rights;
+          fcntls = fine.0.fcntls;
+          object =
+              fine.0.object;
+          offset = fine.0.offset;
+        },
+        fine.1,
+      ) in
       sound-gives g _ _ _ (record { small = zero_small; tree = standing.good.tree; table = (low, narrowed); queue = tt; state = tt })))
   sound (Cap_fcntls_limit x commands) valid =
       sound-entry (value_of s x) _ (λ d low fine. sound-unless g _ _ _ _ (λ within.
-      let narrowed : Known g (record d { fcntls = commands }) = (record { number = fine.0.number; rights = fine.0.rights; fcntls = is_within-trans commands d.fcntls all_commands within fine.0.fcntls; object = fine.0.object; offset = fine.0.offset }, fine.1) in
+      let narrowed : Known g (record d { fcntls = commands }) = (
+        record {
+          number = fine.0.number;
+          rights = fine.0.rights;
+          fcntls = is_within-trans commands d.fcntls all_commands within fine.0.fcntls;
+          object = fine.0.object;
+          offset = fine.0.offset;
+        },
+        fine.1,
+      ) in
       sound-gives g _ _ _ (record { small = zero_small; tree = standing.good.tree; table = (low, narrowed); queue = tt; state = tt })))
   sound Cap_enter valid = sound-gives g _ _ _ (record { small = zero_small; tree = standing.good.tree; table = tt; queue = tt; state = tt })
   sound Cap_getmode valid = sound-gives g _ _ _ (nothing (bit_of s.mode 1) (small_bit s.mode))

@@ -7,7 +7,7 @@ use Rattle.kernel.specs.World.{World, IsFresh}
 use Rattle.kernel.specs.Answers.{Event, AreEvents}
 use Rattle.kernel.specs.Steps.{Programs, Acted, step}
 use Rattle.kernel.specs.WellFormed.{ArePrograms, IsWellFormed}
-use Rattle.kernel.specs.Renamings.{Renaming, SameDescription, EachNamed, SameFiles, DiffersInNumbers, StepsAlike, NumbersAreIgnoredTwice, renamed_object, renamed_entry, renamed_messages}
+use Rattle.kernel.specs.Renamings.{Renaming, SameObject, EachNamed, SameFiles, DiffersInNumbers, StepsAlike, NumbersAreIgnoredTwice, renamed_object, renamed_entry, renamed_messages}
 use Rattle.kernel.specs.Alike.{AlikeWorlds, ActsAs, StepsAsOne, AlikeWorldsShareNumbers}
 use Rattle.kernel.specs.Runs.{Runs, AlikeWorldsRunAlike, RunExists, RunsShowTheSame, RunsShowTheSameLines}
 use Rattle.kernel.proofs.Fresh.{fresh_some}
@@ -53,14 +53,15 @@ module _ (r q : Renaming) (u v w : OpenFiles) where
   messages_twice [] = refl
   messages_twice (m ∷ messages) = λ i. record { byte = m.byte; passed = entry_twice m.passed i } ∷ messages_twice messages i
 
-  held_twice : (o : Option Descriptor) → IfHeld (λ d. SameDescription r u v d.description) o → IfHeld (λ d. SameDescription q v w d.description) (renamed_entry r o) → IfHeld (λ d. SameDescription (then r q) u w d.description) o
+  held_twice : (o : Option Descriptor) → IfHeld (λ d. SameObject r u v d.description) o →
+      IfHeld (λ d. SameObject q v w d.description) (renamed_entry r o) → IfHeld (λ d. SameObject (then r q) u w d.description) o
   held_twice None one two = tt
   held_twice (Some d) one two = record {
     object = two.object ∙ ap (renamed_object q) one.object ∙ object_twice (u.objects d.description);
     state = two.state ∙ one.state;
   }
 
-  each_twice : (messages : List Message) → EachNamed (SameDescription r u v) messages → EachNamed (SameDescription q v w) (renamed_messages r messages) → EachNamed (SameDescription (then r q) u w) messages
+  each_twice : (messages : List Message) → EachNamed (SameObject r u v) messages → EachNamed (SameObject q v w) (renamed_messages r messages) → EachNamed (SameObject (then r q) u w) messages
   each_twice [] one two = tt
   each_twice (m ∷ messages) one two = (held_twice m.passed one.0 two.0, each_twice messages one.1 two.1)
 
@@ -68,8 +69,8 @@ module _ (r q : Renaming) (u v w : OpenFiles) where
   files_twice one two = record {
     table = λ p n. two.table p n ∙ ap (renamed_entry q) (one.table p n) ∙ entry_twice (u.table p n);
     queue = λ pair side. two.queue (r.pair pair) side ∙ ap (renamed_messages q) (one.queue pair side) ∙ messages_twice (u.queue pair side);
-    entries = λ p n. held_twice (u.table p n) (one.entries p n) (subst (IfHeld (λ d. SameDescription q v w d.description)) (one.table p n) (two.entries p n));
-    messages = λ pair side. each_twice (u.queue pair side) (one.messages pair side) (subst (EachNamed (SameDescription q v w)) (one.queue pair side) (two.messages (r.pair pair) side));
+    entries = λ p n. held_twice (u.table p n) (one.entries p n) (subst (IfHeld (λ d. SameObject q v w d.description)) (one.table p n) (two.entries p n));
+    messages = λ pair side. each_twice (u.queue pair side) (one.messages pair side) (subst (EachNamed (SameObject q v w)) (one.queue pair side) (two.messages (r.pair pair) side));
   }
 
 pub differs_twice : NumbersAreIgnoredTwice
@@ -116,7 +117,8 @@ same_runs programs w v events valid good alike bytes = record {
   here = runs_here programs w v events valid good alike bytes;
 }
   where
-    runs_there : (programs : Programs) (w v : World) (events : List Event) → ArePrograms programs → IsWellFormed programs w → AlikeWorlds w v → AreEvents events → (lines : List (Option Acted)) → Runs programs w events lines → Runs programs v events lines
+    runs_there : (programs : Programs) (w v : World) (events : List Event) → ArePrograms programs → IsWellFormed programs w → AlikeWorlds w v →
+        AreEvents events → (lines : List (Option Acted)) → Runs programs w events lines → Runs programs v events lines
     runs_there programs w v [] valid good alike bytes [] run = tt
     runs_there programs w v [] valid good alike bytes (l ∷ lines) run = absurd run
     runs_there programs w v (e ∷ events) valid good alike bytes [] run = absurd run
@@ -126,10 +128,12 @@ same_runs programs w v events valid good alike bytes = record {
           choice,
           acts.fresh_there choice fresh,
           both.line ∙ here,
-          runs_there programs (step programs w e choice).world (step programs v e choice).world events valid (kept programs valid good.numbering w good.world e bytes.0 choice fresh) both.next bytes.1 lines rest,
+          runs_there programs (step programs w e choice).world (step programs v e choice).world events valid
+              (kept programs valid good.numbering w good.world e bytes.0 choice fresh) both.next bytes.1 lines rest,
         )
 
-    runs_here : (programs : Programs) (w v : World) (events : List Event) → ArePrograms programs → IsWellFormed programs w → AlikeWorlds w v → AreEvents events → (lines : List (Option Acted)) → Runs programs v events lines → Runs programs w events lines
+    runs_here : (programs : Programs) (w v : World) (events : List Event) → ArePrograms programs → IsWellFormed programs w → AlikeWorlds w v →
+        AreEvents events → (lines : List (Option Acted)) → Runs programs v events lines → Runs programs w events lines
     runs_here programs w v [] valid good alike bytes [] run = tt
     runs_here programs w v [] valid good alike bytes (l ∷ lines) run = absurd run
     runs_here programs w v (e ∷ events) valid good alike bytes [] run = absurd run
@@ -140,5 +144,6 @@ same_runs programs w v events valid good alike bytes = record {
           choice,
           fresh,
           sym both.line ∙ there,
-          runs_here programs (step programs w e choice).world (step programs v e choice).world events valid (kept programs valid good.numbering w good.world e bytes.0 choice fresh) both.next bytes.1 lines rest,
+          runs_here programs (step programs w e choice).world (step programs v e choice).world events valid
+              (kept programs valid good.numbering w good.world e bytes.0 choice fresh) both.next bytes.1 lines rest,
         )

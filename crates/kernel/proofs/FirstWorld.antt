@@ -11,7 +11,7 @@ use Rattle.prog_asm.specs.Programs.{Halt}
 use Rattle.fd_table.specs.Descriptions.{Initial, Object, At_node, At_end, Descriptor, Message, new_state, descriptor_of, IfHeld}
 use Rattle.kernel.specs.World.{World}
 use Rattle.kernel.specs.Steps.{Programs}
-use Rattle.kernel.specs.WellFormed.{Numbering, IsDescriptor, EachMessage, FitsRegister, IsMade, HasNone}
+use Rattle.kernel.specs.WellFormed.{Numbering, IsDescriptor, EachMessage, FitsRegister, IsProcessIfMade, HasNone}
 use Rattle.kernel.specs.Runs.{WellFormedWorldExists}
 
 objects : ℕ → Object
@@ -56,7 +56,14 @@ good_root = record { number = omega arith; rights = is_within-refl all_rights; f
 good_end : (side : ℕ) → side < 2 → Good (descriptor_of (suc side) all_rights all_commands)
 unfolding numbering objects
 good_end zero low = record { number = omega arith; rights = is_within-refl all_rights; fcntls = is_within-refl all_commands; object = (omega arith, omega arith, refl, refl); offset = omega arith }
-good_end (suc zero) low = record { number = omega arith; rights = is_within-refl all_rights; fcntls = is_within-refl all_commands; object = (omega arith, omega arith, refl, refl); offset = omega arith }
+good_end (suc zero) low = record {
+  number = omega arith;
+  rights = is_within-refl all_rights;
+  fcntls = is_within-refl all_commands;
+  object =
+      (omega arith, omega arith, refl, refl);
+  offset = omega arith;
+}
 good_end (suc (suc side)) low = absurd (omega arith)
 
 entries : (p n : ℕ) → IfHeld Good (table p n)
@@ -101,7 +108,7 @@ sides (suc pair) side far = refl
 programs : Programs
 programs n = Halt ∷ []
 
-made : (p : ℕ) → IsMade programs (slice_get (new_process 0 false ∷ []) p)
+made : (p : ℕ) → IsProcessIfMade programs (slice_get (new_process 0 false ∷ []) p)
 unfolding programs
 made zero = record { placed = λ alive. tt; eight = refl; small = small }
   where

@@ -84,14 +84,16 @@ module _ (programs : Programs) (numbering : Numbering) (w : World) (good : IsWor
         | inr far ↦ ap (names_end w.files.objects pair side) (no_entry p far n)
         | inl low ↦ elim (lt_or_le n 16) [
           | inr far ↦ ap (names_end w.files.objects pair side) (good.numbers p n far)
-          | inl small ↦ none_below 16 (λ n. names_end w.files.objects pair side (w.files.table p n)) (none_below 16 (λ p. any_below 16 (λ n. names_end w.files.objects pair side (w.files.table p n))) scan p low) n small
+          | inl small ↦ none_below 16 (λ n. names_end w.files.objects pair side (w.files.table p n))
+              (none_below 16 (λ p. any_below 16 (λ n. names_end w.files.objects pair side (w.files.table p n))) scan p low) n small
         ]
       ]
 
   pub message_unnamed : (pair side : ℕ) → is_open w.files pair side ≡ false → (q s : ℕ) → list_any (λ (m : Message). names_end w.files.objects pair side m.passed) (w.files.queue q s) ≡ false
   message_unnamed pair side closed q s =
       let test : ℕ → ℕ → Bool = λ q s. list_any (λ (m : Message). names_end w.files.objects pair side m.passed) (w.files.queue q s) in
-      let scan : any_below w.files.pairs (λ q. any_below 2 (test q)) ≡ false = (both_false (any_below 16 (λ p. any_below 16 (λ n. names_end w.files.objects pair side (w.files.table p n)))) _ closed).1 in
+      let scan : any_below w.files.pairs (λ q. any_below 2 (test q)) ≡ false =
+      (both_false (any_below 16 (λ p. any_below 16 (λ n. names_end w.files.objects pair side (w.files.table p n)))) _ closed).1 in
       elim (lt_or_le q w.files.pairs) [
         | inr far ↦ ap (list_any (λ (m : Message). names_end w.files.objects pair side m.passed)) (good.idle q s far)
         | inl low ↦ elim (lt_or_le s 2) [
@@ -102,11 +104,16 @@ module _ (programs : Programs) (numbering : Numbering) (w : World) (good : IsWor
 
   -- ## What is named is apart from a fresh choice
   module _ (choice : Choice) (fresh : IsFresh w.files choice) where
-    known_one : (o : Option Descriptor) → IfHeld (IsDescriptor w.tree numbering w.files.objects w.files.states) o → IsOther choice.first o → IsOther choice.second o → ((side : ℕ) → names_end w.files.objects choice.pair side o ≡ false) → IfHeld (Known (ground numbering w (IsApart w.files choice))) o
+    known_one : (o : Option Descriptor) → IfHeld (IsDescriptor w.tree numbering w.files.objects w.files.states) o → IsOther choice.first o →
+        IsOther choice.second o → ((side : ℕ) → names_end w.files.objects choice.pair side o ≡ false) →
+        IfHeld (Known (ground numbering w (IsApart w.files choice))) o
     known_one None fine first second ends = tt
     known_one (Some d) fine first second ends = (fine, record { first = first; second = second; ends = ends })
 
-    known_each : (messages : List Message) → EachMessage (IsDescriptor w.tree numbering w.files.objects w.files.states) messages → AreOther choice.first messages → AreOther choice.second messages → ((side : ℕ) → list_any (λ (m : Message). names_end w.files.objects choice.pair side m.passed) messages ≡ false) → EachMessage (Known (ground numbering w (IsApart w.files choice))) messages
+    known_each : (messages : List Message) → EachMessage (IsDescriptor w.tree numbering w.files.objects w.files.states) messages →
+        AreOther choice.first messages → AreOther choice.second messages →
+        ((side : ℕ) → list_any (λ (m : Message). names_end w.files.objects choice.pair side m.passed) messages ≡ false) →
+        EachMessage (Known (ground numbering w (IsApart w.files choice))) messages
     known_each [] fine first second ends = tt
     known_each (m ∷ messages) fine first second ends = (
       fine.0,
@@ -150,11 +157,14 @@ module _ (programs : Programs) (numbering : Numbering) (w : World) (good : IsWor
       let differ : q ≢ pair = λ same. absurd (omega (arith, same)) in
       ap (λ b. b && (s == side)) (ne_eqb q pair differ)
 
-  closed_entry : (pair side : ℕ) (o : Option Descriptor) → numbering.pairs ≤ pair → IfHeld (IsDescriptor w.tree numbering w.files.objects w.files.states) o → names_end w.files.objects pair side o ≡ false
+  closed_entry : (pair side : ℕ) (o : Option Descriptor) → numbering.pairs ≤ pair →
+      IfHeld (IsDescriptor w.tree numbering w.files.objects w.files.states) o → names_end w.files.objects pair side o ≡ false
   closed_entry pair side None above fine = refl
   closed_entry pair side (Some d) above fine = closed_object d.description pair side (w.files.objects d.description) above fine.object
 
-  closed_messages : (pair side : ℕ) (messages : List Message) → numbering.pairs ≤ pair → EachMessage (IsDescriptor w.tree numbering w.files.objects w.files.states) messages → list_any (λ (m : Message). names_end w.files.objects pair side m.passed) messages ≡ false
+  closed_messages : (pair side : ℕ) (messages : List Message) → numbering.pairs ≤ pair →
+      EachMessage (IsDescriptor w.tree numbering w.files.objects w.files.states) messages →
+      list_any (λ (m : Message). names_end w.files.objects pair side m.passed) messages ≡ false
   closed_messages pair side [] above fine = refl
   closed_messages pair side (m ∷ messages) above fine =
       neither (names_end w.files.objects pair side m.passed) _ (closed_entry pair side m.passed above fine.1) (closed_messages pair side messages above fine.2)

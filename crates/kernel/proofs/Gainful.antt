@@ -8,8 +8,8 @@ use Rattle.process.specs.State.{new_process}
 use Rattle.prog_asm.specs.Programs.{Syscall, Number, Sendfd, Recvfd, Dup, Cap_rights_limit, Cap_fcntls_limit, Fork}
 use Rattle.fd_table.specs.Descriptions.{Descriptor, Message}
 use Rattle.kernel.specs.World.{World}
-use Rattle.kernel.specs.Origins.{Caller, ComesFrom, stood, was_made, was_copied, IsMade, IsSent, QueuedFrom, had_waited, was_sent}
-use Rattle.kernel.specs.Gainful.{NothingComesFromElsewhere, wide, narrow, two_processes, carries, with_message, at_ends, receiving, second, second_ended, opens, opens_beneath, sends, receives}
+use Rattle.kernel.specs.Origins.{Caller, ComesFrom, stood, was_made, was_copied, IsMade, IsSent, origin, QueuedFrom, had_waited, was_sent}
+use Rattle.kernel.specs.Gainful.{NothingComesFromElsewhere, wide, narrow, two_processes, carries, with_message, at_ends, receiving, second, second_ended, opens, opens_in_directory, sends, receives}
 
 some_is : (o : Option Descriptor) (d : Descriptor) → o ≡ Some d → is_some o ≡ true
 some_is o d is = ap is_some is
@@ -86,7 +86,7 @@ no_wider_commands :
 unfolding ℕ_discrete
 no_wider_commands made = elim made.comes [ inl within ↦ impossible within.1 | inr own ↦ impossible own.makes ]
 
-no_wider_openat : IsMade two_processes (second false opens_beneath) 1 wide → ⊥
+no_wider_openat : IsMade two_processes (second false opens_in_directory) 1 wide → ⊥
 unfolding ℕ_discrete
 no_wider_openat made = elim made.comes [ inl within ↦ impossible within.0 | inr own ↦ impossible own.makes ]
 
@@ -157,31 +157,31 @@ no_other_message (was_sent c is sent) = absurd cc
 
 -- what end (0, 0) has sent, where it had sent nothing, is what a call of the second process sends
 by_sending :
-    (w : World) (call : Syscall) (d : Descriptor) → w.files.queue 0 0 ≡ [] → (IsSent w 1 (new_process 0 false) call 0 0 d → ⊥)
+    (w : World) (call : Syscall) (d : Descriptor) → w.files.queue 0 0 ≡ [] → (IsSent w 1 (new_process 0 false) (origin call) 0 0 d → ⊥)
     → QueuedFrom w (Some (second false call)) 0 0 d → ⊥
 by_sending w call d empty not_sent (had_waited i m here carried) =
     let none : slice_get (w.files.queue 0 0) i ≡ None = ap (λ (messages : List Message). slice_get messages i) empty in absurd cc
 by_sending w call d empty not_sent (was_sent c is sent) =
     let same : second false call ≡ c = cc in
-    not_sent (subst (λ (c : Caller). IsSent w c.process c.state c.call 0 0 d) (sym same) sent)
+    not_sent (subst (λ (c : Caller). IsSent w c.process c.state (origin c.call) 0 0 d) (sym same) sent)
 
-no_wider_message : IsSent (at_ends 0 0) 1 (new_process 0 false) sends 0 0 wide → ⊥
+no_wider_message : IsSent (at_ends 0 0) 1 (new_process 0 false) (origin sends) 0 0 wide → ⊥
 unfolding ℕ_discrete
 no_wider_message sent = impossible sent.1.0
 
-no_other_end : IsSent (at_ends 0 1) 1 (new_process 0 false) sends 0 0 narrow → ⊥
+no_other_end : IsSent (at_ends 0 1) 1 (new_process 0 false) (origin sends) 0 0 narrow → ⊥
 unfolding ℕ_discrete
 no_other_end sent = let same : suc zero ≡ zero = sent.0.1 in absurd (omega (arith, same))
 
-no_other_pair : IsSent (at_ends 1 0) 1 (new_process 0 false) sends 0 0 narrow → ⊥
+no_other_pair : IsSent (at_ends 1 0) 1 (new_process 0 false) (origin sends) 0 0 narrow → ⊥
 unfolding ℕ_discrete
 no_other_pair sent = let same : suc zero ≡ zero = sent.0.0 in absurd (omega (arith, same))
 
-no_sending_through_a_file : IsSent two_processes 1 (new_process 0 false) sends 0 0 narrow → ⊥
+no_sending_through_a_file : IsSent two_processes 1 (new_process 0 false) (origin sends) 0 0 narrow → ⊥
 unfolding ℕ_discrete
 no_sending_through_a_file sent = sent.0
 
-no_sending_through_nothing : IsSent (at_ends 0 0) 1 (new_process 0 false) (Sendfd (Number 1) (Number 0) (Number 0)) 0 0 narrow → ⊥
+no_sending_through_nothing : IsSent (at_ends 0 0) 1 (new_process 0 false) (origin (Sendfd (Number 1) (Number 0) (Number 0))) 0 0 narrow → ⊥
 unfolding ℕ_discrete
 no_sending_through_nothing sent = sent.0
 

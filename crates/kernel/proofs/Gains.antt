@@ -14,7 +14,7 @@ use Rattle.kernel.specs.World.{World, Choice}
 use Rattle.kernel.specs.Answers.{Event, TableChange, Same_table, Set_entry, Clear_entry, New_file, New_pair, New_process, QueueChange, Same_queue, Push, Pop, Change, Answer, Fails, Waits, Gives}
 use Rattle.kernel.specs.Calls.{answer}
 use Rattle.kernel.specs.Changes.{table_after, queue_after, given, processes_after, files_after, changed}
-use Rattle.kernel.specs.Origins.{Caller, calls, calls_at, calls_by, caller_of, IsMade, ComesFrom, stood, was_made, was_copied, IsSent, QueuedFrom, had_waited, was_sent}
+use Rattle.kernel.specs.Origins.{Caller, calls, calls_at, calls_by, caller_of, IsMade, ComesFrom, stood, was_made, was_copied, IsSent, QueuedFrom, had_waited, was_sent, origin}
 use Rattle.kernel.specs.Steps.{Programs, register, with_process, halted, failed, answered, jumped, executed, stepped_at, stepped_by, stepped, step}
 use Rattle.kernel.specs.Gains.{StaysIn, GainsNothing, NoRunGains}
 use Rattle.kernel.proofs.Origins.{MayTable, MayQueue, may_table, may_queue}
@@ -38,7 +38,9 @@ module _ (w : World) (caller : Option Caller) where
       go None is = tt
       go (Some d) is = stood is
 
-  passed_from : (pair side : ℕ) (messages : List Message) → ((i : ℕ) (m : Message) → slice_get messages i ≡ Some m → IfHeld (QueuedFrom w caller pair side) m.passed) → EachPassed (QueuedFrom w caller pair side) messages
+  passed_from : (pair side : ℕ) (messages : List Message) →
+      ((i : ℕ) (m : Message) → slice_get messages i ≡ Some m → IfHeld (QueuedFrom w caller pair side) m.passed) →
+      EachPassed (QueuedFrom w caller pair side) messages
   passed_from pair side [] all = tt
   passed_from pair side (m ∷ messages) all = (all 0 m refl, passed_from pair side messages (λ i m here. all (suc i) m here))
 
@@ -71,7 +73,9 @@ module _ (w : World) (p : ℕ) (s : ProcessState) (call : Syscall) (choice : Cho
       go None is = tt
       go (Some d) is = was_copied (record { process = p; state = s; call = call }) refl forks at is
 
-  entries_come : (table : TableChange) → MayTable w p s call table → (q n : ℕ) → IfHeld (ComesFrom w (Some (record { process = p; state = s; call = call })) q n) (table_after w.files.table p (length w.processes) choice table q n)
+  entries_come : (table : TableChange) → MayTable w p s call table → (q n : ℕ) →
+      IfHeld (ComesFrom w (Some (record { process = p; state = s; call = call })) q n)
+      (table_after w.files.table p (length w.processes) choice table q n)
   entries_come Same_table may q n = entry_stays w calling q n
   entries_come (Set_entry number d) may q n =
       at-place (λ q n o. IfHeld (ComesFrom w calling q n) o) w.files.table p number (Some d) (makes number d may) (entry_stays w calling) q n
@@ -89,11 +93,12 @@ module _ (w : World) (p : ℕ) (s : ProcessState) (call : Syscall) (choice : Cho
       put-cases (λ (row : ℕ → Option Descriptor). IfHeld (ComesFrom w calling q n) (row n)) w.files.table (length w.processes) (w.files.table p) q
       (λ at. copies may q n at) (λ _. entry_stays w calling q n)
 
-  sends : (pair side : ℕ) (o : Option Descriptor) → IfHeld (IsSent w p s call pair side) o → IfHeld (QueuedFrom w (Some (record { process = p; state = s; call = call })) pair side) o
+  sends : (pair side : ℕ) (o : Option Descriptor) → IfHeld (IsSent w p s (origin call) pair side) o → IfHeld (QueuedFrom w (Some (record { process = p; state = s; call = call })) pair side) o
   sends pair side None is = tt
   sends pair side (Some d) is = was_sent (record { process = p; state = s; call = call }) refl is
 
-  messages_come : (queue : QueueChange) → MayQueue w p s call queue → (pair side : ℕ) → EachPassed (QueuedFrom w (Some (record { process = p; state = s; call = call })) pair side) (queue_after w.files.queue queue pair side)
+  messages_come : (queue : QueueChange) → MayQueue w p s call queue → (pair side : ℕ) →
+      EachPassed (QueuedFrom w (Some (record { process = p; state = s; call = call })) pair side) (queue_after w.files.queue queue pair side)
   messages_come Same_queue may pair side = queue_waits w calling pair side
   messages_come (Push a b m) may pair side =
       at-place (λ x y ms. EachPassed (QueuedFrom w calling x y) ms) w.files.queue a b (w.files.queue a b ++ m ∷ [])
@@ -160,7 +165,9 @@ module _ (w : World) (e : Event) (choice : Choice) (caller : Option Caller) wher
           messages = queue_waits w caller;
         }
 
-    changed_gains : (call : Syscall) (value : ℕ) (change : Change) → caller ≡ Some (record { process = e.process; state = s; call = call }) → MayTable w e.process s call change.table → MayQueue w e.process s call change.queue → GainsNothing w e.process caller (changed w e.process (given s value change) choice change)
+    changed_gains : (call : Syscall) (value : ℕ) (change : Change) → caller ≡ Some (record { process = e.process; state = s; call = call }) →
+        MayTable w e.process s call change.table → MayQueue w e.process s call change.queue →
+        GainsNothing w e.process caller (changed w e.process (given s value change) choice change)
     unfolding changed files_after
     changed_gains call value change is table queue = record {
       modes = λ m.
@@ -170,7 +177,8 @@ module _ (w : World) (e : Event) (choice : Choice) (caller : Option Caller) wher
       messages = rw is (messages_come w e.process s call choice change.queue queue);
     }
 
-    answered_gains : (otherwise : ℕ) (call : Syscall) (a : Answer) → caller ≡ Some (record { process = e.process; state = s; call = call }) → answer w e.process s e call ≡ a → GainsNothing w e.process caller (answered w e.process s choice otherwise a).world
+    answered_gains : (otherwise : ℕ) (call : Syscall) (a : Answer) → caller ≡ Some (record { process = e.process; state = s; call = call }) →
+        answer w e.process s e call ≡ a → GainsNothing w e.process caller (answered w e.process s choice otherwise a).world
     unfolding answered
     answered_gains otherwise call (Fails errno cause) calls is = set_gains (failed s errno otherwise) (λ on. on)
     answered_gains otherwise call Waits calls is = same
@@ -205,7 +213,8 @@ module _ (w : World) (e : Event) (choice : Choice) (caller : Option Caller) wher
     by_gains programs false calls = same
     by_gains programs true calls = at_gains (slice_get (programs s.program) s.point) calls
 
-  of_gains : (programs : Programs) (o : Option ProcessState) → slice_get w.processes e.process ≡ o → caller ≡ calls programs e.process o → GainsNothing w e.process caller (stepped programs w e choice o).world
+  of_gains : (programs : Programs) (o : Option ProcessState) → slice_get w.processes e.process ≡ o → caller ≡ calls programs e.process o →
+      GainsNothing w e.process caller (stepped programs w e choice o).world
   unfolding stepped
   of_gains programs None there calls = same
   of_gains programs (Some s) there calls = by_gains s there programs s.alive calls

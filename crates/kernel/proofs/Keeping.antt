@@ -21,7 +21,7 @@ use Rattle.rights.specs.Limits.{most_processes}
 use Rattle.kernel.specs.Calls.{answer}
 use Rattle.kernel.specs.Changes.{table_after, second_number, given, processes_after, files_after, changed}
 use Rattle.kernel.specs.Steps.{Programs, register, with_register, moved_to, goes_on, with_process, halted, failed, answered, jumped, executed, stepped_at, stepped_by, stepped, step}
-use Rattle.kernel.specs.WellFormed.{ArePrograms, Numbering, HasNone, IsDescriptor, IsMade, IsPoint, IsProcess, IsWorld, IsWellFormed}
+use Rattle.kernel.specs.WellFormed.{ArePrograms, Numbering, HasNone, IsDescriptor, IsProcessIfMade, IsPoint, IsProcess, IsWorld, IsWellFormed}
 use Rattle.kernel.specs.Runs.{NextWorldExists, FreshNumbersExist}
 use Rattle.kernel.proofs.Brings.{ground, Known, BringsTable, Brings, Sound}
 use Rattle.kernel.proofs.Brought.{sound}
@@ -48,7 +48,7 @@ module _ (programs : Programs) (numbering : Numbering) (w : World) (good : IsWor
     tree = good.tree;
     some = omega (arith, length-set w.processes p t, good.some);
     few = omega (arith, length-set w.processes p t, good.few);
-    processes = λ m. slice_get-set_cases (IsMade programs) w.processes p t m (λ _. made) (good.processes m);
+    processes = λ m. slice_get-set_cases (IsProcessIfMade programs) w.processes p t m (λ _. made) (good.processes m);
     entries = good.entries;
     numbers = good.numbers;
     gone = λ m. slice_get-set_cases (λ o. HasNone o (w.files.table m)) w.processes p t m (λ _. alive_has t (w.files.table m) alive) (good.gone m);
@@ -67,7 +67,7 @@ module _ (programs : Programs) (numbering : Numbering) (w : World) (good : IsWor
         tree = good.tree;
         some = omega (arith, length-set w.processes p ended, good.some);
         few = omega (arith, length-set w.processes p ended, good.few);
-        processes = λ m. slice_get-set_cases (IsMade programs) w.processes p ended m (λ _. process_ended programs t made) (good.processes m);
+        processes = λ m. slice_get-set_cases (IsProcessIfMade programs) w.processes p ended m (λ _. process_ended programs t made) (good.processes m);
         entries = λ q n. put-cases (λ row. IfHeld (IsDescriptor w.tree numbering w.files.objects w.files.states) (row n)) w.files.table p closed q (λ _. tt) (λ _. good.entries q n);
         numbers = λ q n far. put-cases (λ row. row n ≡ None) w.files.table p closed q (λ _. refl) (λ _. good.numbers q n far);
         gone = λ q.
@@ -85,8 +85,10 @@ module _ (programs : Programs) (numbering : Numbering) (w : World) (good : IsWor
       none_at_all (Some s) = λ ended n. refl
 
 -- ## What a call changes
-module _ (programs : Programs) (numbering : Numbering) (w : World) (good : IsWorld programs numbering w) (p : ℕ) (s : ProcessState) (made : slice_get w.processes p ≡ Some s) (alive : s.alive ≡ true) (choice : Choice) where
-  gone_put : (number : ℕ) (o : Option Descriptor) (f : ℕ → ℕ → Option Descriptor) → ((q : ℕ) → HasNone (slice_get w.processes q) (f q)) → (q : ℕ) → HasNone (slice_get w.processes q) (put2 f p number o q)
+module _ (programs : Programs) (numbering : Numbering) (w : World) (good : IsWorld programs numbering w) (p : ℕ) (s : ProcessState)
+    (made : slice_get w.processes p ≡ Some s) (alive : s.alive ≡ true) (choice : Choice) where
+  gone_put : (number : ℕ) (o : Option Descriptor) (f : ℕ → ℕ → Option Descriptor) → ((q : ℕ) → HasNone (slice_get w.processes q) (f q)) → (q : ℕ) →
+      HasNone (slice_get w.processes q) (put2 f p number o q)
   gone_put number o f all q =
       put-cases (HasNone (slice_get w.processes q)) f p (put (f p) number o) q
       (λ same. subst (λ o'. HasNone o' (put (f p) number o)) (sym (ap (slice_get w.processes) same ∙ made)) (alive_has s (put (f p) number o) alive))
@@ -98,7 +100,8 @@ module _ (programs : Programs) (numbering : Numbering) (w : World) (good : IsWor
       subst (λ (xs : List ProcessState). HasNone (slice_get xs q) row) (sym (append-nil (slice_set w.processes p t)))
       (slice_get-set_cases (λ o. HasNone o row) w.processes p t q (λ _. alive_has t row living) old)
 
-  gone_later : (t : ProcessState) → t.alive ≡ true → (table : TableChange) (q : ℕ) → HasNone (slice_get (processes_after w.processes p t table) q) (table_after w.files.table p (length w.processes) choice table q)
+  gone_later : (t : ProcessState) → t.alive ≡ true → (table : TableChange) (q : ℕ) →
+      HasNone (slice_get (processes_after w.processes p t table) q) (table_after w.files.table p (length w.processes) choice table q)
   gone_later t living Same_table q = set_in t living (w.files.table q) q (good.gone q)
   gone_later t living (Set_entry number d) q = set_in t living (put2 w.files.table p number (Some d) q) q (gone_put number (Some d) w.files.table good.gone q)
   gone_later t living (Clear_entry number) q = set_in t living (put2 w.files.table p number None q) q (gone_put number None w.files.table good.gone q)
@@ -119,12 +122,12 @@ module _ (programs : Programs) (numbering : Numbering) (w : World) (good : IsWor
       slice_get-set_cases (λ o. HasNone o row) w.processes p t q (λ _. alive_has t row living)
       (subst (HasNone (slice_get w.processes q)) (sym (put-other w.files.table (length w.processes) (w.files.table p) q elsewhere)) (good.gone q)))
 
-  made_in : (t : ProcessState) → IsProcess programs t → (q : ℕ) → IsMade programs (slice_get (slice_set w.processes p t ++ []) q)
+  made_in : (t : ProcessState) → IsProcess programs t → (q : ℕ) → IsProcessIfMade programs (slice_get (slice_set w.processes p t ++ []) q)
   made_in t fine q =
-      subst (λ (xs : List ProcessState). IsMade programs (slice_get xs q)) (sym (append-nil (slice_set w.processes p t)))
-      (slice_get-set_cases (IsMade programs) w.processes p t q (λ _. fine) (good.processes q))
+      subst (λ (xs : List ProcessState). IsProcessIfMade programs (slice_get xs q)) (sym (append-nil (slice_set w.processes p t)))
+      (slice_get-set_cases (IsProcessIfMade programs) w.processes p t q (λ _. fine) (good.processes q))
 
-  processes_later : (t : ProcessState) → IsProcess programs t → (table : TableChange) (q : ℕ) → IsMade programs (slice_get (processes_after w.processes p t table) q)
+  processes_later : (t : ProcessState) → IsProcess programs t → (table : TableChange) (q : ℕ) → IsProcessIfMade programs (slice_get (processes_after w.processes p t table) q)
   processes_later t fine Same_table q = made_in t fine q
   processes_later t fine (Set_entry number d) q = made_in t fine q
   processes_later t fine (Clear_entry number) q = made_in t fine q
@@ -132,9 +135,9 @@ module _ (programs : Programs) (numbering : Numbering) (w : World) (good : IsWor
   processes_later t fine (New_pair first second class) q = made_in t fine q
   processes_later t fine New_process q =
       let zero_small : 0 < 2 ^ 32 = omega arith in
-      slice_get-more_cases (IsMade programs) (slice_set w.processes p t) (forked t) q
+      slice_get-more_cases (IsProcessIfMade programs) (slice_set w.processes p t) (forked t) q
       (λ _. process_with programs t 0 0 fine zero_small)
-      (λ _. slice_get-set_cases (IsMade programs) w.processes p t q (λ _. fine) (good.processes q))
+      (λ _. slice_get-set_cases (IsProcessIfMade programs) w.processes p t q (λ _. fine) (good.processes q))
 
   Few : List ProcessState → Type 0
   Few processes = (0 < length processes) × (length processes ≤ most_processes)
@@ -157,7 +160,9 @@ module _ (programs : Programs) (numbering : Numbering) (w : World) (good : IsWor
       (omega arith, omega (arith, brings))
 
   -- the process goes on, with the value and a pair's second number
-  given_process : (Good : Descriptor → Type 0) (tree : List Node) (made : ℕ) (value : ℕ) (mode : Bool) (table : TableChange) → BringsTable Good tree made table → IsProcess programs s → value < 2 ^ 32 → IsPoint (slice_get (programs s.program) (s.point + 1)) → IsProcess programs (record s { registers = second_number table (slice_set s.registers 0 value); point = s.point + 1; mode = mode })
+  given_process : (Good : Descriptor → Type 0) (tree : List Node) (made : ℕ) (value : ℕ) (mode : Bool) (table : TableChange) →
+      BringsTable Good tree made table → IsProcess programs s → value < 2 ^ 32 → IsPoint (slice_get (programs s.program) (s.point + 1)) →
+      IsProcess programs (record s { registers = second_number table (slice_set s.registers 0 value); point = s.point + 1; mode = mode })
   given_process Good tree made value mode Same_table brings fine small next = process_at programs s 0 value (s.point + 1) mode fine small next
   given_process Good tree made value mode (Set_entry number d) brings fine small next = process_at programs s 0 value (s.point + 1) mode fine small next
   given_process Good tree made value mode (Clear_entry number) brings fine small next = process_at programs s 0 value (s.point + 1) mode fine small next
@@ -168,11 +173,14 @@ module _ (programs : Programs) (numbering : Numbering) (w : World) (good : IsWor
       (process_at programs s 0 value (s.point + 1) mode fine small next) low
   given_process Good tree made value mode New_process brings fine small next = process_at programs s 0 value (s.point + 1) mode fine small next
 
-  kept-changed : IsFresh w.files choice → IsProcess programs s → IsPoint (slice_get (programs s.program) (s.point + 1)) → (value : ℕ) (change : Change) → Brings (ground numbering w (IsApart w.files choice)) value change → IsWorld programs (numbering_after numbering choice change.table) (changed w p (given s value change) choice change)
+  kept-changed : IsFresh w.files choice → IsProcess programs s → IsPoint (slice_get (programs s.program) (s.point + 1)) →
+      (value : ℕ) (change : Change) → Brings (ground numbering w (IsApart w.files choice)) value change →
+      IsWorld programs (numbering_after numbering choice change.table) (changed w p (given s value change) choice change)
   unfolding changed files_after Few
   kept-changed fresh fine next value change brings =
       let t : ProcessState = given s value change in
-      let is_process : IsProcess programs t = given_process (Known (ground numbering w (IsApart w.files choice))) _ (length w.processes) value t.mode change.table brings.table fine brings.small next in
+      let is_process : IsProcess programs t = given_process (Known (ground numbering w (IsApart w.files choice))) _
+      (length w.processes) value t.mode change.table brings.table fine brings.small next in
       let count = few_later (Known (ground numbering w (IsApart w.files choice))) _ t change.table brings.table in
       record {
         tree = brings.tree;
@@ -192,11 +200,14 @@ module _ (programs : Programs) (numbering : Numbering) (w : World) (good : IsWor
 number_small : (errno : Errno) → errno_number errno < 2 ^ 32
 number_small errno = let low : errno_number errno ≤ 94 = errno_number-le errno in omega arith
 
-module _ (programs : Programs) (valid : ArePrograms programs) (numbering : Numbering) (w : World) (good : IsWorld programs numbering w) (e : Event) (byte : IsEvent e) (choice : Choice) (fresh : IsFresh w.files choice) where
+module _ (programs : Programs) (valid : ArePrograms programs) (numbering : Numbering) (w : World) (good : IsWorld programs numbering w) (e : Event)
+    (byte : IsEvent e) (choice : Choice) (fresh : IsFresh w.files choice) where
   well : (v : World) → IsWorld programs numbering v → IsWellFormed programs v
   well v is = record { numbering = numbering; world = is }
 
-  kept-answered : (s : ProcessState) (otherwise : ℕ) (a : Answer) → slice_get w.processes e.process ≡ Some s → IsProcess programs s → s.alive ≡ true → IsPoint (slice_get (programs s.program) otherwise) → IsPoint (slice_get (programs s.program) (s.point + 1)) → Sound (ground numbering w (IsApart w.files choice)) a → IsWellFormed programs (answered w e.process s choice otherwise a).world
+  kept-answered : (s : ProcessState) (otherwise : ℕ) (a : Answer) → slice_get w.processes e.process ≡ Some s → IsProcess programs s → s.alive ≡ true →
+      IsPoint (slice_get (programs s.program) otherwise) → IsPoint (slice_get (programs s.program) (s.point + 1)) →
+      Sound (ground numbering w (IsApart w.files choice)) a → IsWellFormed programs (answered w e.process s choice otherwise a).world
   unfolding answered Sound
   kept-answered s otherwise (Fails errno cause) made fine alive label next brings =
       well _ (kept-process programs numbering w good e.process (failed s errno otherwise) (process_at programs s 7 (errno_number errno) otherwise s.mode fine (number_small errno) label) alive)
@@ -207,16 +218,21 @@ module _ (programs : Programs) (valid : ArePrograms programs) (numbering : Numbe
   }
 
   -- the process with a register set goes on
-  kept-set : (s : ProcessState) (i : Instruction) (r value : ℕ) → IsProcess programs s → s.alive ≡ true → IsPoint (slice_get (programs s.program) (s.point + 1)) → value < 2 ^ 32 → IsWellFormed programs (with_process w e.process (goes_on (with_register s r value)))
+  kept-set : (s : ProcessState) (i : Instruction) (r value : ℕ) → IsProcess programs s → s.alive ≡ true →
+      IsPoint (slice_get (programs s.program) (s.point + 1)) → value < 2 ^ 32 →
+      IsWellFormed programs (with_process w e.process (goes_on (with_register s r value)))
   kept-set s i r value fine alive next small =
       well _ (kept-process programs numbering w good e.process (goes_on (with_register s r value)) (process_at programs s r value (s.point + 1) s.mode fine small next) alive)
 
-  kept-jump : (s : ProcessState) (taken : Bool) (target : ℕ) → IsProcess programs s → s.alive ≡ true → IsPoint (slice_get (programs s.program) target) → IsPoint (slice_get (programs s.program) (s.point + 1)) → IsWellFormed programs (with_process w e.process (jumped s taken target))
+  kept-jump : (s : ProcessState) (taken : Bool) (target : ℕ) → IsProcess programs s → s.alive ≡ true →
+      IsPoint (slice_get (programs s.program) target) → IsPoint (slice_get (programs s.program) (s.point + 1)) →
+      IsWellFormed programs (with_process w e.process (jumped s taken target))
   unfolding jumped
   kept-jump s true target fine alive there next = well _ (kept-process programs numbering w good e.process (moved_to s target) (process_moved programs s target fine there) alive)
   kept-jump s false target fine alive there next = well _ (kept-process programs numbering w good e.process (goes_on s) (process_moved programs s (s.point + 1) fine next) alive)
 
-  kept-executed : (s : ProcessState) (i : Instruction) → slice_get w.processes e.process ≡ Some s → IsProcess programs s → s.alive ≡ true → Placed (programs s.program) s.point i → IsWellFormed programs (executed w e choice s i).world
+  kept-executed : (s : ProcessState) (i : Instruction) → slice_get w.processes e.process ≡ Some s → IsProcess programs s → s.alive ≡ true →
+      Placed (programs s.program) s.point i → IsWellFormed programs (executed w e choice s i).world
   unfolding executed
   kept-executed s (Set r value) made fine alive at =
       kept-set s (Set r value) r value fine alive (at.next refl) (ltb-true value (2 ^ 32) (both_right (is_register r) _ at.fits))
@@ -238,14 +254,21 @@ module _ (programs : Programs) (valid : ArePrograms programs) (numbering : Numbe
       kept-answered s otherwise (answer w e.process s e call) made fine alive
       (at.target otherwise (ltb-true otherwise _ (both_right (is_syscall call) _ at.fits))) (at.next refl)
       (sound programs (ground numbering w (IsApart w.files choice))
-      (record { good = good; entries = known_entries programs numbering w good choice fresh; messages = known_messages programs numbering w good choice fresh }) e.process s e call (both_left _ _ at.fits))
+      (record {
+        good = good;
+        entries = known_entries programs numbering w good choice fresh;
+        messages =
+            known_messages programs numbering w good choice fresh;
+      }) e.process s e call (both_left _ _ at.fits))
 
-  kept-at : (s : ProcessState) → slice_get w.processes e.process ≡ Some s → IsProcess programs s → s.alive ≡ true → (o : Option Instruction) → slice_get (programs s.program) s.point ≡ o → IsWellFormed programs (stepped_at w e choice s o).world
+  kept-at : (s : ProcessState) → slice_get w.processes e.process ≡ Some s → IsProcess programs s → s.alive ≡ true → (o : Option Instruction) →
+      slice_get (programs s.program) s.point ≡ o → IsWellFormed programs (stepped_at w e choice s o).world
   unfolding stepped_at
   kept-at s made fine alive None here = well w good
   kept-at s made fine alive (Some i) here = kept-executed s i made fine alive (placed (programs s.program) s.point i (valid s.program) here)
 
-  kept-by : (s : ProcessState) → slice_get w.processes e.process ≡ Some s → IsProcess programs s → (alive : Bool) → s.alive ≡ alive → IsWellFormed programs (stepped_by programs w e choice s alive).world
+  kept-by : (s : ProcessState) → slice_get w.processes e.process ≡ Some s → IsProcess programs s → (alive : Bool) → s.alive ≡ alive →
+      IsWellFormed programs (stepped_by programs w e choice s alive).world
   unfolding stepped_by
   kept-by s made fine false is = well w good
   kept-by s made fine true is = kept-at s made fine is (slice_get (programs s.program) s.point) refl
@@ -255,7 +278,7 @@ module _ (programs : Programs) (valid : ArePrograms programs) (numbering : Numbe
   unfolding step stepped
   kept = go (slice_get w.processes e.process) refl (good.processes e.process)
     where
-      go : (o : Option ProcessState) → slice_get w.processes e.process ≡ o → IsMade programs o → IsWellFormed programs (stepped programs w e choice o).world
+      go : (o : Option ProcessState) → slice_get w.processes e.process ≡ o → IsProcessIfMade programs o → IsWellFormed programs (stepped programs w e choice o).world
       go None made fine = well w good
       go (Some s) made fine = kept-by s made fine s.alive refl
 

@@ -9,7 +9,7 @@ use Rattle.rights.proofs.Changes.{put-cases, put2-cases, put-other}
 use Rattle.rights.proofs.Subsets.{is_within-refl}
 use Rattle.file_tree.specs.Nodes.{Node, node, is_link}
 use Rattle.rights.specs.Limits.{most_bytes, most_messages}
-use Rattle.fd_table.specs.Descriptions.{Access, Class, Object, At_node, At_end, State, Descriptor, Message, new_state, descriptor_of, IfHeld}
+use Rattle.fd_table.specs.Descriptions.{Access, PairClass, Object, At_node, At_end, State, Descriptor, Message, new_state, descriptor_of, IfHeld}
 use Rattle.fd_table.specs.OpenFiles.{is_end}
 use Rattle.kernel.specs.World.{World, Choice, IsFresh}
 use Rattle.kernel.specs.Answers.{TreeChange, TableChange, Same_table, Set_entry, Clear_entry, New_file, New_pair, New_process, QueueChange, Same_queue, Push, Pop, StateChange, Same_state, Set_state}
@@ -29,7 +29,7 @@ abbrev holder_after : (ℕ → ℕ → ℕ) → Choice → TableChange → ℕ �
 holder_after holder choice (New_pair first second class) = put holder choice.pair (ends_of choice.first choice.second)
 holder_after holder choice _ = holder
 
-abbrev class_after : (ℕ → Class) → Choice → TableChange → ℕ → Class
+abbrev class_after : (ℕ → PairClass) → Choice → TableChange → ℕ → PairClass
 class_after of choice (New_pair first second class) = put of choice.pair class
 class_after of choice _ = of
 
@@ -50,7 +50,7 @@ holder-kept holder choice (New_pair first second class) pair side other =
     ap (λ (row : ℕ → ℕ). row side) (put-other holder choice.pair (ends_of choice.first choice.second) pair other)
 holder-kept holder choice New_process pair side other = refl
 
-class-kept : (of : ℕ → Class) (choice : Choice) (table : TableChange) (pair : ℕ) → pair ≢ choice.pair → class_after of choice table pair ≡ of pair
+class-kept : (of : ℕ → PairClass) (choice : Choice) (table : TableChange) (pair : ℕ) → pair ≢ choice.pair → class_after of choice table pair ≡ of pair
 class-kept of choice Same_table pair other = refl
 class-kept of choice (Set_entry number d) pair other = refl
 class-kept of choice (Clear_entry number) pair other = refl
@@ -102,10 +102,11 @@ module _ (programs : Programs) (numbering : Numbering) (w : World) (good : IsWor
   near table state n brings old =
       state-near (new_states w.files.states choice table) state n brings (states-near w.files.states choice table n old)
 
-  other_pair : (q s : ℕ) (class : Class) → is_end choice.pair s (At_end q s class) ≡ false → q ≢ choice.pair
+  other_pair : (q s : ℕ) (class : PairClass) → is_end choice.pair s (At_end q s class) ≡ false → q ≢ choice.pair
   other_pair q s class none same = both_ways (is_end choice.pair s (At_end q s class)) none (rw (eq-eqb q choice.pair same, eq-eqb s s refl) refl)
 
-  still_object : (tree : TreeChange) (table : TableChange) (n : ℕ) (o : Object) → IsObject w.tree numbering n o → ((side : ℕ) → is_end choice.pair side o ≡ false) → IsObject (tree_after w.tree tree) (numbering_after numbering choice table) n o
+  still_object : (tree : TreeChange) (table : TableChange) (n : ℕ) (o : Object) → IsObject w.tree numbering n o →
+      ((side : ℕ) → is_end choice.pair side o ≡ false) → IsObject (tree_after w.tree tree) (numbering_after numbering choice table) n o
   still_object tree table n (At_node m access) fine ends = opened_kept w.tree tree m fine
   still_object tree table n (At_end q s class) fine ends =
       let below : q < numbering.pairs = fine.0 in
@@ -132,21 +133,27 @@ module _ (programs : Programs) (numbering : Numbering) (w : World) (good : IsWor
       }
 
   -- A new file is well formed, and so are both ends of a new pair.
-  new_file : (tree : TreeChange) (state : StateChange) (number n : ℕ) (access : Access) (append : Bool) (rights fcntls : ℕ) → BringsState state → is_link (node (tree_after w.tree tree) n).kind ≡ false → is_within rights all_rights ≡ true → is_within fcntls all_commands ≡ true → Later tree (New_file number n access append rights fcntls) state (descriptor_of choice.first rights fcntls)
+  new_file : (tree : TreeChange) (state : StateChange) (number n : ℕ) (access : Access) (append : Bool) (rights fcntls : ℕ) → BringsState state →
+      is_link (node (tree_after w.tree tree) n).kind ≡ false → is_within rights all_rights ≡ true → is_within fcntls all_commands ≡ true →
+      Later tree (New_file number n access append rights fcntls) state (descriptor_of choice.first rights fcntls)
   unfolding IsNear
   new_file tree state number n access append rights fcntls brings opened all also = record {
     number = omega arith;
     rights = all;
     fcntls = also;
     object =
-        put-cases (IsObject (tree_after w.tree tree) (numbering_after numbering choice (New_file number n access append rights fcntls)) choice.first) w.files.objects choice.first (At_node n access) choice.first
+        put-cases (IsObject (tree_after w.tree tree)
+        (numbering_after numbering choice (New_file number n access append rights fcntls)) choice.first) w.files.objects choice.first
+        (At_node n access) choice.first
         (λ _. opened) (λ other. absurd (other refl));
     offset =
         state-near (new_states w.files.states choice (New_file number n access append rights fcntls)) state choice.first brings
         (put-cases IsNear w.files.states choice.first (new_state append) choice.first (λ _. new-near append) (λ other. absurd (other refl)));
   }
 
-  end_of : (first second side : ℕ) (class : Class) (description : ℕ) → side < 2 → ends_of choice.first choice.second side ≡ description → (tree : TreeChange) → IsObject (tree_after w.tree tree) (numbering_after numbering choice (New_pair first second class)) description (At_end choice.pair side class)
+  end_of : (first second side : ℕ) (class : PairClass) (description : ℕ) → side < 2 → ends_of choice.first choice.second side ≡ description →
+      (tree : TreeChange) → IsObject (tree_after w.tree tree) (numbering_after numbering choice (New_pair first second class)) description
+      (At_end choice.pair side class)
   end_of first second side class description low is tree = (
     omega arith,
     low,
@@ -154,7 +161,8 @@ module _ (programs : Programs) (numbering : Numbering) (w : World) (good : IsWor
     put-cases (λ c. c ≡ class) numbering.class choice.pair class choice.pair (λ _. refl) (λ other. absurd (other refl)),
   )
 
-  new_first : (tree : TreeChange) (state : StateChange) (first second : ℕ) (class : Class) → BringsState state → Later tree (New_pair first second class) state (descriptor_of choice.first all_rights all_commands)
+  new_first : (tree : TreeChange) (state : StateChange) (first second : ℕ) (class : PairClass) → BringsState state →
+      Later tree (New_pair first second class) state (descriptor_of choice.first all_rights all_commands)
   unfolding IsNear
   new_first tree state first second class brings =
       let one : ℕ → Object = put w.files.objects choice.first (At_end choice.pair 0 class) in
@@ -173,7 +181,8 @@ module _ (programs : Programs) (numbering : Numbering) (w : World) (good : IsWor
             (λ _. put-cases IsNear w.files.states choice.first (new_state false) choice.first (λ _. new-near false) (λ other. absurd (other refl))));
       }
 
-  new_second : (tree : TreeChange) (state : StateChange) (first second : ℕ) (class : Class) → BringsState state → Later tree (New_pair first second class) state (descriptor_of choice.second all_rights all_commands)
+  new_second : (tree : TreeChange) (state : StateChange) (first second : ℕ) (class : PairClass) → BringsState state →
+      Later tree (New_pair first second class) state (descriptor_of choice.second all_rights all_commands)
   unfolding IsNear
   new_second tree state first second class brings =
       let one : ℕ → Object = put w.files.objects choice.first (At_end choice.pair 0 class) in
@@ -196,10 +205,13 @@ module _ (programs : Programs) (numbering : Numbering) (w : World) (good : IsWor
       held_map (Known (ground numbering w (IsApart w.files choice))) (Later tree table state) (still tree table state brings) (w.files.table q n)
       (known_entries programs numbering w good choice fresh q n)
 
-  pub entries_later : (p made : ℕ) (tree : TreeChange) (table : TableChange) (state : StateChange) → BringsTable (Known (ground numbering w (IsApart w.files choice))) (tree_after w.tree tree) made table → BringsState state → (q n : ℕ) → IfHeld (Later tree table state) (table_after w.files.table p made choice table q n)
+  pub entries_later : (p made : ℕ) (tree : TreeChange) (table : TableChange) (state : StateChange) →
+      BringsTable (Known (ground numbering w (IsApart w.files choice))) (tree_after w.tree tree) made table → BringsState state → (q n : ℕ) →
+      IfHeld (Later tree table state) (table_after w.files.table p made choice table q n)
   entries_later p made tree Same_table state brings near q n = old_entry tree Same_table state near q n
   entries_later p made tree (Set_entry number d) state brings near q n =
-      put2-cases (IfHeld (Later tree (Set_entry number d) state)) w.files.table p number (Some d) q n (still tree (Set_entry number d) state near d brings.1) (old_entry tree (Set_entry number d) state near q n)
+      put2-cases (IfHeld (Later tree (Set_entry number d) state)) w.files.table p number (Some d) q n
+      (still tree (Set_entry number d) state near d brings.1) (old_entry tree (Set_entry number d) state near q n)
   entries_later p made tree (Clear_entry number) state brings near q n =
       put2-cases (IfHeld (Later tree (Clear_entry number) state)) w.files.table p number None q n tt (old_entry tree (Clear_entry number) state near q n)
   entries_later p made tree (New_file number m access append rights fcntls) state brings near q n =
@@ -207,7 +219,9 @@ module _ (programs : Programs) (numbering : Numbering) (w : World) (good : IsWor
       (new_file tree state number m access append rights fcntls near brings.1 brings.2 brings.3)
       (old_entry tree (New_file number m access append rights fcntls) state near q n)
   entries_later p made tree (New_pair first second class) state brings near q n =
-      put2-cases (IfHeld (Later tree (New_pair first second class) state)) (put2 w.files.table p first (Some (descriptor_of choice.first all_rights all_commands))) p second (Some (descriptor_of choice.second all_rights all_commands)) q n
+      put2-cases (IfHeld (Later tree (New_pair first second class) state))
+      (put2 w.files.table p first (Some (descriptor_of choice.first all_rights all_commands))) p second
+      (Some (descriptor_of choice.second all_rights all_commands)) q n
       (new_second tree state first second class near)
       (put2-cases (IfHeld (Later tree (New_pair first second class) state)) w.files.table p first (Some (descriptor_of choice.first all_rights all_commands)) q n
       (new_first tree state first second class near) (old_entry tree (New_pair first second class) state near q n))
@@ -224,7 +238,8 @@ module _ (programs : Programs) (numbering : Numbering) (w : World) (good : IsWor
   none_cleared : (f : ℕ → ℕ → Option Descriptor) (p number : ℕ) (q n : ℕ) → f q n ≡ None → put2 f p number None q n ≡ None
   none_cleared f p number q n old = put2-cases (λ x. x ≡ None) f p number None q n refl old
 
-  pub numbers_later : (Good : Descriptor → Type 0) (tree : List Node) (p made : ℕ) (table : TableChange) → BringsTable Good tree made table → (q n : ℕ) → 16 ≤ n → table_after w.files.table p made choice table q n ≡ None
+  pub numbers_later : (Good : Descriptor → Type 0) (tree : List Node) (p made : ℕ) (table : TableChange) → BringsTable Good tree made table →
+      (q n : ℕ) → 16 ≤ n → table_after w.files.table p made choice table q n ≡ None
   numbers_later Good tree p made Same_table brings q n far = good.numbers q n far
   numbers_later Good tree p made (Set_entry number d) brings q n far =
       none_high w.files.table p number (Some d) brings.0 q n far (good.numbers q n far) (good.numbers p n far)
@@ -233,7 +248,8 @@ module _ (programs : Programs) (numbering : Numbering) (w : World) (good : IsWor
       none_high w.files.table p number (Some (descriptor_of choice.first rights fcntls)) brings.0 q n far (good.numbers q n far) (good.numbers p n far)
   numbers_later Good tree p made (New_pair first second class) brings q n far =
       let one : ℕ → ℕ → Option Descriptor = put2 w.files.table p first (Some (descriptor_of choice.first all_rights all_commands)) in
-      let none : (q : ℕ) → one q n ≡ None = λ q. none_high w.files.table p first (Some (descriptor_of choice.first all_rights all_commands)) brings.0 q n far (good.numbers q n far) (good.numbers p n far) in
+      let none : (q : ℕ) → one q n ≡ None = λ q. none_high w.files.table p first
+      (Some (descriptor_of choice.first all_rights all_commands)) brings.0 q n far (good.numbers q n far) (good.numbers p n far) in
       none_high one p second (Some (descriptor_of choice.second all_rights all_commands)) brings.1 q n far (none q) (none p)
   numbers_later Good tree p made New_process brings q n far =
       put-cases (λ (row : ℕ → Option Descriptor). row n ≡ None) w.files.table made (w.files.table p) q (λ _. good.numbers p n far) (λ _. good.numbers q n far)
@@ -252,7 +268,9 @@ module _ (programs : Programs) (numbering : Numbering) (w : World) (good : IsWor
   each_fewer P [] good = tt
   each_fewer P (k ∷ messages) good = good.2
 
-  pub messages_later : (tree : TreeChange) (table : TableChange) (state : StateChange) (change : QueueChange) → BringsState state → BringsQueue (Known (ground numbering w (IsApart w.files choice))) w.files.queue change → (pair side : ℕ) → EachMessage (Later tree table state) (queue_after w.files.queue change pair side)
+  pub messages_later : (tree : TreeChange) (table : TableChange) (state : StateChange) (change : QueueChange) → BringsState state →
+      BringsQueue (Known (ground numbering w (IsApart w.files choice))) w.files.queue change → (pair side : ℕ) →
+      EachMessage (Later tree table state) (queue_after w.files.queue change pair side)
   messages_later tree table state Same_queue near brings pair side = old_messages tree table state near pair side
   messages_later tree table state (Push q s m) near brings pair side =
       put2-cases (EachMessage (Later tree table state)) w.files.queue q s (w.files.queue q s ++ m ∷ []) pair side

@@ -1,7 +1,9 @@
 pub mod Samples
 pub mod Rows
 pub mod ProcessRows
+pub mod CauseWorlds
 pub mod CauseRows
+pub mod NameCauseRows
 pub mod Origins
 pub mod Trees
 pub mod Lookups

@@ -6,7 +6,7 @@ use Rattle.std.proofs.lemmas.Bool.{eqb-true, eq-eqb}
 use Rattle.rights.proofs.Tests.{either_one}
 use Rattle.fd_table.specs.Descriptions.{Object, At_node, At_end, Descriptor, Message, IfHeld}
 use Rattle.fd_table.specs.OpenFiles.{OpenFiles, is_end, names_end, any_below, is_open}
-use Rattle.kernel.specs.Renamings.{Renaming, SameDescription, EachNamed, SameFiles, renamed_object, renamed_entry, renamed_messages}
+use Rattle.kernel.specs.Renamings.{Renaming, SameObject, EachNamed, SameFiles, renamed_object, renamed_entry, renamed_messages}
 use Rattle.kernel.proofs.Fresh.{lt_or_le}
 
 -- two tests of which each passes where the other does
@@ -26,12 +26,15 @@ same_end : (f : Renaming) (pair side : ℕ) (o : Object) → is_end pair side o 
 same_end f pair side (At_node n access) = refl
 same_end f pair side (At_end p s class) = ap (λ b. b && (s == side)) (same_eqb f.pair f.pair_back f.pair_here p pair)
 
-same_names : (f : Renaming) (w v : OpenFiles) (pair side : ℕ) (o : Option Descriptor) → IfHeld (λ d. SameDescription f w v d.description) o → names_end w.objects pair side o ≡ names_end v.objects (f.pair pair) side (renamed_entry f o)
+same_names : (f : Renaming) (w v : OpenFiles) (pair side : ℕ) (o : Option Descriptor) → IfHeld (λ d. SameObject f w v d.description) o →
+    names_end w.objects pair side o ≡ names_end v.objects (f.pair pair) side (renamed_entry f o)
 same_names f w v pair side None same = refl
 same_names f w v pair side (Some d) same =
     same_end f pair side (w.objects d.description) ∙ ap (is_end (f.pair pair) side) (sym same.object)
 
-same_messages : (f : Renaming) (w v : OpenFiles) (pair side : ℕ) (messages : List Message) → EachNamed (SameDescription f w v) messages → list_any (λ (m : Message). names_end w.objects pair side m.passed) messages ≡ list_any (λ (m : Message). names_end v.objects (f.pair pair) side m.passed) (renamed_messages f messages)
+same_messages : (f : Renaming) (w v : OpenFiles) (pair side : ℕ) (messages : List Message) → EachNamed (SameObject f w v) messages →
+    list_any (λ (m : Message). names_end w.objects pair side m.passed) messages ≡ list_any
+    (λ (m : Message). names_end v.objects (f.pair pair) side m.passed) (renamed_messages f messages)
 same_messages f w v pair side [] same = refl
 same_messages f w v pair side (m ∷ messages) same =
     λ i. same_names f w v pair side m.passed same.0 i || same_messages f w v pair side messages same.1 i
@@ -91,7 +94,8 @@ module _ (f : Renaming) (w v : OpenFiles) (same : SameFiles f w v) where
       same_messages f w v pair side (w.queue q s) (same.messages q s)
       ∙ ap (list_any (λ (m : Message). names_end v.objects (f.pair pair) side m.passed)) (sym (same.queue q s)))
 
-  same_entries : (pair side : ℕ) → any_below 16 (λ p. any_below 16 (λ n. names_end w.objects pair side (w.table p n))) ≡ any_below 16 (λ p. any_below 16 (λ n. names_end v.objects (f.pair pair) side (v.table p n)))
+  same_entries : (pair side : ℕ) → any_below 16 (λ p. any_below 16 (λ n. names_end w.objects pair side (w.table p n))) ≡ any_below 16
+      (λ p. any_below 16 (λ n. names_end v.objects (f.pair pair) side (v.table p n)))
   same_entries pair side =
       below_same 16 _ _ (λ p. below_same 16 _ _ (λ n.
       same_names f w v pair side (w.table p n) (same.entries p n) ∙ ap (names_end v.objects (f.pair pair) side) (sym (same.table p n))))
@@ -111,7 +115,8 @@ in_use w pair side q idle some =
     clash : true ≡ false → ⊥
     clash h = cc
 
-pub same_open : (f : Renaming) (w v : OpenFiles) → SameFiles f w v → ((p s : ℕ) → w.pairs ≤ p → w.queue p s ≡ []) → ((p s : ℕ) → v.pairs ≤ p → v.queue p s ≡ []) → (pair side : ℕ) → is_open w pair side ≡ is_open v (f.pair pair) side
+pub same_open : (f : Renaming) (w v : OpenFiles) → SameFiles f w v → ((p s : ℕ) → w.pairs ≤ p → w.queue p s ≡ []) →
+    ((p s : ℕ) → v.pairs ≤ p → v.queue p s ≡ []) → (pair side : ℕ) → is_open w pair side ≡ is_open v (f.pair pair) side
 unfolding messages_in any_below
 same_open f w v same idle others_idle pair side =
     λ i. same_entries f w v same pair side i || same_queues i

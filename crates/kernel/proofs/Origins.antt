@@ -7,16 +7,19 @@ use Rattle.rights.specs.Sets.{all_rights, all_commands}
 use Rattle.rights.proofs.Subsets.{is_within-refl}
 use Rattle.rights.specs.Opens.{OpenRequest}
 use Rattle.file_tree.specs.Nodes.{Kind, File, Dir, Link, node}
-use Rattle.lookup.specs.Answers.{Way, Last, Fault, Escape, No_entry, Not_dir, Loop, Too_long, Bad_last, Beneath, Keep, Found_node, Found_free, Not_found}
+use Rattle.lookup.specs.Answers.{Way, Last, LookupFault, Escape, No_entry, Not_dir, Loop, Too_long, Bad_last, Beneath, Keep, Found_node, Found_free, Not_found}
 use Rattle.lookup.specs.Answers as lookups
 use Rattle.process.specs.State.{ProcessState}
-use Rattle.prog_asm.specs.Programs.{Syscall, Open, Openat, Read, Write, Sendfd, Recvfd, Lseek, Ftruncate, Fsync, Fstat, Fcntl_getfl, Fcntl_setfl, Fstatat, Stat, Mkdirat, Mkdir, Unlinkat, Unlink, Renameat, Dup, Close, Cap_rights_limit, Cap_fcntls_limit, Cap_enter, Cap_getmode, Socketpair, Fork}
-use Rattle.fd_table.specs.Descriptions.{Access, Class, Object, At_node, At_end, Descriptor, Message, other_side, descriptor_of, IfHeld}
+use Rattle.prog_asm.specs.Programs.{Syscall, Open, Openat, Read, Write, Sendfd, Recvfd, Lseek, Ftruncate, Fsync, Fstat, Fcntl_getfl, Fcntl_setfl, Fstatat, Stat, Mkdirat, Mkdir}
+use Rattle.prog_asm.specs.Programs.{Unlinkat, Unlink, Renameat, Dup, Close, Cap_rights_limit, Cap_fcntls_limit, Cap_enter, Cap_getmode, Socketpair, Fork}
+use Rattle.fd_table.specs.Descriptions.{Access, PairClass, Object, At_node, At_end, Descriptor, Message, other_side, descriptor_of, IfHeld}
 use Rattle.fd_table.specs.OpenFiles.{lowest_from, lowest_free}
 use Rattle.kernel.specs.World.{World}
-use Rattle.kernel.specs.Answers.{Event, Effect, TableChange, Same_table, Set_entry, Clear_entry, New_file, New_pair, New_process, QueueChange, Same_queue, Push, Pop, Change, Answer, Fails, Waits, Gives, unless, held, at_object, at_number, lookup_fails}
-use Rattle.kernel.specs.Calls.{looks, looks_twice, answer, opened, opened_as, read_byte, read_end, write_node, sent_end, received, receive_end, looked_at, made_directory, unlinked_as, unlinked, renamed_over, renamed_to, renamed_from, pair_at, blocked, in_directory, at_file}
-use Rattle.kernel.specs.Origins.{Caller, front_of, arriving_at, arriving, IsWithin, IsOwn, IsMade, IsEndOf, IsEnd, IsSent}
+use Rattle.kernel.specs.Answers.{Event, Effect, TableChange, Same_table, Set_entry, Clear_entry, New_file, New_pair, New_process, QueueChange, Same_queue, Push, Pop, Change}
+use Rattle.kernel.specs.Answers.{Answer, Fails, Waits, Gives, unless, held, at_object, at_number, lookup_fails}
+use Rattle.kernel.specs.Calls.{looks, looks_twice, answer, opened, opened_as, read_byte, read_end, write_node, sent_end, received, receive_end, stats_at, made_directory}
+use Rattle.kernel.specs.Calls.{unlinks_as, unlinks, renamed_over, renamed_to, renamed_from, pair_at, blocked, in_directory, at_file}
+use Rattle.kernel.specs.Origins.{Caller, front_of, arriving_at, arriving, origin, IsNoWider, IsOwn, IsMade, IsEndOf, IsEnd, IsSent}
 
 -- a number that is found free is
 unheld : (o : Option Descriptor) → is_some o ≡ false → o ≡ None
@@ -31,11 +34,11 @@ lowest_unheld (suc count) n row k is =
     (λ taken rest. lowest_unheld count (n + 1) row k rest)
     (λ free here. let same : n ≡ k = cc in subst (λ m. row m ≡ None) same (unheld (row n) free)) is
 
-within-refl : (d : Descriptor) (o : Option Descriptor) → o ≡ Some d → (description : ℕ) → IsWithin (descriptor_of description d.rights d.fcntls) o
-within-refl d o is description = subst (IsWithin (descriptor_of description d.rights d.fcntls)) (sym is) (is_within-refl d.rights, is_within-refl d.fcntls)
+within-refl : (d : Descriptor) (o : Option Descriptor) → o ≡ Some d → (description : ℕ) → IsNoWider (descriptor_of description d.rights d.fcntls) o
+within-refl d o is description = subst (IsNoWider (descriptor_of description d.rights d.fcntls)) (sym is) (is_within-refl d.rights, is_within-refl d.fcntls)
 
-within-itself : (d : Descriptor) (o : Option Descriptor) → o ≡ Some d → IsWithin d o
-within-itself d o is = subst (IsWithin d) (sym is) (is_within-refl d.rights, is_within-refl d.fcntls)
+within-itself : (d : Descriptor) (o : Option Descriptor) → o ≡ Some d → IsNoWider d o
+within-itself d o is = subst (IsNoWider d) (sym is) (is_within-refl d.rights, is_within-refl d.fcntls)
 
 module _ (w : World) (p : ℕ) (s : ProcessState) where
   abbrev pub caller : Syscall → Caller
@@ -53,7 +56,7 @@ module _ (w : World) (p : ℕ) (s : ProcessState) where
 
   abbrev pub MayQueue : Syscall → QueueChange → Type 0
   MayQueue call Same_queue = Unit {0}
-  MayQueue call (Push pair side m) = IfHeld (IsSent w p s call pair side) m.passed
+  MayQueue call (Push pair side m) = IfHeld (IsSent w p s (origin call) pair side) m.passed
   MayQueue call (Pop pair side) = Unit {0}
 
   unfoldable pub Fair : Syscall → Answer → Type 0
@@ -87,7 +90,9 @@ module _ (w : World) (p : ℕ) (s : ProcessState) where
   fair-held call None rest fair = fails call _ _
   fair-held call (Some d) rest fair = fair d refl
 
-  fair-object : (call : Syscall) (o : Object) (on_node : ℕ → Access → Answer) (on_end : ℕ → ℕ → Answer) → ((n : ℕ) (access : Access) → o ≡ At_node n access → Fair call (on_node n access)) → ((pair side : ℕ) (class : Class) → o ≡ At_end pair side class → Fair call (on_end pair side)) → Fair call (at_object o on_node on_end)
+  fair-object : (call : Syscall) (o : Object) (on_node : ℕ → Access → Answer) (on_end : ℕ → ℕ → Answer) →
+      ((n : ℕ) (access : Access) → o ≡ At_node n access → Fair call (on_node n access)) →
+      ((pair side : ℕ) (class : PairClass) → o ≡ At_end pair side class → Fair call (on_end pair side)) → Fair call (at_object o on_node on_end)
   unfolding at_object
   fair-object call (At_node n access) on_node on_end nodes ends = nodes n access refl
   fair-object call (At_end pair side class) on_node on_end nodes ends = ends pair side class refl
@@ -97,7 +102,7 @@ module _ (w : World) (p : ℕ) (s : ProcessState) where
   fair-number call None rest fair = fails call _ _
   fair-number call (Some n) rest fair = fair n refl
 
-  fair-lookup_fails : (call : Syscall) (fault : Fault) → Fair call (lookup_fails fault)
+  fair-lookup_fails : (call : Syscall) (fault : LookupFault) → Fair call (lookup_fails fault)
   fair-lookup_fails call Escape = fails call _ _
   fair-lookup_fails call No_entry = fails call _ _
   fair-lookup_fails call Not_dir = fails call _ _
@@ -122,7 +127,7 @@ module _ (w : World) (p : ℕ) (s : ProcessState) where
       fair-opened_as f n File =
           fair-number call _ _ (λ number is. fair-unless call _ _ _ _ (λ _. gives call _ _ _ (λ k. may number k (free number is)) tt))
 
-      fair-opened : (f : OpenRequest) (path : List ℕ) (found : lookups.Answer) → Fair call (opened w p s e f rights fcntls path found)
+      fair-opened : (f : OpenRequest) (path : List ℕ) (found : lookups.Finding) → Fair call (opened w p s e f rights fcntls path found)
       fair-opened f path (Not_found fault) = fair-lookup_fails call fault
       fair-opened f path (Found_free k) =
           fair-number call _ _ (λ number is. fair-unless call _ _ _ _ (λ _. fair-unless call _ _ _ _ (λ _. gives call _ _ _ (λ k. may number k (free number is)) tt)))
@@ -137,15 +142,19 @@ module _ (w : World) (p : ℕ) (s : ProcessState) where
     fair-read_end call d pair side (m ∷ messages) = gives call _ _ _ tt tt
 
     -- a message with what it carries
-    fair-sent : (call : Syscall) (d : Descriptor) (pair side : ℕ) (message : Message) → IfHeld (IsSent w p s call pair side) message.passed → Fair call (sent_end w p s e d.description pair side message)
+    fair-sent : (call : Syscall) (d : Descriptor) (pair side : ℕ) (message : Message) → IfHeld (IsSent w p s (origin call) pair side) message.passed →
+        Fair call (sent_end w p s e d.description pair side message)
     fair-sent call d pair side message sent =
         fair-unless call _ _ _ _ (λ _. fair-if call _ _ _ (gives call _ _ _ tt sent) (fair-blocked call _))
 
-    fair-received : (call : Syscall) (pair side number : ℕ) (o : Option Descriptor) → ((d : Descriptor) → o ≡ Some d → IsMade w (caller call) number d) → Fair call (received w p s e pair side number o)
+    fair-received : (call : Syscall) (pair side number : ℕ) (o : Option Descriptor) →
+        ((d : Descriptor) → o ≡ Some d → IsMade w (caller call) number d) → Fair call (received w p s e pair side number o)
     fair-received call pair side number None may = fails call _ _
     fair-received call pair side number (Some d) may = gives call _ _ _ (may d refl) tt
 
-    fair-receive_end : (call : Syscall) (d : Descriptor) (pair side number : ℕ) (messages : List Message) → ((carried : Descriptor) → front_of messages ≡ Some carried → IsMade w (caller call) number carried) → Fair call (receive_end w p s e d.description pair side number messages)
+    fair-receive_end : (call : Syscall) (d : Descriptor) (pair side number : ℕ) (messages : List Message) →
+        ((carried : Descriptor) → front_of messages ≡ Some carried → IsMade w (caller call) number carried) →
+        Fair call (receive_end w p s e d.description pair side number messages)
     fair-receive_end call d pair side number [] may = fair-unless call _ _ _ _ (λ _. fair-blocked call _)
     fair-receive_end call d pair side number (m ∷ messages) may = fair-received call pair side number m.passed may
 
@@ -153,29 +162,31 @@ module _ (w : World) (p : ℕ) (s : ProcessState) where
     fair-write_node call d n access byte =
         fair-unless call _ _ _ _ (λ _. fair-unless call _ _ _ _ (λ _. fair-unless call _ _ _ _ (λ _. fair-unless call _ _ _ _ (λ _. gives call _ _ _ tt tt))))
 
-    fair-looks : (call : Syscall) (start : ℕ) (way : Way) (path : List ℕ) (last : Last) (rest : lookups.Answer → Answer) → ((found : lookups.Answer) → Fair call (rest found)) → Fair call (looks w p s e start way path last rest)
+    fair-looks : (call : Syscall) (start : ℕ) (way : Way) (path : List ℕ) (last : Last) (rest : lookups.Finding → Answer) →
+        ((found : lookups.Finding) → Fair call (rest found)) → Fair call (looks w p s e start way path last rest)
     unfolding looks
     fair-looks call start way path last rest fair = fair _
 
-    fair-looks_twice : (call : Syscall) (n : ℕ) (from : List ℕ) (m : ℕ) (to : List ℕ) (rest : lookups.Answer → lookups.Answer → Answer) → ((found place : lookups.Answer) → Fair call (rest found place)) → Fair call (looks_twice w p s e n from m to rest)
+    fair-looks_twice : (call : Syscall) (n : ℕ) (from : List ℕ) (m : ℕ) (to : List ℕ) (rest : lookups.Finding → lookups.Finding → Answer) →
+        ((found place : lookups.Finding) → Fair call (rest found place)) → Fair call (looks_twice w p s e n from m to rest)
     unfolding looks_twice
     fair-looks_twice call n from m to rest fair = fair _ _
 
-    fair-looked_at : (call : Syscall) (found : lookups.Answer) → Fair call (looked_at w p s e found)
+    fair-looked_at : (call : Syscall) (found : lookups.Finding) → Fair call (stats_at w p s e found)
     fair-looked_at call (Not_found fault) = fair-lookup_fails call fault
     fair-looked_at call (Found_free d) = fails call _ _
     fair-looked_at call (Found_node n) = gives call _ _ _ tt tt
 
-    fair-made_directory : (call : Syscall) (path : List ℕ) (found : lookups.Answer) → Fair call (made_directory w p s e path found)
+    fair-made_directory : (call : Syscall) (path : List ℕ) (found : lookups.Finding) → Fair call (made_directory w p s e path found)
     fair-made_directory call path (Not_found fault) = fair-lookup_fails call fault
     fair-made_directory call path (Found_node n) = fails call _ _
     fair-made_directory call path (Found_free d) = fair-unless call _ _ _ _ (λ _. fair-unless call _ _ _ _ (λ _. gives call _ _ _ tt tt))
 
-    fair-unlinked_as : (call : Syscall) (directory : Bool) (n : ℕ) (rest : Answer) → Fair call rest → Fair call (unlinked_as w p s e directory n rest)
+    fair-unlinked_as : (call : Syscall) (directory : Bool) (n : ℕ) (rest : Answer) → Fair call rest → Fair call (unlinks_as w p s e directory n rest)
     fair-unlinked_as call true n rest fair = fair-unless call _ _ _ _ (λ _. fair-unless call _ _ _ _ (λ _. fair))
     fair-unlinked_as call false n rest fair = fair-unless call _ _ _ _ (λ _. fair)
 
-    fair-unlinked : (call : Syscall) (directory : Bool) (found : lookups.Answer) → Fair call (unlinked w p s e directory found)
+    fair-unlinked : (call : Syscall) (directory : Bool) (found : lookups.Finding) → Fair call (unlinks w p s e directory found)
     fair-unlinked call directory (Not_found fault) = fair-lookup_fails call fault
     fair-unlinked call directory (Found_free d) = fails call _ _
     fair-unlinked call directory (Found_node n) = fair-unlinked_as call directory n _ (gives call _ _ _ tt tt)
@@ -184,13 +195,13 @@ module _ (w : World) (p : ℕ) (s : ProcessState) where
     fair-renamed_over call n m =
         fair-unless call _ _ _ _ (λ _. fair-unless call _ _ _ _ (λ _. fair-unless call _ _ _ _ (λ _. fair-unless call _ _ _ _ (λ _. gives call _ _ _ tt tt))))
 
-    fair-renamed_to : (call : Syscall) (target : Descriptor) (n : ℕ) (path : List ℕ) (found : lookups.Answer) → Fair call (renamed_to w p s e call target n path found)
+    fair-renamed_to : (call : Syscall) (target : Descriptor) (n : ℕ) (path : List ℕ) (found : lookups.Finding) → Fair call (renamed_to w p s e call target n path found)
     fair-renamed_to call target n path (Not_found fault) = fair-lookup_fails call fault
     fair-renamed_to call target n path (Found_free d) = fair-unless call _ _ _ _ (λ _. gives call _ _ _ tt tt)
     fair-renamed_to call target n path (Found_node m) =
         fair-if call _ _ _ (gives call _ _ _ tt tt) (fair-unless call _ _ _ _ (λ _. fair-renamed_over call n m))
 
-    fair-renamed_from : (call : Syscall) (found : lookups.Answer) (rest : ℕ → Answer) → ((n : ℕ) → Fair call (rest n)) → Fair call (renamed_from w p s e found rest)
+    fair-renamed_from : (call : Syscall) (found : lookups.Finding) (rest : ℕ → Answer) → ((n : ℕ) → Fair call (rest n)) → Fair call (renamed_from w p s e found rest)
     fair-renamed_from call (Not_found fault) rest fair = fair-lookup_fails call fault
     fair-renamed_from call (Found_free d) rest fair = fails call _ _
     fair-renamed_from call (Found_node n) rest fair = fair n
@@ -251,17 +262,20 @@ module _ (w : World) (p : ℕ) (s : ProcessState) where
     fair (Fsync x) =
         fair-held (Fsync x) _ _ (λ d is. fair-unless (Fsync x) _ _ _ _ (λ _. fair-object (Fsync x) _ _ _ (λ n access at. gives (Fsync x) _ _ _ tt tt) (λ pair side class at. fails (Fsync x) _ _)))
     fair (Fstat x) =
-        fair-held (Fstat x) _ _ (λ d is. fair-unless (Fstat x) _ _ _ _ (λ _. fair-object (Fstat x) _ _ _ (λ n access at. gives (Fstat x) _ _ _ tt tt) (λ pair side class at. gives (Fstat x) _ _ _ tt tt)))
+        fair-held (Fstat x) _ _ (λ d is. fair-unless (Fstat x) _ _ _ _
+        (λ _. fair-object (Fstat x) _ _ _ (λ n access at. gives (Fstat x) _ _ _ tt tt) (λ pair side class at. gives (Fstat x) _ _ _ tt tt)))
     fair (Fcntl_getfl x) =
         fair-held (Fcntl_getfl x) _ _ (λ d is. fair-unless (Fcntl_getfl x) _ _ _ _ (λ _. fair-unless (Fcntl_getfl x) _ _ _ _ (λ _. gives (Fcntl_getfl x) _ _ _ tt tt)))
     fair (Fcntl_setfl x v) =
         fair-held (Fcntl_setfl x v) _ _ (λ d is. fair-unless (Fcntl_setfl x v) _ _ _ _ (λ _. fair-unless (Fcntl_setfl x v) _ _ _ _ (λ _.
         fair-unless (Fcntl_setfl x v) _ _ _ _ (λ _. gives (Fcntl_setfl x v) _ _ _ tt tt))))
     fair (Fstatat x path) =
-        fair-held (Fstatat x path) _ _ (λ d is. fair-unless (Fstatat x path) _ _ _ _ (λ _. fair-directory (Fstatat x path) d _ (λ n. fair-looks (Fstatat x path) _ _ _ _ _ (fair-looked_at (Fstatat x path)))))
+        fair-held (Fstatat x path) _ _ (λ d is. fair-unless (Fstatat x path) _ _ _ _
+        (λ _. fair-directory (Fstatat x path) d _ (λ n. fair-looks (Fstatat x path) _ _ _ _ _ (fair-looked_at (Fstatat x path)))))
     fair (Stat path) = fair-unless (Stat path) _ _ _ _ (λ _. fair-looks (Stat path) _ _ _ _ _ (fair-looked_at (Stat path)))
     fair (Mkdirat x path) =
-        fair-held (Mkdirat x path) _ _ (λ d is. fair-unless (Mkdirat x path) _ _ _ _ (λ _. fair-directory (Mkdirat x path) d _ (λ n. fair-looks (Mkdirat x path) _ _ _ _ _ (fair-made_directory (Mkdirat x path) path))))
+        fair-held (Mkdirat x path) _ _ (λ d is. fair-unless (Mkdirat x path) _ _ _ _
+        (λ _. fair-directory (Mkdirat x path) d _ (λ n. fair-looks (Mkdirat x path) _ _ _ _ _ (fair-made_directory (Mkdirat x path) path))))
     fair (Mkdir path) = fair-unless (Mkdir path) _ _ _ _ (λ _. fair-looks (Mkdir path) _ _ _ _ _ (fair-made_directory (Mkdir path) path))
     fair (Unlinkat x path directory) =
         fair-held (Unlinkat x path directory) _ _ (λ d is. fair-unless (Unlinkat x path directory) _ _ _ _ (λ _.
@@ -281,11 +295,11 @@ module _ (w : World) (p : ℕ) (s : ProcessState) where
     fair (Cap_rights_limit x rights) =
         fair-held (Cap_rights_limit x rights) _ _ (λ d is. fair-unless (Cap_rights_limit x rights) _ _ _ _ (λ within.
         gives (Cap_rights_limit x rights) _ _ _
-        (record { place = refl; comes = inl (subst (IsWithin (record d { rights = rights })) (sym is) (within, is_within-refl d.fcntls)) }) tt))
+        (record { place = refl; comes = inl (subst (IsNoWider (record d { rights = rights })) (sym is) (within, is_within-refl d.fcntls)) }) tt))
     fair (Cap_fcntls_limit x commands) =
         fair-held (Cap_fcntls_limit x commands) _ _ (λ d is. fair-unless (Cap_fcntls_limit x commands) _ _ _ _ (λ within.
         gives (Cap_fcntls_limit x commands) _ _ _
-        (record { place = refl; comes = inl (subst (IsWithin (record d { fcntls = commands })) (sym is) (is_within-refl d.rights, within)) }) tt))
+        (record { place = refl; comes = inl (subst (IsNoWider (record d { fcntls = commands })) (sym is) (is_within-refl d.rights, within)) }) tt))
     fair Cap_enter = gives Cap_enter _ _ _ tt tt
     fair Cap_getmode = gives Cap_getmode _ _ _ tt tt
     fair Socketpair = fair-pair (lowest_free (w.files.table p)) refl

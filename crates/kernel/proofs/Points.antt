@@ -54,7 +54,9 @@ pub small-set : (registers : List ℕ) (r value : ℕ) → value < 2 ^ 32 → ((
 small-set registers r value small all k = slice_get-set_cases FitsRegister registers r value k (λ _. small) (all k)
 
 -- the process with a register set, at another point of its program, in either mode
-pub process_at : (programs : Programs) (s : ProcessState) (r value point : ℕ) (mode : Bool) → IsProcess programs s → value < 2 ^ 32 → IsPoint (slice_get (programs s.program) point) → IsProcess programs (record s { registers = slice_set s.registers r value; point = point; mode = mode })
+pub process_at : (programs : Programs) (s : ProcessState) (r value point : ℕ) (mode : Bool) → IsProcess programs s → value < 2 ^ 32 →
+    IsPoint (slice_get (programs s.program) point) →
+    IsProcess programs (record s { registers = slice_set s.registers r value; point = point; mode = mode })
 process_at programs s r value point mode good small there = record {
   placed = λ alive. there;
   eight = length-set s.registers r value ∙ good.eight;

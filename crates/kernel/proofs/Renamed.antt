@@ -7,17 +7,20 @@ use Rattle.rights.specs.Operations.{Read as Reads, Write as Writes}
 use Rattle.rights.specs.Opens.{OpenRequest}
 use Rattle.file_tree.specs.Nodes.{Kind, File, Dir, Link, node}
 use Rattle.file_tree.specs.Changes.{written}
-use Rattle.lookup.specs.Answers.{Way, Last, Fault, Escape, No_entry, Not_dir, Loop, Too_long, Bad_last, Beneath, Global, Follow, Keep, Found_node, Found_free, Not_found}
+use Rattle.lookup.specs.Answers.{Way, Last, LookupFault, Escape, No_entry, Not_dir, Loop, Too_long, Bad_last, Beneath, Global, Follow, Keep, Found_node, Found_free, Not_found}
 use Rattle.lookup.specs.Answers as lookups
 use Rattle.process.specs.State.{ProcessState}
-use Rattle.prog_asm.specs.Programs.{Syscall, Open, Openat, Read, Write, Sendfd, Recvfd, Lseek, Ftruncate, Fsync, Fstat, Fcntl_getfl, Fcntl_setfl, Fstatat, Stat, Mkdirat, Mkdir, Unlinkat, Unlink, Renameat, Dup, Close, Cap_rights_limit, Cap_fcntls_limit, Cap_enter, Cap_getmode, Socketpair, Fork}
+use Rattle.prog_asm.specs.Programs.{Syscall, Open, Openat, Read, Write, Sendfd, Recvfd, Lseek, Ftruncate, Fsync, Fstat, Fcntl_getfl, Fcntl_setfl, Fstatat, Stat, Mkdirat, Mkdir}
+use Rattle.prog_asm.specs.Programs.{Unlinkat, Unlink, Renameat, Dup, Close, Cap_rights_limit, Cap_fcntls_limit, Cap_enter, Cap_getmode, Socketpair, Fork}
 use Rattle.fd_table.specs.Descriptions.{Access, Made_at, Object, At_node, At_end, State, Descriptor, Message, other_side, status_number, with_status, IfHeld}
 use Rattle.fd_table.specs.OpenFiles.{OpenFiles, is_open, lowest_from, lowest_free}
 use Rattle.kernel.specs.World.{World}
-use Rattle.kernel.specs.Answers.{Event, Effect, TableChange, Same_table, Set_entry, Clear_entry, New_file, New_pair, New_process, QueueChange, Same_queue, Push, Pop, StateChange, Same_state, Set_state, Fill, Change, Answer, Fails, Waits, Gives, same, gives, does, unless, held, at_object, at_number, lookup_fails, value_of}
+use Rattle.kernel.specs.Answers.{Event, Effect, TableChange, Same_table, Set_entry, Clear_entry, New_file, New_pair, New_process, QueueChange, Same_queue, Push, Pop, StateChange}
+use Rattle.kernel.specs.Answers.{Same_state, Set_state, Fill, Change, Answer, Fails, Waits, Gives, same, gives, does, unless, held, at_object, at_number, lookup_fails, value_of}
 use Rattle.rights.specs.Limits.{most_messages}
-use Rattle.kernel.specs.Calls.{looks, looks_twice, answer, opened, opened_as, read_byte, read_node, read_end, write_node, write_at, write_offset, sent_end, received, receive_end, looked_at, made_directory, unlinked, renamed_to, renamed_from, pair_at, blocked, in_directory, at_file, at_socket}
-use Rattle.kernel.specs.Renamings.{Renaming, SameDescription, SameFiles, renamed_object, renamed_descriptor, renamed_entry, renamed_message, renamed_messages}
+use Rattle.kernel.specs.Calls.{looks, looks_twice, answer, opened, opened_as, read_byte, read_node, read_end, write_node, write_at, write_offset, sent_end, received, receive_end}
+use Rattle.kernel.specs.Calls.{stats_at, made_directory, unlinks, renamed_to, renamed_from, pair_at, blocked, in_directory, at_file, at_socket}
+use Rattle.kernel.specs.Renamings.{Renaming, SameObject, SameFiles, renamed_object, renamed_descriptor, renamed_entry, renamed_message, renamed_messages}
 
 -- A change, and an answer, under the other numbers.
 abbrev pub renamed_table : Renaming → TableChange → TableChange
@@ -83,7 +86,7 @@ module _ (r : Renaming) where
   both-if true a b c d first second = first
   both-if false a b c d first second = second
 
-  both-lookup_fails : (fault : Fault) → Matches r (lookup_fails fault) (lookup_fails fault)
+  both-lookup_fails : (fault : LookupFault) → Matches r (lookup_fails fault) (lookup_fails fault)
   both-lookup_fails Escape = fails _ _
   both-lookup_fails No_entry = fails _ _
   both-lookup_fails Not_dir = fails _ _
@@ -112,19 +115,25 @@ module _ (r : Renaming) where
   length-same (m ∷ messages) = ap suc (length-same messages)
 
 -- ## In two such worlds, of one tree and the twin processes
-module _ (r : Renaming) (w : World) (g : OpenFiles) (alike : SameFiles r w.files g) (opens : (pair side : ℕ) → is_open w.files pair side ≡ is_open g (r.pair pair) side) (p : ℕ) (s : ProcessState) (e : Event) where
+module _ (r : Renaming) (w : World) (g : OpenFiles) (alike : SameFiles r w.files g) (opens : (pair side : ℕ) →
+    is_open w.files pair side ≡ is_open g (r.pair pair) side) (p : ℕ) (s : ProcessState) (e : Event) where
   abbrev other : World
   other = record { tree = w.tree; files = g; processes = w.processes }
 
-  both-entry : (n : ℕ) (rest more : Descriptor → Answer) → ((d : Descriptor) → SameDescription r w.files g d.description → Matches r (rest d) (more (renamed_descriptor r d))) → Matches r (held (w.files.table p n) rest) (held (g.table p n) more)
+  both-entry : (n : ℕ) (rest more : Descriptor → Answer) →
+      ((d : Descriptor) → SameObject r w.files g d.description → Matches r (rest d) (more (renamed_descriptor r d))) →
+      Matches r (held (w.files.table p n) rest) (held (g.table p n) more)
   unfolding held
   both-entry n rest more is = along_path r _ _ _ (ap (λ o. held o more) (alike.table p n)) (go (w.files.table p n) (alike.entries p n))
     where
-      go : (o : Option Descriptor) → IfHeld (λ d. SameDescription r w.files g d.description) o → Matches r (held o rest) (held (renamed_entry r o) more)
+      go : (o : Option Descriptor) → IfHeld (λ d. SameObject r w.files g d.description) o → Matches r (held o rest) (held (renamed_entry r o) more)
       go None twin = fails r _ _
       go (Some d) twin = is d twin
 
-  both-object : (d : Descriptor) → SameDescription r w.files g d.description → (on_node on_other : ℕ → Access → Answer) (on_end on_more : ℕ → ℕ → Answer) → ((n : ℕ) (access : Access) → Matches r (on_node n access) (on_other n access)) → ((pair side : ℕ) → Matches r (on_end pair side) (on_more (r.pair pair) side)) → Matches r (at_object (w.files.objects d.description) on_node on_end) (at_object (g.objects (r.description d.description)) on_other on_more)
+  both-object : (d : Descriptor) → SameObject r w.files g d.description → (on_node on_other : ℕ → Access → Answer) (on_end on_more : ℕ → ℕ → Answer) →
+      ((n : ℕ) (access : Access) → Matches r (on_node n access) (on_other n access)) →
+      ((pair side : ℕ) → Matches r (on_end pair side) (on_more (r.pair pair) side)) →
+      Matches r (at_object (w.files.objects d.description) on_node on_end) (at_object (g.objects (r.description d.description)) on_other on_more)
   unfolding at_object
   both-object d twin on_node on_other on_end on_more nodes ends =
       along_path r _ _ _ (ap (λ o. at_object o on_other on_more) twin.object) (go (w.files.objects d.description))
@@ -138,15 +147,20 @@ module _ (r : Renaming) (w : World) (g : OpenFiles) (alike : SameFiles r w.files
       along_path r _ _ _ (ap (λ o. at_number o more) (free-same r 16 0 (w.files.table p) (g.table p) (alike.table p)))
       (both-number r (lowest_free (w.files.table p)) rest more (λ n free. is n))
 
-  both-directory : (d : Descriptor) → SameDescription r w.files g d.description → (rest more : ℕ → Answer) → ((n : ℕ) → Matches r (rest n) (more n)) → Matches r (in_directory w p s e d.description rest) (in_directory other p s e (renamed_descriptor r d).description more)
+  both-directory : (d : Descriptor) → SameObject r w.files g d.description → (rest more : ℕ → Answer) → ((n : ℕ) → Matches r (rest n) (more n)) →
+      Matches r (in_directory w p s e d.description rest) (in_directory other p s e (renamed_descriptor r d).description more)
   both-directory d twin rest more is =
       both-object d twin _ _ _ _ (λ n access. both-unless r _ _ _ _ _ (is n)) (λ pair side. fails r _ _)
 
-  both-file : (d : Descriptor) → SameDescription r w.files g d.description → (rest more : ℕ → Access → Answer) → ((n : ℕ) (access : Access) → Matches r (rest n access) (more n access)) → Matches r (at_file w p s e d.description rest) (at_file other p s e (renamed_descriptor r d).description more)
+  both-file : (d : Descriptor) → SameObject r w.files g d.description → (rest more : ℕ → Access → Answer) →
+      ((n : ℕ) (access : Access) → Matches r (rest n access) (more n access)) →
+      Matches r (at_file w p s e d.description rest) (at_file other p s e (renamed_descriptor r d).description more)
   both-file d twin rest more is =
       both-object d twin _ _ _ _ (λ n access. both-unless r _ _ _ _ _ (is n access)) (λ pair side. fails r _ _)
 
-  both-socket : (d : Descriptor) → SameDescription r w.files g d.description → (rest more : ℕ → ℕ → Answer) → ((pair side : ℕ) → Matches r (rest pair side) (more (r.pair pair) side)) → Matches r (at_socket w p s e d.description rest) (at_socket other p s e (renamed_descriptor r d).description more)
+  both-socket : (d : Descriptor) → SameObject r w.files g d.description → (rest more : ℕ → ℕ → Answer) →
+      ((pair side : ℕ) → Matches r (rest pair side) (more (r.pair pair) side)) →
+      Matches r (at_socket w p s e d.description rest) (at_socket other p s e (renamed_descriptor r d).description more)
   both-socket d twin rest more is = both-object d twin _ _ _ _ (λ n access. fails r _ _) is
 
   both-blocked : (nonblock : Bool) → Matches r (blocked w p s e nonblock) (blocked w p s e nonblock)
@@ -154,28 +168,40 @@ module _ (r : Renaming) (w : World) (g : OpenFiles) (alike : SameFiles r w.files
   both-blocked false = waits r
 
   -- ## Reads and writes
-  both-byte : (d : Descriptor) → SameDescription r w.files g d.description → (place : List (List ℕ)) (o : Option ℕ) → Matches r (read_byte w p s e d.description place o) (read_byte other p s e (renamed_descriptor r d).description place o)
+  both-byte : (d : Descriptor) → SameObject r w.files g d.description → (place : List (List ℕ)) (o : Option ℕ) →
+      Matches r (read_byte w p s e d.description place o) (read_byte other p s e (renamed_descriptor r d).description place o)
   both-byte d twin place None = given r _ _ _
   both-byte d twin place (Some byte) =
       along_path r _ _ _
       (ap (λ (state : State). Gives byte (record same { state = Set_state (r.description d.description) (record state { offset = state.offset + 1 }) }) (does Reads place)) twin.state)
       (given r byte (record same { state = Set_state d.description (record (w.files.states d.description) { offset = (w.files.states d.description).offset + 1 }) }) (does Reads place))
 
-  both-read_node : (d : Descriptor) → SameDescription r w.files g d.description → (n : ℕ) (access : Access) → Matches r (read_node w p s e d.description n access) (read_node other p s e (renamed_descriptor r d).description n access)
+  both-read_node : (d : Descriptor) → SameObject r w.files g d.description → (n : ℕ) (access : Access) →
+      Matches r (read_node w p s e d.description n access) (read_node other p s e (renamed_descriptor r d).description n access)
   both-read_node d twin n access =
       both-unless r _ _ _ _ _ (both-unless r _ _ _ _ _
       (along_path r _ _ _
       (ap (λ (state : State). read_byte other p s e (renamed_descriptor r d).description (node w.tree n).place (slice_get (node w.tree n).content state.offset)) twin.state)
       (both-byte d twin (node w.tree n).place (slice_get (node w.tree n).content (w.files.states d.description).offset))))
 
-  both-write_at : (d : Descriptor) → SameDescription r w.files g d.description → (n offset byte : ℕ) → Matches r (write_at w p s e d.description n offset byte) (write_at other p s e (renamed_descriptor r d).description n offset byte)
+  both-write_at : (d : Descriptor) → SameObject r w.files g d.description → (n offset byte : ℕ) →
+      Matches r (write_at w p s e d.description n offset byte) (write_at other p s e (renamed_descriptor r d).description n offset byte)
   both-write_at d twin n offset byte =
       both-unless r _ _ _ _ _ (both-unless r _ _ _ _ _
       (along_path r _ _ _
-      (ap (λ (state : State). Gives 1 (record same { tree = Fill n (written (node w.tree n).content offset byte); state = Set_state (r.description d.description) (record state { offset = offset + 1 }) }) (does Writes (node w.tree n).place)) twin.state)
-      (given r 1 (record same { tree = Fill n (written (node w.tree n).content offset byte); state = Set_state d.description (record (w.files.states d.description) { offset = offset + 1 }) }) (does Writes (node w.tree n).place))))
+      (ap (λ (state : State). Gives 1 (record same {
+        tree = Fill n (written (node w.tree n).content offset byte);
+        state = Set_state
+            (r.description d.description) (record state { offset = offset + 1 });
+      }) (does Writes (node w.tree n).place)) twin.state)
+      (given r 1 (record same {
+        tree = Fill n (written (node w.tree n).content offset byte);
+        state = Set_state d.description
+            (record (w.files.states d.description) { offset = offset + 1 });
+      }) (does Writes (node w.tree n).place))))
 
-  both-write_node : (d : Descriptor) → SameDescription r w.files g d.description → (n : ℕ) (access : Access) (byte : ℕ) → Matches r (write_node w p s e d.description n access byte) (write_node other p s e (renamed_descriptor r d).description n access byte)
+  both-write_node : (d : Descriptor) → SameObject r w.files g d.description → (n : ℕ) (access : Access) (byte : ℕ) →
+      Matches r (write_node w p s e d.description n access byte) (write_node other p s e (renamed_descriptor r d).description n access byte)
   both-write_node d twin n access byte =
       both-unless r _ _ _ _ _ (both-unless r _ _ _ _ _
       (along_path r _ _ _
@@ -188,7 +214,9 @@ module _ (r : Renaming) (w : World) (g : OpenFiles) (alike : SameFiles r w.files
       unless there EPIPE Refused
       (cond (nat_lt count most_messages) (Gives 1 (record same { queue = Push pair side m }) []) (blocked w p s e nonblock))
 
-  both-sent : (d : Descriptor) → SameDescription r w.files g d.description → (pair side : ℕ) (m : Message) → Matches r (sent_end w p s e d.description pair side m) (sent_end other p s e (renamed_descriptor r d).description (r.pair pair) side (renamed_message r m))
+  both-sent : (d : Descriptor) → SameObject r w.files g d.description → (pair side : ℕ) (m : Message) →
+      Matches r (sent_end w p s e d.description pair side m)
+      (sent_end other p s e (renamed_descriptor r d).description (r.pair pair) side (renamed_message r m))
   both-sent d twin pair side m =
       let there : is_open g (r.pair pair) (other_side side) ≡ is_open w.files pair (other_side side) = sym (opens pair (other_side side)) in
       let count : length (g.queue (r.pair pair) side) ≡ length (w.files.queue pair side) = ap length (alike.queue pair side) ∙ length-same r (w.files.queue pair side) in
@@ -198,7 +226,9 @@ module _ (r : Renaming) (w : World) (g : OpenFiles) (alike : SameFiles r w.files
       (λ i. send_with (there i) (count i) (twin.state i).nonblock (r.pair pair) side (renamed_message r m))
       (both-unless r _ _ _ _ _ (both-if r (nat_lt (length (w.files.queue pair side)) most_messages) _ _ _ _ (given r 1 _ []) (both-blocked (w.files.states d.description).nonblock)))
 
-  both-read_end : (d : Descriptor) → SameDescription r w.files g d.description → (pair side : ℕ) (messages : List Message) → Matches r (read_end w p s e d.description pair side messages) (read_end other p s e (renamed_descriptor r d).description (r.pair pair) side (renamed_messages r messages))
+  both-read_end : (d : Descriptor) → SameObject r w.files g d.description → (pair side : ℕ) (messages : List Message) →
+      Matches r (read_end w p s e d.description pair side messages)
+      (read_end other p s e (renamed_descriptor r d).description (r.pair pair) side (renamed_messages r messages))
   both-read_end d twin pair side [] =
       along_path r _ _ _
       (λ i. cond (sym (opens pair (other_side side)) i) (blocked w p s e (twin.state i).nonblock) (gives 256))
@@ -209,7 +239,9 @@ module _ (r : Renaming) (w : World) (g : OpenFiles) (alike : SameFiles r w.files
   both-received pair side number None = fails r _ _
   both-received pair side number (Some d) = given r _ _ _
 
-  both-receive_end : (d : Descriptor) → SameDescription r w.files g d.description → (pair side number : ℕ) (messages : List Message) → Matches r (receive_end w p s e d.description pair side number messages) (receive_end other p s e (renamed_descriptor r d).description (r.pair pair) side number (renamed_messages r messages))
+  both-receive_end : (d : Descriptor) → SameObject r w.files g d.description → (pair side number : ℕ) (messages : List Message) →
+      Matches r (receive_end w p s e d.description pair side number messages)
+      (receive_end other p s e (renamed_descriptor r d).description (r.pair pair) side number (renamed_messages r messages))
   both-receive_end d twin pair side number [] =
       along_path r _ _ _
       (λ i. unless (sym (opens pair (other_side side)) i) EINVAL Refused (blocked w p s e (twin.state i).nonblock))
@@ -222,43 +254,48 @@ module _ (r : Renaming) (w : World) (g : OpenFiles) (alike : SameFiles r w.files
   both-opened_as f rights fcntls n Dir = both-unless r _ _ _ _ _ (both-free _ _ (λ number. both-unless r _ _ _ _ _ (given r _ _ _)))
   both-opened_as f rights fcntls n File = both-free _ _ (λ number. both-unless r _ _ _ _ _ (given r _ _ _))
 
-  both-opened : (f : OpenRequest) (rights fcntls : ℕ) (path : List ℕ) (found : lookups.Answer) → Matches r (opened w p s e f rights fcntls path found) (opened other p s e f rights fcntls path found)
+  both-opened : (f : OpenRequest) (rights fcntls : ℕ) (path : List ℕ) (found : lookups.Finding) → Matches r (opened w p s e f rights fcntls path found) (opened other p s e f rights fcntls path found)
   both-opened f rights fcntls path (Not_found fault) = both-lookup_fails r fault
   both-opened f rights fcntls path (Found_free d) = both-free _ _ (λ number. both-unless r _ _ _ _ _ (both-unless r _ _ _ _ _ (given r _ _ _)))
   both-opened f rights fcntls path (Found_node n) = both-opened_as f rights fcntls n (node w.tree n).kind
 
-  both-looks : (start : ℕ) (way : Way) (path : List ℕ) (last : Last) (rest more : lookups.Answer → Answer) → ((found : lookups.Answer) → Matches r (rest found) (more found)) → Matches r (looks w p s e start way path last rest) (looks other p s e start way path last more)
+  both-looks : (start : ℕ) (way : Way) (path : List ℕ) (last : Last) (rest more : lookups.Finding → Answer) →
+      ((found : lookups.Finding) → Matches r (rest found) (more found)) →
+      Matches r (looks w p s e start way path last rest) (looks other p s e start way path last more)
   unfolding looks
   both-looks start way path last rest more is = is _
 
-  both-looks_twice : (n : ℕ) (from : List ℕ) (m : ℕ) (to : List ℕ) (rest more : lookups.Answer → lookups.Answer → Answer) → ((found place : lookups.Answer) → Matches r (rest found place) (more found place)) → Matches r (looks_twice w p s e n from m to rest) (looks_twice other p s e n from m to more)
+  both-looks_twice : (n : ℕ) (from : List ℕ) (m : ℕ) (to : List ℕ) (rest more : lookups.Finding → lookups.Finding → Answer) →
+      ((found place : lookups.Finding) → Matches r (rest found place) (more found place)) →
+      Matches r (looks_twice w p s e n from m to rest) (looks_twice other p s e n from m to more)
   unfolding looks_twice
   both-looks_twice n from m to rest more is = is _ _
 
-  both-looked_at : (found : lookups.Answer) → Matches r (looked_at w p s e found) (looked_at other p s e found)
+  both-looked_at : (found : lookups.Finding) → Matches r (stats_at w p s e found) (stats_at other p s e found)
   both-looked_at (Not_found fault) = both-lookup_fails r fault
   both-looked_at (Found_free d) = fails r _ _
   both-looked_at (Found_node n) = given r _ _ _
 
-  both-made_directory : (path : List ℕ) (found : lookups.Answer) → Matches r (made_directory w p s e path found) (made_directory other p s e path found)
+  both-made_directory : (path : List ℕ) (found : lookups.Finding) → Matches r (made_directory w p s e path found) (made_directory other p s e path found)
   both-made_directory path (Not_found fault) = both-lookup_fails r fault
   both-made_directory path (Found_node n) = fails r _ _
   both-made_directory path (Found_free d) = both-unless r _ _ _ _ _ (both-unless r _ _ _ _ _ (given r _ _ _))
 
-  both-unlinked : (directory : Bool) (found : lookups.Answer) → Matches r (unlinked w p s e directory found) (unlinked other p s e directory found)
+  both-unlinked : (directory : Bool) (found : lookups.Finding) → Matches r (unlinks w p s e directory found) (unlinks other p s e directory found)
   both-unlinked directory (Not_found fault) = both-lookup_fails r fault
   both-unlinked directory (Found_free d) = fails r _ _
   both-unlinked true (Found_node n) = both-unless r _ _ _ _ _ (both-unless r _ _ _ _ _ (given r _ _ _))
   both-unlinked false (Found_node n) = both-unless r _ _ _ _ _ (given r _ _ _)
 
-  both-renamed_to : (call : Syscall) (target : Descriptor) (n : ℕ) (path : List ℕ) (found : lookups.Answer) → Matches r (renamed_to w p s e call target n path found) (renamed_to other p s e call (renamed_descriptor r target) n path found)
+  both-renamed_to : (call : Syscall) (target : Descriptor) (n : ℕ) (path : List ℕ) (found : lookups.Finding) →
+      Matches r (renamed_to w p s e call target n path found) (renamed_to other p s e call (renamed_descriptor r target) n path found)
   both-renamed_to call target n path (Not_found fault) = both-lookup_fails r fault
   both-renamed_to call target n path (Found_free d) = both-unless r _ _ _ _ _ (given r _ _ _)
   both-renamed_to call target n path (Found_node m) =
       both-if r (n == m) _ _ _ _ (given r 0 _ [])
       (both-unless r _ _ _ _ _ (both-unless r _ _ _ _ _ (both-unless r _ _ _ _ _ (both-unless r _ _ _ _ _ (both-unless r _ _ _ _ _ (given r _ _ _))))))
 
-  both-renamed_from : (found : lookups.Answer) (rest more : ℕ → Answer) → ((n : ℕ) → Matches r (rest n) (more n)) → Matches r (renamed_from w p s e found rest) (renamed_from other p s e found more)
+  both-renamed_from : (found : lookups.Finding) (rest more : ℕ → Answer) → ((n : ℕ) → Matches r (rest n) (more n)) → Matches r (renamed_from w p s e found rest) (renamed_from other p s e found more)
   both-renamed_from (Not_found fault) rest more is = both-lookup_fails r fault
   both-renamed_from (Found_free d) rest more is = fails r _ _
   both-renamed_from (Found_node n) rest more is = is n
@@ -267,7 +304,9 @@ module _ (r : Renaming) (w : World) (g : OpenFiles) (alike : SameFiles r w.files
   both-pair_at None = fails r _ _
   both-pair_at (Some first) =
       along_path r _ _ _
-      (ap (λ o. at_number o (λ second. unless (not e.refuse) ENFILE Refused (Gives first (record same { table = New_pair first second (Made_at s.program s.point) }) []))) (free-same r (15 - first) (first + 1) (w.files.table p) (g.table p) (alike.table p)))
+      (ap (λ o. at_number o (λ second. unless (not e.refuse) ENFILE Refused
+      (Gives first (record same { table = New_pair first second (Made_at s.program s.point) }) [])))
+      (free-same r (15 - first) (first + 1) (w.files.table p) (g.table p) (alike.table p)))
       (both-number r (lowest_from (15 - first) (first + 1) (w.files.table p)) _ _ (λ second free. both-unless r _ _ _ _ _ (given r _ _ _)))
 
   -- ## Every call

@@ -71,7 +71,8 @@ module _ (programs : Programs) (w : World) (good : IsWellFormed programs w) (pai
   ]
   opens (in_queue q s i m here is) = elim (cases_Bool (is_open w.files pair side)) [
     | inl there ↦ there
-    | inr closed ↦ impossible _ (found_in (λ (m : Message). names_end w.files.objects pair side m.passed) (w.files.queue q s) i m here is) (message_unnamed programs good.numbering w good.world pair side closed q s)
+    | inr closed ↦ impossible _ (found_in (λ (m : Message). names_end w.files.objects pair side m.passed) (w.files.queue q s) i m here is)
+        (message_unnamed programs good.numbering w good.world pair side closed q s)
   ]
 
 pub open_ends_are_named : OpenEndsAreNamed

@@ -15,7 +15,7 @@ use Rattle.kernel.specs.Calls.{answer}
 use Rattle.kernel.specs.Changes.{given, processes_after, changed}
 use Rattle.kernel.specs.Steps.{Programs, Executed, Stepped, with_process, plain, halted, failed, answered, executed, register, acted_as, stepped_at, stepped_by, stepped, step}
 use Rattle.kernel.specs.WellFormed.{ArePrograms, Numbering, IsDescriptor, EachMessage, IsWorld}
-use Rattle.kernel.specs.Renamings.{Renaming, SameDescription, EachNamed, SameFiles, renamed_entry}
+use Rattle.kernel.specs.Renamings.{Renaming, SameObject, EachNamed, SameFiles, renamed_entry}
 use Rattle.kernel.proofs.Brings.{ground, Known, Brings, Sound}
 use Rattle.kernel.proofs.Brought.{sound}
 use Rattle.kernel.proofs.Fresh.{held_map}
@@ -42,7 +42,9 @@ pub record SameStep (r : Renaming) (x y : Stepped) : Type 0 where
   pub world : SameWorlds r x.world y.world
 
 -- what a success makes of the processes doesn't name numbers
-processes-same : (r : Renaming) (processes : List ProcessState) (p : ℕ) (s : ProcessState) (value : ℕ) (change : Change) (table : TableChange) → processes_after processes p (given s value (record change { table = renamed_table r table })) (renamed_table r table) ≡ processes_after processes p (given s value (record change { table = table })) table
+processes-same : (r : Renaming) (processes : List ProcessState) (p : ℕ) (s : ProcessState) (value : ℕ) (change : Change) (table : TableChange) →
+    processes_after processes p (given s value (record change { table = renamed_table r table }))
+    (renamed_table r table) ≡ processes_after processes p (given s value (record change { table = table })) table
 processes-same r processes p s value change Same_table = refl
 processes-same r processes p s value change (Set_entry number d) = refl
 processes-same r processes p s value change (Clear_entry number) = refl
@@ -50,7 +52,9 @@ processes-same r processes p s value change (New_file number n access append rig
 processes-same r processes p s value change (New_pair first second class) = refl
 processes-same r processes p s value change New_process = refl
 
-module _ (r : Renaming) (programs : Programs) (valid : ArePrograms programs) (numbering : Numbering) (w : World) (good : IsWorld programs numbering w) (g : OpenFiles) (alike : SameFiles r w.files g) (idle : (pair side : ℕ) → g.pairs ≤ pair → g.queue pair side ≡ []) (j k : Choice) (aims : Aims r j k) (e : Event) where
+module _ (r : Renaming) (programs : Programs) (valid : ArePrograms programs) (numbering : Numbering) (w : World) (good : IsWorld programs numbering w)
+    (g : OpenFiles) (alike : SameFiles r w.files g) (idle : (pair side : ℕ) → g.pairs ≤ pair → g.queue pair side ≡ []) (j k : Choice)
+    (aims : Aims r j k) (e : Event) where
   abbrev other : World
   other = record { tree = w.tree; files = g; processes = w.processes }
 
@@ -58,11 +62,13 @@ module _ (r : Renaming) (programs : Programs) (valid : ArePrograms programs) (nu
   opens = same_open r w.files g alike good.idle idle
 
   -- what is named is the same description in both
-  known_one : (o : Option Descriptor) → IfHeld (IsDescriptor w.tree numbering w.files.objects w.files.states) o → IfHeld (λ d. SameDescription r w.files g d.description) o → IfHeld (Known (ground numbering w (SameDescription r w.files g))) o
+  known_one : (o : Option Descriptor) → IfHeld (IsDescriptor w.tree numbering w.files.objects w.files.states) o →
+      IfHeld (λ d. SameObject r w.files g d.description) o → IfHeld (Known (ground numbering w (SameObject r w.files g))) o
   known_one None fine twin = tt
   known_one (Some d) fine twin = (fine, twin)
 
-  known_each : (messages : List Message) → EachMessage (IsDescriptor w.tree numbering w.files.objects w.files.states) messages → EachNamed (SameDescription r w.files g) messages → EachMessage (Known (ground numbering w (SameDescription r w.files g))) messages
+  known_each : (messages : List Message) → EachMessage (IsDescriptor w.tree numbering w.files.objects w.files.states) messages →
+      EachNamed (SameObject r w.files g) messages → EachMessage (Known (ground numbering w (SameObject r w.files g))) messages
   known_each [] fine twin = tt
   known_each (m ∷ messages) fine twin = (fine.0, known_one m.passed fine.1 twin.0, known_each messages fine.2 twin.1)
 
@@ -79,7 +85,7 @@ module _ (r : Renaming) (programs : Programs) (valid : ArePrograms programs) (nu
   closed : OpenFiles → OpenFiles
   closed f = record f { table = put f.table e.process (λ n. None) }
 
-  twin_closed : (n : ℕ) → SameDescription r w.files g n → SameDescription r (closed w.files) (closed g) n
+  twin_closed : (n : ℕ) → SameObject r w.files g n → SameObject r (closed w.files) (closed g) n
   unfolding closed
   twin_closed n twin = record { object = twin.object; state = twin.state }
 
@@ -87,29 +93,34 @@ module _ (r : Renaming) (programs : Programs) (valid : ArePrograms programs) (nu
   unfolding closed
   closed_alike =
       let none : ℕ → Option Descriptor = λ n. None in
-      let Twin : Descriptor → Type 0 = λ d. SameDescription r (record w.files { table = put w.files.table e.process none }) (record g { table = put g.table e.process none }) d.description in
+      let Twin : Descriptor → Type 0 = λ d. SameObject r (record w.files { table = put w.files.table e.process none }) (record g { table = put g.table e.process none }) d.description in
       record {
         table = λ p n. put-both (λ (a b : ℕ → Option Descriptor). b n ≡ renamed_entry r (a n)) w.files.table g.table e.process none none refl (λ p. alike.table p n) p;
         queue = alike.queue;
         entries = λ p n.
             put-cases (λ (row : ℕ → Option Descriptor). IfHeld Twin (row n)) w.files.table e.process none p (λ _. tt)
-            (λ _. held_map (λ d. SameDescription r w.files g d.description) Twin (λ d twin. twin_closed d.description twin) (w.files.table p n) (alike.entries p n));
-        messages = λ pair side. each_named (SameDescription r w.files g) (SameDescription r (record w.files { table = put w.files.table e.process none }) (record g { table = put g.table e.process none })) twin_closed (w.files.queue pair side) (alike.messages pair side);
+            (λ _. held_map (λ d. SameObject r w.files g d.description) Twin (λ d twin. twin_closed d.description twin) (w.files.table p n) (alike.entries p n));
+        messages = λ pair side. each_named (SameObject r w.files g)
+            (SameObject r (record w.files { table = put w.files.table e.process none }) (record g { table = put g.table e.process none })) twin_closed
+            (w.files.queue pair side) (alike.messages pair side);
       }
 
   halted_alike : (s : ProcessState) → SameWorlds r (halted w e.process s) (halted other e.process s)
   unfolding closed
   halted_alike s = record { tree = refl; processes = refl; files = closed_alike }
 
-  changed_alike : (s : ProcessState) (value : ℕ) (change : Change) → Brings (ground numbering w (SameDescription r w.files g)) value change → SameWorlds r (changed w e.process (given s value change) j change) (changed other e.process (given s value (renamed_change r change)) k (renamed_change r change))
+  changed_alike : (s : ProcessState) (value : ℕ) (change : Change) → Brings (ground numbering w (SameObject r w.files g)) value change →
+      SameWorlds r (changed w e.process (given s value change) j change)
+      (changed other e.process (given s value (renamed_change r change)) k (renamed_change r change))
   unfolding changed
   changed_alike s value change brings = record {
     tree = refl;
     processes = processes-same r w.processes e.process s value change change.table;
-    files = files_alike r w.files g alike j k aims e.process _ (Known (ground numbering w (SameDescription r w.files g))) _ _ change (λ d known. known.1) brings.table brings.queue;
+    files = files_alike r w.files g alike j k aims e.process _ (Known (ground numbering w (SameObject r w.files g))) _ _ change (λ d known. known.1) brings.table brings.queue;
   }
 
-  answered_alike : (s : ProcessState) (otherwise : ℕ) (a : Answer) → Sound (ground numbering w (SameDescription r w.files g)) a → SameDone r (answered w e.process s j otherwise a) (answered other e.process s k otherwise (renamed_answer r a))
+  answered_alike : (s : ProcessState) (otherwise : ℕ) (a : Answer) → Sound (ground numbering w (SameObject r w.files g)) a →
+      SameDone r (answered w e.process s j otherwise a) (answered other e.process s k otherwise (renamed_answer r a))
   unfolding answered Sound
   answered_alike s otherwise (Fails errno cause) brings = record { world = process_alike (failed s errno otherwise); outcome = refl; effects = refl }
   answered_alike s otherwise Waits brings = record { world = same_world; outcome = refl; effects = refl }
@@ -129,7 +140,7 @@ module _ (r : Renaming) (programs : Programs) (valid : ArePrograms programs) (nu
       subst (λ a. SameDone r (answered w e.process s j otherwise (answer w e.process s e call)) (answered other e.process s k otherwise a))
       (sym (same_answer r w g alike opens e.process s e call))
       (answered_alike s otherwise (answer w e.process s e call)
-      (sound programs (ground numbering w (SameDescription r w.files g))
+      (sound programs (ground numbering w (SameObject r w.files g))
       (record {
         good = good;
         entries = λ p n. known_one (w.files.table p n) (good.entries p n) (alike.entries p n);
@@ -159,7 +170,9 @@ module _ (r : Renaming) (programs : Programs) (valid : ArePrograms programs) (nu
   step_alike = of_alike (slice_get w.processes e.process)
 
 -- the same of any world that is the first but for its numbers
-pub steps_same : (r : Renaming) (programs : Programs) → ArePrograms programs → (numbering : Numbering) (w v : World) → IsWorld programs numbering w → SameWorlds r w v → ((pair side : ℕ) → v.files.pairs ≤ pair → v.files.queue pair side ≡ []) → (j k : Choice) → Aims r j k → (e : Event) → SameStep r (step programs w e j) (step programs v e k)
+pub steps_same : (r : Renaming) (programs : Programs) → ArePrograms programs → (numbering : Numbering) (w v : World) → IsWorld programs numbering w →
+    SameWorlds r w v → ((pair side : ℕ) → v.files.pairs ≤ pair → v.files.queue pair side ≡ []) → (j k : Choice) → Aims r j k → (e : Event) →
+    SameStep r (step programs w e j) (step programs v e k)
 steps_same r programs valid numbering w v good alike idle j k aims e =
     let path : v ≡ record { tree = w.tree; files = v.files; processes = w.processes } = λ i. record { tree = alike.tree i; files = v.files; processes = alike.processes i } in
     subst (λ u. SameStep r (step programs w e j) (step programs u e k)) (sym path)

@@ -3,7 +3,7 @@ use Rattle.std.proofs.Common.{◌≡◌, ℕ, zero, suc, ◌<◌, ◌≤◌, inl
 use Rattle.std.specs.Prelude.{not, ◌&&◌, ◌||◌, is_some, nat_lt}
 use Rattle.std.proofs.lemmas.Bool.{and_parts, both_ways, cases_Bool, cond_both, false_from_ne_true, lt-ltb}
 use Rattle.rights.proofs.Tests.{not_true}
-use Rattle.file_tree.specs.Places.{is_name, same_place, begins, at_name, above}
+use Rattle.file_tree.specs.Places.{is_file_name, same_place, begins, at_name, above}
 use Rattle.file_tree.specs.Nodes.{Kind, Dir, Node, node, is_dir, is_link, node_at, child_of, lies_below, has_below, stands_at}
 use Rattle.rights.specs.Limits.{most_nodes}
 use Rattle.file_tree.specs.Changes.{removed, moved, replaced_at, filled, unlinked}
@@ -19,7 +19,8 @@ use Rattle.kernel.specs.Answers.{TreeChange, Same_tree, Make, Remove, Move, Fill
 use Rattle.kernel.specs.Changes.{tree_after}
 
 -- What lies above a linked node is a directory.
-above_is_directory : (t : List Node) → IsTree t → (k m : ℕ) (p : List (List ℕ)) → length (node t m).place ≤ k → (node t m).linked ≡ true → begins p (node t m).place ≡ true → same_place p (node t m).place ≡ false → Directory t p
+above_is_directory : (t : List Node) → IsTree t → (k m : ℕ) (p : List (List ℕ)) → length (node t m).place ≤ k → (node t m).linked ≡ true →
+    begins p (node t m).place ≡ true → same_place p (node t m).place ≡ false → Directory t p
 above_is_directory t tree zero m p short linked front other =
     let longer : length p < length (node t m).place = begins_longer p (node t m).place front other in
     absurd (omega arith)
@@ -54,11 +55,14 @@ nothing_below_leaf t tree n linked leaf =
     both_ways _ leaf dir)
 
 -- An empty file or directory is made where a linked directory lacks the name.
-pub made_is_tree : (t : List Node) (d : ℕ) (name : List ℕ) (kind : Kind) → IsTree t → (node t d).linked ≡ true → (node t d).kind ≡ Dir → child_of t d name ≡ None → is_name name ≡ true → is_content kind [] ≡ true → length t < most_nodes → IsTree (tree_after t (Make (at_name (node t d).place name) kind))
+pub made_is_tree : (t : List Node) (d : ℕ) (name : List ℕ) (kind : Kind) → IsTree t → (node t d).linked ≡ true → (node t d).kind ≡ Dir →
+    child_of t d name ≡ None → is_file_name name ≡ true → is_content kind [] ≡ true → length t < most_nodes →
+    IsTree (tree_after t (Make (at_name (node t d).place name) kind))
 unfolding created create_fault
 made_is_tree t d name kind tree linked dir absent named empty room =
     created_is_tree t d name kind [] tree dir named empty refl
-    (none (node t d).linked (is_some (node_at t (at_name (node t d).place name))) (nat_lt (length t) most_nodes) linked (ap is_some (sym (child_by_place t d name linked) ∙ absent)) (lt-ltb (length t) most_nodes room))
+    (none (node t d).linked (is_some (node_at t (at_name (node t d).place name))) (nat_lt (length t) most_nodes) linked
+    (ap is_some (sym (child_by_place t d name linked) ∙ absent)) (lt-ltb (length t) most_nodes room))
   where
     none : (a b c : Bool) → a ≡ true → b ≡ false → c ≡ true → cond (not a) (Some Gone) (cond b (Some Exists) (cond c None (Some Full))) ≡ None
     none true false true x y z = refl
@@ -88,11 +92,14 @@ pub unlinked_is_tree : (t : List Node) (n : ℕ) → IsTree t → (node t n).lin
 unlinked_is_tree t n tree linked low leaf = removes t n tree linked (below_root (node t n).place low) (nothing_below_leaf t tree n linked leaf)
 
 -- A linked node moves to a name in a linked directory, where nothing lies below it.
-pub moved_is_tree : (t : List Node) (n d : ℕ) (name : List ℕ) → IsTree t → (node t n).linked ≡ true → (node t d).linked ≡ true → (node t d).kind ≡ Dir → is_name name ≡ true → begins (node t n).place (at_name (node t d).place name) ≡ false → has_below t (at_name (node t d).place name) ≡ false → IsTree (tree_after t (Move n (at_name (node t d).place name)))
+pub moved_is_tree : (t : List Node) (n d : ℕ) (name : List ℕ) → IsTree t → (node t n).linked ≡ true → (node t d).linked ≡ true →
+    (node t d).kind ≡ Dir → is_file_name name ≡ true → begins (node t n).place (at_name (node t d).place name) ≡ false →
+    has_below t (at_name (node t d).place name) ≡ false → IsTree (tree_after t (Move n (at_name (node t d).place name)))
 unfolding rename_fault
 moved_is_tree t n d name tree linked holder dir named outside empty =
     renamed_is_tree t n d name tree dir named
-    (none (node t n).linked (node t d).linked (same_place (at_name (node t d).place name) (node t n).place) (begins (node t n).place (at_name (node t d).place name)) (has_below t (at_name (node t d).place name)) linked holder outside empty)
+    (none (node t n).linked (node t d).linked (same_place (at_name (node t d).place name) (node t n).place)
+    (begins (node t n).place (at_name (node t d).place name)) (has_below t (at_name (node t d).place name)) linked holder outside empty)
   where
     none : (a b c f g : Bool) → a ≡ true → b ≡ true → f ≡ false → g ≡ false → cond (not (a && b)) (Some Gone) (cond c None (cond f (Some IntoItself) (cond g (Some NotEmpty) None))) ≡ None
     none true true true f g x y z v = refl
@@ -102,7 +109,9 @@ moved_is_tree t n d name tree linked holder dir named outside empty =
     none true true false true g x y z v = absurd cc
     none true true false false true x y z v = absurd cc
 
-pub moved_to_free : (t : List Node) (n d : ℕ) (name : List ℕ) → IsTree t → (node t n).linked ≡ true → (node t d).linked ≡ true → (node t d).kind ≡ Dir → child_of t d name ≡ None → is_name name ≡ true → begins (node t n).place (at_name (node t d).place name) ≡ false → IsTree (tree_after t (Move n (at_name (node t d).place name)))
+pub moved_to_free : (t : List Node) (n d : ℕ) (name : List ℕ) → IsTree t → (node t n).linked ≡ true → (node t d).linked ≡ true →
+    (node t d).kind ≡ Dir → child_of t d name ≡ None → is_file_name name ≡ true → begins (node t n).place (at_name (node t d).place name) ≡ false →
+    IsTree (tree_after t (Move n (at_name (node t d).place name)))
 moved_to_free t n d name tree linked holder dir absent named outside =
     moved_is_tree t n d name tree linked holder dir named outside
     (nothing_below_free t tree (at_name (node t d).place name) (sym (child_by_place t d name holder) ∙ absent))

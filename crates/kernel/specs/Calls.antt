@@ -2,10 +2,12 @@
 -- gives, changes and does. An error sets r7 and has no change; a call that waits changes nothing.
 use Rattle.std.specs.Prelude.{ℕ, ◌+◌, ◌-◌, ◌%◌, ◌==◌, Bool, true, false, ◌&&◌, ◌||◌, not, nat_lt, nat_le, List, [], ◌∷◌, length, Option, Some, None, if◌then◌else◌}
 use Rattle.std.specs.List.{slice_get}
+use Rattle.rights.specs.Values.{Place, PathText, Content, NodeNumber, DescriptionNumber, DescriptorNumber, PairNumber, SideNumber, RightSet, CommandSet}
 use Rattle.rights.specs.Sets.{is_within, all_rights, all_commands, getfl_command, setfl_command}
 use Rattle.rights.specs.Needs.{First, Second, needs_of}
 use Rattle.rights.specs.Opens.{OpenRequest, open_request}
-use Rattle.rights.specs.Errors.{Errno, EPERM, ENOENT, EBADF, EEXIST, ENOTDIR, EISDIR, EINVAL, ENFILE, EMFILE, EFBIG, ENOSPC, EPIPE, EAGAIN, ENOTSOCK, ELOOP, ENOTEMPTY, ENOTCAPABLE, ECAPMODE, Cause, CapMode, MissingRight, Path, Full, Refused}
+use Rattle.rights.specs.Errors.{Errno, EPERM, ENOENT, EBADF, EEXIST, ENOTDIR, EISDIR, EINVAL, ENFILE, EMFILE, EFBIG, ENOSPC, EPIPE, EAGAIN, ENOTSOCK, ELOOP, ENOTEMPTY, ENOTCAPABLE}
+use Rattle.rights.specs.Errors.{ECAPMODE, Cause, CapMode, MissingRight, Path, Full, Refused}
 use Rattle.rights.specs.Errors as errors
 use Rattle.rights.specs.Operations.{Look, Read as Reads, Write as Writes, Create as Creates, Remove as Removes}
 use Rattle.file_tree.specs.Places.{begins, at_name}
@@ -17,11 +19,13 @@ use Rattle.lookup.specs.Answers as lookups
 use Rattle.lookup.specs.Paths.{last_component}
 use Rattle.lookup.specs.Looks.{find_of}
 use Rattle.process.specs.State.{ProcessState}
-use Rattle.prog_asm.specs.Programs.{Operand, Syscall, Open, Openat, Read, Write, Sendfd, Recvfd, Lseek, Ftruncate, Fsync, Fstat, Fcntl_getfl, Fcntl_setfl, Fstatat, Stat, Mkdirat, Mkdir, Unlinkat, Unlink, Renameat, Dup, Close, Cap_rights_limit, Cap_fcntls_limit, Cap_enter, Cap_getmode, Socketpair, Fork, called}
+use Rattle.prog_asm.specs.Programs.{Operand, Syscall, Open, Openat, Read, Write, Sendfd, Recvfd, Lseek, Ftruncate, Fsync, Fstat, Fcntl_getfl, Fcntl_setfl, Fstatat, Stat, Mkdirat}
+use Rattle.prog_asm.specs.Programs.{Mkdir, Unlinkat, Unlink, Renameat, Dup, Close, Cap_rights_limit, Cap_fcntls_limit, Cap_enter, Cap_getmode, Socketpair, Fork, called}
 use Rattle.fd_table.specs.Descriptions.{Access, Made_at, State, Descriptor, Message, other_side, bit_of, status_number, with_status}
 use Rattle.fd_table.specs.OpenFiles.{is_open, lowest_from, lowest_free}
 use Rattle.kernel.specs.World.{World}
-use Rattle.kernel.specs.Answers.{Event, Effect, Make, Remove, Move, Fill, TreeChange, Same_tree, Set_entry, Clear_entry, New_file, New_pair, New_process, Push, Pop, Set_state, Change, Answer, Fails, Waits, Gives, same, gives, does, unless, held, granted, commanded, through, at_object, at_number, lookup_fails, value_of}
+use Rattle.kernel.specs.Answers.{Event, Effect, Make, Remove, Move, Fill, TreeChange, Same_tree, Set_entry, Clear_entry, New_file, New_pair, New_process, Push, Pop, Set_state}
+use Rattle.kernel.specs.Answers.{Change, Answer, Fails, Waits, Gives, same, gives, does, unless, held, granted, commanded, through, at_object, at_number, lookup_fails, value_of}
 
 -- the flags of a call that opens nothing
 abbrev pub no_request : OpenRequest
@@ -39,34 +43,34 @@ kind_number Dir = 2
 kind_number Link = 3
 
 -- an open that empties its file, and what that does
-abbrev pub truncated : Bool → ℕ → TreeChange
+abbrev pub truncated : Bool → NodeNumber → TreeChange
 truncated true n = Fill n []
 truncated false n = Same_tree
 
-abbrev pub truncates : Bool → List (List ℕ) → List Effect
+abbrev pub truncates : Bool → Place → List Effect
 truncates true place = does Writes place
 truncates false place = []
 
 -- where a write goes: to the end with append, else to the offset
-abbrev pub write_offset : State → List ℕ → ℕ
+abbrev pub write_offset : State → Content → ℕ
 write_offset state content = if state.append then length content else state.offset
 
 -- In this world, process p, which stands at s, makes its call at this event.
 module _ (w : World) (p : ℕ) (s : ProcessState) (e : Event) where
-  abbrev pub at : ℕ → Node
+  abbrev pub at : NodeNumber → Node
   at n = node w.tree n
 
   abbrev pub entry : Operand → Option Descriptor
   entry x = w.files.table p (value_of s x)
 
-  abbrev pub state_of : ℕ → State
+  abbrev pub state_of : DescriptionNumber → State
   state_of description = w.files.states description
 
-  abbrev pub free : Option ℕ
+  abbrev pub free : Option DescriptorNumber
   free = lowest_free (w.files.table p)
 
   -- the rights that the call needs of its first descriptor, and of its second (rights(4))
-  abbrev pub first_need : Syscall → OpenRequest → ℕ
+  abbrev pub first_need : Syscall → OpenRequest → RightSet
   first_need call request = needs_of (called call) request First false
 
   -- Global name spaces can't be reached in capability mode. (capsicum(4), cap_enter(2))
@@ -78,21 +82,21 @@ module _ (w : World) (p : ℕ) (s : ProcessState) (e : Event) where
   unrefused errno rest = unless (not e.refuse) errno Refused rest
 
   -- the description's directory (openat(2), ENOTDIR)
-  abbrev pub in_directory : ℕ → (ℕ → Answer) → Answer
+  abbrev pub in_directory : DescriptionNumber → (NodeNumber → Answer) → Answer
   in_directory description rest =
       at_object (w.files.objects description)
       (λ n access. unless (is_dir (at n).kind) ENOTDIR errors.Kind (rest n))
       (λ pair side. Fails ENOTDIR errors.Kind)
 
   -- the description's file
-  abbrev pub at_file : ℕ → (ℕ → Access → Answer) → Answer
+  abbrev pub at_file : DescriptionNumber → (NodeNumber → Access → Answer) → Answer
   at_file description rest =
       at_object (w.files.objects description)
       (λ n access. unless (is_file (at n).kind) EINVAL errors.Kind (rest n access))
       (λ pair side. Fails EINVAL errors.Kind)
 
   -- the description's socket
-  abbrev pub at_socket : ℕ → (ℕ → ℕ → Answer) → Answer
+  abbrev pub at_socket : DescriptionNumber → (PairNumber → SideNumber → Answer) → Answer
   at_socket description rest = at_object (w.files.objects description) (λ n access. Fails ENOTSOCK errors.Kind) rest
 
   -- a call that can't go on waits, or fails if its socket is told not to block (fcntl(2), O_NONBLOCK)
@@ -101,10 +105,10 @@ module _ (w : World) (p : ℕ) (s : ProcessState) (e : Event) where
 
   -- ## Lookups
   -- Every lookup of a call is one of these two: what is found goes to the rest of the call.
-  unfoldable pub looks : ℕ → Way → List ℕ → Last → (lookups.Answer → Answer) → Answer
+  unfoldable pub looks : NodeNumber → Way → PathText → Last → (lookups.Finding → Answer) → Answer
   looks start way path last rest = rest (find_of w.tree start path way last)
 
-  unfoldable pub looks_twice : ℕ → List ℕ → ℕ → List ℕ → (lookups.Answer → lookups.Answer → Answer) → Answer
+  unfoldable pub looks_twice : NodeNumber → PathText → NodeNumber → PathText → (lookups.Finding → lookups.Finding → Answer) → Answer
   looks_twice n from m to rest = rest (find_of w.tree n from Beneath Keep) (find_of w.tree m to Beneath Keep)
 
   -- ## open and openat (open(2))
@@ -113,11 +117,11 @@ module _ (w : World) (p : ℕ) (s : ProcessState) (e : Event) where
   abbrev pub access_for : OpenRequest → Access
   access_for f = record { readable = f.read; writable = f.write }
 
-  abbrev pub new_file : OpenRequest → ℕ → ℕ → ℕ → ℕ → TreeChange → Change
+  abbrev pub new_file : OpenRequest → RightSet → CommandSet → DescriptorNumber → NodeNumber → TreeChange → Change
   new_file f rights fcntls number n tree =
       record same { tree = tree; table = New_file number n (access_for f) f.append rights fcntls }
 
-  abbrev pub opened_as : OpenRequest → ℕ → ℕ → ℕ → Kind → Answer
+  abbrev pub opened_as : OpenRequest → RightSet → CommandSet → NodeNumber → Kind → Answer
   opened_as f rights fcntls n Link = Fails ELOOP Path
   opened_as f rights fcntls n Dir =
       unless (not (f.write || f.create)) EISDIR Path
@@ -127,14 +131,14 @@ module _ (w : World) (p : ℕ) (s : ProcessState) (e : Event) where
       unrefused ENFILE
       (Gives number (new_file f rights fcntls number n (truncated f.trunc n)) (truncates f.trunc (at n).place)))
 
-  abbrev pub opened_new : OpenRequest → ℕ → ℕ → List (List ℕ) → Answer
+  abbrev pub opened_new : OpenRequest → RightSet → CommandSet → Place → Answer
   opened_new f rights fcntls place =
       at_number free (λ number.
       unless (nat_lt (length w.tree) most_nodes) ENOSPC Full
       (unrefused ENFILE
       (Gives number (new_file f rights fcntls number (length w.tree) (Make place File)) (does Creates place))))
 
-  abbrev pub opened : OpenRequest → ℕ → ℕ → List ℕ → lookups.Answer → Answer
+  abbrev pub opened : OpenRequest → RightSet → CommandSet → PathText → lookups.Finding → Answer
   opened f rights fcntls path (Not_found fault) = lookup_fails fault
   opened f rights fcntls path (Found_free d) = opened_new f rights fcntls (at_name (at d).place (last_component path))
   opened f rights fcntls path (Found_node n) = opened_as f rights fcntls n (at n).kind
@@ -142,24 +146,24 @@ module _ (w : World) (p : ℕ) (s : ProcessState) (e : Event) where
   -- ## read (read(2), recv(2))
   -- A byte of a file, or 256 at its end; a directory isn't read. A message of a socket gives its byte, and
   -- the descriptor that it carries is dropped.
-  abbrev pub read_byte : ℕ → List (List ℕ) → Option ℕ → Answer
+  abbrev pub read_byte : DescriptionNumber → Place → Option ℕ → Answer
   read_byte description place None = Gives 256 same (does Reads place)
   read_byte description place (Some byte) =
       Gives byte (record same { state = Set_state description (record (state_of description) { offset = (state_of description).offset + 1 }) }) (does Reads place)
 
-  abbrev pub read_node : ℕ → ℕ → Access → Answer
+  abbrev pub read_node : DescriptionNumber → NodeNumber → Access → Answer
   read_node description n access =
       unless (not (is_dir (at n).kind)) EISDIR errors.Kind
       (unless access.readable EBADF errors.Access
       (read_byte description (at n).place (slice_get (at n).content (state_of description).offset)))
 
-  abbrev pub read_end : ℕ → ℕ → ℕ → List Message → Answer
+  abbrev pub read_end : DescriptionNumber → PairNumber → SideNumber → List Message → Answer
   read_end description pair side [] = if is_open w.files pair (other_side side) then blocked (state_of description).nonblock else gives 256
   read_end description pair side (m ∷ messages) = Gives m.byte (record same { queue = Pop pair (other_side side) }) []
 
   -- ## write (write(2), send(2))
   -- One byte at the offset, or at the end with append; a gap is filled with zeros.
-  abbrev pub write_at : ℕ → ℕ → ℕ → ℕ → Answer
+  abbrev pub write_at : DescriptionNumber → NodeNumber → ℕ → ℕ → Answer
   write_at description n offset byte =
       unless (nat_lt offset most_bytes) EFBIG Full
       (unrefused ENOSPC
@@ -170,13 +174,13 @@ module _ (w : World) (p : ℕ) (s : ProcessState) (e : Event) where
       })
       (does Writes (at n).place)))
 
-  abbrev pub write_node : ℕ → ℕ → Access → ℕ → Answer
+  abbrev pub write_node : DescriptionNumber → NodeNumber → Access → ℕ → Answer
   write_node description n access byte =
       unless (not (is_dir (at n).kind)) EISDIR errors.Kind
       (unless access.writable EBADF errors.Access (write_at description n (write_offset (state_of description) (at n).content) byte))
 
   -- A message goes behind what the side has sent, if the other end is open and there is room. (EPIPE)
-  abbrev pub sent_end : ℕ → ℕ → ℕ → Message → Answer
+  abbrev pub sent_end : DescriptionNumber → PairNumber → SideNumber → Message → Answer
   sent_end description pair side message =
       unless (is_open w.files pair (other_side side)) EPIPE Refused
       (if nat_lt (length (w.files.queue pair side)) most_messages
@@ -185,47 +189,47 @@ module _ (w : World) (p : ℕ) (s : ProcessState) (e : Event) where
 
   -- ## lseek, ftruncate and fcntl (lseek(2), ftruncate(2), fcntl(2))
   -- The offset is set, at most to a file's greatest length.
-  abbrev pub seeks : ℕ → ℕ → Answer
+  abbrev pub seeks : DescriptionNumber → ℕ → Answer
   seeks description offset =
       unless (nat_le offset most_bytes) EINVAL Refused
       (Gives offset (record same { state = Set_state description (record (state_of description) { offset = offset }) }) [])
 
   -- The file gets another length.
-  abbrev pub resizes : ℕ → Access → ℕ → Answer
+  abbrev pub resizes : NodeNumber → Access → ℕ → Answer
   resizes n access len =
       unless access.writable EINVAL errors.Access
       (unless (nat_le len most_bytes) EFBIG Full
       (Gives 0 (record same { tree = Fill n (resized (at n).content len) }) (does Writes (at n).place)))
 
   -- The status flags are set, if the number is one of flags.
-  abbrev pub sets_flags : ℕ → ℕ → Answer
+  abbrev pub sets_flags : DescriptionNumber → ℕ → Answer
   sets_flags description flags =
       unless (nat_le flags 3) EINVAL Refused
       (Gives 0 (record same { state = Set_state description (with_status (state_of description) flags) }) [])
 
   -- ## recvfd (recvmsg(2), SCM_RIGHTS)
   -- The front message's descriptor, with the rights that it has; a message without one stays.
-  abbrev pub received : ℕ → ℕ → ℕ → Option Descriptor → Answer
+  abbrev pub received : PairNumber → SideNumber → DescriptorNumber → Option Descriptor → Answer
   received pair side number None = Fails EINVAL Refused
   received pair side number (Some d) =
       Gives number (record same { queue = Pop pair (other_side side); table = Set_entry number d }) []
 
-  abbrev pub receive_end : ℕ → ℕ → ℕ → ℕ → List Message → Answer
+  abbrev pub receive_end : DescriptionNumber → PairNumber → SideNumber → DescriptorNumber → List Message → Answer
   receive_end description pair side number [] =
       unless (is_open w.files pair (other_side side)) EINVAL Refused (blocked (state_of description).nonblock)
   receive_end description pair side number (m ∷ messages) = received pair side number m.passed
 
   -- ## fstat, fstatat and stat (fstat(2))
-  abbrev pub looked : ℕ → Answer
-  looked n = Gives (kind_number (at n).kind) same (does Look (at n).place)
+  abbrev pub stats : NodeNumber → Answer
+  stats n = Gives (kind_number (at n).kind) same (does Look (at n).place)
 
-  abbrev pub looked_at : lookups.Answer → Answer
-  looked_at (Not_found fault) = lookup_fails fault
-  looked_at (Found_free d) = Fails ENOENT Path
-  looked_at (Found_node n) = looked n
+  abbrev pub stats_at : lookups.Finding → Answer
+  stats_at (Not_found fault) = lookup_fails fault
+  stats_at (Found_free d) = Fails ENOENT Path
+  stats_at (Found_node n) = stats n
 
   -- ## mkdirat and mkdir (mkdir(2))
-  abbrev pub made_directory : List ℕ → lookups.Answer → Answer
+  abbrev pub made_directory : PathText → lookups.Finding → Answer
   made_directory path (Not_found fault) = lookup_fails fault
   made_directory path (Found_node n) = Fails EEXIST Path
   made_directory path (Found_free d) =
@@ -235,30 +239,30 @@ module _ (w : World) (p : ℕ) (s : ProcessState) (e : Event) where
       (does Creates (at_name (at d).place (last_component path)))))
 
   -- ## unlinkat and unlink (unlink(2), rmdir(2))
-  abbrev pub unlinked_as : Bool → ℕ → Answer → Answer
-  unlinked_as true n rest =
+  abbrev pub unlinks_as : Bool → NodeNumber → Answer → Answer
+  unlinks_as true n rest =
       unless (is_dir (at n).kind) ENOTDIR Path (unless (not (has_below w.tree (at n).place)) ENOTEMPTY Path rest)
-  unlinked_as false n rest = unless (not (is_dir (at n).kind)) EPERM Path rest
+  unlinks_as false n rest = unless (not (is_dir (at n).kind)) EPERM Path rest
 
-  abbrev pub unlinked : Bool → lookups.Answer → Answer
-  unlinked directory (Not_found fault) = lookup_fails fault
-  unlinked directory (Found_free d) = Fails ENOENT Path
-  unlinked directory (Found_node n) =
-      unlinked_as directory n (Gives 0 (record same { tree = Remove n }) (does Removes (at n).place))
+  abbrev pub unlinks : Bool → lookups.Finding → Answer
+  unlinks directory (Not_found fault) = lookup_fails fault
+  unlinks directory (Found_free d) = Fails ENOENT Path
+  unlinks directory (Found_node n) =
+      unlinks_as directory n (Gives 0 (record same { tree = Remove n }) (does Removes (at n).place))
 
   -- ## renameat (rename(2))
   -- Into a free name, or over another node, whose kind has to fit. A node that is replaced is removed, which
   -- needs the right to unlink too (own).
-  abbrev pub moves : ℕ → List (List ℕ) → Change
+  abbrev pub moves : NodeNumber → Place → Change
   moves n place = record same { tree = Move n place }
 
-  abbrev pub renamed_free : ℕ → List (List ℕ) → Answer
+  abbrev pub renamed_free : NodeNumber → Place → Answer
   renamed_free n place =
       unless (not (begins (at n).place place)) EINVAL Path
       (Gives 0 (moves n place)
       (record { operation = Removes; place = (at n).place } ∷ record { operation = Creates; place = place } ∷ []))
 
-  abbrev pub renamed_over : ℕ → ℕ → Answer
+  abbrev pub renamed_over : NodeNumber → NodeNumber → Answer
   renamed_over n m =
       unless (not (begins (at n).place (at m).place)) EINVAL Path
       (unless (not (is_dir (at n).kind && not (is_dir (at m).kind))) ENOTDIR Path
@@ -268,21 +272,21 @@ module _ (w : World) (p : ℕ) (s : ProcessState) (e : Event) where
       (record { operation = Removes; place = (at m).place } ∷ record { operation = Removes; place = (at n).place }
       ∷ record { operation = Creates; place = (at m).place } ∷ [])))))
 
-  abbrev pub renamed_to : Syscall → Descriptor → ℕ → List ℕ → lookups.Answer → Answer
+  abbrev pub renamed_to : Syscall → Descriptor → NodeNumber → PathText → lookups.Finding → Answer
   renamed_to call target n path (Not_found fault) = lookup_fails fault
   renamed_to call target n path (Found_free d) = renamed_free n (at_name (at d).place (last_component path))
   renamed_to call target n path (Found_node m) =
       if n == m then gives 0
       else granted (needs_of (called call) no_request Second true) target (renamed_over n m)
 
-  abbrev pub renamed_from : lookups.Answer → (ℕ → Answer) → Answer
+  abbrev pub renamed_from : lookups.Finding → (NodeNumber → Answer) → Answer
   renamed_from (Not_found fault) rest = lookup_fails fault
   renamed_from (Found_free d) rest = Fails ENOENT Path
   renamed_from (Found_node n) rest = rest n
 
   -- ## socketpair (socketpair(2))
   -- The two lowest free numbers.
-  abbrev pub pair_at : Option ℕ → Answer
+  abbrev pub pair_at : Option DescriptorNumber → Answer
   pair_at None = Fails EMFILE Full
   pair_at (Some first) =
       at_number (lowest_from (most_descriptors - 1 - first) (first + 1) (w.files.table p)) (λ second.
@@ -323,7 +327,7 @@ module _ (w : World) (p : ℕ) (s : ProcessState) (e : Event) where
       at_object (w.files.objects d.description) (λ n access. gives 0) (λ pair side. Fails EINVAL errors.Kind))
   answer (Fstat x) =
       through (first_need (Fstat x) no_request) (entry x) (λ d.
-      at_object (w.files.objects d.description) (λ n access. looked n) (λ pair side. gives 3))
+      at_object (w.files.objects d.description) (λ n access. stats n) (λ pair side. gives 3))
   answer (Fcntl_getfl x) =
       through (first_need (Fcntl_getfl x) no_request) (entry x) (λ d.
       commanded getfl_command d (gives (status_number (state_of d.description))))
@@ -332,16 +336,16 @@ module _ (w : World) (p : ℕ) (s : ProcessState) (e : Event) where
       commanded setfl_command d (sets_flags d.description (value_of s v)))
   answer (Fstatat x path) =
       through (first_need (Fstatat x path) no_request) (entry x) (λ d.
-      in_directory d.description (λ n. looks n Beneath path Follow looked_at))
-  answer (Stat path) = outside_mode (looks 0 Global path Follow looked_at)
+      in_directory d.description (λ n. looks n Beneath path Follow stats_at))
+  answer (Stat path) = outside_mode (looks 0 Global path Follow stats_at)
   answer (Mkdirat x path) =
       through (first_need (Mkdirat x path) no_request) (entry x) (λ d.
       in_directory d.description (λ n. looks n Beneath path Keep (made_directory path)))
   answer (Mkdir path) = outside_mode (looks 0 Global path Keep (made_directory path))
   answer (Unlinkat x path directory) =
       through (first_need (Unlinkat x path directory) no_request) (entry x) (λ d.
-      in_directory d.description (λ n. looks n Beneath path Keep (unlinked directory)))
-  answer (Unlink path directory) = outside_mode (looks 0 Global path Keep (unlinked directory))
+      in_directory d.description (λ n. looks n Beneath path Keep (unlinks directory)))
+  answer (Unlink path directory) = outside_mode (looks 0 Global path Keep (unlinks directory))
   answer (Renameat x from y to) =
       held (entry x) (λ d.
       held (entry y) (λ target.

@@ -42,8 +42,8 @@ second mode call = record { process = 1; state = new_process 0 mode; call = call
 abbrev pub opens : Syscall
 opens = Open [] (open_request true false false false false)
 
-abbrev pub opens_beneath : Syscall
-opens_beneath = Openat (Number 0) [] (open_request true false false false false)
+abbrev pub opens_in_directory : Syscall
+opens_in_directory = Openat (Number 0) [] (open_request true false false false false)
 
 abbrev pub sends : Syscall
 sends = Sendfd (Number 0) (Number 0) (Number 0)
@@ -52,11 +52,11 @@ abbrev pub receives : Syscall
 receives = Recvfd (Number 0)
 
 -- a world with a descriptor at (p, n), with messages of end (0, 0), and with other processes
-abbrev pub with_entry : World → ℕ → ℕ → Descriptor → World
-with_entry w p n d = record w { files = record w.files { table = put2 w.files.table p n (Some d) } }
+abbrev pub with_held : World → ℕ → ℕ → Descriptor → World
+with_held w p n d = record w { files = record w.files { table = put2 w.files.table p n (Some d) } }
 
 abbrev pub with_at : ℕ → ℕ → Descriptor → World
-with_at p n d = with_entry two_processes p n d
+with_at p n d = with_held two_processes p n d
 
 abbrev pub carries : Descriptor → Message
 carries d = message_of 0 (Some d)
@@ -85,8 +85,8 @@ copying n = Invoke (Dup (Number 0)) 1 ∷ Halt ∷ []
 abbrev pub setting : Programs
 setting n = Set 0 0 ∷ Halt ∷ []
 
-abbrev pub event_of : ℕ → Event
-event_of p = record { process = p; input = 0; refuse = false }
+abbrev pub event_by : ℕ → Event
+event_by p = record { process = p; input = 0; refuse = false }
 
 abbrev pub second_ended : World
 second_ended = record two_processes { processes = new_process 0 false ∷ record (new_process 0 false) { alive = false } ∷ [] }
@@ -113,17 +113,17 @@ pub record NothingComesFromElsewhere : Type 0 where
       → ⊥
   pub no_limit_elsewhere : GainsNothing two_processes 1 (Some (second false (Cap_rights_limit (Number 0) read_right))) (with_at 1 1 narrow) → ⊥
   pub no_command_limit_elsewhere : GainsNothing two_processes 1 (Some (second false (Cap_fcntls_limit (Number 0) 0))) (with_at 1 1 narrow) → ⊥
-  pub no_wider_openat : GainsNothing two_processes 1 (Some (second false opens_beneath)) (with_at 1 1 wide) → ⊥
+  pub no_wider_openat : GainsNothing two_processes 1 (Some (second false opens_in_directory)) (with_at 1 1 wide) → ⊥
   pub no_taken_number : GainsNothing two_processes 1 (Some (second false opens)) (with_at 1 0 wide) → ⊥
   pub no_open_in_the_mode : GainsNothing two_processes 1 (Some (second true opens)) (with_at 1 1 wide) → ⊥
   pub no_open_of_other_rights : GainsNothing two_processes 1 (Some (second false opens)) (with_at 1 1 (record wide { rights = read_right })) → ⊥
   pub no_open_of_other_commands : GainsNothing two_processes 1 (Some (second false opens)) (with_at 1 1 (record wide { fcntls = 0 })) → ⊥
-  pub no_wider_receive : GainsNothing (receiving 1) 1 (Some (second false receives)) (with_entry (receiving 1) 1 1 wide) → ⊥
+  pub no_wider_receive : GainsNothing (receiving 1) 1 (Some (second false receives)) (with_held (receiving 1) 1 1 wide) → ⊥
   pub no_receive_of_ones_own :
-      GainsNothing (receiving 0) 1 (Some (second false receives)) (with_entry (receiving 0) 1 1 narrow) → ⊥
+      GainsNothing (receiving 0) 1 (Some (second false receives)) (with_held (receiving 0) 1 1 narrow) → ⊥
   pub no_receive_through_a_file : GainsNothing two_processes 1 (Some (second false receives)) (with_at 1 1 narrow) → ⊥
   pub no_receive_through_nothing :
-      GainsNothing (receiving 1) 1 (Some (second false (Recvfd (Number 1)))) (with_entry (receiving 1) 1 1 narrow) → ⊥
+      GainsNothing (receiving 1) 1 (Some (second false (Recvfd (Number 1)))) (with_held (receiving 1) 1 1 narrow) → ⊥
   pub no_unsent_message : GainsNothing two_processes 1 None (with_message two_processes wide) → ⊥
   pub no_other_message : GainsNothing (with_message two_processes narrow) 1 None (with_message two_processes wide) → ⊥
   pub no_message_behind :
@@ -141,9 +141,9 @@ pub record NothingComesFromElsewhere : Type 0 where
   pub no_other_sender :
       GainsNothing (at_ends 0 0) 1 (Some (second false (Dup (Number 0)))) (with_message (at_ends 0 0) narrow) → ⊥
   pub no_call_of_the_ended :
-      GainsNothing second_ended 1 (caller_of copying second_ended (event_of 1)) (with_entry second_ended 1 1 narrow) → ⊥
-  pub no_call_of_the_unmade : GainsNothing two_processes 2 (caller_of copying two_processes (event_of 2)) (with_at 2 1 wide) → ⊥
-  pub no_call_at_no_call : GainsNothing two_processes 1 (caller_of setting two_processes (event_of 1)) (with_at 1 1 wide) → ⊥
+      GainsNothing second_ended 1 (caller_of copying second_ended (event_by 1)) (with_held second_ended 1 1 narrow) → ⊥
+  pub no_call_of_the_unmade : GainsNothing two_processes 2 (caller_of copying two_processes (event_by 2)) (with_at 2 1 wide) → ⊥
+  pub no_call_at_no_call : GainsNothing two_processes 1 (caller_of setting two_processes (event_by 1)) (with_at 1 1 wide) → ⊥
   pub no_left_mode : GainsNothing (with_modes (true ∷ false ∷ [])) 0 None (with_modes (false ∷ false ∷ [])) → ⊥
   pub no_child_outside : GainsNothing (with_modes (true ∷ [])) 0 (Some (record { process = 0; state = new_process 0 true; call = Fork })) (with_modes (true ∷ false ∷ [])) → ⊥
   pub no_process_vanishes : GainsNothing (with_modes (false ∷ false ∷ [])) 0 None (with_modes (false ∷ [])) → ⊥

@@ -2,6 +2,7 @@
 -- (cap_enter(2), capsicum(4), fork(2), rights(4))
 use Rattle.std.specs.Prelude.{◌≡◌, ℕ, true, List, [], ◌∷◌, Option, Some, None}
 use Rattle.std.specs.List.{slice_get}
+use Rattle.rights.specs.Values.{ProcessNumber}
 use Rattle.process.specs.State.{ProcessState}
 use Rattle.kernel.specs.World.{World, IsFresh, Choice}
 use Rattle.kernel.specs.Answers.{Event}
@@ -21,7 +22,7 @@ StaysIn None None (Some t) = ⊥
 StaysIn (Some s) None (Some t) = s.mode ≡ true → t.mode ≡ true
 
 -- from a world to the next one, by a step of process p, which makes that call, if any
-pub record GainsNothing (w : World) (p : ℕ) (caller : Option Caller) (next : World) : Type 0 where
+pub record GainsNothing (w : World) (p : ProcessNumber) (caller : Option Caller) (next : World) : Type 0 where
   pub modes : (q : ℕ) → StaysIn (slice_get w.processes p) (slice_get w.processes q) (slice_get next.processes q)
   pub entries : (q n : ℕ) → IfHeld (ComesFrom w caller q n) (next.files.table q n)
   pub messages : (pair side : ℕ) → EachPassed (QueuedFrom w caller pair side) (next.files.queue pair side)

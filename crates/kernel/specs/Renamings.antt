@@ -37,7 +37,7 @@ renamed_messages f [] = []
 renamed_messages f (m ∷ messages) = renamed_message f m ∷ renamed_messages f messages
 
 -- The description of a number is the same under its other number: of the same object, in the same state.
-pub record SameDescription (f : Renaming) (w v : OpenFiles) (n : ℕ) : Type 0 where
+pub record SameObject (f : Renaming) (w v : OpenFiles) (n : ℕ) : Type 0 where
   pub object : v.objects (f.description n) ≡ renamed_object f (w.objects n)
   pub state : v.states (f.description n) ≡ w.states n
 
@@ -50,8 +50,8 @@ EachNamed Named messages = EachPassed (λ d. Named d.description) messages
 pub record SameFiles (f : Renaming) (w v : OpenFiles) : Type 0 where
   pub table : (p n : ℕ) → v.table p n ≡ renamed_entry f (w.table p n)
   pub queue : (pair side : ℕ) → v.queue (f.pair pair) side ≡ renamed_messages f (w.queue pair side)
-  pub entries : (p n : ℕ) → IfHeld (λ d. SameDescription f w v d.description) (w.table p n)
-  pub messages : (pair side : ℕ) → EachNamed (SameDescription f w v) (w.queue pair side)
+  pub entries : (p n : ℕ) → IfHeld (λ d. SameObject f w v d.description) (w.table p n)
+  pub messages : (pair side : ℕ) → EachNamed (SameObject f w v) (w.queue pair side)
 
 pub record DiffersInNumbers (w v : World) : Type 0 where
   pub renaming : Renaming

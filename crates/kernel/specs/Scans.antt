@@ -3,7 +3,7 @@
 use Rattle.std.specs.Prelude.{◌≡◌, ◌↔◌, ℕ, true, List, Some}
 use Rattle.std.specs.List.{slice_get}
 use Rattle.file_tree.specs.Nodes.{Node}
-use Rattle.lookup.specs.Answers.{Way, Last, Answer}
+use Rattle.lookup.specs.Answers.{Way, Last, Finding}
 use Rattle.lookup.specs.Looks.{Looks, find_of}
 use Rattle.fd_table.specs.Descriptions.{Message}
 use Rattle.fd_table.specs.OpenFiles.{OpenFiles, names_end, is_open}
@@ -14,7 +14,7 @@ use Rattle.kernel.specs.WellFormed.{IsWellFormed}
 -- A path leads to what the function gives, and to nothing else.
 abbrev pub LookupsCompute : Type 0
 LookupsCompute =
-    (t : List Node) (start : ℕ) (path : List ℕ) (way : Way) (last : Last) (answer : Answer)
+    (t : List Node) (start : ℕ) (path : List ℕ) (way : Way) (last : Last) (answer : Finding)
     → (find_of t start path way last ≡ answer) ↔ Looks t start path way last answer
 
 -- some entry of some table, or some message of some queue, names a description of that end

@@ -1,6 +1,7 @@
 -- One step of a run: the instruction of one process, and the line that a trace has of it. (own)
 use Rattle.std.specs.Prelude.{◌+◌, ◌%◌, ◌^◌, ◌==◌, ℕ, Bool, true, false, nat_lt, List, [], slice_set, slice_index_or, Option, Some, None}
 use Rattle.std.specs.List.{slice_get}
+use Rattle.rights.specs.Values.{ProcessNumber}
 use Rattle.rights.specs.Errors.{Errno, errno_number, Cause}
 use Rattle.rights.specs.Maps.{put}
 use Rattle.process.specs.State.{ProcessState}
@@ -39,15 +40,15 @@ abbrev pub goes_on : ProcessState → ProcessState
 goes_on s = moved_to s (s.point + 1)
 
 -- the world with this state of the process
-abbrev pub with_process : World → ℕ → ProcessState → World
+abbrev pub with_process : World → ProcessNumber → ProcessState → World
 with_process w p s = record w { processes = slice_set w.processes p s }
 
 -- An instruction that is no call changes its process alone.
-abbrev pub plain : World → ℕ → ProcessState → Executed
+abbrev pub plain : World → ProcessNumber → ProcessState → Executed
 plain w p s = record { world = with_process w p s; outcome = Done; effects = [] }
 
 -- `halt` ends the process and closes its table.
-abbrev pub halted : World → ℕ → ProcessState → World
+abbrev pub halted : World → ProcessNumber → ProcessState → World
 halted w p s = record w {
   processes = slice_set w.processes p (record s { alive = false });
   files = record w.files { table = put w.files.table p (λ n. None) };
@@ -58,7 +59,7 @@ halted w p s = record w {
 abbrev pub failed : ProcessState → Errno → ℕ → ProcessState
 failed s errno otherwise = record s { registers = slice_set s.registers 7 (errno_number errno); point = otherwise }
 
-unfoldable pub answered : World → ℕ → ProcessState → Choice → ℕ → Answer → Executed
+unfoldable pub answered : World → ProcessNumber → ProcessState → Choice → ℕ → Answer → Executed
 answered w p s choice otherwise (Fails errno cause) =
     record { world = with_process w p (failed s errno otherwise); outcome = Failed errno cause; effects = [] }
 answered w p s choice otherwise Waits = record { world = w; outcome = Waiting; effects = [] }

@@ -7,7 +7,7 @@ use Rattle.rights.specs.Limits.{most_bytes, most_messages, most_processes, most_
 use Rattle.file_tree.specs.WellFormed.{IsTree}
 use Rattle.process.specs.State.{ProcessState}
 use Rattle.prog_asm.specs.Programs.{Instruction, is_program}
-use Rattle.fd_table.specs.Descriptions.{Class, Object, At_node, At_end, State, Descriptor, Message, IfHeld}
+use Rattle.fd_table.specs.Descriptions.{PairClass, Object, At_node, At_end, State, Descriptor, Message, IfHeld}
 use Rattle.kernel.specs.World.{World}
 use Rattle.kernel.specs.Steps.{Programs}
 
@@ -25,7 +25,7 @@ pub record Numbering : Type 0 where
   pub descriptions : ℕ
   pub pairs : ℕ
   pub holder : ℕ → ℕ → ℕ
-  pub class : ℕ → Class
+  pub class : ℕ → PairClass
 
 -- a description is of a file or directory of the tree, or of an end
 abbrev pub IsObject : List Node → Numbering → ℕ → Object → Type 0
@@ -61,9 +61,9 @@ pub record IsProcess (programs : Programs) (s : ProcessState) : Type 0 where
   pub eight : length s.registers ≡ register_count
   pub small : (r : ℕ) → FitsRegister (slice_get s.registers r)
 
-abbrev pub IsMade : Programs → Option ProcessState → Type 0
-IsMade programs None = Unit {0}
-IsMade programs (Some s) = IsProcess programs s
+abbrev pub IsProcessIfMade : Programs → Option ProcessState → Type 0
+IsProcessIfMade programs None = Unit {0}
+IsProcessIfMade programs (Some s) = IsProcess programs s
 
 -- An ended process, and a number of which no process was made, has no entries.
 abbrev pub HasNone : Option ProcessState → (ℕ → Option Descriptor) → Type 0
@@ -76,7 +76,7 @@ pub record IsWorld (programs : Programs) (numbering : Numbering) (w : World) : T
   pub tree : IsTree w.tree
   pub some : 0 < length w.processes
   pub few : length w.processes ≤ most_processes
-  pub processes : (p : ℕ) → IsMade programs (slice_get w.processes p)
+  pub processes : (p : ℕ) → IsProcessIfMade programs (slice_get w.processes p)
   pub entries : (p n : ℕ) → IfHeld (IsDescriptor w.tree numbering w.files.objects w.files.states) (w.files.table p n)
   pub numbers : (p n : ℕ) → most_descriptors ≤ n → w.files.table p n ≡ None
   pub gone : (p : ℕ) → HasNone (slice_get w.processes p) (w.files.table p)

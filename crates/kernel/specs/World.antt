@@ -1,5 +1,6 @@
 -- The state of a run. (after capsicum(4) and Watson et al., USENIX Security 2010; own)
 use Rattle.std.specs.Prelude.{◌≢◌, ℕ, List}
+use Rattle.rights.specs.Values.{DescriptionNumber, PairNumber}
 use Rattle.process.specs.State.{ProcessState}
 use Rattle.file_tree.specs.Nodes.{Node}
 use Rattle.fd_table.specs.OpenFiles.{OpenFiles, IsUnnamed, IsUnused}
@@ -12,9 +13,9 @@ pub record World : Type 0 where
 
 -- The numbers that a step may give to what it makes: two descriptions and a pair.
 pub record Choice : Type 0 where
-  pub first : ℕ
-  pub second : ℕ
-  pub pair : ℕ
+  pub first : DescriptionNumber
+  pub second : DescriptionNumber
+  pub pair : PairNumber
 
 -- Nobody names the two descriptions, and they differ; no end of the pair is open, and both its
 -- queues are empty.

@@ -5,10 +5,10 @@ use Rattle.std.specs.Str.{bytes_eq}
 use Rattle.std.proofs.lemmas.Bool.{cases_Bool}
 use Rattle.std.proofs.lemmas.Bool.Decides.{eqb_tells}
 use Rattle.std.proofs.lemmas.Slice.Eq.{bytes_eq-Decides}
-use Rattle.link_tree.specs.Links.{Stand, In, Out, Filed}
+use Rattle.link_tree.specs.Links.{Standing, In, Out, Filed}
 
 -- another stand of a node, and another child under a name
-abbrev pub put : (ℕ → Stand) → ℕ → Stand → ℕ → Stand
+abbrev pub put : (ℕ → Standing) → ℕ → Standing → ℕ → Standing
 put S n s k = cond (eqb n k) s (S k)
 
 abbrev pub put2 : (ℕ → List ℕ → Option ℕ) → ℕ → List ℕ → Option ℕ → ℕ → List ℕ → Option ℕ
@@ -24,13 +24,13 @@ slot_cases d e name q = by_number (eqb_tells d e) (cases_Bool (bytes_eq name q))
     by_number (inl same) (inl names) = inl (rw (same.0, names) refl, same.1, (bytes_eq-Decides name q).0 names)
     by_number (inl same) (inr names) = inr (rw (same.0, names) refl, λ _ equal. let yes : bytes_eq name q ≡ true = (bytes_eq-Decides name q).1 equal in let no : true ≡ false = sym yes ∙ names in cc)
 
-pub filed_same : (S T : ℕ → Stand) (C D : ℕ → List ℕ → Option ℕ) → Filed S C → ((n : ℕ) → T n ≡ S n) → ((d : ℕ) (name : List ℕ) → D d name ≡ C d name) → Filed T D
+pub filed_same : (S T : ℕ → Standing) (C D : ℕ → List ℕ → Option ℕ) → Filed S C → ((n : ℕ) → T n ≡ S n) → ((d : ℕ) (name : List ℕ) → D d name ≡ C d name) → Filed T D
 filed_same S T C D filed stands children = record {
   named = λ n d name h. children d name ∙ filed.named n d name (sym (stands n) ∙ h);
   holds = λ d name n h. stands n ∙ filed.holds d name n (sym (children d name) ∙ h);
 }
 
-module _ (S : ℕ → Stand) (C : ℕ → List ℕ → Option ℕ) (filed : Filed S C) (n d : ℕ) (name : List ℕ) where
+module _ (S : ℕ → Standing) (C : ℕ → List ℕ → Option ℕ) (filed : Filed S C) (n d : ℕ) (name : List ℕ) where
   -- a node leaves the directory where it had a name
   pub filed_out : (p : List (List ℕ)) → S n ≡ In d name → Filed (put S n (Out p)) (put2 C d name None)
   filed_out p at = record {
@@ -95,7 +95,7 @@ module _ (S : ℕ → Stand) (C : ℕ → List ℕ → Option ℕ) (filed : File
       holds e q k was (inr other) = rw other.0 was
 
 -- a node moves from one directory into another, where what had the name is out already
-pub filed_moved : (S T : ℕ → Stand) (C D : ℕ → List ℕ → Option ℕ) (n d e : ℕ) (name x : List ℕ) → Filed T (put2 C d name None) → T n ≡ In e x → (d ≡ e → name ≡ x → ⊥)
+pub filed_moved : (S T : ℕ → Standing) (C D : ℕ → List ℕ → Option ℕ) (n d e : ℕ) (name x : List ℕ) → Filed T (put2 C d name None) → T n ≡ In e x → (d ≡ e → name ≡ x → ⊥)
     → ((k : ℕ) → S k ≡ put T n (In d name) k) → ((i : ℕ) (q : List ℕ) → D i q ≡ put2 (put2 C d name (Some n)) e x None i q) → Filed S D
 filed_moved S T C D n d e name x filed at apart stands children =
     filed_same (put (put T n (Out [])) n (In d name)) S (put2 (put2 (put2 C d name None) e x None) d name (Some n)) D

@@ -1,4 +1,4 @@
--- What a change of one entry of a tree by links makes of the links.
+-- What a change of one tree_entry of a tree by links makes of the links.
 use Rattle.std.proofs.Common.{◌≡◌, ℕ, ◌<◌, inl, inr, List, Bool, true, false, Option, Vec, Global, length, get_or, slice_set, ap, sym, ◌∙◌, refl, cond}
 use Rattle.std.proofs.Math.Path.{fun_ext}
 use Rattle.std.proofs.Math.Seq.{map-set_same}
@@ -12,9 +12,9 @@ use Rattle.std.proofs.lemmas.Cmp.{eq_by_cmp_equiv, nat_list_cmp_total, nat_list_
 use Rattle.std.specs.Cmp.Lexicographic.{slice_cmp}
 use Rattle.std.specs.Ordering.{nat_cmp, is_eq}
 use Rattle.std.specs.Str.{bytes_eq}
-use Rattle.link_tree.specs.Links.{Link, link, stood, filed, refilled}
-use Rattle.link_tree.specs.LinkEntries.{link_of, links_of, named_in, stand_of}
-use Rattle.link_tree.specs.declared.links.Link.{Link as Entry}
+use Rattle.link_tree.specs.Links.{TreeEntry, tree_entry, stood, filed, refilled}
+use Rattle.link_tree.specs.LinkViews.{link_of, links_of, named_in, stand_of}
+use Rattle.link_tree.specs.declared.links.Entry.{Entry as EntryCode}
 use Rattle.link_tree.specs.declared.links.Stand.{Stand as StandCode}
 use Rattle.link_tree.proofs.LinkEntryLaws.{entry_link}
 
@@ -37,16 +37,17 @@ named_after name m n o h q = elim (cases_Bool (bytes_eq name q)) [
   | inr other ↦ rw other (other_entries _ _ m.entries n.entries h.3 _ (λ x y. (eq_by_cmp_equiv nat_list_cmp_total).congr q x.items y.items) (λ k. apart_in_order name q k.items other))
 ]
 
-module _ (es : List Entry) (n : ℕ) (e : Entry) (there : n < length es) (is : e ≡ get_or es n e) where
-  entry_changed : (f : Entry) (l : Link → Link) → link_of f ≡ l (link_of e) → links_of (slice_set es n f) ≡ slice_set (links_of es) n (l (link (links_of es) n))
+module _ (es : List EntryCode) (n : ℕ) (e : EntryCode) (there : n < length es) (is : e ≡ get_or es n e) where
+  entry_changed : (f : EntryCode) (l : TreeEntry → TreeEntry) → link_of f ≡ l (link_of e) → links_of (slice_set es n f) ≡ slice_set (links_of es) n (l (tree_entry (links_of es) n))
   entry_changed f l same = map-set link_of es n f ∙ ap (slice_set (links_of es) n) (same ∙ ap l (sym (entry_link es n e there is)))
 
-  pub entry_same : (f : Entry) → link_of f ≡ link_of e → links_of (slice_set es n f) ≡ links_of es
+  pub entry_same : (f : EntryCode) → link_of f ≡ link_of e → links_of (slice_set es n f) ≡ links_of es
   entry_same f same = map-set_same link_of es n f e (same ∙ ap link_of is)
 
   pub entry_stood : (s : StandCode) → links_of (slice_set es n (record { kind = e.kind; stand = s; children = e.children; content = e.content })) ≡ stood (links_of es) n (stand_of s)
   unfolding stood
-  entry_stood s = entry_changed (record { kind = e.kind; stand = s; children = e.children; content = e.content }) (λ l. record { kind = l.kind; stand = stand_of s; child = l.child; content = l.content }) refl
+  entry_stood s = entry_changed (record { kind = e.kind; stand = s; children = e.children; content = e.content })
+      (λ l. record { kind = l.kind; stand = stand_of s; child = l.child; content = l.content }) refl
 
   pub entry_filed : (m : BTreeMap (Vec ℕ Global) ℕ) (name : List ℕ) (o : Option ℕ) → ((q : List ℕ) → named_in m q ≡ cond (bytes_eq name q) o (named_in e.children q))
       → links_of (slice_set es n (record { kind = e.kind; stand = e.stand; children = m; content = e.content })) ≡ filed (links_of es) n name o
@@ -62,8 +63,9 @@ module _ (es : List Entry) (n : ℕ) (e : Entry) (there : n < length es) (is : e
       (λ l. record { kind = l.kind; stand = l.stand; child = l.child; content = content })
       (λ i. record { kind = (link_of e).kind; stand = (link_of e).stand; child = (link_of e).child; content = same i })
 
-  -- a map or a content of the same entries makes the same link
-  pub same_children : (m : BTreeMap (Vec ℕ Global) ℕ) → m.entries ≡ e.children.entries → links_of (slice_set es n (record { kind = e.kind; stand = e.stand; children = m; content = e.content })) ≡ links_of es
+  -- a map or a content of the same entries makes the same tree_entry
+  pub same_children : (m : BTreeMap (Vec ℕ Global) ℕ) → m.entries ≡ e.children.entries →
+      links_of (slice_set es n (record { kind = e.kind; stand = e.stand; children = m; content = e.content })) ≡ links_of es
   same_children m same = entry_same (record { kind = e.kind; stand = e.stand; children = m; content = e.content })
       (λ i. record { kind = (link_of e).kind; stand = (link_of e).stand; child = λ q. lookup (is_at (λ key. slice_cmp nat_cmp q key.items)) (same i); content = (link_of e).content })
 

@@ -11,7 +11,7 @@ use Rattle.file_tree.specs.Nodes.{Node, node, nowhere}
 use Rattle.file_tree.specs.WellFormed.{IsTree}
 use Rattle.file_tree.proofs.NodeLaws.{linked_there, held_above, Directory}
 use Rattle.file_tree.proofs.PlaceLaws.{above_length, at_name_length}
-use Rattle.link_tree.specs.Links.{Stand, Root, In, Out, Link, link, no_link, is_in, place_up, linked_node, linked_nodes, StandFits, Fits, IsFiled, IsLinked}
+use Rattle.link_tree.specs.Links.{Standing, Root, In, Out, TreeEntry, tree_entry, no_tree_entry, is_in, place_up, linked_node, linked_nodes, StandFits, Fits, IsFiled, IsLinkedTree}
 
 -- a node and all that hold it: numbers of the tree, no two the same, none of them deeper than the node
 record Chain (t : List Node) (depth : ℕ) : Type 0 where
@@ -58,7 +58,11 @@ chain t tree (suc depth) n linked deep = longer (chain t tree depth up.number up
     }
       where
         other : (q : ℕ) → length (node t q).place ≤ depth → eqb n q ≡ false
-        other q less = elim (eqb_tells n q) [ inr apart ↦ apart.0 | inl same ↦ let equal : length (node t n).place ≡ length (node t q).place = ap (λ k. length (node t k).place) same.1 in absurd (omega arith) ]
+        other q less = elim (eqb_tells n q) [
+          | inr apart ↦ apart.0
+          | inl same ↦ let equal : length (node t n).place ≡ length (node t q).place = ap
+              (λ k. length (node t k).place) same.1 in absurd (omega arith)
+        ]
 
 -- no node lies as deep as there are nodes
 pub place_short : (t : List Node) → IsTree t → (n : ℕ) → (node t n).linked ≡ true → length (node t n).place < length t
@@ -68,34 +72,36 @@ place_short t tree n linked =
     let count = c.count in omega arith
 
 -- going up from a node finds its place
-climbs : (t : List Node) (ls : List Link) → Fits ls t → (fuel n : ℕ) → n < length t → length (node t n).place < fuel → place_up fuel ls (link ls n).stand ≡ (node t n).place
+climbs : (t : List Node) (ls : List TreeEntry) → Fits ls t → (fuel n : ℕ) → n < length t → length (node t n).place < fuel → place_up fuel ls (tree_entry ls n).stand ≡ (node t n).place
 climbs t ls fits zero n there less = absurd (omega arith)
-climbs t ls fits (suc fuel) n there less = by_stand (link ls n).stand (fits.each n there).stand (climbs t ls fits fuel)
+climbs t ls fits (suc fuel) n there less = by_stand (tree_entry ls n).stand (fits.each n there).stand (climbs t ls fits fuel)
   where
-    by_stand : (s : Stand) → StandFits t s (node t n) → ((d : ℕ) → d < length t → length (node t d).place < fuel → place_up fuel ls (link ls d).stand ≡ (node t d).place) → place_up (suc fuel) ls s ≡ (node t n).place
+    by_stand : (s : Standing) → StandFits t s (node t n) →
+        ((d : ℕ) → d < length t → length (node t d).place < fuel → place_up fuel ls (tree_entry ls d).stand ≡ (node t d).place) →
+        place_up (suc fuel) ls s ≡ (node t n).place
     by_stand Root h up = sym h.1
     by_stand (In d name) h up =
         let count : length (node t n).place ≡ length (node t d).place + 1 = ap length h.2 ∙ at_name_length (node t d).place name in
         ap (λ p. at_name p name) (up d (linked_there t d h.1) (omega arith)) ∙ sym h.2
     by_stand (Out p) h up = sym h.1
 
-stand_place : (t : List Node) (ls : List Link) (n : ℕ) → IsTree t → Fits ls t → n < length t → place_up (length ls) ls (link ls n).stand ≡ (node t n).place
-stand_place t ls n tree fits there = by_stand (link ls n).stand refl (fits.each n there).stand
+stand_place : (t : List Node) (ls : List TreeEntry) (n : ℕ) → IsTree t → Fits ls t → n < length t → place_up (length ls) ls (tree_entry ls n).stand ≡ (node t n).place
+stand_place t ls n tree fits there = by_stand (tree_entry ls n).stand refl (fits.each n there).stand
   where
-    enough : (node t n).linked ≡ true → place_up (length ls) ls (link ls n).stand ≡ (node t n).place
+    enough : (node t n).linked ≡ true → place_up (length ls) ls (tree_entry ls n).stand ≡ (node t n).place
     enough linked = rw fits.count (climbs t ls fits (length t) n there (place_short t tree n linked))
 
     some : (fuel : ℕ) (p : List (List ℕ)) → 0 < fuel → place_up fuel ls (Out p) ≡ p
     some zero p h = absurd (omega arith)
     some (suc fuel) p h = refl
 
-    by_stand : (s : Stand) → (link ls n).stand ≡ s → StandFits t s (node t n) → place_up (length ls) ls (link ls n).stand ≡ (node t n).place
+    by_stand : (s : Standing) → (tree_entry ls n).stand ≡ s → StandFits t s (node t n) → place_up (length ls) ls (tree_entry ls n).stand ≡ (node t n).place
     by_stand Root is h = enough h.0
     by_stand (In d name) is h = enough h.0
     by_stand (Out p) is h = let count = fits.count in rw is (some (length ls) p (omega arith)) ∙ sym h.1
 
 -- a stand says whether its node is linked
-pub stand_linked : (t : List Node) (s : Stand) (m : Node) → StandFits t s m → is_in s ≡ m.linked
+pub stand_linked : (t : List Node) (s : Standing) (m : Node) → StandFits t s m → is_in s ≡ m.linked
 stand_linked t Root m h = sym h.0
 stand_linked t (In d name) m h = sym h.0
 stand_linked t (Out p) m h = sym h.0
@@ -103,22 +109,22 @@ stand_linked t (Out p) m h = sym h.0
 same_node : (a b : Node) → a.kind ≡ b.kind → a.place ≡ b.place → a.linked ≡ b.linked → a.content ≡ b.content → a ≡ b
 same_node a b k p l c = λ i. record { kind = k i; place = p i; linked = l i; content = c i }
 
-pub link_node : (t : List Node) (ls : List Link) (n : ℕ) → IsTree t → Fits ls t → n < length t → linked_node ls (link ls n) ≡ node t n
+pub link_node : (t : List Node) (ls : List TreeEntry) (n : ℕ) → IsTree t → Fits ls t → n < length t → linked_node ls (tree_entry ls n) ≡ node t n
 link_node t ls n tree fits there =
     let fit = fits.each n there in
-    same_node (linked_node ls (link ls n)) (node t n) fit.kind (stand_place t ls n tree fits there) (stand_linked t (link ls n).stand (node t n) fit.stand) fit.content
+    same_node (linked_node ls (tree_entry ls n)) (node t n) fit.kind (stand_place t ls n tree fits there) (stand_linked t (tree_entry ls n).stand (node t n) fit.stand) fit.content
 
-pub only_tree : (t : List Node) (ls : List Link) → IsTree t → Fits ls t → linked_nodes ls ≡ t
+pub only_tree : (t : List Node) (ls : List TreeEntry) → IsTree t → Fits ls t → linked_nodes ls ≡ t
 unfolding linked_nodes
 only_tree t ls tree fits =
     let count : length (linked_nodes ls) ≡ length t = length-map ls (linked_node ls) ∙ fits.count in
     ext_get_or nowhere (linked_nodes ls) t count (λ n there.
     let below : n < length t = omega arith in
     let known : n < length ls = let same = fits.count in omega arith in
-    get_or-map (linked_node ls) ls n no_link nowhere known ∙ link_node t ls n tree fits below)
+    get_or-map (linked_node ls) ls n no_tree_entry nowhere known ∙ link_node t ls n tree fits below)
 
 -- links that fit a tree, and are filed, are linked, and are that tree
-pub is_linked : (t : List Node) (ls : List Link) → IsTree t → Fits ls t → IsFiled ls → IsLinked ls × (linked_nodes ls ≡ t)
+pub is_linked : (t : List Node) (ls : List TreeEntry) → IsTree t → Fits ls t → IsFiled ls → IsLinkedTree ls × (linked_nodes ls ≡ t)
 is_linked t ls tree fits filed =
     let same : linked_nodes ls ≡ t = only_tree t ls tree fits in
     let P : List Node → Type 0 = λ u. Fits ls u in

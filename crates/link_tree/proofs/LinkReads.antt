@@ -10,13 +10,13 @@ use Rattle.file_tree.proofs.NodeLaws.{linked_there, any_found, any_at}
 use Rattle.file_tree.proofs.PlaceLaws.{at_name_length, above_at_name, rest_same, same_place_is, begins_longer, begins_above_other, begins_trans, begins_append}
 use Rattle.file_tree.proofs.TreeLaws.{Child, child_is, child_by_place, node_at_its_place, parent_above}
 use Rattle.file_tree.proofs.KeptByRemove.{lies_in}
-use Rattle.link_tree.specs.Links.{Stand, Root, In, Out, Link, link, no_link, holder, StandFits, Fits, IsFiled}
+use Rattle.link_tree.specs.Links.{Standing, Root, In, Out, TreeEntry, tree_entry, no_tree_entry, holder, StandFits, Fits, IsFiled}
 
 -- what stands in a directory is a node of the list
-pub stand_there : (ls : List Link) (n d : ℕ) (name : List ℕ) → (link ls n).stand ≡ In d name → n < length ls
-stand_there ls n d name h = by_past (λ past. ap (λ (l : Link). l.stand) (get_or_past ls n no_link past))
+pub stand_there : (ls : List TreeEntry) (n d : ℕ) (name : List ℕ) → (tree_entry ls n).stand ≡ In d name → n < length ls
+stand_there ls n d name h = by_past (λ past. ap (λ (l : TreeEntry). l.stand) (get_or_past ls n no_tree_entry past))
   where
-    by_past : (length ls ≤ n → (link ls n).stand ≡ Out []) → n < length ls
+    by_past : (length ls ≤ n → (tree_entry ls n).stand ≡ Out []) → n < length ls
     by_past out = Prim.grind arith
 
 pub at_name_same : (p q : List (List ℕ)) (x y : List ℕ) → at_name p x ≡ at_name q y → (p ≡ q) × (x ≡ y)
@@ -32,17 +32,17 @@ pub record Held (t : List Node) (n d : ℕ) (name : List ℕ) : Type 0 where
   pub holder : (node t d).linked ≡ true
   pub place : (node t n).place ≡ at_name (node t d).place name
 
-pub held : (t : List Node) (ls : List Link) (n d : ℕ) (name : List ℕ) → Fits ls t → (link ls n).stand ≡ In d name → Held t n d name
+pub held : (t : List Node) (ls : List TreeEntry) (n d : ℕ) (name : List ℕ) → Fits ls t → (tree_entry ls n).stand ≡ In d name → Held t n d name
 held t ls n d name fits h =
     let there : n < length t = omega (arith, stand_there ls n d name h, fits.count) in
     let fit : StandFits t (In d name) (node t n) = rw h at (fits.each n there).stand in
     record { there = there; linked = fit.0; holder = fit.1; place = fit.2 }
 
 -- a linked node but the root has a name in a directory
-pub stand_of : (t : List Node) (ls : List Link) (n : ℕ) → Fits ls t → (node t n).linked ≡ true → ((node t n).place ≡ []) ⊎ ((d : ℕ) × (name : List ℕ) × ((link ls n).stand ≡ In d name))
-stand_of t ls n fits linked = by_stand (link ls n).stand refl (fits.each n (linked_there t n linked)).stand
+pub stand_of : (t : List Node) (ls : List TreeEntry) (n : ℕ) → Fits ls t → (node t n).linked ≡ true → ((node t n).place ≡ []) ⊎ ((d : ℕ) × (name : List ℕ) × ((tree_entry ls n).stand ≡ In d name))
+stand_of t ls n fits linked = by_stand (tree_entry ls n).stand refl (fits.each n (linked_there t n linked)).stand
   where
-    by_stand : (s : Stand) → (link ls n).stand ≡ s → StandFits t s (node t n) → ((node t n).place ≡ []) ⊎ ((d : ℕ) × (name : List ℕ) × ((link ls n).stand ≡ In d name))
+    by_stand : (s : Standing) → (tree_entry ls n).stand ≡ s → StandFits t s (node t n) → ((node t n).place ≡ []) ⊎ ((d : ℕ) × (name : List ℕ) × ((tree_entry ls n).stand ≡ In d name))
     by_stand Root is h = inl h.1
     by_stand (In d name) is h = inr (d, name, is)
     by_stand (Out p) is h = absurd (both_ways _ h.0 linked)
@@ -56,12 +56,12 @@ lies_parts p m is = split m.linked (begins p m.place) (same_place p m.place) is
     split true false c is = absurd cc
     split false b c is = absurd cc
 
-module _ (t : List Node) (ls : List Link) (tree : IsTree t) (fits : Fits ls t) (filed : IsFiled ls) where
+module _ (t : List Node) (ls : List TreeEntry) (tree : IsTree t) (fits : Fits ls t) (filed : IsFiled ls) where
   -- a node that the tree has in a directory is filed there
-  pub filed_child : (d n : ℕ) (name : List ℕ) → Child t d name n → (link ls d).child name ≡ Some n
+  pub filed_child : (d n : ℕ) (name : List ℕ) → Child t d name n → (tree_entry ls d).child name ≡ Some n
   filed_child d n name child = by_stand (stand_of t ls n fits child.linked)
     where
-      by_stand : ((node t n).place ≡ []) ⊎ ((e : ℕ) × (other : List ℕ) × ((link ls n).stand ≡ In e other)) → (link ls d).child name ≡ Some n
+      by_stand : ((node t n).place ≡ []) ⊎ ((e : ℕ) × (other : List ℕ) × ((tree_entry ls n).stand ≡ In e other)) → (tree_entry ls d).child name ≡ Some n
       by_stand (inl root) =
           let count : 0 ≡ length (node t d).place + 1 = ap length (sym root ∙ child.place) ∙ at_name_length (node t d).place name in
           absurd (omega arith)
@@ -72,10 +72,10 @@ module _ (t : List Node) (ls : List Link) (tree : IsTree t) (fits : Fits ls t) (
           filed.named n d name (is ∙ ap (λ k. In k other) number ∙ ap (In d) same.1)
 
   -- the child of a name is what the links file under it
-  pub child_linked : (d : ℕ) (name : List ℕ) → child_of t d name ≡ (link ls d).child name
-  child_linked d name = by_filed ((link ls d).child name) refl (child_of t d name) refl
+  pub child_linked : (d : ℕ) (name : List ℕ) → child_of t d name ≡ (tree_entry ls d).child name
+  child_linked d name = by_filed ((tree_entry ls d).child name) refl (child_of t d name) refl
     where
-      by_filed : (o : Option ℕ) → (link ls d).child name ≡ o → (u : Option ℕ) → child_of t d name ≡ u → child_of t d name ≡ (link ls d).child name
+      by_filed : (o : Option ℕ) → (tree_entry ls d).child name ≡ o → (u : Option ℕ) → child_of t d name ≡ u → child_of t d name ≡ (tree_entry ls d).child name
       by_filed (Some n) is u found =
           let h = held t ls n d name fits (filed.holds d name n is) in
           child_by_place t d name h.holder ∙ ap (node_at t) (sym h.place) ∙ node_at_its_place t n tree h.linked ∙ sym is
@@ -83,11 +83,11 @@ module _ (t : List Node) (ls : List Link) (tree : IsTree t) (fits : Fits ls t) (
       by_filed None is (Some n) found = let no : None ≡ Some n = sym is ∙ filed_child d n name (child_is t d name n found) in cc
 
   -- so is what holds a node
-  pub parent_linked : (n : ℕ) → n < length t → parent_of t n ≡ holder (link ls n).stand
+  pub parent_linked : (n : ℕ) → n < length t → parent_of t n ≡ holder (tree_entry ls n).stand
   unfolding parent_of
-  parent_linked n there = by_stand (link ls n).stand refl (fits.each n there).stand
+  parent_linked n there = by_stand (tree_entry ls n).stand refl (fits.each n there).stand
     where
-      by_stand : (s : Stand) → (link ls n).stand ≡ s → StandFits t s (node t n) → parent_of t n ≡ holder s
+      by_stand : (s : Standing) → (tree_entry ls n).stand ≡ s → StandFits t s (node t n) → parent_of t n ≡ holder s
       by_stand Root is h = rw (h.0, h.1) refl
       by_stand (In d name) is h =
           let count : length (node t n).place ≡ length (node t d).place + 1 = ap length h.2 ∙ at_name_length (node t d).place name in
@@ -95,7 +95,7 @@ module _ (t : List Node) (ls : List Link) (tree : IsTree t) (fits : Fits ls t) (
       by_stand (Out p) is h = rw h.0 refl
 
   -- a node in a directory lies below it
-  pub child_below : (n d : ℕ) (name : List ℕ) → (link ls n).stand ≡ In d name → has_below t (node t d).place ≡ true
+  pub child_below : (n d : ℕ) (name : List ℕ) → (tree_entry ls n).stand ≡ In d name → has_below t (node t d).place ≡ true
   child_below n d name is =
       let h = held t ls n d name fits is in
       let count : length (node t n).place ≡ length (node t d).place + 1 = ap length h.place ∙ at_name_length (node t d).place name in
@@ -104,13 +104,15 @@ module _ (t : List Node) (ls : List Link) (tree : IsTree t) (fits : Fits ls t) (
 
   -- where something lies below a node, some node has a name in it
   child_on_way : (d : ℕ) → (node t d).linked ≡ true → (most n : ℕ) → (node t n).linked ≡ true → begins (node t d).place (node t n).place ≡ true → same_place (node t d).place (node t n).place ≡ false
-      → length (node t n).place ≤ most → (k : ℕ) × (name : List ℕ) × ((link ls k).stand ≡ In d name)
+      → length (node t n).place ≤ most → (k : ℕ) × (name : List ℕ) × ((tree_entry ls k).stand ≡ In d name)
   child_on_way d linked zero n is front other less = let longer : length (node t d).place < length (node t n).place = begins_longer _ _ front other in absurd (omega arith)
   child_on_way d linked (suc most) n is front other less = by_stand (stand_of t ls n fits is) (child_on_way d linked most)
     where
-      by_stand : ((node t n).place ≡ []) ⊎ ((e : ℕ) × (name : List ℕ) × ((link ls n).stand ≡ In e name))
-          → ((m : ℕ) → (node t m).linked ≡ true → begins (node t d).place (node t m).place ≡ true → same_place (node t d).place (node t m).place ≡ false → length (node t m).place ≤ most → (k : ℕ) × (name : List ℕ) × ((link ls k).stand ≡ In d name))
-          → (k : ℕ) × (name : List ℕ) × ((link ls k).stand ≡ In d name)
+      by_stand : ((node t n).place ≡ []) ⊎ ((e : ℕ) × (name : List ℕ) × ((tree_entry ls n).stand ≡ In e name))
+          → ((m : ℕ) → (node t m).linked ≡ true → begins (node t d).place (node t m).place ≡ true →
+          same_place (node t d).place (node t m).place ≡ false → length (node t m).place ≤ most →
+          (k : ℕ) × (name : List ℕ) × ((tree_entry ls k).stand ≡ In d name))
+          → (k : ℕ) × (name : List ℕ) × ((tree_entry ls k).stand ≡ In d name)
       by_stand (inl root) up =
           let longer : length (node t d).place < length (node t n).place = begins_longer _ _ front other in
           let none : length (node t n).place ≡ 0 = ap length root in absurd (omega arith)
@@ -119,7 +121,7 @@ module _ (t : List Node) (ls : List Link) (tree : IsTree t) (fits : Fits ls t) (
           h : Held t n e name
           h = held t ls n e name fits stand
 
-          by_place : (same_place (node t d).place (node t e).place ≡ true) ⊎ (same_place (node t d).place (node t e).place ≡ false) → (k : ℕ) × (name : List ℕ) × ((link ls k).stand ≡ In d name)
+          by_place : (same_place (node t d).place (node t e).place ≡ true) ⊎ (same_place (node t d).place (node t e).place ≡ false) → (k : ℕ) × (name : List ℕ) × ((tree_entry ls k).stand ≡ In d name)
           by_place (inl same) =
               let number : e ≡ d = tree.apart e d h.holder linked (sym (same_place_is _ _ same)) in
               (n, name, stand ∙ ap (λ k. In k name) number)
@@ -129,7 +131,7 @@ module _ (t : List Node) (ls : List Link) (tree : IsTree t) (fits : Fits ls t) (
               up e h.holder higher apart (omega arith)
 
   -- below a linked node that holds nothing lies nothing
-  pub bare_below : (d : ℕ) → (node t d).linked ≡ true → ((name : List ℕ) → (link ls d).child name ≡ None) → has_below t (node t d).place ≡ false
+  pub bare_below : (d : ℕ) → (node t d).linked ≡ true → ((name : List ℕ) → (tree_entry ls d).child name ≡ None) → has_below t (node t d).place ≡ false
   bare_below d linked bare = by_below (has_below t (node t d).place) refl
     where
       by_below : (b : Bool) → has_below t (node t d).place ≡ b → b ≡ false
@@ -140,11 +142,11 @@ module _ (t : List Node) (ls : List Link) (tree : IsTree t) (fits : Fits ls t) (
           let child = child_on_way d linked (length (node t found.0).place) found.0 parts.0 parts.1 parts.2 (omega arith) in
           absurd (no_child_here child.0 child.1 child.2)
         where
-          no_child_here : (k : ℕ) (name : List ℕ) → (link ls k).stand ≡ In d name → ⊥
+          no_child_here : (k : ℕ) (name : List ℕ) → (tree_entry ls k).stand ≡ In d name → ⊥
           no_child_here k name is = let none : None ≡ Some k = sym (bare name) ∙ filed.named k d name is in cc
 
 -- a node lies at or above another one exactly if it is that one, or lies at or above what holds it
-pub above_holder : (t : List Node) (ls : List Link) (n d e : ℕ) (name : List ℕ) → IsTree t → Fits ls t → (node t n).linked ≡ true → n ≢ d → (link ls d).stand ≡ In e name
+pub above_holder : (t : List Node) (ls : List TreeEntry) (n d e : ℕ) (name : List ℕ) → IsTree t → Fits ls t → (node t n).linked ≡ true → n ≢ d → (tree_entry ls d).stand ≡ In e name
     → begins (node t n).place (node t e).place ≡ begins (node t n).place (node t d).place
 above_holder t ls n d e name tree fits linked apart is = by_cases (cases_Bool (begins (node t n).place (node t e).place)) (cases_Bool (begins (node t n).place (node t d).place))
   where

@@ -4,12 +4,12 @@ use Rattle.std.specs.Prelude.{◌≢◌}
 use Rattle.std.specs.Str.{bytes_eq}
 use Rattle.std.proofs.lemmas.Bool.{both_ways, cases_Bool, false_from_ne_true}
 use Rattle.std.proofs.lemmas.Slice.Eq.{bytes_eq-Decides}
-use Rattle.file_tree.specs.Places.{at_name, begins, same_place, is_name}
+use Rattle.file_tree.specs.Places.{at_name, begins, same_place, is_file_name}
 use Rattle.file_tree.specs.Nodes.{Dir, Node, node, child_of, has_below}
 use Rattle.file_tree.specs.Changes.{renamed}
 use Rattle.file_tree.specs.Refusals.{IntoItself, NotEmpty, rename_fault}
 use Rattle.file_tree.specs.WellFormed.{IsTree}
-use Rattle.link_tree.specs.Links.{In, Out, Link, link, linked_nodes, stood, filed, way_made, Relinked, IsLinked}
+use Rattle.link_tree.specs.Links.{In, Out, TreeEntry, tree_entry, linked_nodes, stood, filed, way_made, Relinked, IsLinkedTree}
 use Rattle.file_tree.proofs.PlaceLaws.{same_place_is, same_place_from, begins_trans, begins_append, begins_above_other, above_at_name}
 use Rattle.file_tree.proofs.NodeLaws.{linked_there}
 use Rattle.file_tree.proofs.TreeLaws.{child_is, child_there, child_by_place}
@@ -53,7 +53,9 @@ begins_in p q name other = by_cases (cases_Bool (begins q (at_name p name))) (ca
   where
     up : begins q (at_name p name) ≡ true → begins q p ≡ true
     up front =
-        let apart : same_place q (at_name p name) ≡ false = false_from_ne_true (same_place q (at_name p name)) (λ at. both_ways (same_place (at_name p name) q) other (same_place_from (at_name p name) q (sym (same_place_is q (at_name p name) at)))) in
+        let apart : same_place q (at_name p name) ≡ false = false_from_ne_true (same_place q (at_name p name))
+        (λ at. both_ways (same_place (at_name p name) q) other
+        (same_place_from (at_name p name) q (sym (same_place_is q (at_name p name) at)))) in
         rw (← above_at_name p name) (begins_above_other q (at_name p name) front apart)
 
     by_cases : (begins q (at_name p name) ≡ true) ⊎ (begins q (at_name p name) ≡ false) → (begins q p ≡ true) ⊎ (begins q p ≡ false) → begins q (at_name p name) ≡ begins q p
@@ -87,13 +89,14 @@ module _ (t : List Node) (n d : ℕ) (name : List ℕ) (tested : Tested t n d na
       rw (tested.linked, tested.dir_linked, tested.other, into, empty) refl
 
 -- the links once the way is clear
-pub way_some : (ls vs us : List Link) (o : Option ℕ) (old : ℕ) (place q : List (List ℕ)) (d : ℕ) (name key : List ℕ) (n : ℕ) → Some old ≡ o → vs ≡ filed ls d key (Some n) → key ≡ name
+pub way_some : (ls vs us : List TreeEntry) (o : Option ℕ) (old : ℕ) (place q : List (List ℕ)) (d : ℕ) (name key : List ℕ) (n : ℕ) → Some old ≡ o → vs ≡ filed ls d key (Some n) → key ≡ name
     → us ≡ stood vs old (Out place) → place ≡ q → us ≡ way_made ls o q d name n
 way_some ls vs us o old place q d name key n is first same then there =
     then ∙ ap (λ ws. stood ws old (Out place)) (first ∙ ap (λ k. filed ls d k (Some n)) same) ∙ ap (λ p. stood (filed ls d name (Some n)) old (Out p)) there ∙ ap (λ r. way_made ls r q d name n) is
 
-way_shows : (ls : List Link) (o : Option ℕ) (q : List (List ℕ)) (d : ℕ) (name : List ℕ) (n : ℕ) → d < length ls → ((r : ℕ) → o ≡ Some r → r < length ls)
-    → Shows (way_made ls o q d name n) (length ls) (λ k. (link ls k).kind) (λ k. (link ls k).content) (with_out (λ k. (link ls k).stand) o q) (put2 (λ k. (link ls k).child) d name (Some n))
+way_shows : (ls : List TreeEntry) (o : Option ℕ) (q : List (List ℕ)) (d : ℕ) (name : List ℕ) (n : ℕ) → d < length ls → ((r : ℕ) → o ≡ Some r → r < length ls)
+    → Shows (way_made ls o q d name n) (length ls) (λ k. (tree_entry ls k).kind) (λ k. (tree_entry ls k).content)
+    (with_out (λ k. (tree_entry ls k).stand) o q) (put2 (λ k. (tree_entry ls k).child) d name (Some n))
 way_shows ls None q d name n there way = shows_filed ls (length ls) _ _ _ _ (shows_itself ls) d there name (Some n)
 way_shows ls (Some r) q d name n there way =
     let first = shows_filed ls (length ls) _ _ _ _ (shows_itself ls) d there name (Some n) in
@@ -101,34 +104,37 @@ way_shows ls (Some r) q d name n there way =
     shows_stood (filed ls d name (Some n)) (length ls) _ _ _ _ first r known (Out q)
 
 -- a node that may be renamed, and isn't to its own place, has a name in a directory
-module _ (ls vs : List Link) (n d : ℕ) (name : List ℕ) (linked : IsLinked ls) (tested : Tested (linked_nodes ls) n d name) (allowed : rename_fault (linked_nodes ls) n d name ≡ None)
+module _ (ls vs : List TreeEntry) (n d : ℕ) (name : List ℕ) (linked : IsLinkedTree ls) (tested : Tested (linked_nodes ls) n d name) (allowed : rename_fault (linked_nodes ls) n d name ≡ None)
     (way : vs ≡ way_made ls (child_of (linked_nodes ls) d name) (at_name (node (linked_nodes ls) d).place name) d name n) where
   may : MayMove (linked_nodes ls) n d (at_name (node (linked_nodes ls) d).place name)
   may = may_rename (linked_nodes ls) n d name allowed tested.other
 
-  stands : (e : ℕ) × (x : List ℕ) × ((link ls n).stand ≡ In e x)
+  stands : (e : ℕ) × (x : List ℕ) × ((tree_entry ls n).stand ≡ In e x)
   stands = elim (stand_of (linked_nodes ls) ls n linked.fits may.linked) [
     | inl root ↦ absurd (both_ways _ may.apart (rw root refl))
     | inr it ↦ it
   ]
 
-  filed_there : (link ls d).child name ≡ child_of (linked_nodes ls) d name
+  filed_there : (tree_entry ls d).child name ≡ child_of (linked_nodes ls) d name
   filed_there = sym (child_linked (linked_nodes ls) ls linked.tree linked.fits linked.filed d name)
 
   d_there : d < length ls
   d_there = omega (arith, linked_there (linked_nodes ls) d may.dir_linked, linked.fits.count)
 
-  shows_way : Shows vs (length ls) (λ k. (link ls k).kind) (λ k. (link ls k).content) (with_out (λ k. (link ls k).stand) (child_of (linked_nodes ls) d name) (at_name (node (linked_nodes ls) d).place name)) (put2 (λ k. (link ls k).child) d name (Some n))
+  shows_way : Shows vs (length ls) (λ k. (tree_entry ls k).kind) (λ k. (tree_entry ls k).content)
+      (with_out (λ k. (tree_entry ls k).stand) (child_of (linked_nodes ls) d name) (at_name (node (linked_nodes ls) d).place name))
+      (put2 (λ k. (tree_entry ls k).child) d name (Some n))
   shows_way = rw way (way_shows ls (child_of (linked_nodes ls) d name) (at_name (node (linked_nodes ls) d).place name) d name n d_there
       (λ r is. omega (arith, child_there (linked_nodes ls) d name r is, linked.fits.count)))
 
-  stands_still : (link vs n).stand ≡ In stands.0 stands.1
-  stands_still = shows_way.stand n ∙ (cleared (linked_nodes ls) ls n d stands.0 name stands.1 (child_of (linked_nodes ls) d name) linked.tree linked.fits linked.filed may tested.other stands.2 filed_there).1
+  stands_still : (tree_entry vs n).stand ≡ In stands.0 stands.1
+  stands_still = shows_way.stand n ∙ (cleared (linked_nodes ls) ls n d stands.0 name stands.1
+      (child_of (linked_nodes ls) d name) linked.tree linked.fits linked.filed may tested.other stands.2 filed_there).1
 
   pub way_length : length vs ≡ length ls
   way_length = shows_way.count_is
 
-  pub way_holder : (e : ℕ) (x : List ℕ) → (link vs n).stand ≡ In e x → e < length ls
+  pub way_holder : (e : ℕ) (x : List ℕ) → (tree_entry vs n).stand ≡ In e x → e < length ls
   way_holder e x is =
       let same : In e x ≡ In stands.0 stands.1 = sym is ∙ stands_still in
       let number : e ≡ stands.0 = cc in
@@ -136,8 +142,8 @@ module _ (ls vs : List Link) (n d : ℕ) (name : List ℕ) (linked : IsLinked ls
       omega (arith, linked_there (linked_nodes ls) stands.0 h.holder, linked.fits.count)
 
   -- and it is then linked as the renamed tree
-  pub renamed_linked : (us : List Link) → (node (linked_nodes ls) d).kind ≡ Dir → is_name name ≡ true → Relinked vs us n d name
-      → IsLinked us × (linked_nodes us ≡ renamed (linked_nodes ls) n (at_name (node (linked_nodes ls) d).place name))
+  pub renamed_linked : (us : List TreeEntry) → (node (linked_nodes ls) d).kind ≡ Dir → is_file_name name ≡ true → Relinked vs us n d name
+      → IsLinkedTree us × (linked_nodes us ≡ renamed (linked_nodes ls) n (at_name (node (linked_nodes ls) d).place name))
   renamed_linked us directory named relinked =
       let t = linked_nodes ls in
       let n_there : n < length vs = omega (arith, linked_there (linked_nodes ls) n may.linked, linked.fits.count, way_length) in

@@ -2,10 +2,10 @@
 use Rattle.std.proofs.Common.{◌≡◌, ℕ, zero, suc, ◌<◌, List, [], ◌∷◌, true, false, Option, Some, None, codes, cond, refl, arith}
 use Rattle.std.specs.Str.{bytes_eq}
 use Rattle.file_tree.specs.Nodes.{Dir, File, Node, node}
-use Rattle.link_tree.specs.Links.{Stand, Root, In, Out, Link, link, linked_nodes, StandFits, LinkFits, Fits, Filed, stood, filed, way_made}
+use Rattle.link_tree.specs.Links.{Standing, Root, In, Out, TreeEntry, tree_entry, linked_nodes, StandFits, EntryFits, Fits, Filed, stood, filed, way_made}
 
 -- The root, `/work`, `/work/in`, and what was `/work/out`.
-links : List Link
+links : List TreeEntry
 links =
     record { kind = Dir; stand = Root; child = λ name. cond (bytes_eq name (codes "work")) (Some 1) None; content = [] }
     ∷ record { kind = Dir; stand = In 0 (codes "work"); child = λ name. cond (bytes_eq name (codes "in")) (Some 2) None; content = [] }
@@ -29,7 +29,7 @@ links_fit : Fits links tree
 unfolding links tree
 links_fit = record { count = refl; each = each }
   where
-    each : (n : ℕ) → n < 4 → LinkFits tree (link links n) (node tree n)
+    each : (n : ℕ) → n < 4 → EntryFits tree (tree_entry links n) (node tree n)
     each zero h = record { kind = refl; content = refl; stand = (refl, refl) }
     each (suc zero) h = record { kind = refl; content = refl; stand = (refl, refl, refl) }
     each (suc (suc zero)) h = record { kind = refl; content = refl; stand = (refl, refl, refl) }
@@ -38,7 +38,7 @@ links_fit = record { count = refl; each = each }
 
 -- `/work/out` is there too; it is removed, and then `/work` is renamed to `/w2`: `in` has the place `/w2/in`, and the
 -- removed node keeps `/work/out`.
-with_out : List Link
+with_out : List TreeEntry
 with_out =
     record { kind = Dir; stand = Root; child = λ name. cond (bytes_eq name (codes "work")) (Some 1) None; content = [] }
     ∷ record { kind = Dir; stand = In 0 (codes "work"); child = λ name. cond (bytes_eq name (codes "in")) (Some 2) (cond (bytes_eq name (codes "out")) (Some 3) None); content = [] }
@@ -46,14 +46,14 @@ with_out =
     ∷ record { kind = Dir; stand = In 1 (codes "out"); child = λ name. None; content = [] }
     ∷ []
 
-without_out : List Link
+without_out : List TreeEntry
 without_out = filed (stood with_out 3 (Out (codes "work" ∷ codes "out" ∷ []))) 1 (codes "out") None
 
 removed_is : linked_nodes without_out ≡ tree
 unfolding linked_nodes without_out with_out filed stood tree
 removed_is = refl
 
-moved : List Link
+moved : List TreeEntry
 moved = filed (stood (way_made without_out None (codes "w2" ∷ []) 0 (codes "w2") 1) 1 (In 0 (codes "w2"))) 0 (codes "work") None
 
 moved_in : (node (linked_nodes moved) 2).place ≡ codes "w2" ∷ codes "in" ∷ []
@@ -68,11 +68,11 @@ removed_gone : (node (linked_nodes moved) 3).linked ≡ false
 unfolding linked_nodes moved without_out with_out filed stood
 removed_gone = refl
 
-no_old_name : (link moved 0).child (codes "work") ≡ None
+no_old_name : (tree_entry moved 0).child (codes "work") ≡ None
 unfolding moved without_out with_out filed stood
 no_old_name = refl
 
-new_name : (link moved 0).child (codes "w2") ≡ Some 1
+new_name : (tree_entry moved 0).child (codes "w2") ≡ Some 1
 unfolding moved without_out with_out filed stood
 new_name = refl
 
@@ -86,5 +86,5 @@ unfolding tree
 still_linked h = let wrong = h.0 in cc
 
 -- a child that a directory names, and that does not say so itself, is not filed
-not_filed : (S : ℕ → Stand) (C : ℕ → List ℕ → Option ℕ) → S 2 ≡ In 1 (codes "in") → C 0 (codes "old") ≡ Some 2 → Filed S C → ⊥
+not_filed : (S : ℕ → Standing) (C : ℕ → List ℕ → Option ℕ) → S 2 ≡ In 1 (codes "in") → C 0 (codes "old") ≡ Some 2 → Filed S C → ⊥
 not_filed S C stands child filed = let wrong = filed.holds 0 (codes "old") 2 child in let numbers : In 0 (codes "old") ≡ In 1 (codes "in") = cc in cc

@@ -4,12 +4,12 @@ use Rattle.std.specs.Prelude.{◌≢◌, is_some}
 use Rattle.std.specs.List.{list_all}
 use Rattle.std.proofs.lemmas.Bool.{both_ways, false_from_ne_true, lt-ltb}
 use Rattle.rights.specs.Limits.{most_nodes}
-use Rattle.file_tree.specs.Places.{is_name, at_name}
+use Rattle.file_tree.specs.Places.{is_file_name, at_name}
 use Rattle.file_tree.specs.Nodes.{Kind, Dir, Node, node, node_at, child_of, has_below}
 use Rattle.file_tree.specs.Changes.{filled, removed}
 use Rattle.file_tree.specs.Refusals.{created, create_fault, remove_fault, is_root}
 use Rattle.file_tree.specs.WellFormed.{is_content, is_byte, IsTree}
-use Rattle.link_tree.specs.Links.{In, Out, Link, link, linked_nodes, stood, filed, refilled, IsLinked, IsMade, TakenOut}
+use Rattle.link_tree.specs.Links.{In, Out, TreeEntry, tree_entry, linked_nodes, stood, filed, refilled, IsLinkedTree, IsNewLink, TakenOut}
 use Rattle.file_tree.proofs.PlaceLaws.{same_place_is, same_place_from}
 use Rattle.file_tree.proofs.NodeLaws.{linked_there}
 use Rattle.file_tree.proofs.KeptByCreate.{may_create, created_is_tree}
@@ -23,9 +23,10 @@ use Rattle.link_tree.proofs.LinkedByFill.{filled_fits, filled_filed}
 use Rattle.link_tree.proofs.LinkedByRemove.{removed_fits, removed_filed}
 
 -- a node is made
-pub created_linked : (ls : List Link) (d : ℕ) (name : List ℕ) (l : Link) → IsLinked ls → (node (linked_nodes ls) d).kind ≡ Dir → is_name name ≡ true → is_content l.kind l.content ≡ true
+pub created_linked : (ls : List TreeEntry) (d : ℕ) (name : List ℕ) (l : TreeEntry) → IsLinkedTree ls → (node (linked_nodes ls) d).kind ≡ Dir →
+    is_file_name name ≡ true → is_content l.kind l.content ≡ true
     → list_all is_byte l.content ≡ true → create_fault (linked_nodes ls) d name ≡ None → l.stand ≡ In d name → ((q : List ℕ) → l.child q ≡ None)
-    → IsLinked (filed (ls ++ l ∷ []) d name (Some (length ls))) × (linked_nodes (filed (ls ++ l ∷ []) d name (Some (length ls))) ≡ created (linked_nodes ls) d name l.kind l.content)
+    → IsLinkedTree (filed (ls ++ l ∷ []) d name (Some (length ls))) × (linked_nodes (filed (ls ++ l ∷ []) d name (Some (length ls))) ≡ created (linked_nodes ls) d name l.kind l.content)
 created_linked ls d name l linked directory named content bytes allowed stand bare =
     let t = linked_nodes ls in
     let may = may_create t d name allowed in
@@ -35,27 +36,30 @@ created_linked ls d name l linked directory named content bytes allowed stand ba
     (created_filed t ls d name l linked.tree linked.fits linked.filed may stand bare)
 
 -- a content is another one
-pub filled_linked : (ls : List Link) (n : ℕ) (content : List ℕ) → IsLinked ls → n < length (linked_nodes ls) → IsTree (filled (linked_nodes ls) n content)
-    → IsLinked (refilled ls n content) × (linked_nodes (refilled ls n content) ≡ filled (linked_nodes ls) n content)
+pub filled_linked : (ls : List TreeEntry) (n : ℕ) (content : List ℕ) → IsLinkedTree ls → n < length (linked_nodes ls) → IsTree (filled (linked_nodes ls) n content)
+    → IsLinkedTree (refilled ls n content) × (linked_nodes (refilled ls n content) ≡ filled (linked_nodes ls) n content)
 filled_linked ls n content linked there tree =
-    is_linked (filled (linked_nodes ls) n content) (refilled ls n content) tree (filled_fits (linked_nodes ls) ls n content linked.fits there) (filled_filed (linked_nodes ls) ls n content linked.fits there linked.filed)
+    is_linked (filled (linked_nodes ls) n content) (refilled ls n content) tree (filled_fits (linked_nodes ls) ls n content linked.fits there)
+    (filled_filed (linked_nodes ls) ls n content linked.fits there linked.filed)
 
--- the content of a link is that of its node
-pub same_content : (ls : List Link) (n : ℕ) → IsLinked ls → n < length (linked_nodes ls) → (link ls n).content ≡ (node (linked_nodes ls) n).content
+-- the content of a tree_entry is that of its node
+pub same_content : (ls : List TreeEntry) (n : ℕ) → IsLinkedTree ls → n < length (linked_nodes ls) → (tree_entry ls n).content ≡ (node (linked_nodes ls) n).content
 same_content ls n linked there = (linked.fits.each n there).content
 
-pub made_linked : (ls us : List Link) (d : ℕ) (name key : List ℕ) (l : Link) (kind : Kind) (content : List ℕ) → IsLinked ls → (node (linked_nodes ls) d).kind ≡ Dir → is_name name ≡ true
-    → is_content kind content ≡ true → list_all is_byte content ≡ true → create_fault (linked_nodes ls) d name ≡ None → IsMade l d name kind content → key ≡ name
+pub made_linked : (ls us : List TreeEntry) (d : ℕ) (name key : List ℕ) (l : TreeEntry) (kind : Kind) (content : List ℕ) → IsLinkedTree ls →
+    (node (linked_nodes ls) d).kind ≡ Dir → is_file_name name ≡ true
+    → is_content kind content ≡ true → list_all is_byte content ≡ true → create_fault (linked_nodes ls) d name ≡ None → IsNewLink l d name kind content → key ≡ name
     → us ≡ filed (ls ++ l ∷ []) d key (Some (length ls))
-    → IsLinked us × (linked_nodes us ≡ created (linked_nodes ls) d name kind content)
+    → IsLinkedTree us × (linked_nodes us ≡ created (linked_nodes ls) d name kind content)
 made_linked ls us d name key l kind content linked directory named fits bytes allowed made same is =
     let after = created_linked ls d name l linked directory named (rw (made.kind_is, made.content_is) fits) (rw made.content_is bytes) allowed made.stand made.bare in
     let here : us ≡ filed (ls ++ l ∷ []) d name (Some (length ls)) = is ∙ ap (λ k. filed (ls ++ l ∷ []) d k (Some (length ls))) same in
     rw here (after.0, after.1 ∙ ap (λ k. created (linked_nodes ls) d name k l.content) made.kind_is ∙ ap (created (linked_nodes ls) d name kind) made.content_is)
 
-pub refilled_linked : (ls us : List Link) (n : ℕ) (f : List ℕ → List ℕ) → IsLinked ls → n < length (linked_nodes ls) → IsTree (filled (linked_nodes ls) n (f (node (linked_nodes ls) n).content))
-    → us ≡ refilled ls n (f (link ls n).content)
-    → IsLinked us × (linked_nodes us ≡ filled (linked_nodes ls) n (f (node (linked_nodes ls) n).content))
+pub refilled_linked : (ls us : List TreeEntry) (n : ℕ) (f : List ℕ → List ℕ) → IsLinkedTree ls → n < length (linked_nodes ls) →
+    IsTree (filled (linked_nodes ls) n (f (node (linked_nodes ls) n).content))
+    → us ≡ refilled ls n (f (tree_entry ls n).content)
+    → IsLinkedTree us × (linked_nodes us ≡ filled (linked_nodes ls) n (f (node (linked_nodes ls) n).content))
 refilled_linked ls us n f linked there tree is =
     let here : us ≡ refilled ls n (f (node (linked_nodes ls) n).content) = is ∙ ap (λ content. refilled ls n (f content)) (same_content ls n linked there) in
     rw here (filled_linked ls n (f (node (linked_nodes ls) n).content) linked there tree)
@@ -74,8 +78,8 @@ remove_allowed t n tree linked low empty =
     rw (linked, other, empty) refl
 
 -- a node is removed
-pub removed_linked : (ls us : List Link) (n : ℕ) (p : List (List ℕ)) → IsLinked ls → remove_fault (linked_nodes ls) n ≡ None → p ≡ (node (linked_nodes ls) n).place → TakenOut ls us n p
-    → IsLinked us × (linked_nodes us ≡ removed (linked_nodes ls) n)
+pub removed_linked : (ls us : List TreeEntry) (n : ℕ) (p : List (List ℕ)) → IsLinkedTree ls → remove_fault (linked_nodes ls) n ≡ None → p ≡ (node (linked_nodes ls) n).place → TakenOut ls us n p
+    → IsLinkedTree us × (linked_nodes us ≡ removed (linked_nodes ls) n)
 removed_linked ls us n p linked allowed place out = by_stand (stand_of t ls n linked.fits may.linked)
   where
     t : List Node
@@ -84,7 +88,7 @@ removed_linked ls us n p linked allowed place out = by_stand (stand_of t ls n li
     may : MayRemove t n
     may = may_remove t n allowed
 
-    by_stand : ((node t n).place ≡ []) ⊎ ((d : ℕ) × (name : List ℕ) × ((link ls n).stand ≡ In d name)) → IsLinked us × (linked_nodes us ≡ removed t n)
+    by_stand : ((node t n).place ≡ []) ⊎ ((d : ℕ) × (name : List ℕ) × ((tree_entry ls n).stand ≡ In d name)) → IsLinkedTree us × (linked_nodes us ≡ removed t n)
     by_stand (inl root) = absurd (both_ways (is_root (node t n).place) may.below_root (same_place_from [] (node t n).place (sym root)))
     by_stand (inr (d, name, stand)) =
         let h = held t ls n d name linked.fits stand in
@@ -94,19 +98,20 @@ removed_linked ls us n p linked allowed place out = by_stand (stand_of t ls n li
         let first = shows_stood ls (length ls) _ _ _ _ (shows_itself ls) n there (Out p) in
         let d_first : d < length (stood ls n (Out p)) = omega (arith, first.count_is) in
         let shows = shows_filed (stood ls n (Out p)) (length ls) _ _ _ _ first d d_first name None in
-        let P : List Link → List (List ℕ) → Type 0 = λ vs q. Shows vs (length ls) (λ k. (link ls k).kind) (λ k. (link ls k).content) (put (λ k. (link ls k).stand) n (Out q)) (put2 (λ k. (link ls k).child) d name None) in
+        let P : List TreeEntry → List (List ℕ) → Type 0 = λ vs q. Shows vs (length ls) (λ k. (tree_entry ls k).kind) (λ k. (tree_entry ls k).content)
+        (put (λ k. (tree_entry ls k).stand) n (Out q)) (put2 (λ k. (tree_entry ls k).child) d name None) in
         let here : P us (node t n).place = subst (P us) place (subst (λ vs. P vs p) (sym (out.from d name stand)) shows) in
         is_linked (removed t n) us (removed_is_tree t n linked.tree allowed)
         (removed_fits t ls us n d name linked.tree linked.fits linked.filed may stand here)
         (removed_filed t ls us n d name linked.tree linked.fits linked.filed may stand here)
 
 -- the same of what the code has tested and then done
-pub record Removed (ls us : List Link) (n : ℕ) : Type 0 where
+pub record Removed (ls us : List TreeEntry) (n : ℕ) : Type 0 where
   pub allowed : remove_fault (linked_nodes ls) n ≡ None
-  pub linked : IsLinked us
+  pub linked : IsLinkedTree us
   pub tree : linked_nodes us ≡ removed (linked_nodes ls) n
 
-pub removed_tested : (ls us : List Link) (n : ℕ) (p : List (List ℕ)) → IsLinked ls → (node (linked_nodes ls) n).linked ≡ true → n ≢ 0
+pub removed_tested : (ls us : List TreeEntry) (n : ℕ) (p : List (List ℕ)) → IsLinkedTree ls → (node (linked_nodes ls) n).linked ≡ true → n ≢ 0
     → has_below (linked_nodes ls) (node (linked_nodes ls) n).place ≡ false → p ≡ (node (linked_nodes ls) n).place → TakenOut ls us n p → Removed ls us n
 removed_tested ls us n p linked in_tree low empty place out =
     let allowed = remove_allowed (linked_nodes ls) n linked.tree in_tree low empty in

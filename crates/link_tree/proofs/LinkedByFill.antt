@@ -5,13 +5,13 @@ use Rattle.file_tree.specs.Places.{at_name}
 use Rattle.file_tree.specs.Nodes.{Node, node}
 use Rattle.file_tree.specs.Changes.{filled}
 use Rattle.file_tree.proofs.TreeLaws.{filled_length, filled_same, filled_other}
-use Rattle.link_tree.specs.Links.{Stand, Root, In, Out, Link, link, StandFits, LinkFits, Fits, IsFiled, refilled}
+use Rattle.link_tree.specs.Links.{Standing, Root, In, Out, TreeEntry, tree_entry, StandFits, EntryFits, Fits, IsFiled, refilled}
 use Rattle.link_tree.proofs.FiledLaws.{filed_same}
 use Rattle.link_tree.proofs.LinkChanges.{Replaced, replaced_link}
 
-module _ (t : List Node) (ls : List Link) (n : ℕ) (content : List ℕ) (fits : Fits ls t) (there : n < length t) where
-  filled_link : Link
-  filled_link = record { kind = (link ls n).kind; stand = (link ls n).stand; child = (link ls n).child; content = content }
+module _ (t : List Node) (ls : List TreeEntry) (n : ℕ) (content : List ℕ) (fits : Fits ls t) (there : n < length t) where
+  filled_link : TreeEntry
+  filled_link = record { kind = (tree_entry ls n).kind; stand = (tree_entry ls n).stand; child = (tree_entry ls n).child; content = content }
 
   filled_node : Node
   filled_node = record { kind = (node t n).kind; place = (node t n).place; linked = (node t n).linked; content = content }
@@ -27,23 +27,23 @@ module _ (t : List Node) (ls : List Link) (n : ℕ) (content : List ℕ) (fits :
     | inr other ↦ let it = filled_other t n content k (λ same. other.1 (sym same)) in (ap (λ (m : Node). m.kind) it, ap (λ (m : Node). m.place) it, ap (λ (m : Node). m.linked) it)
   ]
 
-  stand_fits : (s : Stand) (k : ℕ) → StandFits t s (node t k) → StandFits (filled t n content) s (node (filled t n content) k)
+  stand_fits : (s : Standing) (k : ℕ) → StandFits t s (node t k) → StandFits (filled t n content) s (node (filled t n content) k)
   stand_fits Root k h = let f = frame k in (f.2 ∙ h.0, f.1 ∙ h.1)
   stand_fits (In d name) k h = let f = frame k in let g = frame d in (f.2 ∙ h.0, g.2 ∙ h.1, f.1 ∙ h.2 ∙ ap (λ p. at_name p name) (sym g.1))
   stand_fits (Out p) k h = let f = frame k in (f.2 ∙ h.0, f.1 ∙ h.1)
 
-  each : (k : ℕ) → k < length t → LinkFits (filled t n content) (link (refilled ls n content) k) (node (filled t n content) k)
+  each : (k : ℕ) → k < length t → EntryFits (filled t n content) (tree_entry (refilled ls n content) k) (node (filled t n content) k)
   unfolding filled_link
   each k k_there = elim (eqb_tells n k) [
     | inl same ↦ rw (← same.1, replaced.here) (record {
       kind = (fits.each n there).kind ∙ sym (frame n).0;
       content = sym (ap (λ (m : Node). m.content) (filled_same t n content there));
-      stand = stand_fits (link ls n).stand n (fits.each n there).stand;
+      stand = stand_fits (tree_entry ls n).stand n (fits.each n there).stand;
     })
     | inr other ↦ rw (replaced.other k other.1) (record {
       kind = (fits.each k k_there).kind ∙ sym (frame k).0;
       content = (fits.each k k_there).content ∙ sym (ap (λ (m : Node). m.content) (filled_other t n content k (λ same. other.1 (sym same))));
-      stand = stand_fits (link ls k).stand k (fits.each k k_there).stand;
+      stand = stand_fits (tree_entry ls k).stand k (fits.each k k_there).stand;
     })
   ]
 
@@ -56,5 +56,5 @@ module _ (t : List Node) (ls : List Link) (n : ℕ) (content : List ℕ) (fits :
   pub filled_filed : IsFiled ls → IsFiled (refilled ls n content)
   unfolding filled_link
   filled_filed filed = filed_same _ _ _ _ filed
-      (λ k. elim (eqb_tells n k) [ inl same ↦ rw (← same.1) (ap (λ (l : Link). l.stand) replaced.here) | inr other ↦ ap (λ (l : Link). l.stand) (replaced.other k other.1) ])
-      (λ k name. elim (eqb_tells n k) [ inl same ↦ rw (← same.1) (ap (λ (l : Link). l.child name) replaced.here) | inr other ↦ ap (λ (l : Link). l.child name) (replaced.other k other.1) ])
+      (λ k. elim (eqb_tells n k) [ inl same ↦ rw (← same.1) (ap (λ (l : TreeEntry). l.stand) replaced.here) | inr other ↦ ap (λ (l : TreeEntry). l.stand) (replaced.other k other.1) ])
+      (λ k name. elim (eqb_tells n k) [ inl same ↦ rw (← same.1) (ap (λ (l : TreeEntry). l.child name) replaced.here) | inr other ↦ ap (λ (l : TreeEntry). l.child name) (replaced.other k other.1) ])

@@ -1,3 +1,3 @@
+pub mod LinkViews
 pub mod Links
-pub mod LinkEntries
-pub mod PathMatch
+pub mod MatchViews

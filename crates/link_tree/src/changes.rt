@@ -2,10 +2,10 @@
 
 ghost use Rattle.std.specs.Prelude.{◌≡◌, ◌<◌, ◌++◌, ◌∷◌, [], Some, None, length, vec_len, IfErr, OnOk, OnErr};
 ghost use Rattle.file_tree.specs.Changes.{resized, written};
-ghost use Rattle.link_tree.specs.Links.{filed, link, refilled, stood};
-ghost use Rattle.link_tree.specs.LinkEntries.{link_of, links_of, stand_of};
+ghost use Rattle.link_tree.specs.Links.{filed, tree_entry, refilled, stood};
+ghost use Rattle.link_tree.specs.LinkViews.{link_of, links_of, stand_of};
 
-use crate::links::{Link, Stand};
+use crate::links::{Entry, Stand};
 use file_tree::TreeFault;
 use file_tree::contents::put;
 use rights::limits::MAX_BYTES;
@@ -14,7 +14,7 @@ use std::mem;
 
 /// Files a child under a name in a directory.
 pub(crate) fn file_under(
-    entries: &mut Vec<Link>,
+    entries: &mut Vec<Entry>,
     dir: usize,
     name: Vec<u8>,
     n: usize,
@@ -29,7 +29,7 @@ pub(crate) fn file_under(
 }
 
 /// Takes a name out of a directory.
-pub(crate) fn unfile(entries: &mut Vec<Link>, dir: usize, name: &[u8])
+pub(crate) fn unfile(entries: &mut Vec<Entry>, dir: usize, name: &[u8])
     requires { dir < vec_len entries.old }
     ensures { links_of entries.new.items ≡ filed (links_of entries.old.items) dir name.now None }
 {
@@ -37,20 +37,20 @@ pub(crate) fn unfile(entries: &mut Vec<Link>, dir: usize, name: &[u8])
 }
 
 /// Gives a node another stand, and takes the one that it had.
-pub(crate) fn replace_stand(entries: &mut Vec<Link>, n: usize, stand: Stand) -> Stand
+pub(crate) fn replace_stand(entries: &mut Vec<Entry>, n: usize, stand: Stand) -> Stand
     requires { n < vec_len entries.old }
     ensures changed { links_of entries.new.items ≡ stood (links_of entries.old.items) n (stand_of stand) }
-    ensures before { stand_of result ≡ (link (links_of entries.old.items) n).stand }
+    ensures before { stand_of result ≡ (tree_entry (links_of entries.old.items) n).stand }
 {
     mem::replace(&mut entries[n].stand, stand)
 }
 
 /// Puts a node behind the others, and files it under a name in a directory.
 pub(crate) fn push_under(
-    entries: &mut Vec<Link>,
+    entries: &mut Vec<Entry>,
     dir: usize,
     name: Vec<u8>,
-    made: Link,
+    made: Entry,
 ) -> Result<(), TreeFault>
     requires { dir < vec_len entries.old }
     ensures ok { OnOk result (links_of entries.new.items ≡
@@ -70,11 +70,11 @@ pub(crate) fn push_under(
 }
 
 /// Writes a byte into a node's content, the gap before it filled with zeros.
-pub(crate) fn put_at(entries: &mut Vec<Link>, n: usize, at: usize, b: u8) -> Result<(), AllocError>
+pub(crate) fn put_at(entries: &mut Vec<Entry>, n: usize, at: usize, b: u8) -> Result<(), AllocError>
     requires there { n < vec_len entries.old }
     requires at { at < MAX_BYTES }
     ensures ok { OnOk result (links_of entries.new.items ≡
-        refilled (links_of entries.old.items) n (written (link (links_of entries.old.items) n).content at b)) }
+        refilled (links_of entries.old.items) n (written (tree_entry (links_of entries.old.items) n).content at b)) }
     ensures err { OnErr result (links_of entries.new.items ≡ links_of entries.old.items) }
 {
     put(&mut entries[n].content, at, b)?;
@@ -82,10 +82,10 @@ pub(crate) fn put_at(entries: &mut Vec<Link>, n: usize, at: usize, b: u8) -> Res
 }
 
 /// Cuts a node's content, or fills it up with zeros.
-pub(crate) fn resize_to(entries: &mut Vec<Link>, n: usize, len: usize) -> Result<(), AllocError>
+pub(crate) fn resize_to(entries: &mut Vec<Entry>, n: usize, len: usize) -> Result<(), AllocError>
     requires { n < vec_len entries.old }
     ensures ok { OnOk result (links_of entries.new.items ≡
-        refilled (links_of entries.old.items) n (resized (link (links_of entries.old.items) n).content len)) }
+        refilled (links_of entries.old.items) n (resized (tree_entry (links_of entries.old.items) n).content len)) }
     ensures err { OnErr result (links_of entries.new.items ≡ links_of entries.old.items) }
 {
     entries[n].content.resize(len, 0)?;

@@ -3,22 +3,22 @@
 ghost use Rattle.std.specs.Prelude.{◌≡◌, ◌<◌, ◌++◌, true, ◌∷◌, [], length, take, IfOk, OnOk, OnErr, MatchOption};
 ghost use Rattle.file_tree.specs.Nodes.{node};
 ghost use Rattle.file_tree.specs.Places.{begins, names_text, path_components, place_text, slash};
-ghost use Rattle.link_tree.specs.Links.{IsLinked, linked_nodes};
+ghost use Rattle.link_tree.specs.Links.{IsLinkedTree, linked_nodes};
 ghost use Rattle.file_tree.specs.Views.{names_of};
-ghost use Rattle.link_tree.specs.LinkEntries.{links_of};
-ghost use Rattle.link_tree.specs.PathMatch.{Matches};
+ghost use Rattle.link_tree.specs.LinkViews.{links_of};
+ghost use Rattle.link_tree.specs.MatchViews.{Matches};
 
-use crate::links::{Link, Stand};
+use crate::links::{Entry, Stand};
 use file_tree::places::{append_text, begins_with_path, copy_of};
 use std::alloc::{AllocError, Global};
 
 /// The place of a node, as a list of names of its own.
 pub(crate) fn place_in(
     alloc: Global,
-    entries: &[Link],
+    entries: &[Entry],
     n: usize,
 ) -> Result<Vec<Vec<u8>>, AllocError>
-    requires linked { IsLinked (links_of entries.now) }
+    requires linked { IsLinkedTree (links_of entries.now) }
     requires there { n < length entries.now }
     ensures { IfOk result (λ place. names_of place.items ≡ (node (linked_nodes (links_of entries.now)) n).place) }
 {
@@ -46,8 +46,8 @@ fn append_name(name: &[u8], out: &mut Vec<u8>) -> Result<(), AllocError>
 }
 
 /// Appends each name of a linked node's place after a `/`, or a beginning of that.
-fn append_linked_names(entries: &[Link], n: usize, out: &mut Vec<u8>) -> Result<(), AllocError>
-    requires linked { IsLinked (links_of entries.now) }
+fn append_linked_names(entries: &[Entry], n: usize, out: &mut Vec<u8>) -> Result<(), AllocError>
+    requires linked { IsLinkedTree (links_of entries.now) }
     requires there { n < length entries.now }
     requires n_linked { (node (linked_nodes (links_of entries.now)) n).linked ≡ true }
     ensures ok { OnOk result (out.new.items ≡ out.old.items ++ names_text (node (linked_nodes (links_of entries.now)) n).place) }
@@ -66,11 +66,11 @@ fn append_linked_names(entries: &[Link], n: usize, out: &mut Vec<u8>) -> Result<
 
 /// Appends the place of a node as text, or leaves what is there as it was.
 pub(crate) fn append_place_in(
-    entries: &[Link],
+    entries: &[Entry],
     n: usize,
     out: &mut Vec<u8>,
 ) -> Result<(), AllocError>
-    requires linked { IsLinked (links_of entries.now) }
+    requires linked { IsLinkedTree (links_of entries.now) }
     requires there { n < length entries.now }
     ensures ok { OnOk result (out.new.items ≡ out.old.items ++ place_text (node (linked_nodes (links_of entries.now)) n).place) }
     ensures err { OnErr result (out.new.items ≡ out.old.items) }
@@ -93,8 +93,8 @@ pub(crate) fn append_place_in(
 }
 
 /// Whether a directory is a node or lies below it.
-pub(crate) fn is_above(entries: &[Link], n: usize, dir: usize) -> bool
-    requires linked { IsLinked (links_of entries.now) }
+pub(crate) fn is_above(entries: &[Entry], n: usize, dir: usize) -> bool
+    requires linked { IsLinkedTree (links_of entries.now) }
     requires there { n < length entries.now }
     requires dir_there { dir < length entries.now }
     requires n_linked { (node (linked_nodes (links_of entries.now)) n).linked ≡ true }
@@ -140,8 +140,8 @@ fn first_name(path: &[u8]) -> Option<(&[u8], &[u8])>
 }
 
 /// What the place of a linked node leaves of a path. The names that hold it are taken off first.
-fn match_place<'a>(entries: &[Link], n: usize, path: &'a [u8]) -> Match<'a>
-    requires linked { IsLinked (links_of entries.now) }
+fn match_place<'a>(entries: &[Entry], n: usize, path: &'a [u8]) -> Match<'a>
+    requires linked { IsLinkedTree (links_of entries.now) }
     requires there { n < length entries.now }
     requires n_linked { (node (linked_nodes (links_of entries.now)) n).linked ≡ true }
     ensures { Matches result (path_components path.now) (node (linked_nodes (links_of entries.now)) n).place }
@@ -166,8 +166,8 @@ fn match_place<'a>(entries: &[Link], n: usize, path: &'a [u8]) -> Match<'a>
 }
 
 /// Whether the place of a linked node begins with the names of a path.
-fn linked_begins(entries: &[Link], n: usize, path: &[u8]) -> bool
-    requires linked { IsLinked (links_of entries.now) }
+fn linked_begins(entries: &[Entry], n: usize, path: &[u8]) -> bool
+    requires linked { IsLinkedTree (links_of entries.now) }
     requires there { n < length entries.now }
     requires n_linked { (node (linked_nodes (links_of entries.now)) n).linked ≡ true }
     ensures { result ≡ begins (path_components path.now) (node (linked_nodes (links_of entries.now)) n).place }
@@ -179,8 +179,8 @@ fn linked_begins(entries: &[Link], n: usize, path: &[u8]) -> bool
 }
 
 /// Whether the place of a node begins with the names of a path.
-pub(crate) fn begins_in(entries: &[Link], n: usize, path: &[u8]) -> bool
-    requires linked { IsLinked (links_of entries.now) }
+pub(crate) fn begins_in(entries: &[Entry], n: usize, path: &[u8]) -> bool
+    requires linked { IsLinkedTree (links_of entries.now) }
     requires there { n < length entries.now }
     ensures { result ≡ begins (path_components path.now) (node (linked_nodes (links_of entries.now)) n).place }
 {

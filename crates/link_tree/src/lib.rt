@@ -11,7 +11,7 @@ mod renames;
 use crate::climbs::{append_place_in, begins_in};
 use crate::creates::{create_in, put_in, truncate_in};
 use crate::links::{
-    Link, Stand, child_in, content_in, is_linked_in, kind_in, parent_in, target_in,
+    Entry, Stand, child_in, content_in, is_linked_in, kind_in, parent_in, target_in,
 };
 use crate::removes::remove_in;
 use crate::renames::rename_in;
@@ -25,20 +25,20 @@ use std::marker::Model;
 #[derive(Drop)]
 pub struct LinkTree {
     alloc: Global,
-    entries: Vec<Link>,
+    entries: Vec<Entry>,
 }
 
 impl Model for LinkTree {
     ghost use Rattle.std.specs.Prelude.{List};
     ghost use Rattle.file_tree.specs.Nodes.{Node};
-    ghost use Rattle.link_tree.specs.Links.{IsLinked, linked_nodes};
-    ghost use Rattle.link_tree.specs.LinkEntries.{links_of};
+    ghost use Rattle.link_tree.specs.Links.{IsLinkedTree, linked_nodes};
+    ghost use Rattle.link_tree.specs.LinkViews.{links_of};
 
     ghost Value = { List Node };
 
     ghost view = { λ tree. linked_nodes (links_of tree.entries.items) };
 
-    ghost invariant = { λ tree. IsLinked (links_of tree.entries.items) };
+    ghost invariant = { λ tree. IsLinkedTree (links_of tree.entries.items) };
 }
 
 impl Tree for LinkTree {
@@ -46,7 +46,7 @@ impl Tree for LinkTree {
 
     fn new(alloc: Global) -> Result<LinkTree, TreeFault> {
         let mut entries = Vec::new(alloc);
-        entries.push(Link {
+        entries.push(Entry {
             kind: Kind::Dir,
             stand: Stand::Root,
             children: BTreeMap::new(alloc),

@@ -2,10 +2,10 @@
 
 ghost use Rattle.std.specs.Prelude.{◌≡◌, ◌<◌, Option, length, IfSome};
 ghost use Rattle.std.specs.Option.{option_copied};
-ghost use Rattle.file_tree.specs.Nodes.{child_of, node, parent_of, target_of};
-ghost use Rattle.link_tree.specs.Links.{IsLinked, linked_nodes};
+ghost use Rattle.file_tree.specs.Nodes.{child_of, node, parent_of, link_target};
+ghost use Rattle.link_tree.specs.Links.{IsLinkedTree, linked_nodes};
 ghost use Rattle.file_tree.specs.Views.{kind_of};
-ghost use Rattle.link_tree.specs.LinkEntries.{links_of};
+ghost use Rattle.link_tree.specs.LinkViews.{links_of};
 
 use file_tree::Kind;
 use std::collections::BTreeMap;
@@ -23,7 +23,7 @@ pub(crate) enum Stand {
 
 /// A node, with the numbers of a directory's children by their names.
 #[derive(Drop)]
-pub(crate) struct Link {
+pub(crate) struct Entry {
     pub(crate) kind: Kind,
     pub(crate) stand: Stand,
     pub(crate) children: BTreeMap<Vec<u8>, usize>,
@@ -31,8 +31,8 @@ pub(crate) struct Link {
 }
 
 /// The node of a name in a directory.
-pub(crate) fn child_in(entries: &[Link], dir: usize, name: &[u8]) -> Option<usize>
-    requires linked { IsLinked (links_of entries.now) }
+pub(crate) fn child_in(entries: &[Entry], dir: usize, name: &[u8]) -> Option<usize>
+    requires linked { IsLinkedTree (links_of entries.now) }
     requires there { dir < length entries.now }
     ensures found { result ≡ child_of (linked_nodes (links_of entries.now)) dir name.now }
     ensures there { IfSome result (λ n. n < length entries.now) }
@@ -42,8 +42,8 @@ pub(crate) fn child_in(entries: &[Link], dir: usize, name: &[u8]) -> Option<usiz
 }
 
 /// The directory that holds a node.
-pub(crate) fn parent_in(entries: &[Link], n: usize) -> Option<usize>
-    requires linked { IsLinked (links_of entries.now) }
+pub(crate) fn parent_in(entries: &[Entry], n: usize) -> Option<usize>
+    requires linked { IsLinkedTree (links_of entries.now) }
     requires there { n < length entries.now }
     ensures found { result ≡ parent_of (linked_nodes (links_of entries.now)) n }
     ensures there { IfSome result (λ d. d < length entries.now) }
@@ -57,8 +57,8 @@ pub(crate) fn parent_in(entries: &[Link], n: usize) -> Option<usize>
 }
 
 /// Whether a node wasn't removed.
-pub(crate) fn is_linked_in(entries: &[Link], n: usize) -> bool
-    requires linked { IsLinked (links_of entries.now) }
+pub(crate) fn is_linked_in(entries: &[Entry], n: usize) -> bool
+    requires linked { IsLinkedTree (links_of entries.now) }
     requires there { n < length entries.now }
     ensures { result ≡ (node (linked_nodes (links_of entries.now)) n).linked }
 {
@@ -70,8 +70,8 @@ pub(crate) fn is_linked_in(entries: &[Link], n: usize) -> bool
 }
 
 /// What a node is.
-pub(crate) fn kind_in(entries: &[Link], n: usize) -> Kind
-    requires linked { IsLinked (links_of entries.now) }
+pub(crate) fn kind_in(entries: &[Entry], n: usize) -> Kind
+    requires linked { IsLinkedTree (links_of entries.now) }
     requires there { n < length entries.now }
     ensures { kind_of result ≡ (node (linked_nodes (links_of entries.now)) n).kind }
 {
@@ -79,10 +79,10 @@ pub(crate) fn kind_in(entries: &[Link], n: usize) -> Kind
 }
 
 /// What a link holds.
-pub(crate) fn target_in(entries: &[Link], n: usize) -> Option<&[u8]>
-    requires linked { IsLinked (links_of entries.now) }
+pub(crate) fn target_in(entries: &[Entry], n: usize) -> Option<&[u8]>
+    requires linked { IsLinkedTree (links_of entries.now) }
     requires there { n < length entries.now }
-    ensures { option_copied result ≡ target_of (linked_nodes (links_of entries.now)) n }
+    ensures { option_copied result ≡ link_target (linked_nodes (links_of entries.now)) n }
 {
     let entry = &entries[n];
     match entry.kind {
@@ -93,8 +93,8 @@ pub(crate) fn target_in(entries: &[Link], n: usize) -> Option<&[u8]>
 }
 
 /// The content of a node.
-pub(crate) fn content_in(entries: &[Link], n: usize) -> &[u8]
-    requires linked { IsLinked (links_of entries.now) }
+pub(crate) fn content_in(entries: &[Entry], n: usize) -> &[u8]
+    requires linked { IsLinkedTree (links_of entries.now) }
     requires there { n < length entries.now }
     ensures { result.now ≡ (node (linked_nodes (links_of entries.now)) n).content }
 {

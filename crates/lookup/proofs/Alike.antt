@@ -6,7 +6,7 @@ use Rattle.file_tree.specs.Nodes.{Node, node, node_at, child_of, is_dir, is_link
 use Rattle.file_tree.specs.WellFormed.{IsTree}
 use Rattle.file_tree.proofs.NodeLaws.{linked_there}
 use Rattle.file_tree.proofs.TreeLaws.{Found, at_place, node_at_its_place, child_by_place, root_there}
-use Rattle.lookup.specs.Answers.{Way, Beneath, Global, Last, is_kept, Fault, No_entry}
+use Rattle.lookup.specs.Answers.{Way, Beneath, Global, Last, is_kept, LookupFault, No_entry}
 use Rattle.lookup.specs.Paths.{is_dot, is_dot_dot, path_fault}
 use Rattle.rights.specs.Limits.{most_links}
 use Rattle.lookup.specs.Steps.{Move, Moves, Meets, looked}
@@ -35,7 +35,8 @@ pub found_at : (t : List Node) (p : List (List ℕ)) (n : ℕ) → IsTree t → 
 found_at t p n tree found = ap (node_at t) (sym found.place) ∙ node_at_its_place t n tree found.linked
 
 -- three tests, one after the other
-chain_alike : {P Q : Type 0} (R : P → Q → Type 0) (a b c : Bool) (x u v w : Move P) (x' u' v' w' : Move Q) → SameMove R x x' → SameMove R u u' → SameMove R v v' → SameMove R w w' → SameMove R (cond a x (cond b u (cond c v w))) (cond a x' (cond b u' (cond c v' w')))
+chain_alike : {P Q : Type 0} (R : P → Q → Type 0) (a b c : Bool) (x u v w : Move P) (x' u' v' w' : Move Q) → SameMove R x x' → SameMove R u u' →
+    SameMove R v v' → SameMove R w w' → SameMove R (cond a x (cond b u (cond c v w))) (cond a x' (cond b u' (cond c v' w')))
 chain_alike R true b c x u v w x' u' v' w' hx hu hv hw = hx
 chain_alike R false true c x u v w x' u' v' w' hx hu hv hw = hu
 chain_alike R false false true x u v w x' u' v' w' hx hu hv hw = hv
@@ -49,20 +50,26 @@ module _ (t : List Node) (way : Way) (last : Last) (start : List (List ℕ)) (tr
   up_alike way (name ∷ below) n [] h = absurd h
   up_alike way (name ∷ below) n (d ∷ before) h = h.1
 
-  down_alike : (below : List (List ℕ)) (d : ℕ) (before : List ℕ) (name : List ℕ) (left : List (List ℕ)) (o : Option ℕ) → OnWay t start below d before → node_at t (at_name (place_below start below) name) ≡ o → SameMove (Goes_with t start) (downwards t last below name left d o) (into t last d before left o)
+  down_alike : (below : List (List ℕ)) (d : ℕ) (before : List ℕ) (name : List ℕ) (left : List (List ℕ)) (o : Option ℕ) →
+      OnWay t start below d before → node_at t (at_name (place_below start below) name) ≡ o →
+      SameMove (Goes_with t start) (downwards t last below name left d o) (into t last d before left o)
   down_alike below d before name left None h e = refl
   down_alike below d before name left (Some n) h e = by_kind (is_link (node t n).kind && not (is_kept last left))
     where
-      by_kind : (b : Bool) → SameMove (Goes_with t start) (cond b (Meets (node t n).content) (Moves (name ∷ below))) (cond b (Meets (node t n).content) (Moves (record { current = n; before = d ∷ before })))
+      by_kind : (b : Bool) → SameMove (Goes_with t start) (cond b (Meets (node t n).content) (Moves (name ∷ below)))
+          (cond b (Meets (node t n).content) (Moves (record { current = n; before = d ∷ before })))
       by_kind true = refl
       by_kind false = (at_place t (at_name (place_below start below) name) n e, h)
 
-  component_alike : (below : List (List ℕ)) (d : ℕ) (before : List ℕ) (name : List ℕ) (left : List (List ℕ)) → OnWay t start below d before → SameMove (Goes_with t start) (in_place t way last start below name left (node_at t (place_below start below))) (in_node t way last d before name left)
+  component_alike : (below : List (List ℕ)) (d : ℕ) (before : List ℕ) (name : List ℕ) (left : List (List ℕ)) → OnWay t start below d before →
+      SameMove (Goes_with t start) (in_place t way last start below name left (node_at t (place_below start below)))
+      (in_node t way last d before name left)
   component_alike below d before name left h =
       let found = stands_there t start below d before h in
       let there : node_at t (place_below start below) ≡ Some d = found_at t (place_below start below) d tree found in
       let child : child_of t d name ≡ node_at t (at_name (place_below start below) name) = child_by_place t d name found.linked ∙ ap (λ (p : List (List ℕ)). node_at t (at_name p name)) found.place in
-      rw (there, child) (chain_alike (Goes_with t start) (not (is_dir (node t d).kind)) (is_dot name) (is_dot_dot name) _ _ _ _ _ _ _ _ refl h (up_alike way below d before h) (down_alike below d before name left _ h refl))
+      rw (there, child) (chain_alike (Goes_with t start) (not (is_dir (node t d).kind)) (is_dot name) (is_dot_dot name) _ _ _ _ _ _ _ _ refl h
+      (up_alike way below d before h) (down_alike below d before name left _ h refl))
 
   pub together : SameSpot (Goes_with t start) (restart_below way) (restart_node way) → Together (by_places t way last start) (by_nodes t way last) (Goes_with t start)
   unfolding by_places by_nodes
@@ -89,7 +96,8 @@ start_found t start Beneath tree there = let linked = not_gone (node t start).li
 start_found t start Global tree there = root_found t tree
 
 -- nothing is wrong: neither with the text nor with the start
-pub no_fault : (t : List Node) (start : ℕ) (path : List ℕ) (way : Way) (last : Last) → lookup_fault t start path way last ≡ None → (path_fault path way last ≡ None) × (is_start_gone t start way ≡ false)
+pub no_fault : (t : List Node) (start : ℕ) (path : List ℕ) (way : Way) (last : Last) → lookup_fault t start path way last ≡ None →
+    (path_fault path way last ≡ None) × (is_start_gone t start way ≡ false)
 unfolding lookup_fault
 no_fault t start path way last h = by_text (path_fault path way last) refl h
   where
@@ -97,7 +105,7 @@ no_fault t start path way last h = by_text (path_fault path way last) refl h
     by_start true e = cc
     by_start false e = refl
 
-    by_text : (o : Option Fault) → path_fault path way last ≡ o → or_else o (start_fault t start way) ≡ None → (path_fault path way last ≡ None) × (is_start_gone t start way ≡ false)
+    by_text : (o : Option LookupFault) → path_fault path way last ≡ o → or_else o (start_fault t start way) ≡ None → (path_fault path way last ≡ None) × (is_start_gone t start way ≡ false)
     by_text None is e = (is, by_start (is_start_gone t start way) e)
     by_text (Some f) is e = cc
 
@@ -106,8 +114,12 @@ pub walk_is_find : (t : List Node) (start : ℕ) (path : List ℕ) (way : Way) (
 unfolding walk_of find_of
 walk_is_find t start path way last tree = by_fault (lookup_fault t start path way last) refl
   where
-    by_fault : (o : Option Fault) → lookup_fault t start path way last ≡ o → unless_lost o (looked (by_nodes t way last) most_links (path_components path) (from_node (start_node start way))) ≡ unless_lost o (looked (by_places t way last (start_place t start way)) most_links (path_components path) [])
+    by_fault : (o : Option LookupFault) → lookup_fault t start path way last ≡ o →
+        unless_lost o (looked (by_nodes t way last) most_links (path_components path) (from_node (start_node start way))) ≡ unless_lost o
+        (looked (by_places t way last (start_place t start way)) most_links (path_components path) [])
     by_fault None e =
-        sym (looked_alike (by_places t way last (start_place t start way)) (by_nodes t way last) (Goes_with t (start_place t start way)) (together t way last (start_place t start way) tree (restart_alike t start way tree)) most_links (path_components path) [] (from_node (start_node start way))
+        sym (looked_alike (by_places t way last (start_place t start way)) (by_nodes t way last) (Goes_with t (start_place t start way))
+        (together t way last (start_place t start way) tree (restart_alike t start way tree)) most_links (path_components path) []
+        (from_node (start_node start way))
         (start_found t start way tree (no_fault t start path way last e).1))
     by_fault (Some f) e = refl

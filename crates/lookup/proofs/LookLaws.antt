@@ -3,7 +3,7 @@ use Rattle.std.proofs.Common.{◌≡◌, ℕ, List, [], Option, Some, None, refl
 use Rattle.std.specs.Prelude.{MatchOption}
 use Rattle.file_tree.specs.Places.{path_components}
 use Rattle.file_tree.specs.Nodes.{Node}
-use Rattle.lookup.specs.Answers.{Way, Last, Fault, Answer, Not_found}
+use Rattle.lookup.specs.Answers.{Way, Last, LookupFault, Finding, Not_found}
 use Rattle.rights.specs.Limits.{most_links}
 use Rattle.lookup.specs.Leads.{Leads}
 use Rattle.lookup.specs.Steps.{looked}
@@ -12,7 +12,7 @@ use Rattle.lookup.specs.Looks.{start_place, lookup_fault, unless_lost, first_sta
 use Rattle.lookup.proofs.StepLaws.{leads_rest, leads_only}
 
 module _ (t : List Node) (start : ℕ) (path : List ℕ) (way : Way) (last : Last) where
-  abbrev Led : Option Fault → Answer → Type 0
+  abbrev Led : Option LookupFault → Finding → Type 0
   Led o answer = MatchOption o (Leads (by_places t way last (start_place t start way)) (first_stand [] path) answer) (λ fault. answer ≡ Not_found fault)
 
   -- the path leads to what the function gives
@@ -20,19 +20,19 @@ module _ (t : List Node) (start : ℕ) (path : List ℕ) (way : Way) (last : Las
   unfolding Looks find_of
   find_looks = by_fault (lookup_fault t start path way last)
     where
-      by_fault : (o : Option Fault) → Led o (unless_lost o (looked (by_places t way last (start_place t start way)) most_links (path_components path) []))
+      by_fault : (o : Option LookupFault) → Led o (unless_lost o (looked (by_places t way last (start_place t start way)) most_links (path_components path) []))
       by_fault None = leads_rest (by_places t way last (start_place t start way)) (first_stand [] path) (omega arith)
       by_fault (Some fault) = refl
 
   -- and to nothing else
-  pub find_only : (answer : Answer) → Looks t start path way last answer → answer ≡ find_of t start path way last
+  pub find_only : (answer : Finding) → Looks t start path way last answer → answer ≡ find_of t start path way last
   unfolding Looks find_of
   find_only answer led = by_fault (lookup_fault t start path way last) led
     where
-      by_fault : (o : Option Fault) → Led o answer → answer ≡ unless_lost o (looked (by_places t way last (start_place t start way)) most_links (path_components path) [])
+      by_fault : (o : Option LookupFault) → Led o answer → answer ≡ unless_lost o (looked (by_places t way last (start_place t start way)) most_links (path_components path) [])
       by_fault None led = leads_only (by_places t way last (start_place t start way)) (first_stand [] path) answer led
       by_fault (Some fault) led = led
 
   -- so what the function gives, the path leads to
-  pub find_led : (answer : Answer) → find_of t start path way last ≡ answer → Looks t start path way last answer
+  pub find_led : (answer : Finding) → find_of t start path way last ≡ answer → Looks t start path way last answer
   find_led answer same = rw same at find_looks

@@ -1,7 +1,7 @@
 -- What a name does where a walk stands.
 use Rattle.std.proofs.Common.{◌≡◌, ℕ, List, ◌∷◌, Bool, true, false, Some, None, Result, refl, cond}
 use Rattle.std.specs.Prelude.{not, ◌&&◌}
-use Rattle.file_tree.specs.Nodes.{Kind, File, Dir, Link, Node, node, child_of, target_of, is_link}
+use Rattle.file_tree.specs.Nodes.{Kind, File, Dir, Link, Node, node, child_of, link_target, is_link}
 use Rattle.lookup.specs.Answers.{Way, Last, is_kept}
 use Rattle.lookup.specs.Paths.{is_dot, is_dot_dot}
 use Rattle.lookup.specs.Leads.{Stand, Next}
@@ -18,23 +18,28 @@ link_by File content h = refl
 link_by Dir content h = refl
 link_by Link content h = cc
 
-pub no_link : (t : List Node) (n : ℕ) → target_of t n ≡ None → is_link (node t n).kind ≡ false
-unfolding target_of
+pub no_link : (t : List Node) (n : ℕ) → link_target t n ≡ None → is_link (node t n).kind ≡ false
+unfolding link_target
 no_link t n h = link_by (node t n).kind (node t n).content h
 
 -- a node without a target is gone to, and so is one that is kept
-pub into_node : (t : List Node) (last : Last) (d : ℕ) (before : List ℕ) (left : List (List ℕ)) (n : ℕ) → target_of t n ≡ None → into t last d before left (Some n) ≡ Moves (record { current = n; before = d ∷ before })
+pub into_node : (t : List Node) (last : Last) (d : ℕ) (before : List ℕ) (left : List (List ℕ)) (n : ℕ) → link_target t n ≡ None →
+    into t last d before left (Some n) ≡ Moves (record { current = n; before = d ∷ before })
 into_node t last d before left n h = rw (no_link t n h) refl
 
-pub into_kept : (t : List Node) (last : Last) (d : ℕ) (before : List ℕ) (left : List (List ℕ)) (n : ℕ) → is_kept last left ≡ true → into t last d before left (Some n) ≡ Moves (record { current = n; before = d ∷ before })
+pub into_kept : (t : List Node) (last : Last) (d : ℕ) (before : List ℕ) (left : List (List ℕ)) (n : ℕ) → is_kept last left ≡ true →
+    into t last d before left (Some n) ≡ Moves (record { current = n; before = d ∷ before })
 into_kept t last d before left n h = by_kind (is_link (node t n).kind)
   where
-    by_kind : (b : Bool) → cond {A = Move Walked} (b && not (is_kept last left)) (Meets (node t n).content) (Moves (record { current = n; before = d ∷ before })) ≡ Moves (record { current = n; before = d ∷ before })
+    by_kind : (b : Bool) → cond {A = Move Walked} (b && not (is_kept last left)) (Meets (node t n).content)
+        (Moves (record { current = n; before = d ∷ before })) ≡ Moves (record { current = n; before = d ∷ before })
     by_kind true = rw h refl
     by_kind false = refl
 
 -- a name that no node in a directory has is absent there
-pub enters_absent : (t : List Node) (way : Way) (last : Last) (d : ℕ) (before : List ℕ) (name : List ℕ) (left : List (List ℕ)) → (node t d).kind ≡ Dir → is_dot name ≡ false → is_dot_dot name ≡ false → child_of t d name ≡ None → in_node t way last d before name left ≡ Stops (absent last left d)
+pub enters_absent : (t : List Node) (way : Way) (last : Last) (d : ℕ) (before : List ℕ) (name : List ℕ) (left : List (List ℕ)) →
+    (node t d).kind ≡ Dir → is_dot name ≡ false → is_dot_dot name ≡ false → child_of t d name ≡ None →
+    in_node t way last d before name left ≡ Stops (absent last left d)
 enters_absent t way last d before name left dir dot dots none = rw (dir, dot, dots, none) refl
 
 -- what a walk did was next, if that is the same

@@ -21,11 +21,16 @@ begun_more path from i low there =
     rw (sum, take_more (drop from path) (i - from) 0 short, get_or-drop from path (i - from) 0, place) refl
 
 -- what is left of a path has the same last name after a name of it, and after a byte of a name
-pub last_at_slash : (path : List ℕ) (from i j : ℕ) (last late whole : List ℕ) → i < length path → get_or path i 0 ≡ 47 → j ≡ i + 1 → ((names : List (List ℕ)) → last_or last (with_name (take (i - from) (drop from path)) names) ≡ last_or late names) → last_or last (names_from (take (i - from) (drop from path)) (drop i path)) ≡ whole → last_or late (names_from (take (i + 1 - j) (drop j path)) (drop (i + 1) path)) ≡ whole
+pub last_at_slash : (path : List ℕ) (from i j : ℕ) (last late whole : List ℕ) → i < length path → get_or path i 0 ≡ 47 → j ≡ i + 1 →
+    ((names : List (List ℕ)) → last_or last (with_name (take (i - from) (drop from path)) names) ≡ last_or late names) →
+    last_or last (names_from (take (i - from) (drop from path)) (drop i path)) ≡ whole →
+    last_or late (names_from (take (i + 1 - j) (drop j path)) (drop (i + 1) path)) ≡ whole
 last_at_slash path from i j last late whole there slash next step same =
     let none : i + 1 - j ≡ 0 = omega arith in
     rw none (sym (step (names_from [] (drop (i + 1) path))) ∙ ap (last_or last) (sym (names_at_slash (take (i - from) (drop from path)) path i there slash)) ∙ same)
 
-pub last_at_byte : (path : List ℕ) (from i : ℕ) (last whole : List ℕ) → from ≤ i → i < length path → get_or path i 0 ≢ 47 → last_or last (names_from (take (i - from) (drop from path)) (drop i path)) ≡ whole → last_or last (names_from (take (i + 1 - from) (drop from path)) (drop (i + 1) path)) ≡ whole
+pub last_at_byte : (path : List ℕ) (from i : ℕ) (last whole : List ℕ) → from ≤ i → i < length path → get_or path i 0 ≢ 47 →
+    last_or last (names_from (take (i - from) (drop from path)) (drop i path)) ≡ whole →
+    last_or last (names_from (take (i + 1 - from) (drop from path)) (drop (i + 1) path)) ≡ whole
 last_at_byte path from i last whole low there other same =
     rw (begun_more path from i low there) (ap (last_or last) (sym (names_at_byte (take (i - from) (drop from path)) path i there other)) ∙ same)

@@ -7,12 +7,12 @@ use Rattle.file_tree.specs.WellFormed.{IsTree}
 use Rattle.file_tree.proofs.PlaceLaws.{begins_refl, begins_trans, begins_append, begins_length, at_name_length, above_at_name}
 use Rattle.file_tree.proofs.NodeLaws.{Directory, held_above, linked_there}
 use Rattle.file_tree.proofs.TreeLaws.{Found, at_place, child_by_place, parent_above}
-use Rattle.lookup.specs.Answers.{Way, Beneath, Global, Last, Follow, Keep, is_kept, Fault, Answer, Found_node, Found_free, Not_found}
+use Rattle.lookup.specs.Answers.{Way, Beneath, Global, Last, Follow, Keep, is_kept, LookupFault, Finding, Found_node, Found_free, Not_found}
 use Rattle.lookup.specs.Paths.{is_dot, is_dot_dot, last_or, last_component, is_bad_last}
 use Rattle.lookup.specs.Leads.{Leads}
 use Rattle.lookup.specs.ByPlaces.{place_below, by_places}
 use Rattle.lookup.specs.Looks.{start_place, start_node, is_start_gone, first_stand, lookup_fault, Looks}
-use Rattle.lookup.specs.Promises.{IsLinked, IsThere, Lacks, IsFreeName, IsBeneath, IsBelow, HasName, IsUnderName, IsFollowed, MayBeMade}
+use Rattle.lookup.specs.Promises.{IsLinked, IsFindingThere, Lacks, IsFreeName, IsBeneath, IsBelow, HasName, IsUnderName, IsFollowed, MayBeMade}
 use Rattle.lookup.proofs.PlaceSteps.{Keeps, leads_good}
 use Rattle.lookup.proofs.Alike.{found_at, no_fault, start_found}
 use Rattle.lookup.proofs.TextLaws.{IsGoodText, good_text, last_is_name}
@@ -31,17 +31,21 @@ directory_kind Dir h = refl
 directory_kind Link h = cc
 
 -- What holds of whatever a lookup leads to, where nothing is wrong, holds of what the path leads to.
-pub looks_good : (t : List Node) (start : ℕ) (path : List ℕ) (way : Way) (last : Last) (Good : Answer → Type 0) → ((fault : Fault) → Good (Not_found fault)) → (lookup_fault t start path way last ≡ None → (a : Answer) → Leads (by_places t way last (start_place t start way)) (first_stand [] path) a → Good a) → (a : Answer) → Looks t start path way last a → Good a
+pub looks_good : (t : List Node) (start : ℕ) (path : List ℕ) (way : Way) (last : Last) (Good : Finding → Type 0) →
+    ((fault : LookupFault) → Good (Not_found fault)) →
+    (lookup_fault t start path way last ≡ None → (a : Finding) → Leads (by_places t way last (start_place t start way)) (first_stand [] path) a →
+    Good a) → (a : Finding) → Looks t start path way last a → Good a
 unfolding Looks
 looks_good t start path way last Good not_found law a led = by_fault (lookup_fault t start path way last) refl led
   where
-    by_fault : (o : Option Fault) → lookup_fault t start path way last ≡ o → MatchOption o (Leads (by_places t way last (start_place t start way)) (first_stand [] path) a) (λ fault. a ≡ Not_found fault) → Good a
+    by_fault : (o : Option LookupFault) → lookup_fault t start path way last ≡ o →
+        MatchOption o (Leads (by_places t way last (start_place t start way)) (first_stand [] path) a) (λ fault. a ≡ Not_found fault) → Good a
     by_fault None none led = law none a led
     by_fault (Some fault) is led = rw led (not_found fault)
 
 -- What is found is linked, and its place begins with that of the start.
-abbrev IsFoundBelow : List Node → List (List ℕ) → Answer → Type 0
-IsFoundBelow t start a = IsThere t a × IsBeneath t start a
+abbrev IsFoundBelow : List Node → List (List ℕ) → Finding → Type 0
+IsFoundBelow t start a = IsFindingThere t a × IsBeneath t start a
 
 found_below : (t : List Node) (start below : List (List ℕ)) (n : ℕ) → node_at t (place_below start below) ≡ Some n → IsLinked t n × (begins start (node t n).place ≡ true)
 found_below t start below n at =
@@ -62,14 +66,15 @@ keeps_below t way last start = record {
 }
 
 module _ (t : List Node) (start : ℕ) (path : List ℕ) (way : Way) (last : Last) where
-  found_good : (a : Answer) → Looks t start path way last a → IsFoundBelow t (start_place t start way) a
+  found_good : (a : Finding) → Looks t start path way last a → IsFoundBelow t (start_place t start way) a
   found_good = looks_good t start path way last (IsFoundBelow t (start_place t start way)) (λ fault. (tt, tt))
-      (λ none a led. leads_good t way last (start_place t start way) (λ below left. Unit {0}) (IsFoundBelow t (start_place t start way)) (keeps_below t way last (start_place t start way)) (first_stand [] path) a tt led)
+      (λ none a led. leads_good t way last (start_place t start way) (λ below left. Unit {0}) (IsFoundBelow t (start_place t start way))
+      (keeps_below t way last (start_place t start way)) (first_stand [] path) a tt led)
 
-  pub looks_there : (a : Answer) → Looks t start path way last a → IsThere t a
+  pub looks_there : (a : Finding) → Looks t start path way last a → IsFindingThere t a
   looks_there a led = (found_good a led).0
 
-  pub looks_beneath : (a : Answer) → Looks t start path way last a → IsBeneath t (start_place t start way) a
+  pub looks_beneath : (a : Finding) → Looks t start path way last a → IsBeneath t (start_place t start way) a
   looks_beneath a led = (found_good a led).1
 
 -- a place but the root's is in a directory
@@ -108,12 +113,13 @@ aims_free final name [] h kept = h
 aims_free final name (next ∷ left) h kept = cc
 
 -- What is found has the last name in its parent, and what is free lacks it in its directory; both are below the start.
-abbrev IsFoundUnder : List Node → List (List ℕ) → List ℕ → Answer → Type 0
+abbrev IsFoundUnder : List Node → List (List ℕ) → List ℕ → Finding → Type 0
 IsFoundUnder t start final (Found_node n) = HasName t n final × (length start < length (node t n).place)
 IsFoundUnder t start final (Found_free d) = Lacks t d final × (length start < length (at_name (node t d).place final))
 IsFoundUnder t start final (Not_found fault) = Unit {0}
 
-found_under : (t : List Node) (start : List (List ℕ)) (final : List ℕ) (below : List (List ℕ)) (n : ℕ) → IsTree t → node_at t (at_name (place_below start below) final) ≡ Some n → HasName t n final × (length start < length (node t n).place)
+found_under : (t : List Node) (start : List (List ℕ)) (final : List ℕ) (below : List (List ℕ)) (n : ℕ) → IsTree t →
+    node_at t (at_name (place_below start below) final) ≡ Some n → HasName t n final × (length start < length (node t n).place)
 found_under t start final below n tree at =
     let found = at_place t (at_name (place_below start below) final) n at in
     let holder = directory_above t (place_below start below) final n tree found in
@@ -131,14 +137,17 @@ found_under t start final below n tree at =
       omega arith,
     )
 
-free_under : (t : List Node) (start : List (List ℕ)) (final : List ℕ) (below : List (List ℕ)) (d : ℕ) → node_at t (place_below start below) ≡ Some d → (node t d).kind ≡ Dir → node_at t (at_name (place_below start below) final) ≡ None → Lacks t d final × (length start < length (at_name (node t d).place final))
+free_under : (t : List Node) (start : List (List ℕ)) (final : List ℕ) (below : List (List ℕ)) (d : ℕ) → node_at t (place_below start below) ≡ Some d →
+    (node t d).kind ≡ Dir → node_at t (at_name (place_below start below) final) ≡ None →
+    Lacks t d final × (length start < length (at_name (node t d).place final))
 free_under t start final below d at dir none =
     let found = at_place t (place_below start below) d at in
     let longer : length (at_name (node t d).place final) ≡ length (place_below start below) + 1 = at_name_length (node t d).place final ∙ ap (λ (p : List (List ℕ)). length p + 1) found.place in
     let least : length start ≤ length (place_below start below) = below_length start below in
     (record { directory = dir; absent = child_by_place t d final found.linked ∙ ap (λ (p : List (List ℕ)). node_at t (at_name p final)) found.place ∙ none }, omega arith)
 
-arrives_under : (t : List Node) (start : List (List ℕ)) (final : List ℕ) (below : List (List ℕ)) (n : ℕ) → IsTree t → Aims final below [] → node_at t (place_below start below) ≡ Some n → HasName t n final × (length start < length (node t n).place)
+arrives_under : (t : List Node) (start : List (List ℕ)) (final : List ℕ) (below : List (List ℕ)) (n : ℕ) → IsTree t → Aims final below [] →
+    node_at t (place_below start below) ≡ Some n → HasName t n final × (length start < length (node t n).place)
 arrives_under t start final [] n tree aims at = absurd aims
 arrives_under t start final (name ∷ below) n tree aims at = found_under t start final below n tree (ap (λ (x : List ℕ). node_at t (at_name (place_below start below) x)) (sym aims) ∙ at)
 
@@ -187,23 +196,24 @@ aims_first path good = by_names (path_components path) good
     by_names (name ∷ names) h = refl
 
 module _ (t : List Node) (start : ℕ) (path : List ℕ) (way : Way) (tree : IsTree t) where
-  under_good : (a : Answer) → Looks t start path way Keep a → IsFoundUnder t (start_place t start way) (last_component path) a
+  under_good : (a : Finding) → Looks t start path way Keep a → IsFoundUnder t (start_place t start way) (last_component path) a
   under_good = looks_good t start path way Keep (IsFoundUnder t (start_place t start way) (last_component path)) (λ fault. tt)
       (λ none a led.
       let good = (good_text path way Keep (no_fault t start path way Keep none).0).kept in
-      leads_good t way Keep (start_place t start way) (Aims (last_component path)) (IsFoundUnder t (start_place t start way) (last_component path)) (keeps_under t way (start_place t start way) (last_component path) tree good) (first_stand [] path) a (aims_first path good) led)
+      leads_good t way Keep (start_place t start way) (Aims (last_component path)) (IsFoundUnder t (start_place t start way) (last_component path))
+      (keeps_under t way (start_place t start way) (last_component path) tree good) (first_stand [] path) a (aims_first path good) led)
 
-  pub kept_below : (a : Answer) → Looks t start path way Keep a → IsBelow t (start_place t start way) path a
+  pub kept_below : (a : Finding) → Looks t start path way Keep a → IsBelow t (start_place t start way) path a
   kept_below (Found_node n) led = (under_good (Found_node n) led).1
   kept_below (Found_free d) led = (under_good (Found_free d) led).1
   kept_below (Not_found fault) led = tt
 
-  pub kept_named : (a : Answer) → Looks t start path way Keep a → IsUnderName t path a
+  pub kept_named : (a : Finding) → Looks t start path way Keep a → IsUnderName t path a
   kept_named (Found_node n) led = (under_good (Found_node n) led).0
   kept_named (Found_free d) led = tt
   kept_named (Not_found fault) led = tt
 
-  pub kept_free : (a : Answer) → Looks t start path way Keep a → IsFreeName t path a
+  pub kept_free : (a : Finding) → Looks t start path way Keep a → IsFreeName t path a
   kept_free (Found_node n) led = tt
   kept_free (Found_free d) led = (under_good (Found_free d) led).0
   kept_free (Not_found fault) led = tt
@@ -257,18 +267,19 @@ start_no_link t start way tree opened stays n at =
     let same : start_node start way ≡ n = cc in rw same at (start_is t start way tree opened)
 
 module _ (t : List Node) (start : ℕ) (path : List ℕ) (way : Way) (tree : IsTree t) (opened : is_link (node t start).kind ≡ false) where
-  pub followed_good : (a : Answer) → Looks t start path way Follow a → IsFollowed t a
+  pub followed_good : (a : Finding) → Looks t start path way Follow a → IsFollowed t a
   followed_good = looks_good t start path way Follow (IsFollowed t) (λ fault. tt)
       (λ none a led.
       let first = start_no_link t start way tree opened (no_fault t start path way Follow none).1 in
-      leads_good t way Follow (start_place t start way) (NoLink t (start_place t start way)) (IsFollowed t) (keeps_followed t way (start_place t start way) tree first) (first_stand [] path) a first led)
+      leads_good t way Follow (start_place t start way) (NoLink t (start_place t start way)) (IsFollowed t)
+      (keeps_followed t way (start_place t start way) tree first) (first_stand [] path) a first led)
 
 -- A free name may be that of a node.
-pub kept_may_be_made : (t : List Node) (start : ℕ) (path : List ℕ) (way : Way) (a : Answer) → Looks t start path way Keep a → MayBeMade path a
+pub kept_may_be_made : (t : List Node) (start : ℕ) (path : List ℕ) (way : Way) (a : Finding) → Looks t start path way Keep a → MayBeMade path a
 kept_may_be_made t start path way = looks_good t start path way Keep (MayBeMade path) (λ fault. tt)
     (λ none a led. by_answer a (good_text path way Keep (no_fault t start path way Keep none).0))
   where
-    by_answer : (a : Answer) → IsGoodText path way Keep → MayBeMade path a
+    by_answer : (a : Finding) → IsGoodText path way Keep → MayBeMade path a
     by_answer (Found_node n) good = tt
     by_answer (Found_free d) good = last_is_name path good.short good.kept
     by_answer (Not_found fault) good = tt

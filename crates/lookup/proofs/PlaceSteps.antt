@@ -4,7 +4,7 @@ use Rattle.std.specs.Prelude.{not, ◌&&◌, nat_le}
 use Rattle.std.proofs.lemmas.Bool.{cond_both}
 use Rattle.file_tree.specs.Places.{at_name, path_components}
 use Rattle.file_tree.specs.Nodes.{Node, node, node_at, is_dir, is_link}
-use Rattle.lookup.specs.Answers.{Way, Beneath, Global, Last, is_kept, Fault, Escape, No_entry, Not_dir, Loop, Answer, Found_node, Found_free, Not_found}
+use Rattle.lookup.specs.Answers.{Way, Beneath, Global, Last, is_kept, LookupFault, Escape, No_entry, Not_dir, Loop, Finding, Found_node, Found_free, Not_found}
 use Rattle.lookup.specs.Paths.{is_absolute, is_dot, is_dot_dot}
 use Rattle.rights.specs.Limits.{most_links}
 use Rattle.lookup.specs.Leads.{Stand, Next, Goes, Ends, followed_from, onward, next_from, Leads, here, there}
@@ -12,18 +12,24 @@ use Rattle.lookup.specs.Steps.{Move, Moves, Meets, Stops}
 use Rattle.lookup.specs.ByPlaces.{place_below, upwards, downwards, in_place, standing, restart_below, by_places}
 
 -- A fact of where a lookup stands and of the names left, which each name keeps, and what it gives of an answer.
-pub record Keeps (t : List Node) (way : Way) (last : Last) (start : List (List ℕ)) (Fact : List (List ℕ) → List (List ℕ) → Type 0) (Good : Answer → Type 0) : Type 0 where
+pub record Keeps (t : List Node) (way : Way) (last : Last) (start : List (List ℕ)) (Fact : List (List ℕ) → List (List ℕ) → Type 0) (Good : Finding → Type 0) : Type 0 where
   pub arrives : (below : List (List ℕ)) (n : ℕ) → Fact below [] → node_at t (place_below start below) ≡ Some n → Good (Found_node n)
   pub stays : (below : List (List ℕ)) (name : List ℕ) (left : List (List ℕ)) → Fact below (name ∷ left) → is_dot name ≡ true → Fact below left
-  pub up : (above : List ℕ) (below : List (List ℕ)) (name : List ℕ) (left : List (List ℕ)) (d : ℕ) → Fact (above ∷ below) (name ∷ left) → node_at t (place_below start (above ∷ below)) ≡ Some d → is_dot_dot name ≡ true → Fact below left
+  pub up : (above : List ℕ) (below : List (List ℕ)) (name : List ℕ) (left : List (List ℕ)) (d : ℕ) → Fact (above ∷ below) (name ∷ left) →
+      node_at t (place_below start (above ∷ below)) ≡ Some d → is_dot_dot name ≡ true → Fact below left
   pub top : (name : List ℕ) (left : List (List ℕ)) → Fact [] (name ∷ left) → is_dot_dot name ≡ true → Fact [] left
-  pub down : (below : List (List ℕ)) (name : List ℕ) (left : List (List ℕ)) (n : ℕ) → Fact below (name ∷ left) → node_at t (at_name (place_below start below) name) ≡ Some n → (is_link (node t n).kind && not (is_kept last left)) ≡ false → Fact (name ∷ below) left
+  pub down : (below : List (List ℕ)) (name : List ℕ) (left : List (List ℕ)) (n : ℕ) → Fact below (name ∷ left) →
+      node_at t (at_name (place_below start below) name) ≡ Some n → (is_link (node t n).kind && not (is_kept last left)) ≡ false →
+      Fact (name ∷ below) left
   pub link : (below : List (List ℕ)) (name : List ℕ) (left : List (List ℕ)) (target : List ℕ) → Fact below (name ∷ left) → is_kept last left ≡ false → Fact below (path_components target ++ left)
-  pub link_root : (below : List (List ℕ)) (name : List ℕ) (left : List (List ℕ)) (target : List ℕ) → Fact below (name ∷ left) → is_kept last left ≡ false → way ≡ Global → Fact [] (path_components target ++ left)
-  pub free : (below : List (List ℕ)) (name : List ℕ) (left : List (List ℕ)) (d : ℕ) → Fact below (name ∷ left) → node_at t (place_below start below) ≡ Some d → is_dir (node t d).kind ≡ true → node_at t (at_name (place_below start below) name) ≡ None → is_kept last left ≡ true → Good (Found_free d)
-  pub not_found : (fault : Fault) → Good (Not_found fault)
+  pub link_root : (below : List (List ℕ)) (name : List ℕ) (left : List (List ℕ)) (target : List ℕ) → Fact below (name ∷ left) →
+      is_kept last left ≡ false → way ≡ Global → Fact [] (path_components target ++ left)
+  pub free : (below : List (List ℕ)) (name : List ℕ) (left : List (List ℕ)) (d : ℕ) → Fact below (name ∷ left) →
+      node_at t (place_below start below) ≡ Some d → is_dir (node t d).kind ≡ true → node_at t (at_name (place_below start below) name) ≡ None →
+      is_kept last left ≡ true → Good (Found_free d)
+  pub not_found : (fault : LookupFault) → Good (Not_found fault)
 
-module _ (t : List Node) (way : Way) (last : Last) (start : List (List ℕ)) (Fact : List (List ℕ) → List (List ℕ) → Type 0) (Good : Answer → Type 0) (keeps : Keeps t way last start Fact Good) where
+module _ (t : List Node) (way : Way) (last : Last) (start : List (List ℕ)) (Fact : List (List ℕ) → List (List ℕ) → Type 0) (Good : Finding → Type 0) (keeps : Keeps t way last start Fact Good) where
   abbrev Fits : Next (List (List ℕ)) → Type 0
   Fits (Goes stand) = Fact stand.spot stand.left
   Fits (Ends answer) = Good answer
@@ -49,12 +55,15 @@ module _ (t : List Node) (way : Way) (last : Last) (start : List (List ℕ)) (Fa
       by_text true = from_root way (path_components target ++ left) (followed + 1) refl h.1
       by_text false = h.0
 
-  up_fits : (way' : Way) (below : List (List ℕ)) (name : List ℕ) (left : List (List ℕ)) (d : ℕ) → Fact below (name ∷ left) → node_at t (place_below start below) ≡ Some d → is_dot_dot name ≡ true → FitsMove below left (upwards way' below)
+  up_fits : (way' : Way) (below : List (List ℕ)) (name : List ℕ) (left : List (List ℕ)) (d : ℕ) → Fact below (name ∷ left) →
+      node_at t (place_below start below) ≡ Some d → is_dot_dot name ≡ true → FitsMove below left (upwards way' below)
   up_fits Beneath [] name left d h stands dots = keeps.not_found Escape
   up_fits Global [] name left d h stands dots = keeps.top name left h dots
   up_fits way' (above ∷ below) name left d h stands dots = keeps.up above below name left d h stands dots
 
-  down_fits : (below : List (List ℕ)) (name : List ℕ) (left : List (List ℕ)) (d : ℕ) (o : Option ℕ) → Fact below (name ∷ left) → node_at t (place_below start below) ≡ Some d → is_dir (node t d).kind ≡ true → node_at t (at_name (place_below start below) name) ≡ o → FitsMove below left (downwards t last below name left d o)
+  down_fits : (below : List (List ℕ)) (name : List ℕ) (left : List (List ℕ)) (d : ℕ) (o : Option ℕ) → Fact below (name ∷ left) →
+      node_at t (place_below start below) ≡ Some d → is_dir (node t d).kind ≡ true → node_at t (at_name (place_below start below) name) ≡ o →
+      FitsMove below left (downwards t last below name left d o)
   down_fits below name left d None h stands dir is = by_last (is_kept last left) refl
     where
       by_last : (b : Bool) → is_kept last left ≡ b → Good (cond b (Found_free d) (Not_found No_entry))
@@ -67,19 +76,26 @@ module _ (t : List Node) (way : Way) (last : Last) (start : List (List ℕ)) (Fa
       by_kind true true link kept = keeps.down below name left n h is (rw (link, kept) refl)
       by_kind false k link kept = keeps.down below name left n h is (rw link refl)
 
-  name_fits : (below : List (List ℕ)) (name : List ℕ) (left : List (List ℕ)) (o : Option ℕ) → Fact below (name ∷ left) → node_at t (place_below start below) ≡ o → FitsMove below left (in_place t way last start below name left o)
+  name_fits : (below : List (List ℕ)) (name : List ℕ) (left : List (List ℕ)) (o : Option ℕ) → Fact below (name ∷ left) →
+      node_at t (place_below start below) ≡ o → FitsMove below left (in_place t way last start below name left o)
   name_fits below name left None h is = keeps.not_found No_entry
   name_fits below name left (Some d) h is = by_kind (is_dir (node t d).kind) refl
     where
-      by_dots : (b : Bool) → is_dir (node t d).kind ≡ true → is_dot_dot name ≡ b → FitsMove below left (cond b (upwards way below) (downwards t last below name left d (node_at t (at_name (place_below start below) name))))
+      by_dots : (b : Bool) → is_dir (node t d).kind ≡ true → is_dot_dot name ≡ b →
+          FitsMove below left (cond b (upwards way below) (downwards t last below name left d (node_at t (at_name (place_below start below) name))))
       by_dots true dir dots = up_fits way below name left d h is dots
       by_dots false dir dots = down_fits below name left d (node_at t (at_name (place_below start below) name)) h is dir refl
 
-      by_dot : (b : Bool) → is_dir (node t d).kind ≡ true → is_dot name ≡ b → FitsMove below left (cond b (Moves below) (cond (is_dot_dot name) (upwards way below) (downwards t last below name left d (node_at t (at_name (place_below start below) name)))))
+      by_dot : (b : Bool) → is_dir (node t d).kind ≡ true → is_dot name ≡ b →
+          FitsMove below left (cond b (Moves below)
+          (cond (is_dot_dot name) (upwards way below) (downwards t last below name left d (node_at t (at_name (place_below start below) name)))))
       by_dot true dir dot = keeps.stays below name left h dot
       by_dot false dir dot = by_dots (is_dot_dot name) dir refl
 
-      by_kind : (b : Bool) → is_dir (node t d).kind ≡ b → FitsMove below left (cond (not b) (Stops (Not_found Not_dir)) (cond (is_dot name) (Moves below) (cond (is_dot_dot name) (upwards way below) (downwards t last below name left d (node_at t (at_name (place_below start below) name))))))
+      by_kind : (b : Bool) → is_dir (node t d).kind ≡ b →
+          FitsMove below left (cond (not b) (Stops (Not_found Not_dir))
+          (cond (is_dot name) (Moves below) (cond (is_dot_dot name) (upwards way below)
+          (downwards t last below name left d (node_at t (at_name (place_below start below) name))))))
       by_kind true dir = by_dot (is_dot name) dir refl
       by_kind false dir = keeps.not_found Not_dir
 
@@ -93,7 +109,7 @@ module _ (t : List Node) (way : Way) (last : Last) (start : List (List ℕ)) (Fa
   next_fits below (name ∷ left) followed h = onward_fits below left followed _ (name_fits below name left (node_at t (place_below start below)) h refl)
 
   -- whatever a lookup leads to is good
-  pub leads_good : (s : Stand (List (List ℕ))) (answer : Answer) → Fact s.spot s.left → Leads (by_places t way last start) s answer → Good answer
+  pub leads_good : (s : Stand (List (List ℕ))) (answer : Finding) → Fact s.spot s.left → Leads (by_places t way last start) s answer → Good answer
   leads_good s answer h (here e) = rw e at (next_fits s.spot s.left s.followed h)
   leads_good s answer h (there {after = r} e led) =
       let fits : Fact r.spot r.left = rw e at (next_fits s.spot s.left s.followed h) in leads_good r answer fits led

@@ -4,7 +4,7 @@ use Rattle.file_tree.specs.Places.{path_components}
 use Rattle.file_tree.specs.Nodes.{File, Dir, Link, Node, node_at, child_of}
 use Rattle.file_tree.specs.Changes.{removed}
 use Rattle.file_tree.specs.Refusals.{new_tree, created}
-use Rattle.lookup.specs.Answers.{Way, Beneath, Global, Last, Follow, Keep, Escape, No_entry, Not_dir, Loop, Too_long, Bad_last, Answer, Found_node, Found_free, Not_found}
+use Rattle.lookup.specs.Answers.{Way, Beneath, Global, Last, Follow, Keep, Escape, No_entry, Not_dir, Loop, Too_long, Bad_last, Finding, Found_node, Found_free, Not_found}
 use Rattle.lookup.specs.Paths.{last_component, path_fault}
 use Rattle.lookup.specs.Steps.{looked}
 use Rattle.lookup.specs.ByPlaces.{by_places}
@@ -28,7 +28,7 @@ base =
     created j 10 (codes "passwd") File (codes "x")
 
 -- A row: by places and by nodes alike, from `/work`.
-abbrev Leads_to : List Node → List ℕ → Way → Last → Answer → Type 0
+abbrev Leads_to : List Node → List ℕ → Way → Last → Finding → Type 0
 Leads_to t path way last answer = (find_of t 1 path way last ≡ answer) × (walk_of t 1 path way last ≡ answer)
 
 -- beneath `/work`, the last name followed

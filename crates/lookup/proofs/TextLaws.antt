@@ -6,12 +6,12 @@ use Rattle.std.proofs.lemmas.Bool.{and_parts, cond_both}
 use Rattle.std.proofs.lemmas.List.Folds.{list_all-append}
 use Rattle.std.proofs.lemmas.Bool.Decides.{nat_tests}
 use Rattle.std.specs.Cmp.Derive.{both_true}
-use Rattle.file_tree.specs.Places.{is_name, is_name_byte, names_fit, names_from, path_components, with_name}
-use Rattle.lookup.specs.Answers.{Way, Last, Fault, Too_long, No_entry, Escape, Bad_last}
+use Rattle.file_tree.specs.Places.{is_file_name, is_file_name_byte, names_fit, names_from, path_components, with_name}
+use Rattle.lookup.specs.Answers.{Way, Last, LookupFault, Too_long, No_entry, Escape, Bad_last}
 use Rattle.rights.specs.Limits.{most_path}
-use Rattle.lookup.specs.Paths.{is_too_long, is_escape, is_unkept, is_bad_last, is_dot, is_dot_dot, is_path_byte, has_path_bytes, last_or, last_component, path_fault}
+use Rattle.lookup.specs.Paths.{is_too_long, is_escape, is_unkept, is_bad_last, is_dot, is_dot_dot, is_place_byte, has_path_bytes, last_or, last_component, path_fault}
 
-passed : (b : Bool) (f : Fault) (rest : Option Fault) → cond b (Some f) rest ≡ None → (b ≡ false) × (rest ≡ None)
+passed : (b : Bool) (f : LookupFault) (rest : Option LookupFault) → cond b (Some f) rest ≡ None → (b ≡ false) × (rest ≡ None)
 passed true f rest h = cc
 passed false f rest h = (refl, h)
 
@@ -32,13 +32,13 @@ good_text path way last h =
 
 -- Each name in a short text of path bytes is one of name bytes, and neither empty nor too long.
 abbrev pub IsGoodName : List ℕ → Type 0
-IsGoodName name = (0 < length name) × (length name ≤ 255) × (list_all is_name_byte name ≡ true)
+IsGoodName name = (0 < length name) × (length name ≤ 255) × (list_all is_file_name_byte name ≡ true)
 
 abbrev pub AreGoodNames : List (List ℕ) → Type 0
 AreGoodNames [] = Unit {0}
 AreGoodNames (name ∷ names) = IsGoodName name × AreGoodNames names
 
-with_good : (begun : List ℕ) (names : List (List ℕ)) → length begun ≤ 255 → list_all is_name_byte begun ≡ true → AreGoodNames names → AreGoodNames (with_name begun names)
+with_good : (begun : List ℕ) (names : List (List ℕ)) → length begun ≤ 255 → list_all is_file_name_byte begun ≡ true → AreGoodNames names → AreGoodNames (with_name begun names)
 with_good [] names short good rest = rest
 with_good (b ∷ begun) names short good rest = ((omega arith, short, good), rest)
 
@@ -52,21 +52,22 @@ fits_read read (b ∷ path) h =
     (λ slash fits. fits_now read (and_parts _ _ fits).0)
     (λ other fits. let more : read + 1 ≤ 255 = fits_read (read + 1) path fits in omega arith) h
 
-name_byte : (b : ℕ) → is_path_byte b ≡ true → nat_eq b 47 ≡ false → is_name_byte b ≡ true
-name_byte b h other = by_byte (is_name_byte b) (nat_eq b 47) h other
+name_byte : (b : ℕ) → is_place_byte b ≡ true → nat_eq b 47 ≡ false → is_file_name_byte b ≡ true
+name_byte b h other = by_byte (is_file_name_byte b) (nat_eq b 47) h other
   where
     by_byte : (x y : Bool) → (x || y) ≡ true → y ≡ false → x ≡ true
     by_byte true y h e = refl
     by_byte false true h e = cc
     by_byte false false h e = cc
 
-name_more : (begun : List ℕ) (b : ℕ) → list_all is_name_byte begun ≡ true → is_name_byte b ≡ true → list_all is_name_byte (begun ++ b ∷ []) ≡ true
-name_more begun b good byte = list_all-append is_name_byte begun (b ∷ []) ∙ both_true good (both_true byte refl)
+name_more : (begun : List ℕ) (b : ℕ) → list_all is_file_name_byte begun ≡ true → is_file_name_byte b ≡ true → list_all is_file_name_byte (begun ++ b ∷ []) ≡ true
+name_more begun b good byte = list_all-append is_file_name_byte begun (b ∷ []) ∙ both_true good (both_true byte refl)
 
-names_good : (begun path : List ℕ) → length begun ≤ 255 → list_all is_name_byte begun ≡ true → names_fit (length begun) path ≡ true → list_all is_path_byte path ≡ true → AreGoodNames (names_from begun path)
+names_good : (begun path : List ℕ) → length begun ≤ 255 → list_all is_file_name_byte begun ≡ true → names_fit (length begun) path ≡ true →
+    list_all is_place_byte path ≡ true → AreGoodNames (names_from begun path)
 names_good begun [] short good fit bytes = with_good begun [] short good tt
 names_good begun (b ∷ path) short good fit bytes =
-    let parts = and_parts (is_path_byte b) (list_all is_path_byte path) bytes in
+    let parts = and_parts (is_place_byte b) (list_all is_place_byte path) bytes in
     cond_both (nat_eq b 47) (with_name begun (names_from [] path)) (names_from (begun ++ b ∷ []) path) AreGoodNames
     (λ slash. let fits : (nat_le (length begun) 255 && names_fit 0 path) ≡ true = rw slash at fit in
     with_good begun (names_from [] path) short good (names_good [] path (omega arith) refl (and_parts _ _ fits).1 parts.1))
@@ -95,8 +96,8 @@ last_of_path path short bytes good =
     by_names (name ∷ names) all h = last_good name names all.0 all.1
 
 -- A last name that is kept may be that of a node.
-pub last_is_name : (path : List ℕ) → is_too_long path ≡ false → is_bad_last (last_component path) ≡ false → has_path_bytes path ≡ true → is_name (last_component path) ≡ true
-unfolding is_name
+pub last_is_name : (path : List ℕ) → is_too_long path ≡ false → is_bad_last (last_component path) ≡ false → has_path_bytes path ≡ true → is_file_name (last_component path) ≡ true
+unfolding is_file_name
 last_is_name path short good bytes =
     let name = last_of_path path short bytes good in
     let some : nat_eq (length (last_component path)) 0 ≡ false = empty (length (last_component path)) name.0 in

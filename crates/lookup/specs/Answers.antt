@@ -1,5 +1,6 @@
 -- What a lookup is asked for, and what it gives.
 use Rattle.std.specs.Prelude.{ℕ, Bool, true, false, List, [], ◌∷◌}
+use Rattle.rights.specs.Values.{Name, NodeNumber}
 
 -- Beneath the directory of a descriptor (capsicum(4); open(2), O_RESOLVE_BENEATH), or in all of the tree.
 pub data Way : Type 0 where
@@ -13,23 +14,23 @@ pub data Last : Type 0 where
   Keep : Last
 
 -- whether a name is kept, by the names that follow it
-abbrev pub is_kept : Last → List (List ℕ) → Bool
+abbrev pub is_kept : Last → List Name → Bool
 is_kept Follow left = false
 is_kept Keep [] = true
 is_kept Keep (name ∷ left) = false
 
 -- Why a path leads to nothing: ENOTCAPABLE, ENOENT, ENOTDIR, ELOOP, ENAMETOOLONG (open(2)), and EINVAL
 -- for a last name that can't be kept (own).
-pub data Fault : Type 0 where
-  Escape : Fault
-  No_entry : Fault
-  Not_dir : Fault
-  Loop : Fault
-  Too_long : Fault
-  Bad_last : Fault
+pub data LookupFault : Type 0 where
+  Escape : LookupFault
+  No_entry : LookupFault
+  Not_dir : LookupFault
+  Loop : LookupFault
+  Too_long : LookupFault
+  Bad_last : LookupFault
 
 -- A node, the directory in which the last name is free, or a fault.
-pub data Answer : Type 0 where
-  Found_node : ℕ → Answer
-  Found_free : ℕ → Answer
-  Not_found : Fault → Answer
+pub data Finding : Type 0 where
+  Found_node : NodeNumber → Finding
+  Found_free : NodeNumber → Finding
+  Not_found : LookupFault → Finding

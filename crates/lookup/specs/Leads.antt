@@ -2,7 +2,7 @@
 use Rattle.std.specs.Prelude.{◌≡◌, ℕ, ◌+◌, nat_le, List, [], ◌∷◌, ◌++◌, Option, Some, None, if◌then◌else◌}
 use Rattle.rights.specs.Limits.{most_links}
 use Rattle.file_tree.specs.Places.{path_components}
-use Rattle.lookup.specs.Answers.{Escape, Loop, Answer, Not_found}
+use Rattle.lookup.specs.Answers.{Escape, Loop, Finding, Not_found}
 use Rattle.lookup.specs.Steps.{Move, Moves, Meets, Stops, Rules, target_spot}
 
 -- A lookup under way: where it stands, the names left, and how many links it followed.
@@ -13,7 +13,7 @@ pub record Stand (Spot : Type 0) : Type 0 where
 
 pub data Next (Spot : Type 0) : Type 0 where
   Goes : Stand Spot → Next Spot
-  Ends : Answer → Next Spot
+  Ends : Finding → Next Spot
 
 -- the names of a link's target come before the rest; where its spot is none, it escapes
 abbrev pub followed_from : {Spot : Type 0} → List (List ℕ) → ℕ → Option Spot → Next Spot
@@ -37,6 +37,6 @@ abbrev pub next : {Spot : Type 0} → Rules Spot → Stand Spot → Next Spot
 next rules stand = next_from rules stand.spot stand.left stand.followed
 
 -- What a lookup leads to, name after name.
-pub data Leads {Spot : Type 0} (rules : Rules Spot) : Stand Spot → Answer → Type 0 where
-  here : {stand : Stand Spot} {answer : Answer} → next rules stand ≡ Ends answer → Leads rules stand answer
-  there : {stand : Stand Spot} {after : Stand Spot} {answer : Answer} → next rules stand ≡ Goes after → Leads rules after answer → Leads rules stand answer
+pub data Leads {Spot : Type 0} (rules : Rules Spot) : Stand Spot → Finding → Type 0 where
+  here : {stand : Stand Spot} {answer : Finding} → next rules stand ≡ Ends answer → Leads rules stand answer
+  there : {stand : Stand Spot} {after : Stand Spot} {answer : Finding} → next rules stand ≡ Goes after → Leads rules after answer → Leads rules stand answer

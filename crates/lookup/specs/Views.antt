@@ -17,7 +17,7 @@ use Rattle.file_tree.specs.Nodes.{Node}
 use Rattle.lookup.specs.Leads.{Stand, Next, Goes, Ends, onward}
 use Rattle.lookup.specs.Steps.{Move, Rules}
 use Rattle.lookup.specs.ByNodes.{Walked, by_nodes, in_node, into}
-use Rattle.lookup.specs.Answers.{Way, Beneath, Global, Last, Follow, Keep, Fault, Escape, No_entry, Not_dir, Loop, Too_long, Bad_last, Answer, Found_node, Found_free, Not_found}
+use Rattle.lookup.specs.Answers.{Way, Beneath, Global, Last, Follow, Keep, LookupFault, Escape, No_entry, Not_dir, Loop, Too_long, Bad_last, Finding, Found_node, Found_free, Not_found}
 
 abbrev pub way_of : WayCode → Way
 way_of way.Beneath = Beneath
@@ -27,12 +27,12 @@ abbrev pub last_of : LastCode → Last
 last_of last.Follow = Follow
 last_of last.Keep = Keep
 
-abbrev pub found_of : Found → Answer
+abbrev pub found_of : Found → Finding
 found_of (found.Node n) = Found_node n
 found_of (found.Free d) = Found_free d
 
 -- the fault; want of memory is none of a path's
-abbrev pub fault_of : PathFault → Option Fault
+abbrev pub fault_of : PathFault → Option LookupFault
 fault_of fault.Escape = Some Escape
 fault_of fault.NoEntry = Some No_entry
 fault_of fault.NotDir = Some Not_dir
@@ -42,11 +42,11 @@ fault_of fault.BadLast = Some Bad_last
 fault_of fault.Memory = None
 
 -- what a call of `find` answers; want of memory is no answer, and may come in place of any
-abbrev pub not_found : Option Fault → Option Answer
+abbrev pub not_found : Option LookupFault → Option Finding
 not_found None = None
 not_found (Some fault) = Some (Not_found fault)
 
-abbrev pub answer_of : Result Found PathFault → Option Answer
+abbrev pub answer_of : Result Found PathFault → Option Finding
 answer_of (Ok found) = Some (found_of found)
 answer_of (Err error) = not_found (fault_of error)
 
@@ -61,7 +61,7 @@ path_fault_number fault.BadLast = 6
 path_fault_number fault.Memory = 7
 
 -- The error tells the fault; want of memory tells nothing, and may come in place of any other answer.
-abbrev pub Told : Option Fault → PathFault → Type 0
+abbrev pub Told : Option LookupFault → PathFault → Type 0
 Told fault error = fault ≡ fault_of error
 
 -- the names left, of which the code keeps the next one last
@@ -106,5 +106,5 @@ abbrev pub IsInTree : List Node → Walk → Type 0
 IsInTree t walk = (walk.current < length t) × All (λ d. d < length t) walk.before.items
 
 -- what a walk has left to do: links that it may follow, and names
-abbrev pub work : Walk → ℕ
-work walk = (33 - walk.followed) * 2 ^ 64 + vec_len walk.left
+abbrev pub work_left : Walk → ℕ
+work_left walk = (33 - walk.followed) * 2 ^ 64 + vec_len walk.left

@@ -3,9 +3,9 @@
 ghost use Rattle.std.specs.Prelude.{◌≡◌, ◌<◌, ℕ, None, false, length, IfOk, IfSome};
 ghost use Rattle.file_tree.specs.Nodes.{is_link, node};
 ghost use Rattle.file_tree.specs.WellFormed.{IsTree};
-ghost use Rattle.lookup.specs.Answers.{Answer, Found_node};
+ghost use Rattle.lookup.specs.Answers.{Finding, Found_node};
 ghost use Rattle.lookup.specs.Looks.{Looks, find_of, lookup_fault, start_place, walk_of};
-ghost use Rattle.lookup.specs.Promises.{IsBelow, IsBeneath, IsFollowed, IsFreeName, IsThere, IsUnderName, MayBeMade, Spells};
+ghost use Rattle.lookup.specs.Promises.{IsBelow, IsBeneath, IsFollowed, IsFreeName, IsFindingThere, IsUnderName, MayBeMade, Spells};
 ghost use Rattle.lookup.specs.Views.{answer_of, found_of, last_of, way_of};
 
 use crate::faults::PathFault;
@@ -65,10 +65,10 @@ pub fn find<T: Tree>(
     // What it answers, the path leads to; and what the path leads to, it answers.
     ensures exact { IfSome (answer_of result) (λ answer. answer ≡ find_of (T.nodes tree.now) start path.now (way_of way) (last_of last)) }
     ensures related { IfSome (answer_of result) (Looks (T.nodes tree.now) start path.now (way_of way) (last_of last)) }
-    ensures only { (answer : Answer) → Looks (T.nodes tree.now) start path.now (way_of way) (last_of last) answer → IfSome (answer_of result) (λ given. given ≡ answer) }
+    ensures only { (answer : Finding) → Looks (T.nodes tree.now) start path.now (way_of way) (last_of last) answer → IfSome (answer_of result) (λ given. given ≡ answer) }
 
     // What is found wasn't removed. Beneath, its place begins with the start's; a kept one's is longer.
-    ensures there { IfOk result (λ found. IsThere (T.nodes tree.now) (found_of found)) }
+    ensures there { IfOk result (λ found. IsFindingThere (T.nodes tree.now) (found_of found)) }
     ensures beneath { IfOk result (λ found. IsBeneath (T.nodes tree.now) (start_place (T.nodes tree.now) start (way_of way)) (found_of found)) }
     ensures below { last ≡ Last.Keep → IfOk result (λ found. IsBelow (T.nodes tree.now) (start_place (T.nodes tree.now) start (way_of way)) path.now (found_of found)) }
 
@@ -81,7 +81,9 @@ pub fn find<T: Tree>(
     ensures followed { last ≡ Last.Follow → IfOk result (λ found. IsFollowed (T.nodes tree.now) (found_of found)) }
 
     // A path along directories leads to the node that it spells.
-    ensures along { (n : ℕ) → lookup_fault (T.nodes tree.now) start path.now (way_of way) (last_of last) ≡ None → Spells (T.nodes tree.now) (start_place (T.nodes tree.now) start (way_of way)) path.now n → IfSome (answer_of result) (λ answer. answer ≡ Found_node n) }
+    ensures along { (n : ℕ) → lookup_fault (T.nodes tree.now) start path.now (way_of way) (last_of last) ≡ None →
+        Spells (T.nodes tree.now) (start_place (T.nodes tree.now) start (way_of way)) path.now n →
+        IfSome (answer_of result) (λ answer. answer ≡ Found_node n) }
 {
     walked(alloc, tree, start, path, way, last)
 }

@@ -9,7 +9,7 @@ ghost use Rattle.lookup.specs.Steps.{Rules, Moves, Meets, Stops};
 ghost use Rattle.lookup.specs.ByPlaces.{absent};
 ghost use Rattle.lookup.specs.ByNodes.{Walked, back, from_node};
 ghost use Rattle.lookup.specs.Looks.{first_stand, lookup_fault, start_node};
-ghost use Rattle.lookup.specs.Views.{StepsAlong, after_move, after_name, after_node, IsInTree, SameRules, Told, last_of, names_left, rules_of, stand_of, way_of, work};
+ghost use Rattle.lookup.specs.Views.{StepsAlong, after_move, after_name, after_node, IsInTree, SameRules, Told, last_of, names_left, rules_of, stand_of, way_of, work_left};
 
 use crate::faults::PathFault;
 use crate::paths::{check_text, is_absolute, is_dot, is_dot_dot, put_before};
@@ -86,7 +86,7 @@ impl Walk {
         ensures steps { (rules : Rules Walked) → StepsAlong result (after_move rules self.old (back (way_of self.old.way) self.old.current (stand_of self.old).spot.before)) (stand_of self.new) }
         ensures rules { SameRules self.old self.new }
         ensures in_tree { (t : List Node) → IsInTree t self.old → IsInTree t self.new }
-        ensures work { work self.new ≤ work self.old }
+        ensures work { work_left self.new ≤ work_left self.old }
     {
         match self.before.pop() {
             Some(dir) => {
@@ -102,10 +102,12 @@ impl Walk {
 
     /// Goes on to a node in the directory where the walk stands.
     fn go_down(&mut self, next: NodeId) -> Result<Progress, PathFault>
-        ensures steps { (rules : Rules Walked) → StepsAlong result (after_move rules self.old (Moves (record { current = next; before = self.old.current ∷ (stand_of self.old).spot.before }))) (stand_of self.new) }
+        ensures steps { (rules : Rules Walked) →
+            StepsAlong result (after_move rules self.old (Moves (record { current = next; before = self.old.current ∷ (stand_of self.old).spot.before })))
+            (stand_of self.new) }
         ensures rules { SameRules self.old self.new }
         ensures in_tree { (t : List Node) → next < length t → IsInTree t self.old → OnOk result (IsInTree t self.new) }
-        ensures work { work self.new ≤ work self.old }
+        ensures work { work_left self.new ≤ work_left self.old }
     {
         self.before.push(self.current)?;
         self.current = next;
@@ -124,7 +126,8 @@ impl Walk {
 
     /// Ends where a name is absent.
     fn end_at_absent(&self) -> Result<Progress, PathFault>
-        ensures { (rules : Rules Walked) → StepsAlong result (after_move rules self.now (Stops (absent (last_of self.now.last) (names_left self.now.left.items) self.now.current))) (stand_of self.now) }
+        ensures { (rules : Rules Walked) → StepsAlong result
+            (after_move rules self.now (Stops (absent (last_of self.now.last) (names_left self.now.left.items) self.now.current))) (stand_of self.now) }
     {
         if self.keeps() {
             return Ok(Progress::Done(Found::Free(self.current)));
@@ -139,7 +142,7 @@ impl Walk {
         ensures steps { (t : List Node) → StepsAlong result (after_move (rules_of t self.old) self.old (Meets target.now)) (stand_of self.new) }
         ensures rules { SameRules self.old self.new }
         ensures in_tree { (t : List Node) → IsInTree t self.old → OnOk result (IsInTree t self.new) }
-        ensures work { OnOk result (work self.new ≤ work self.old) }
+        ensures work { OnOk result (work_left self.new ≤ work_left self.old) }
     {
         if self.followed >= MAX_LINKS {
             return Err(PathFault::Loop);
@@ -159,14 +162,14 @@ impl Walk {
     }
 
     /// Goes on to a node in the directory where the walk stands, or follows it if it is a link.
-    #[tactic(auto, unfolding(file_tree::specs::Nodes::target_of), using(file_tree::proofs::TreeLaws::root_there))]
+    #[tactic(auto, unfolding(file_tree::specs::Nodes::link_target), using(file_tree::proofs::TreeLaws::root_there))]
     fn go_to<T: Tree>(&mut self, tree: &T, next: NodeId) -> Result<Progress, PathFault>
         requires there { next < length (T.nodes tree.now) }
         requires in_tree { IsInTree (T.nodes tree.now) self.old }
         ensures steps { StepsAlong result (after_node (T.nodes tree.now) self.old next) (stand_of self.new) }
         ensures rules { SameRules self.old self.new }
         ensures in_tree { OnOk result (IsInTree (T.nodes tree.now) self.new) }
-        ensures work { OnOk result (work self.new ≤ work self.old) }
+        ensures work { OnOk result (work_left self.new ≤ work_left self.old) }
     {
         match tree.target(next) {
             None => self.go_down(next),
@@ -186,7 +189,7 @@ impl Walk {
         ensures steps { StepsAlong result (after_name (T.nodes tree.now) self.old name.now) (stand_of self.new) }
         ensures rules { SameRules self.old self.new }
         ensures in_tree { OnOk result (IsInTree (T.nodes tree.now) self.new) }
-        ensures work { OnOk result (work self.new ≤ work self.old) }
+        ensures work { OnOk result (work_left self.new ≤ work_left self.old) }
     {
         if tree.kind(self.current) != Kind::Dir {
             return Err(PathFault::NotDir);
@@ -210,7 +213,7 @@ impl Walk {
         ensures steps { StepsAlong result (next (rules_of (T.nodes tree.now) self.old) (stand_of self.old)) (stand_of self.new) }
         ensures rules { SameRules self.old self.new }
         ensures in_tree { OnOk result (IsInTree (T.nodes tree.now) self.new) }
-        ensures work { result ≡ Ok Progress.More → work self.new < work self.old }
+        ensures work { result ≡ Ok Progress.More → work_left self.new < work_left self.old }
     {
         match self.left.pop() {
             None => Ok(Progress::Done(Found::Node(self.current))),

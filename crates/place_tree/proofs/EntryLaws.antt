@@ -7,14 +7,15 @@ use Rattle.file_tree.specs.Nodes.{Node, node, nowhere, node_at, parent_of}
 use Rattle.file_tree.proofs.TreeLaws.{parent_above}
 use Rattle.file_tree.specs.Changes.{unlinked, removed, filled}
 use Rattle.file_tree.specs.Views.{names_of}
-use Rattle.place_tree.specs.PlaceEntries.{node_of, nodes_of}
+use Rattle.place_tree.specs.EntryViews.{node_of, nodes_of}
 use Rattle.place_tree.specs.declared.entries.Entry.{Entry}
 
 pub entry_node : (es : List Entry) (n : ℕ) (e : Entry) → n < length es → e ≡ get_or es n e → node (nodes_of es) n ≡ node_of e
 entry_node es n e there is = get_or-map node_of es n e nowhere there ∙ ap node_of (sym is)
 
 -- what holds the node of an entry
-pub parent_in_entries : (es : List Entry) (n : ℕ) (e : Entry) → n < length es → e ≡ get_or es n e → e.linked ≡ true → 0 < length e.place.items → parent_of (nodes_of es) n ≡ node_at (nodes_of es) (names_of (take (length e.place.items - 1) e.place.items))
+pub parent_in_entries : (es : List Entry) (n : ℕ) (e : Entry) → n < length es → e ≡ get_or es n e → e.linked ≡ true → 0 < length e.place.items →
+    parent_of (nodes_of es) n ≡ node_at (nodes_of es) (names_of (take (length e.place.items - 1) e.place.items))
 parent_in_entries es n e there is linked low =
     let at = entry_node es n e there is in
     let same : (node (nodes_of es) n).place ≡ names_of e.place.items = ap (λ (m : Node). m.place) at in
@@ -34,7 +35,9 @@ entry_removed es n e f there is same = map-set node_of es n f ∙ ap (slice_set 
 with_content : List ℕ → Node → Node
 with_content content m = record { kind = m.kind; place = m.place; linked = m.linked; content = content }
 
-pub entry_filled : (es : List Entry) (n : ℕ) (e : Entry) (v : Vec ℕ Global) (content : List ℕ) → n < length es → e ≡ get_or es n e → v.items ≡ content → nodes_of (slice_set es n (record { kind = e.kind; linked = e.linked; place = e.place; content = v })) ≡ filled (nodes_of es) n content
+pub entry_filled : (es : List Entry) (n : ℕ) (e : Entry) (v : Vec ℕ Global) (content : List ℕ) → n < length es → e ≡ get_or es n e →
+    v.items ≡ content → nodes_of (slice_set es n (record { kind = e.kind; linked = e.linked; place = e.place; content = v })) ≡ filled
+    (nodes_of es) n content
 unfolding filled with_content
 entry_filled es n e v content there is same =
     map-set node_of es n _ ∙ ap (slice_set (nodes_of es) n) (ap (λ (c : List ℕ). with_content c (node_of e)) same ∙ ap (with_content content) (sym (entry_node es n e there is)))

@@ -1,1 +1,1 @@
-pub mod PlaceEntries
+pub mod EntryViews

@@ -8,7 +8,7 @@ ghost use Rattle.file_tree.specs.Changes.{filled, moved, removed, renamed, repla
 ghost use Rattle.file_tree.specs.Refusals.{create_fault, created, put_byte_fault, remove_fault, rename_fault, truncate_fault};
 ghost use Rattle.file_tree.specs.WellFormed.{is_byte};
 ghost use Rattle.file_tree.specs.Views.{TellsTreeFault, kind_of, names_of, new_content, new_kind};
-ghost use Rattle.place_tree.specs.PlaceEntries.{node_of, nodes_of};
+ghost use Rattle.place_tree.specs.EntryViews.{node_of, nodes_of};
 
 use crate::entries::{Entry, child_in, holds_below};
 use crate::places::{child_place, is_child};

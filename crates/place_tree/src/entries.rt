@@ -3,9 +3,9 @@
 ghost use Rattle.std.specs.Prelude.{◌≡◌, ◌<◌, Option, length, IfSome};
 ghost use Rattle.std.specs.Option.{option_copied};
 ghost use Rattle.file_tree.specs.Places.{at_name};
-ghost use Rattle.file_tree.specs.Nodes.{child_of, has_below, node_at, parent_of, target_of};
+ghost use Rattle.file_tree.specs.Nodes.{child_of, has_below, node_at, parent_of, link_target};
 ghost use Rattle.file_tree.specs.Views.{names_of};
-ghost use Rattle.place_tree.specs.PlaceEntries.{nodes_of};
+ghost use Rattle.place_tree.specs.EntryViews.{nodes_of};
 
 use crate::places::is_child;
 use file_tree::Kind;
@@ -101,10 +101,10 @@ pub(crate) fn parent_in(entries: &[Entry], n: usize) -> Option<usize>
 }
 
 /// What a link holds.
-#[tactic(auto, unfolding(file_tree::specs::Nodes::target_of))]
+#[tactic(auto, unfolding(file_tree::specs::Nodes::link_target))]
 pub(crate) fn target_in(entries: &[Entry], n: usize) -> Option<&[u8]>
     requires { n < length entries.now }
-    ensures { option_copied result ≡ target_of (nodes_of entries.now) n }
+    ensures { option_copied result ≡ link_target (nodes_of entries.now) n }
 {
     let entry = &entries[n];
     match entry.kind {

@@ -25,7 +25,7 @@ impl Model for PlaceTree {
     ghost use Rattle.std.specs.Prelude.{List};
     ghost use Rattle.file_tree.specs.Nodes.{Node};
     ghost use Rattle.file_tree.specs.WellFormed.{IsTree};
-    ghost use Rattle.place_tree.specs.PlaceEntries.{nodes_of};
+    ghost use Rattle.place_tree.specs.EntryViews.{nodes_of};
 
     ghost Value = { List Node };
 

@@ -9,8 +9,8 @@ use Rattle.prog_asm.specs.declared.mistakes.Mistake.TheVariants as mistake
 use Rattle.prog_asm.specs.Forms.{Written}
 use Rattle.prog_asm.specs.Assembly.{Line, TwiceLabel, TooMany, has_label, is_label, is_one_too_many, is_twice, line_behind, steps_from, steps_of, steps_on}
 use Rattle.prog_asm.specs.LineViews.{AddsLabel, LabelAdded, has_point, point_in}
-use Rattle.prog_asm.specs.Drafts.{AddsLine, AddsStep, Drafts, StepAdded, labelled_from, step_from}
-use Rattle.prog_asm.specs.Readings.{Fails}
+use Rattle.prog_asm.specs.DraftViews.{AddsLine, AddsStep, Drafts, StepAdded, labelled_from, step_from}
+use Rattle.prog_asm.specs.ReadingViews.{FailsReading}
 
 length-steps_on : (m n : ℕ) (instruction : Option Written) → length (steps_on m instruction) ≡ length (steps_on n instruction)
 length-steps_on m n None = refl
@@ -20,7 +20,14 @@ length-steps_on m n (Some written) = refl
 pub length-steps_from : (m n : ℕ) (lines : List Line) → length (steps_from m lines) ≡ length (steps_from n lines)
 length-steps_from m n [] = refl
 length-steps_from m n (line ∷ lines) =
-    omega (arith, length-append (steps_on m line.instruction) (steps_from (m + 1) lines), length-append (steps_on n line.instruction) (steps_from (n + 1) lines), length-steps_on m n line.instruction, length-steps_from (m + 1) (n + 1) lines)
+    omega (
+      arith,
+      length-append (steps_on m line.instruction) (steps_from (m + 1) lines),
+      length-append (steps_on n line.instruction)
+          (steps_from (n + 1) lines),
+      length-steps_on m n line.instruction,
+      length-steps_from (m + 1) (n + 1) lines,
+    )
 
 pub length-steps_of : (line : Line) (lines : List Line) → length (steps_of (line ∷ lines)) ≡ length (steps_on 1 line.instruction) + length (steps_of lines)
 length-steps_of line lines =
@@ -42,14 +49,21 @@ abbrev pub first_of_two : Option ℕ → Option ℕ → Option ℕ
 first_of_two None other = other
 first_of_two (Some n) other = Some n
 
-labelled_from-append : (point : ℕ) (name : List ℕ) (lines : List Line) (line : Line) → labelled_from point name (lines ++ line ∷ []) ≡ first_of_two (labelled_from point name lines) (if is_label name line.label then Some (point + length (steps_of lines)) else None)
+labelled_from-append : (point : ℕ) (name : List ℕ) (lines : List Line) (line : Line) →
+    labelled_from point name (lines ++ line ∷ []) ≡ first_of_two (labelled_from point name lines)
+    (if is_label name line.label then Some (point + length (steps_of lines)) else None)
 labelled_from-append point name [] line = let same : point ≡ point + 0 = omega arith in ap (λ p. if is_label name line.label then Some p else None) same
 labelled_from-append point name (first ∷ lines) line =
     let rest : ℕ = point + length (steps_on 1 first.instruction) in
     let same : rest + length (steps_of lines) ≡ point + length (steps_of (first ∷ lines)) = omega (arith, length-steps_of first lines) in
     go (is_label name first.label) (labelled_from-append rest name lines line ∙ ap (λ p. first_of_two (labelled_from rest name lines) (if is_label name line.label then Some p else None)) same)
   where
-    go : (is : Bool) → labelled_from (point + length (steps_on 1 first.instruction)) name (lines ++ line ∷ []) ≡ first_of_two (labelled_from (point + length (steps_on 1 first.instruction)) name lines) (if is_label name line.label then Some (point + length (steps_of (first ∷ lines))) else None) → cond is (Some point) (labelled_from (point + length (steps_on 1 first.instruction)) name (lines ++ line ∷ [])) ≡ first_of_two (cond is (Some point) (labelled_from (point + length (steps_on 1 first.instruction)) name lines)) (if is_label name line.label then Some (point + length (steps_of (first ∷ lines))) else None)
+    go : (is : Bool) → labelled_from (point + length (steps_on 1 first.instruction)) name (lines ++ line ∷ []) ≡ first_of_two
+        (labelled_from (point + length (steps_on 1 first.instruction)) name lines)
+        (if is_label name line.label then Some (point + length (steps_of (first ∷ lines))) else None) →
+        cond is (Some point) (labelled_from (point + length (steps_on 1 first.instruction)) name (lines ++ line ∷ [])) ≡ first_of_two
+        (cond is (Some point) (labelled_from (point + length (steps_on 1 first.instruction)) name lines))
+        (if is_label name line.label then Some (point + length (steps_of (first ∷ lines))) else None)
     go true rest = refl
     go false rest = rest
 
@@ -58,7 +72,8 @@ has_label-labelled : (point : ℕ) (name : List ℕ) (lines : List Line) → has
 has_label-labelled point name [] = refl
 has_label-labelled point name (line ∷ lines) = go (is_label name line.label) (has_label-labelled (point + length (steps_on 1 line.instruction)) name lines)
   where
-    go : (is : Bool) → has_label name lines ≡ is_some (labelled_from (point + length (steps_on 1 line.instruction)) name lines) → cond is true (has_label name lines) ≡ is_some (cond is (Some point) (labelled_from (point + length (steps_on 1 line.instruction)) name lines))
+    go : (is : Bool) → has_label name lines ≡ is_some (labelled_from (point + length (steps_on 1 line.instruction)) name lines) →
+        cond is true (has_label name lines) ≡ is_some (cond is (Some point) (labelled_from (point + length (steps_on 1 line.instruction)) name lines))
     go true rest = refl
     go false rest = rest
 
@@ -71,13 +86,15 @@ line_behind-twice : (before : List Line) (line : Line) → is_twice before line.
 line_behind-twice before line twice =
     ap (λ is. cond is (Err TwiceLabel) (if is_one_too_many (length (steps_of before)) line.instruction then Err TooMany else Ok line)) twice
 
-line_behind-once : (before : List Line) (line : Line) (many : Bool) → is_twice before line.label ≡ false → is_one_too_many (length (steps_of before)) line.instruction ≡ many → line_behind before (Ok line) ≡ (if many then Err TooMany else Ok line)
+line_behind-once : (before : List Line) (line : Line) (many : Bool) → is_twice before line.label ≡ false →
+    is_one_too_many (length (steps_of before)) line.instruction ≡ many → line_behind before (Ok line) ≡ (if many then Err TooMany else Ok line)
 line_behind-once before line many twice is =
     ap (λ is. cond is (Err TwiceLabel) (if is_one_too_many (length (steps_of before)) line.instruction then Err TooMany else Ok line)) twice
     ∙ ap (λ is. cond is (Err TooMany) (Ok line)) is
 
 -- a label that isn't added
-pub label-fails : (error : MistakeCode) (before : List Line) (line : Line) (draft after : Draft) (point : ℕ) → Drafts before draft → LabelAdded (Err error) draft.labels after.labels line.label point → Fails error (line_behind before (Ok line))
+pub label-fails : (error : MistakeCode) (before : List Line) (line : Line) (draft after : Draft) (point : ℕ) → Drafts before draft →
+    LabelAdded (Err error) draft.labels after.labels line.label point → FailsReading error (line_behind before (Ok line))
 label-fails mistake.Word before line draft after point drafts added = absurd added
 label-fails mistake.Operand before line draft after point drafts added = absurd added
 label-fails mistake.TwiceLabel before line draft after point drafts added = line_behind-twice before line (is_twice-drafts before draft line.label drafts ∙ added)
@@ -99,21 +116,30 @@ first_of_two-none None = refl
 first_of_two-none (Some n) = refl
 
 -- where the new label stands, and the others
-labels-after : (before : List Line) (line : Line) (draft after : Draft) → Drafts before draft → AddsLabel draft.labels after.labels line.label (length draft.steps.items) → (name : List ℕ) → point_in after.labels name ≡ labelled_from 0 name (before ++ line ∷ [])
+labels-after : (before : List Line) (line : Line) (draft after : Draft) → Drafts before draft →
+    AddsLabel draft.labels after.labels line.label (length draft.steps.items) → (name : List ℕ) →
+    point_in after.labels name ≡ labelled_from 0 name (before ++ line ∷ [])
 labels-after before line draft after drafts adds name =
     let all : length draft.steps.items ≡ 0 + length (steps_of before) = omega (arith, sym (length-map draft.steps.items step_from) ∙ ap length drafts.steps) in
     adds.added name ∙ go (is_label name line.label) refl all ∙ sym (labelled_from-append 0 name before line)
   where
-    go : (is : Bool) → is_label name line.label ≡ is → length draft.steps.items ≡ 0 + length (steps_of before) → cond is (Some (length draft.steps.items)) (point_in draft.labels name) ≡ first_of_two (labelled_from 0 name before) (cond is (Some (0 + length (steps_of before))) None)
+    go : (is : Bool) → is_label name line.label ≡ is → length draft.steps.items ≡ 0 + length (steps_of before) →
+        cond is (Some (length draft.steps.items)) (point_in draft.labels name) ≡ first_of_two (labelled_from 0 name before)
+        (cond is (Some (0 + length (steps_of before))) None)
     go true is all = ap Some all ∙ sym (ap (λ o. first_of_two o (Some (0 + length (steps_of before)))) (sym (drafts.labels name) ∙ absent-at draft name line.label adds.absent is))
     go false is all = drafts.labels name ∙ sym (first_of_two-none (labelled_from 0 name before))
 
-steps-after : (before : List Line) (line : Line) (draft after : Draft) (number : ℕ) → number ≡ length before + 1 → Drafts before draft → AddsStep (map step_from draft.steps.items) (map step_from after.steps.items) number line.instruction → map step_from after.steps.items ≡ steps_of (before ++ line ∷ [])
+steps-after : (before : List Line) (line : Line) (draft after : Draft) (number : ℕ) → number ≡ length before + 1 → Drafts before draft →
+    AddsStep (map step_from draft.steps.items) (map step_from after.steps.items) number line.instruction →
+    map step_from after.steps.items ≡ steps_of (before ++ line ∷ [])
 steps-after before line draft after number is drafts adds =
     adds.added ∙ ap (λ steps. steps ++ steps_on number line.instruction) drafts.steps ∙ ap (λ n. steps_of before ++ steps_on n line.instruction) is ∙ sym (steps_of-append before line)
 
 -- an instruction that is added or not, behind the label
-pub adds-line : (result : Result (Unit {0}) MistakeCode) (before : List Line) (line : Line) (draft after : Draft) (number : ℕ) → number ≡ length before + 1 → Drafts before draft → AddsLabel draft.labels after.labels line.label (length draft.steps.items) → StepAdded result (map step_from draft.steps.items) (map step_from after.steps.items) number line.instruction → AddsLine result before (Ok line) after
+pub adds-line : (result : Result (Unit {0}) MistakeCode) (before : List Line) (line : Line) (draft after : Draft) (number : ℕ) →
+    number ≡ length before + 1 → Drafts before draft → AddsLabel draft.labels after.labels line.label (length draft.steps.items) →
+    StepAdded result (map step_from draft.steps.items) (map step_from after.steps.items) number line.instruction →
+    AddsLine result before (Ok line) after
 adds-line (Ok done) before line draft after number is drafts label step = (
   line,
   line_behind-once before line false (is_twice-drafts before draft line.label drafts ∙ label.absent) (ap (λ steps. is_one_too_many (length steps) line.instruction) (sym drafts.steps) ∙ step.fits),

@@ -15,8 +15,11 @@ use Rattle.texts.specs.Parts.{parts}
 use Rattle.texts.specs.Numbers.{at_most, number_of}
 use Rattle.prog_asm.specs.Programs.{Instruction, Operand, Register, Number, Syscall, is_instruction, is_operand, is_path, is_register, is_syscall, is_value}
 use Rattle.prog_asm.specs.Programs as programs
-use Rattle.prog_asm.specs.Fields.{before_last, commands_of, flags_of, is_among, named, rights_of, union_from, operand_from, operand_of, path_in, path_of, register_of, request_of, set_of, flag_names, valid_request, value_of}
-use Rattle.prog_asm.specs.Forms.{Field, Always, If_equal, If_less, After_error, Mnemonic, Set, Mov, Add, In, Jmp, Jeq, Jlt, Halt, Make, Written, Alone, Leading, commands_at, directory_at, else_at, flags_at, four, label_at, led, nothing, number_at, one, operand_at, path_at, register_at, rights_at, syscall_at, three, two, whole, word_at, written_at, written_of, ◌>>=◌}
+use Rattle.prog_asm.specs.Fields.{before_last, read_commands, read_flags, is_word_among, set_of_word, read_rights, union_from, operand_from, read_operand, path_in, read_path}
+use Rattle.prog_asm.specs.Fields.{read_register, request_of, set_of, flag_names, valid_request, read_value}
+use Rattle.prog_asm.specs.Forms.{Field, Always, If_equal, If_less, After_error, Mnemonic, Set, Mov, Add, In, Jmp, Jeq, Jlt, Halt, Make, Written, Alone, Leading, commands_at}
+use Rattle.prog_asm.specs.Forms.{directory_at, else_at, flags_at, four, label_at, led, nothing, number_at, one, operand_at, path_at, register_at, rights_at, syscall_at, three, two}
+use Rattle.prog_asm.specs.Forms.{whole, word_at, written_at, written_of, ◌>>=◌}
 
 -- what is read fulfils this
 abbrev pub Gives : {A : Type 0} → Field A → (A → Type 0) → Type 0
@@ -42,7 +45,7 @@ word-good read Good good (word ∷ words) a h =
     let read_as = mapped (λ a. (a, words)) (read word) a h in
     subst (λ a. Good a.0) read_as.2 (good word read_as.0 read_as.1)
 
-register-good : (word : List ℕ) (r : ℕ) → register_of word ≡ Some r → is_register r ≡ true
+register-good : (word : List ℕ) (r : ℕ) → read_register word ≡ Some r → is_register r ≡ true
 register-good [] r h = absurd cc
 register-good (a ∷ []) r h = absurd cc
 register-good (a ∷ digit ∷ []) r h =
@@ -59,23 +62,23 @@ at_most-good (Some m) n h =
     let low : m ≤ 4294967295 = leb-true m 4294967295 found.0 in
     lt-ltb n 4294967296 (omega (arith, found.1))
 
-value-good : (word : List ℕ) (n : ℕ) → value_of word ≡ Some n → is_value n ≡ true
+value-good : (word : List ℕ) (n : ℕ) → read_value word ≡ Some n → is_value n ≡ true
 value-good word n h = at_most-good (number_of word) n h
 
-operand-good : (word : List ℕ) (o : Operand) → operand_of word ≡ Some o → is_operand o ≡ true
-operand-good word o h = go (register_of word) refl h
+operand-good : (word : List ℕ) (o : Operand) → read_operand word ≡ Some o → is_operand o ≡ true
+operand-good word o h = go (read_register word) refl h
   where
-    go : (r : Option ℕ) → register_of word ≡ r → operand_from r (value_of word) ≡ Some o → is_operand o ≡ true
+    go : (r : Option ℕ) → read_register word ≡ r → operand_from r (read_value word) ≡ Some o → is_operand o ≡ true
     go (Some r) is h = let same : Register r ≡ o = cc in subst (λ o. is_operand o ≡ true) same (register-good word r is)
     go None is h =
-        let found = mapped Number (value_of word) o h in
+        let found = mapped Number (read_value word) o h in
         subst (λ o. is_operand o ≡ true) found.2 (value-good word found.0 found.1)
 
 path_in-good : (o : Option (List ℕ)) (p : List ℕ) → path_in o ≡ Some p → is_path p ≡ true
 path_in-good None p h = absurd cc
 path_in-good (Some path) p h = let found = chosen (is_path path) path p h in subst (λ p. is_path p ≡ true) found.1 found.0
 
-path-good : (word : List ℕ) (p : List ℕ) → path_of word ≡ Some p → is_path p ≡ true
+path-good : (word : List ℕ) (p : List ℕ) → read_path word ≡ Some p → is_path p ≡ true
 path-good [] p h = absurd cc
 path-good (b ∷ word) p h = go (b == 34) h
   where
@@ -83,7 +86,7 @@ path-good (b ∷ word) p h = go (b == 34) h
     go true h = path_in-good (before_last 34 word) p h
     go false h = absurd cc
 
-flags-good : (word : List ℕ) (f : OpenRequest) → flags_of word ≡ Some f → is_valid f ≡ true
+flags-good : (word : List ℕ) (f : OpenRequest) → read_flags word ≡ Some f → is_valid f ≡ true
 flags-good word f h = go (set_of flag_names word) h
   where
     go : (o : Option ℕ) → option_and_then (λ flags. valid_request (request_of flags)) o ≡ Some f → is_valid f ≡ true
@@ -99,10 +102,10 @@ named-first : (all : ℕ) (row : List ℕ × ℕ) (other : Option ℕ) (set : �
 named-first all row other set true first behind h = let same : row.1 ≡ set = cc in subst (λ n. is_within n all ≡ true) same first
 named-first all row other set false first behind h = behind h
 
-named-good : (all : ℕ) (rows : List (List ℕ × ℕ)) (word : List ℕ) (set : ℕ) → AllWithin all rows → named rows word ≡ Some set → is_within set all ≡ true
+named-good : (all : ℕ) (rows : List (List ℕ × ℕ)) (word : List ℕ) (set : ℕ) → AllWithin all rows → set_of_word rows word ≡ Some set → is_within set all ≡ true
 named-good all [] word set each h = absurd cc
 named-good all (row ∷ rows) word set each h =
-    named-first all row (named rows word) set (bytes_eq word row.0) (both_left (is_within row.1 all) _ each)
+    named-first all row (set_of_word rows word) set (bytes_eq word row.0) (both_left (is_within row.1 all) _ each)
     (named-good all rows word set (both_right (is_within row.1 all) _ each)) h
 
 next-good : (all begun set : ℕ) (next : Option ℕ) (behind : ℕ → Option ℕ) (twice : Bool)
@@ -116,7 +119,7 @@ union-good : (all : ℕ) (rows : List (List ℕ × ℕ)) → AllWithin all rows 
     → is_within begun all ≡ true → union_from rows begun words ≡ Some set → is_within set all ≡ true
 union-good all rows each [] begun set within h = let same : begun ≡ set = cc in subst (λ n. is_within n all ≡ true) same within
 union-good all rows each (word ∷ words) begun set within h =
-    next-good all begun set (named rows word) (λ union. union_from rows union words) (is_among word words)
+    next-good all begun set (set_of_word rows word) (λ union. union_from rows union words) (is_word_among word words)
     (λ n is more. union-good all rows each words (bit_or begun n) set (is_within-or begun n all within (named-good all rows word n each is)) more) h
 
 set-good : (all : ℕ) (rows : List (List ℕ × ℕ)) → AllWithin all rows → (word : List ℕ) (set : ℕ) → set_of rows word ≡ Some set → is_within set all ≡ true
@@ -128,31 +131,31 @@ set-good all rows each word set h = go (bytes_eq word (codes "none")) h
 
 register_at-good : Gives register_at (λ r. is_register r ≡ true)
 unfolding register_at
-register_at-good = word-good register_of (λ r. is_register r ≡ true) register-good
+register_at-good = word-good read_register (λ r. is_register r ≡ true) register-good
 
 number_at-good : Gives number_at (λ n. is_value n ≡ true)
 unfolding number_at
-number_at-good = word-good value_of (λ n. is_value n ≡ true) value-good
+number_at-good = word-good read_value (λ n. is_value n ≡ true) value-good
 
 operand_at-good : Gives operand_at (λ o. is_operand o ≡ true)
 unfolding operand_at
-operand_at-good = word-good operand_of (λ o. is_operand o ≡ true) operand-good
+operand_at-good = word-good read_operand (λ o. is_operand o ≡ true) operand-good
 
 path_at-good : Gives path_at (λ p. is_path p ≡ true)
 unfolding path_at
-path_at-good = word-good path_of (λ p. is_path p ≡ true) path-good
+path_at-good = word-good read_path (λ p. is_path p ≡ true) path-good
 
 flags_at-good : Gives flags_at (λ f. is_valid f ≡ true)
 unfolding flags_at
-flags_at-good = word-good flags_of (λ f. is_valid f ≡ true) flags-good
+flags_at-good = word-good read_flags (λ f. is_valid f ≡ true) flags-good
 
 rights_at-good : Gives rights_at (λ rights. is_within rights all_rights ≡ true)
 unfolding rights_at
-rights_at-good = word-good rights_of (λ rights. is_within rights all_rights ≡ true) (set-good all_rights right_names refl)
+rights_at-good = word-good read_rights (λ rights. is_within rights all_rights ≡ true) (set-good all_rights right_names refl)
 
 commands_at-good : Gives commands_at (λ commands. is_within commands all_commands ≡ true)
 unfolding commands_at
-commands_at-good = word-good commands_of (λ commands. is_within commands all_commands ≡ true) (set-good all_commands command_names refl)
+commands_at-good = word-good read_commands (λ commands. is_within commands all_commands ≡ true) (set-good all_commands command_names refl)
 
 -- a field that may be anything
 any_field : {A : Type 0} (field : Field A) → Gives field (λ _. Unit {0})
@@ -168,17 +171,22 @@ one-good first make P Good firsts made words s h =
     let same : (make a.0.0, a.0.1) ≡ s = let k = a.2 in cc in
     subst (λ s. Good s.0) same (made a.0.0 (firsts words a.0 a.1))
 
-two-good : {A B S : Type 0} (first : Field A) (second : Field B) (make : A → B → S) (P : A → Type 0) (Q : B → Type 0) (Good : S → Type 0) → Gives first P → Gives second Q → ((a : A) (b : B) → P a → Q b → Good (make a b)) → Gives (two first second make) Good
+two-good : {A B S : Type 0} (first : Field A) (second : Field B) (make : A → B → S) (P : A → Type 0) (Q : B → Type 0) (Good : S → Type 0) →
+    Gives first P → Gives second Q → ((a : A) (b : B) → P a → Q b → Good (make a b)) → Gives (two first second make) Good
 two-good first second make P Q Good firsts seconds made words s h =
     let a = bound (first words) (λ a. second a.1 >>= λ b. Some (make a.0 b.0, b.1)) s h in
     one-good second (make a.0.0) Q Good seconds (λ b q. made a.0.0 b (firsts words a.0 a.1) q) a.0.1 s a.2
 
-three-good : {A B C S : Type 0} (first : Field A) (second : Field B) (third : Field C) (make : A → B → C → S) (P : A → Type 0) (Q : B → Type 0) (R : C → Type 0) (Good : S → Type 0) → Gives first P → Gives second Q → Gives third R → ((a : A) (b : B) (c : C) → P a → Q b → R c → Good (make a b c)) → Gives (three first second third make) Good
+three-good : {A B C S : Type 0} (first : Field A) (second : Field B) (third : Field C) (make : A → B → C → S) (P : A → Type 0) (Q : B → Type 0)
+    (R : C → Type 0) (Good : S → Type 0) → Gives first P → Gives second Q → Gives third R →
+    ((a : A) (b : B) (c : C) → P a → Q b → R c → Good (make a b c)) → Gives (three first second third make) Good
 three-good first second third make P Q R Good firsts seconds thirds made words s h =
     let a = bound (first words) (λ a. second a.1 >>= λ b. third b.1 >>= λ c. Some (make a.0 b.0 c.0, c.1)) s h in
     two-good second third (make a.0.0) Q R Good seconds thirds (λ b c q r. made a.0.0 b c (firsts words a.0 a.1) q r) a.0.1 s a.2
 
-four-good : {A B C D S : Type 0} (first : Field A) (second : Field B) (third : Field C) (fourth : Field D) (make : A → B → C → D → S) (P : A → Type 0) (Q : B → Type 0) (R : C → Type 0) (O : D → Type 0) (Good : S → Type 0) → Gives first P → Gives second Q → Gives third R → Gives fourth O → ((a : A) (b : B) (c : C) (d : D) → P a → Q b → R c → O d → Good (make a b c d)) → Gives (four first second third fourth make) Good
+four-good : {A B C D S : Type 0} (first : Field A) (second : Field B) (third : Field C) (fourth : Field D) (make : A → B → C → D → S) (P : A → Type 0)
+    (Q : B → Type 0) (R : C → Type 0) (O : D → Type 0) (Good : S → Type 0) → Gives first P → Gives second Q → Gives third R → Gives fourth O →
+    ((a : A) (b : B) (c : C) (d : D) → P a → Q b → R c → O d → Good (make a b c d)) → Gives (four first second third fourth make) Good
 four-good first second third fourth make P Q R O Good firsts seconds thirds fourths made words s h =
     let a = bound (first words) (λ a. second a.1 >>= λ b. third b.1 >>= λ c. fourth c.1 >>= λ d. Some (make a.0 b.0 c.0 d.0, d.1)) s h in
     three-good second third fourth (make a.0.0) Q R O Good seconds thirds fourths (λ b c d q r o. made a.0.0 b c d (firsts words a.0 a.1) q r o) a.0.1 s a.2
@@ -202,10 +210,12 @@ DP make good = two-good operand_at path_at make (λ o. is_operand o ≡ true) (�
 syscall-good : (call : Call) → Gives (syscall_at call) GoodCall
 unfolding syscall_at
 syscall-good calls.Open = two-good path_at flags_at programs.Open (λ p. is_path p ≡ true) (λ f. is_valid f ≡ true) GoodCall path_at-good flags_at-good (λ p f a b. both _ _ a b)
-syscall-good calls.Openat = three-good operand_at path_at flags_at programs.Openat (λ o. is_operand o ≡ true) (λ p. is_path p ≡ true) (λ f. is_valid f ≡ true) GoodCall operand_at-good path_at-good flags_at-good (λ o p f a b c. both _ _ (both _ _ a b) c)
+syscall-good calls.Openat = three-good operand_at path_at flags_at programs.Openat (λ o. is_operand o ≡ true) (λ p. is_path p ≡ true)
+    (λ f. is_valid f ≡ true) GoodCall operand_at-good path_at-good flags_at-good (λ o p f a b c. both _ _ (both _ _ a b) c)
 syscall-good calls.Read = D programs.Read (λ o a. a)
 syscall-good calls.Write = DV programs.Write (λ o v a b. both _ _ a b)
-syscall-good calls.Sendfd = three-good operand_at operand_at operand_at programs.Sendfd (λ o. is_operand o ≡ true) (λ o. is_operand o ≡ true) (λ o. is_operand o ≡ true) GoodCall operand_at-good operand_at-good operand_at-good (λ o e v a b c. both _ _ (both _ _ a b) c)
+syscall-good calls.Sendfd = three-good operand_at operand_at operand_at programs.Sendfd (λ o. is_operand o ≡ true) (λ o. is_operand o ≡ true)
+    (λ o. is_operand o ≡ true) GoodCall operand_at-good operand_at-good operand_at-good (λ o e v a b c. both _ _ (both _ _ a b) c)
 syscall-good calls.Recvfd = D programs.Recvfd (λ o a. a)
 syscall-good calls.Lseek = DV programs.Lseek (λ o v a b. both _ _ a b)
 syscall-good calls.Ftruncate = DV programs.Ftruncate (λ o v a b. both _ _ a b)
@@ -217,13 +227,18 @@ syscall-good calls.Fstatat = DP programs.Fstatat (λ o p a b. both _ _ a b)
 syscall-good calls.Stat = one-good path_at programs.Stat (λ p. is_path p ≡ true) GoodCall path_at-good (λ p a. a)
 syscall-good calls.Mkdirat = DP programs.Mkdirat (λ o p a b. both _ _ a b)
 syscall-good calls.Mkdir = one-good path_at programs.Mkdir (λ p. is_path p ≡ true) GoodCall path_at-good (λ p a. a)
-syscall-good calls.Unlinkat = three-good operand_at path_at directory_at programs.Unlinkat (λ o. is_operand o ≡ true) (λ p. is_path p ≡ true) (λ _. Unit {0}) GoodCall operand_at-good path_at-good (any_field directory_at) (λ o p d a b c. both _ _ a b)
+syscall-good calls.Unlinkat = three-good operand_at path_at directory_at programs.Unlinkat (λ o. is_operand o ≡ true) (λ p. is_path p ≡ true)
+    (λ _. Unit {0}) GoodCall operand_at-good path_at-good (any_field directory_at) (λ o p d a b c. both _ _ a b)
 syscall-good calls.Unlink = two-good path_at directory_at programs.Unlink (λ p. is_path p ≡ true) (λ _. Unit {0}) GoodCall path_at-good (any_field directory_at) (λ p d a b. a)
-syscall-good calls.Renameat = four-good operand_at path_at operand_at path_at programs.Renameat (λ o. is_operand o ≡ true) (λ p. is_path p ≡ true) (λ o. is_operand o ≡ true) (λ p. is_path p ≡ true) GoodCall operand_at-good path_at-good operand_at-good path_at-good (λ o p t q a b c d. both _ _ (both _ _ (both _ _ a b) c) d)
+syscall-good calls.Renameat = four-good operand_at path_at operand_at path_at programs.Renameat (λ o. is_operand o ≡ true) (λ p. is_path p ≡ true)
+    (λ o. is_operand o ≡ true) (λ p. is_path p ≡ true) GoodCall operand_at-good path_at-good operand_at-good path_at-good
+    (λ o p t q a b c d. both _ _ (both _ _ (both _ _ a b) c) d)
 syscall-good calls.Dup = D programs.Dup (λ o a. a)
 syscall-good calls.Close = D programs.Close (λ o a. a)
-syscall-good calls.Cap_rights_limit = two-good operand_at rights_at programs.Cap_rights_limit (λ o. is_operand o ≡ true) (λ r. is_within r all_rights ≡ true) GoodCall operand_at-good rights_at-good (λ o r a b. both _ _ a b)
-syscall-good calls.Cap_fcntls_limit = two-good operand_at commands_at programs.Cap_fcntls_limit (λ o. is_operand o ≡ true) (λ r. is_within r all_commands ≡ true) GoodCall operand_at-good commands_at-good (λ o r a b. both _ _ a b)
+syscall-good calls.Cap_rights_limit = two-good operand_at rights_at programs.Cap_rights_limit (λ o. is_operand o ≡ true)
+    (λ r. is_within r all_rights ≡ true) GoodCall operand_at-good rights_at-good (λ o r a b. both _ _ a b)
+syscall-good calls.Cap_fcntls_limit = two-good operand_at commands_at programs.Cap_fcntls_limit (λ o. is_operand o ≡ true)
+    (λ r. is_within r all_commands ≡ true) GoodCall operand_at-good commands_at-good (λ o r a b. both _ _ a b)
 syscall-good calls.Cap_enter = nothing-good programs.Cap_enter GoodCall refl
 syscall-good calls.Cap_getmode = nothing-good programs.Cap_getmode GoodCall refl
 syscall-good calls.Socketpair = nothing-good programs.Socketpair GoodCall refl
@@ -236,15 +251,23 @@ GoodWritten (Leading jump name) = (points target : ℕ) → nat_lt target points
 
 written_at-good : (mnemonic : Mnemonic) → Gives (written_at mnemonic) GoodWritten
 unfolding written_at
-written_at-good Set = two-good register_at number_at (λ r n. Alone (programs.Set r n)) (λ r. is_register r ≡ true) (λ n. is_value n ≡ true) GoodWritten register_at-good number_at-good (λ r n a b points. both _ _ a b)
-written_at-good Mov = two-good register_at register_at (λ r s. Alone (programs.Mov r s)) (λ r. is_register r ≡ true) (λ r. is_register r ≡ true) GoodWritten register_at-good register_at-good (λ r n a b points. both _ _ a b)
-written_at-good Add = two-good register_at register_at (λ r s. Alone (programs.Add r s)) (λ r. is_register r ≡ true) (λ r. is_register r ≡ true) GoodWritten register_at-good register_at-good (λ r n a b points. both _ _ a b)
+written_at-good Set = two-good register_at number_at (λ r n. Alone (programs.Set r n)) (λ r. is_register r ≡ true)
+    (λ n. is_value n ≡ true) GoodWritten register_at-good number_at-good (λ r n a b points. both _ _ a b)
+written_at-good Mov = two-good register_at register_at (λ r s. Alone (programs.Mov r s)) (λ r. is_register r ≡ true)
+    (λ r. is_register r ≡ true) GoodWritten register_at-good register_at-good (λ r n a b points. both _ _ a b)
+written_at-good Add = two-good register_at register_at (λ r s. Alone (programs.Add r s)) (λ r. is_register r ≡ true)
+    (λ r. is_register r ≡ true) GoodWritten register_at-good register_at-good (λ r n a b points. both _ _ a b)
 written_at-good In = one-good register_at (λ r. Alone (programs.In r)) (λ r. is_register r ≡ true) GoodWritten register_at-good (λ r a points. a)
 written_at-good Jmp = one-good label_at (λ name. Leading Always name) (λ _. Unit {0}) GoodWritten (any_field label_at) (λ name a points target below. below)
-written_at-good Jeq = three-good register_at number_at label_at (λ r n name. Leading (If_equal r n) name) (λ r. is_register r ≡ true) (λ n. is_value n ≡ true) (λ _. Unit {0}) GoodWritten register_at-good number_at-good (any_field label_at) (λ r n name a b c points target below. both _ _ (both _ _ a b) below)
-written_at-good Jlt = three-good register_at number_at label_at (λ r n name. Leading (If_less r n) name) (λ r. is_register r ≡ true) (λ n. is_value n ≡ true) (λ _. Unit {0}) GoodWritten register_at-good number_at-good (any_field label_at) (λ r n name a b c points target below. both _ _ (both _ _ a b) below)
+written_at-good Jeq = three-good register_at number_at label_at (λ r n name. Leading (If_equal r n) name) (λ r. is_register r ≡ true)
+    (λ n. is_value n ≡ true) (λ _. Unit {0}) GoodWritten register_at-good number_at-good (any_field label_at)
+    (λ r n name a b c points target below. both _ _ (both _ _ a b) below)
+written_at-good Jlt = three-good register_at number_at label_at (λ r n name. Leading (If_less r n) name) (λ r. is_register r ≡ true)
+    (λ n. is_value n ≡ true) (λ _. Unit {0}) GoodWritten register_at-good number_at-good (any_field label_at)
+    (λ r n name a b c points target below. both _ _ (both _ _ a b) below)
 written_at-good Halt = nothing-good (Alone programs.Halt) GoodWritten (λ points. refl)
-written_at-good (Make call) = two-good (syscall_at call) else_at (λ call name. Leading (After_error call) name) GoodCall (λ _. Unit {0}) GoodWritten (syscall-good call) (any_field else_at) (λ s name a b points target below. both _ _ a below)
+written_at-good (Make call) = two-good (syscall_at call) else_at (λ call name. Leading (After_error call) name) GoodCall (λ _. Unit {0}) GoodWritten
+    (syscall-good call) (any_field else_at) (λ s name a b points target below. both _ _ a below)
 
 whole-is : {A : Type 0} (a b : A) (words : List (List ℕ)) → whole a words ≡ Some b → a ≡ b
 whole-is a b [] h = cc

@@ -7,13 +7,15 @@ use Rattle.std.proofs.lemmas.List.{length-map}
 use Rattle.prog_asm.specs.declared.drafts.Draft.{Draft}
 use Rattle.prog_asm.specs.declared.faults.AsmFault.{AsmFault}
 use Rattle.prog_asm.specs.Programs.{Instruction, ends_well, is_instruction, is_program}
-use Rattle.prog_asm.specs.Lines.{has_stray, lines_of, uncommented, words_of}
+use Rattle.prog_asm.specs.Lines.{has_stray, text_lines, uncommented, quoted_words}
 use Rattle.texts.specs.Names.{is_name}
 use Rattle.prog_asm.specs.Fields.{before_last}
 use Rattle.prog_asm.specs.Forms.{Mnemonic, Written, Alone, Leading, led, mnemonic_of, written_of}
-use Rattle.prog_asm.specs.Assembly.{Fault, FallsOff, Line, Mistake, Step, TooMany, TwiceLabel, Word, assembly_of, code_from, complete, fault, instruction_in, is_one_too_many, is_twice, labelled, last_line, line_behind, line_of, line_of_code, line_of_words, line_with, lines_behind, numbered, operands_read, placed, placed_at, point_of, program_of, read_as, steps_of, steps_on, with_label, ◌>>=◌}
-use Rattle.prog_asm.specs.Drafts.{Drafts, below, labelled_from, step_from}
-use Rattle.prog_asm.specs.Faults.{FaultIs}
+use Rattle.prog_asm.specs.Assembly.{Fault, FallsOff, Line, Mistake, Step, TooMany, TwiceLabel, Word, assembly_of, code_from, complete, fault, instruction_in, is_one_too_many}
+use Rattle.prog_asm.specs.Assembly.{is_twice, labelled, last_line_number, line_behind, line_read, line_of_code, line_read_of, line_with, lines_behind, told_at, operands_read}
+use Rattle.prog_asm.specs.Assembly.{placed, placed_at, point_named, program_read, read_as, steps_of, steps_on, with_label, ◌>>=◌}
+use Rattle.prog_asm.specs.DraftViews.{Drafts, below, labelled_from, step_from}
+use Rattle.prog_asm.specs.FaultViews.{FaultIs}
 use Rattle.prog_asm.proofs.DraftLaws.{steps_of-append}
 use Rattle.prog_asm.proofs.GoodForms.{GoodWritten, written-good}
 use Rattle.prog_asm.proofs.Points.{fault-passes, point_of-labelled}
@@ -56,30 +58,33 @@ labelled-good (Some name) word words line h = go (is_name name) h
     go true h = label-good (Some name) words line h
     go false h = absurd cc
 
-words-good : (words : List (List ℕ)) (line : Line) → line_of_words words ≡ Ok line → GoodInstruction line.instruction
+words-good : (words : List (List ℕ)) (line : Line) → line_read_of words ≡ Ok line → GoodInstruction line.instruction
 words-good [] line h = let same : line_with None None ≡ line = cc in subst (λ l. GoodInstruction l.instruction) same tt
 words-good (word ∷ words) line h = labelled-good (before_last 58 word) word words line h
 
 code-line-good : (code : List ℕ) (line : Line) → line_of_code code ≡ Ok line → GoodInstruction line.instruction
 code-line-good code line h = go (has_stray code) h
   where
-    go : (stray : Bool) → cond stray (Err Word) (line_of_words (words_of code)) ≡ Ok line → GoodInstruction line.instruction
+    go : (stray : Bool) → cond stray (Err Word) (line_read_of (quoted_words code)) ≡ Ok line → GoodInstruction line.instruction
     go true h = absurd cc
-    go false h = words-good (words_of code) line h
+    go false h = words-good (quoted_words code) line h
 
-line-good : (text : List ℕ) (line : Line) → line_of text ≡ Ok line → GoodInstruction line.instruction
-unfolding line_of
+line-good : (text : List ℕ) (line : Line) → line_read text ≡ Ok line → GoodInstruction line.instruction
+unfolding line_read
 line-good text line h = code-line-good (uncommented text) line h
 
 abbrev read_good : Line → Result Line Mistake
 read_good line = Ok line
 
 -- a line that is good behind others
-behind-good : (before : List Line) (read : Result Line Mistake) (line : Line) → numbered before (line_behind before read) ≡ Ok line → (read ≡ Ok line) × (is_one_too_many (length (steps_of before)) line.instruction ≡ false)
+behind-good : (before : List Line) (read : Result Line Mistake) (line : Line) → told_at before (line_behind before read) ≡ Ok line →
+    (read ≡ Ok line) × (is_one_too_many (length (steps_of before)) line.instruction ≡ false)
 behind-good before (Err m) line h = absurd cc
 behind-good before (Ok own) line h = go (is_twice before own.label) (is_one_too_many (length (steps_of before)) own.instruction) refl h
   where
-    go : (twice many : Bool) → is_one_too_many (length (steps_of before)) own.instruction ≡ many → numbered before (cond twice (Err TwiceLabel) (cond many (Err TooMany) (Ok own))) ≡ Ok line → (read_good own ≡ Ok line) × (is_one_too_many (length (steps_of before)) line.instruction ≡ false)
+    go : (twice many : Bool) → is_one_too_many (length (steps_of before)) own.instruction ≡ many →
+        told_at before (cond twice (Err TwiceLabel) (cond many (Err TooMany) (Ok own))) ≡ Ok line →
+        (read_good own ≡ Ok line) × (is_one_too_many (length (steps_of before)) line.instruction ≡ false)
     go true many is h = absurd cc
     go false true is h = absurd cc
     go false false is h = let same : own ≡ line = cc in (ap read_good same, subst (λ l. is_one_too_many (length (steps_of before)) l.instruction ≡ false) same is)
@@ -106,7 +111,8 @@ pub record GoodLines (lines : List Line) : Type 0 where
   pub steps : GoodSteps (steps_of lines)
   pub few : length (steps_of lines) ≤ 256
 
-line-more : (before : List Line) (line : Line) → GoodLines before → GoodInstruction line.instruction → is_one_too_many (length (steps_of before)) line.instruction ≡ false → GoodLines (before ++ line ∷ [])
+line-more : (before : List Line) (line : Line) → GoodLines before → GoodInstruction line.instruction →
+    is_one_too_many (length (steps_of before)) line.instruction ≡ false → GoodLines (before ++ line ∷ [])
 line-more before line good here fits =
     let n : ℕ = length before + 1 in
     let all = steps_of-append before line in
@@ -118,13 +124,14 @@ line-more before line good here fits =
 pub lines-good : (before : List Line) (texts : List (List ℕ)) (lines : List Line) → GoodLines before → lines_behind before texts ≡ Ok lines → GoodLines lines
 lines-good before [] lines good h = let same : before ≡ lines = cc in subst GoodLines same good
 lines-good before (text ∷ texts) lines good h =
-    let first = bound (numbered before (line_behind before (line_of text))) (λ line. lines_behind (before ++ line ∷ []) texts) lines h in
+    let first = bound (told_at before (line_behind before (line_read text))) (λ line. lines_behind (before ++ line ∷ []) texts) lines h in
     let line = first.0 in
-    let is = behind-good before (line_of text) line first.1 in
+    let is = behind-good before (line_read text) line first.1 in
     lines-good (before ++ line ∷ []) texts lines (line-more before line good (line-good text line is.0) is.1) first.2
 
 -- the instructions with their points
-placed-good : (points : List ℕ → Option ℕ) (count : ℕ) → ((name : List ℕ) (p : ℕ) → points name ≡ Some p → nat_lt p count ≡ true) → (w : Written) (i : Instruction) → GoodWritten w → placed points w ≡ Some i → is_instruction count i ≡ true
+placed-good : (points : List ℕ → Option ℕ) (count : ℕ) → ((name : List ℕ) (p : ℕ) → points name ≡ Some p → nat_lt p count ≡ true) →
+    (w : Written) (i : Instruction) → GoodWritten w → placed points w ≡ Some i → is_instruction count i ≡ true
 placed-good points count below (Alone own) i good h = let same : own ≡ i = cc in subst (λ i. is_instruction count i ≡ true) same (good count)
 placed-good points count below (Leading jump name) i good h = go (points name) refl h
   where
@@ -136,7 +143,9 @@ placed_at-is : (n : ℕ) (o : Option Instruction) (i : Instruction) → placed_a
 placed_at-is n None i h = absurd cc
 placed_at-is n (Some own) i h = cc
 
-code-good : (points : List ℕ → Option ℕ) (count : ℕ) → ((name : List ℕ) (p : ℕ) → points name ≡ Some p → nat_lt p count ≡ true) → (steps : List Step) (code : List Instruction) → GoodSteps steps → code_from points steps ≡ Ok code → (list_all (is_instruction count) code ≡ true) × (length code ≡ length steps)
+code-good : (points : List ℕ → Option ℕ) (count : ℕ) → ((name : List ℕ) (p : ℕ) → points name ≡ Some p → nat_lt p count ≡ true) →
+    (steps : List Step) (code : List Instruction) → GoodSteps steps → code_from points steps ≡ Ok code →
+    (list_all (is_instruction count) code ≡ true) × (length code ≡ length steps)
 code-good points count below [] code good h = let same : [] ≡ code = cc in subst (λ code. (list_all (is_instruction count) code ≡ true) × (length code ≡ 0)) same (refl, refl)
 code-good points count below (step ∷ steps) code good h =
     let first = bound (placed_at step.line (placed points step.written)) (λ i. code_from points steps >>= λ rest. Ok (i ∷ rest)) code h in
@@ -160,17 +169,17 @@ below-is count p (Some q) h = go (nat_lt q count) refl h
 complete-good : (steps : List Step) (code all : List Instruction) → complete steps code ≡ Ok all → (code ≡ all) × (ends_well code ≡ true)
 complete-good steps code all h = go (ends_well code) refl h
   where
-    go : (b : Bool) → ends_well code ≡ b → cond b (Ok code) (Err (fault FallsOff (last_line steps))) ≡ Ok all → (code ≡ all) × (ends_well code ≡ true)
+    go : (b : Bool) → ends_well code ≡ b → cond b (Ok code) (Err (fault FallsOff (last_line_number steps))) ≡ Ok all → (code ≡ all) × (ends_well code ≡ true)
     go true is h = (cc, is)
     go false is h = absurd cc
 
-program-good : (lines : List Line) (code : List Instruction) → GoodLines lines → program_of lines ≡ Ok code → is_program code ≡ true
+program-good : (lines : List Line) (code : List Instruction) → GoodLines lines → program_read lines ≡ Ok code → is_program code ≡ true
 program-good lines code good h =
     let steps = steps_of lines in
     let count = length steps in
-    let made = bound (code_from (point_of lines) steps) (complete steps) code h in
+    let made = bound (code_from (point_named lines) steps) (complete steps) code h in
     let ends = complete-good steps made.0 code made.2 in
-    let valid = code-good (point_of lines) count (λ name p is. below-is count p (labelled_from 0 name lines) (sym (point_of-labelled lines name) ∙ is)) steps made.0 good.steps made.1 in
+    let valid = code-good (point_named lines) count (λ name p is. below-is count p (labelled_from 0 name lines) (sym (point_of-labelled lines name) ∙ is)) steps made.0 good.steps made.1 in
     let own = made.0 in
     let few : length own ≤ 256 = omega (arith, valid.1, good.few) in
     let is : is_program own ≡ true =
@@ -187,19 +196,19 @@ nothing-good = record { steps = tt; few = omega arith }
 pub assembly-good : (text : List ℕ) (code : List Instruction) → assembly_of text ≡ Ok code → is_program code ≡ true
 unfolding assembly_of
 assembly-good text code h =
-    let read = bound (lines_behind [] (lines_of text)) program_of code h in
-    program-good read.0 code (lines-good [] (lines_of text) read.0 nothing-good read.1) read.2
+    let read = bound (lines_behind [] (text_lines text)) program_read code h in
+    program-good read.0 code (lines-good [] (text_lines text) read.0 nothing-good read.1) read.2
 
 -- a draft of a text's lines has at most 256 instructions
-pub draft-few : (text : List ℕ) (lines : List Line) (draft : Draft) → lines_behind [] (lines_of text) ≡ Ok lines → Drafts lines draft → length draft.steps.items ≤ 256
+pub draft-few : (text : List ℕ) (lines : List Line) (draft : Draft) → lines_behind [] (text_lines text) ≡ Ok lines → Drafts lines draft → length draft.steps.items ≤ 256
 draft-few text lines draft is drafts =
-    omega (arith, (lines-good [] (lines_of text) lines nothing-good is).few, sym (length-map draft.steps.items step_from), ap length drafts.steps)
+    omega (arith, (lines-good [] (text_lines text) lines nothing-good is).few, sym (length-map draft.steps.items step_from), ap length drafts.steps)
 
 -- what a text stands for, by its lines
-pub assembly-lines : (text : List ℕ) (lines : List Line) → lines_behind [] (lines_of text) ≡ Ok lines → assembly_of text ≡ program_of lines
+pub assembly-lines : (text : List ℕ) (lines : List Line) → lines_behind [] (text_lines text) ≡ Ok lines → assembly_of text ≡ program_read lines
 unfolding assembly_of
-assembly-lines text lines is = ap (λ read. read >>= program_of) is
+assembly-lines text lines is = ap (λ read. read >>= program_read) is
 
-pub assembly-fault : (text : List ℕ) (error : AsmFault) → FaultIs error (lines_behind [] (lines_of text)) → FaultIs error (assembly_of text)
+pub assembly-fault : (text : List ℕ) (error : AsmFault) → FaultIs error (lines_behind [] (text_lines text)) → FaultIs error (assembly_of text)
 unfolding assembly_of
-assembly-fault text error is = fault-passes error (lines_behind [] (lines_of text)) program_of is
+assembly-fault text error is = fault-passes error (lines_behind [] (text_lines text)) program_read is

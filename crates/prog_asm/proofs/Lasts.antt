@@ -1,7 +1,7 @@
 -- The last of a list, and the lines of instructions.
 use Rattle.std.proofs.Common.{◌≡◌, ◌-◌, ◌<◌, suc, List, [], ◌∷◌, length, get_or, map, refl, ap, sym, ◌∙◌, arith}
 use Rattle.prog_asm.specs.Programs.{Instruction, ends_well, is_last}
-use Rattle.prog_asm.specs.Assembly.{Step, last_line}
+use Rattle.prog_asm.specs.Assembly.{Step, last_line_number}
 
 at_next : {A : Type 0} (x y : A) (xs : List A) (d : A) → get_or (x ∷ y ∷ xs) (length (x ∷ y ∷ xs) - 1) d ≡ get_or (y ∷ xs) (length (y ∷ xs) - 1) d
 at_next x y xs d = let next : length (x ∷ y ∷ xs) - 1 ≡ suc (length (y ∷ xs) - 1) = omega arith in ap (λ n. get_or (x ∷ y ∷ xs) n d) next
@@ -12,7 +12,7 @@ ends_well-last view (i ∷ []) d some = refl
 ends_well-last view (i ∷ next ∷ code) d some =
     ends_well-last view (next ∷ code) d (omega arith) ∙ ap (λ last. is_last (view last)) (sym (at_next i next code d))
 
-pub last_line-last : {A : Type 0} (view : A → Step) (steps : List A) (d : A) → 0 < length steps → last_line (map view steps) ≡ (view (get_or steps (length steps - 1) d)).line
+pub last_line-last : {A : Type 0} (view : A → Step) (steps : List A) (d : A) → 0 < length steps → last_line_number (map view steps) ≡ (view (get_or steps (length steps - 1) d)).line
 last_line-last view [] d some = absurd (omega arith)
 last_line-last view (s ∷ []) d some = refl
 last_line-last view (s ∷ next ∷ steps) d some =

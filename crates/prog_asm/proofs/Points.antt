@@ -8,10 +8,11 @@ use Rattle.prog_asm.specs.declared.faults.AsmFault.{AsmFault}
 use Rattle.prog_asm.specs.declared.faults.AsmFault.TheVariants as asm
 use Rattle.prog_asm.specs.Programs.{Instruction, ends_well}
 use Rattle.prog_asm.specs.Forms.{Written, Alone, Leading, led}
-use Rattle.prog_asm.specs.Assembly.{FallsOff, Fault, Line, Step, code_from, complete, fault, is_label, last_line, next_point, placed, placed_at, point_from, point_of, program_of, steps_of, steps_on, ◌>>=◌}
+use Rattle.prog_asm.specs.Assembly.{FallsOff, Fault, Line, Step, code_from, complete, fault, is_label, last_line_number, next_point, placed, placed_at, point_from, point_named}
+use Rattle.prog_asm.specs.Assembly.{program_read, steps_of, steps_on, ◌>>=◌}
 use Rattle.prog_asm.specs.LineViews.{point_in}
-use Rattle.prog_asm.specs.Drafts.{Drafts, below, labelled_from, step_from}
-use Rattle.prog_asm.specs.Faults.{FaultIs}
+use Rattle.prog_asm.specs.DraftViews.{Drafts, below, labelled_from, step_from}
+use Rattle.prog_asm.specs.FaultViews.{FaultIs}
 use Rattle.prog_asm.proofs.DraftLaws.{length-steps_of}
 
 -- an instruction follows where the point is one of all
@@ -28,11 +29,15 @@ point_from-labelled point name (line ∷ lines) =
     let same : rest + length (steps_of lines) ≡ all = omega (arith, length-steps_of line lines) in
     go (is_label name line.label) (next_point-below point (steps_of (line ∷ lines))) (point_from-labelled rest name lines ∙ ap (λ n. below n (labelled_from rest name lines)) same)
   where
-    go : (is : Bool) → next_point point (steps_of (line ∷ lines)) ≡ below (point + length (steps_of (line ∷ lines))) (Some point) → point_from (point + length (steps_on 1 line.instruction)) name lines ≡ below (point + length (steps_of (line ∷ lines))) (labelled_from (point + length (steps_on 1 line.instruction)) name lines) → cond is (next_point point (steps_of (line ∷ lines))) (point_from (point + length (steps_on 1 line.instruction)) name lines) ≡ below (point + length (steps_of (line ∷ lines))) (cond is (Some point) (labelled_from (point + length (steps_on 1 line.instruction)) name lines))
+    go : (is : Bool) → next_point point (steps_of (line ∷ lines)) ≡ below (point + length (steps_of (line ∷ lines))) (Some point) →
+        point_from (point + length (steps_on 1 line.instruction)) name lines ≡ below (point + length (steps_of (line ∷ lines)))
+        (labelled_from (point + length (steps_on 1 line.instruction)) name lines) →
+        cond is (next_point point (steps_of (line ∷ lines))) (point_from (point + length (steps_on 1 line.instruction)) name lines) ≡ below
+        (point + length (steps_of (line ∷ lines))) (cond is (Some point) (labelled_from (point + length (steps_on 1 line.instruction)) name lines))
     go true here rest = here
     go false here rest = rest
 
-pub point_of-labelled : (lines : List Line) (name : List ℕ) → point_of lines name ≡ below (length (steps_of lines)) (labelled_from 0 name lines)
+pub point_of-labelled : (lines : List Line) (name : List ℕ) → point_named lines name ≡ below (length (steps_of lines)) (labelled_from 0 name lines)
 point_of-labelled lines name = let same : 0 + length (steps_of lines) ≡ length (steps_of lines) = omega arith in point_from-labelled 0 name lines ∙ ap (λ n. below n (labelled_from 0 name lines)) same
 
 placed-same : (f g : List ℕ → Option ℕ) → ((name : List ℕ) → f name ≡ g name) → (written : Written) → placed f written ≡ placed g written
@@ -47,22 +52,25 @@ code_from-same f g same (step ∷ steps) =
     ∙ ap (λ rest. placed_at step.line (placed g step.written) >>= λ i. rest >>= λ code. Ok (i ∷ code)) (code_from-same f g same steps)
 
 -- The code of a draft is that of its lines.
-pub code_from-drafts : (lines : List Line) (draft : Draft) → Drafts lines draft → code_from (λ name. below (length draft.steps.items) (point_in draft.labels name)) (map step_from draft.steps.items) ≡ code_from (point_of lines) (steps_of lines)
+pub code_from-drafts : (lines : List Line) (draft : Draft) → Drafts lines draft →
+    code_from (λ name. below (length draft.steps.items) (point_in draft.labels name)) (map step_from draft.steps.items) ≡ code_from
+    (point_named lines) (steps_of lines)
 code_from-drafts lines draft drafts =
     let count : length draft.steps.items ≡ length (steps_of lines) = sym (length-map draft.steps.items step_from) ∙ ap length drafts.steps in
     ap (code_from (λ name. below (length draft.steps.items) (point_in draft.labels name))) drafts.steps
-    ∙ code_from-same (λ name. below (length draft.steps.items) (point_in draft.labels name)) (point_of lines)
+    ∙ code_from-same (λ name. below (length draft.steps.items) (point_in draft.labels name)) (point_named lines)
     (λ name. ap (λ n. below n (point_in draft.labels name)) count ∙ ap (below (length (steps_of lines))) (drafts.labels name) ∙ sym (point_of-labelled lines name))
     (steps_of lines)
 
 -- what becomes of the code
-pub program-ends : (lines : List Line) (code : List Instruction) → code_from (point_of lines) (steps_of lines) ≡ Ok code → ends_well code ≡ true → program_of lines ≡ Ok code
-program-ends lines code is ends = ap (λ read. read >>= complete (steps_of lines)) is ∙ ap (λ b. cond b (Ok code) (Err (fault FallsOff (last_line (steps_of lines))))) ends
+pub program-ends : (lines : List Line) (code : List Instruction) → code_from (point_named lines) (steps_of lines) ≡ Ok code → ends_well code ≡ true → program_read lines ≡ Ok code
+program-ends lines code is ends = ap (λ read. read >>= complete (steps_of lines)) is ∙ ap (λ b. cond b (Ok code) (Err (fault FallsOff (last_line_number (steps_of lines))))) ends
 
-pub program-falls : (lines : List Line) (code : List Instruction) (line : ℕ) → code_from (point_of lines) (steps_of lines) ≡ Ok code → ends_well code ≡ false → line ≡ last_line (steps_of lines) → program_of lines ≡ Err (fault FallsOff line)
+pub program-falls : (lines : List Line) (code : List Instruction) (line : ℕ) → code_from (point_named lines) (steps_of lines) ≡ Ok code →
+    ends_well code ≡ false → line ≡ last_line_number (steps_of lines) → program_read lines ≡ Err (fault FallsOff line)
 program-falls lines code line is ends last =
     ap (λ read. read >>= complete (steps_of lines)) is
-    ∙ ap (λ b. cond b (Ok code) (Err (fault FallsOff (last_line (steps_of lines))))) ends
+    ∙ ap (λ b. cond b (Ok code) (Err (fault FallsOff (last_line_number (steps_of lines))))) ends
     ∙ ap (λ n. Err (fault FallsOff n)) (sym last)
 
 -- a fault is passed on

@@ -1,22 +1,23 @@
 -- The words of a line, byte by byte.
-use Rattle.std.proofs.Common.{◌≡◌, ◌+◌, ◌-◌, ◌<◌, ◌≤◌, ℕ, suc, Bool, true, false, List, [], ◌∷◌, ◌++◌, length, get_or, take, drop, refl, ap, sym, ◌∙◌, arith, append_assoc, length-drop, length-take-le, drop-cons}
+use Rattle.std.proofs.Common.{◌≡◌, ◌+◌, ◌-◌, ◌<◌, ◌≤◌, ℕ, suc, Bool, true, false, List, [], ◌∷◌, ◌++◌, length, get_or, take, drop, refl, ap, sym, ◌∙◌, arith, append_assoc}
+use Rattle.std.proofs.Common.{length-drop, length-take-le, drop-cons}
 use Rattle.std.specs.Prelude.{cond, not, ◌&&◌, slice_range}
 use Rattle.std.proofs.Math.Seq.{take-suc}
 use Rattle.std.proofs.lemmas.List.{get_or-drop}
-use Rattle.prog_asm.specs.Lines.{ended, is_blank, quoted_behind, words_from}
+use Rattle.prog_asm.specs.Lines.{word_ended, is_blank, quoted_behind, words_from}
 
 -- The words so far, the word that has begun, and what is left.
 pub record WordsSoFar (line : List ℕ) (words : List (List ℕ)) (quoted : Bool) (start at : ℕ) : Type 0 where
   pub begun : start ≤ at
   pub same : words ++ words_from quoted (drop at line) (slice_range line start at) ≡ words_from false line []
 
-words_from-blank : (b : ℕ) (rest begun : List ℕ) → is_blank b ≡ true → words_from false (b ∷ rest) begun ≡ ended begun ++ words_from false rest []
-words_from-blank b rest begun blank = ap (λ is. cond is (ended begun ++ words_from false rest []) (words_from (quoted_behind false b) rest (begun ++ b ∷ []))) blank
+words_from-blank : (b : ℕ) (rest begun : List ℕ) → is_blank b ≡ true → words_from false (b ∷ rest) begun ≡ word_ended begun ++ words_from false rest []
+words_from-blank b rest begun blank = ap (λ is. cond is (word_ended begun ++ words_from false rest []) (words_from (quoted_behind false b) rest (begun ++ b ∷ []))) blank
 
 words_from-more : (quoted : Bool) (b : ℕ) (rest begun : List ℕ) → (not quoted && is_blank b) ≡ false → words_from quoted (b ∷ rest) begun ≡ words_from (quoted_behind quoted b) rest (begun ++ b ∷ [])
-words_from-more quoted b rest begun more = ap (λ is. cond is (ended begun ++ words_from false rest []) (words_from (quoted_behind quoted b) rest (begun ++ b ∷ []))) more
+words_from-more quoted b rest begun more = ap (λ is. cond is (word_ended begun ++ words_from false rest []) (words_from (quoted_behind quoted b) rest (begun ++ b ∷ []))) more
 
-ended-some : (begun : List ℕ) → 0 < length begun → ended begun ≡ begun ∷ []
+ended-some : (begun : List ℕ) → 0 < length begun → word_ended begun ≡ begun ∷ []
 ended-some [] some = absurd (omega arith)
 ended-some (b ∷ begun) some = refl
 
@@ -35,7 +36,8 @@ here : (line : List ℕ) (at : ℕ) → at < length line → drop at line ≡ ge
 here line at within = let next : suc at ≡ at + 1 = omega arith in drop-cons line at 0 within ∙ ap (λ n. get_or line at 0 ∷ drop n line) next
 
 -- a blank behind a word
-pub word-ends : (line : List ℕ) (words : List (List ℕ)) (start at : ℕ) → start < at → at < length line → is_blank (get_or line at 0) ≡ true → WordsSoFar line words false start at → WordsSoFar line (words ++ slice_range line start at ∷ []) false (at + 1) (at + 1)
+pub word-ends : (line : List ℕ) (words : List (List ℕ)) (start at : ℕ) → start < at → at < length line → is_blank (get_or line at 0) ≡ true →
+    WordsSoFar line words false start at → WordsSoFar line (words ++ slice_range line start at ∷ []) false (at + 1) (at + 1)
 word-ends line words start at some within blank so_far =
     let word = slice_range line start at in
     let rest = drop (at + 1) line in
@@ -51,7 +53,8 @@ word-ends line words start at some within blank so_far =
     }
 
 -- a blank behind none
-pub no-word-ends : (line : List ℕ) (words : List (List ℕ)) (start at : ℕ) → at ≤ start → at < length line → is_blank (get_or line at 0) ≡ true → WordsSoFar line words false start at → WordsSoFar line words false (at + 1) (at + 1)
+pub no-word-ends : (line : List ℕ) (words : List (List ℕ)) (start at : ℕ) → at ≤ start → at < length line → is_blank (get_or line at 0) ≡ true →
+    WordsSoFar line words false start at → WordsSoFar line words false (at + 1) (at + 1)
 no-word-ends line words start at none within blank so_far =
     let rest = drop (at + 1) line in
     record {
@@ -59,12 +62,15 @@ no-word-ends line words start at none within blank so_far =
       same =
           ap (λ begun. words ++ words_from false rest begun) (slice_range-none line (at + 1) (at + 1) (omega arith))
           ∙ sym (ap (λ left. words ++ words_from false left (slice_range line start at)) (here line at within)
-          ∙ ap (λ more. words ++ more) (words_from-blank (get_or line at 0) rest (slice_range line start at) blank ∙ ap (λ begun. ended begun ++ words_from false rest []) (slice_range-none line start at none)))
+          ∙ ap (λ more. words ++ more) (words_from-blank (get_or line at 0) rest (slice_range line start at) blank
+          ∙ ap (λ begun. word_ended begun ++ words_from false rest []) (slice_range-none line start at none)))
           ∙ so_far.same;
     }
 
 -- a byte of a word
-pub word-goes-on : (line : List ℕ) (words : List (List ℕ)) (quoted : Bool) (start at : ℕ) → at < length line → (not quoted && is_blank (get_or line at 0)) ≡ false → WordsSoFar line words quoted start at → WordsSoFar line words (quoted_behind quoted (get_or line at 0)) start (at + 1)
+pub word-goes-on : (line : List ℕ) (words : List (List ℕ)) (quoted : Bool) (start at : ℕ) → at < length line →
+    (not quoted && is_blank (get_or line at 0)) ≡ false → WordsSoFar line words quoted start at →
+    WordsSoFar line words (quoted_behind quoted (get_or line at 0)) start (at + 1)
 word-goes-on line words quoted start at within more so_far =
     let b = get_or line at 0 in
     let rest = drop (at + 1) line in

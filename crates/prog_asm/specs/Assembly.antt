@@ -5,7 +5,7 @@ use Rattle.texts.specs.Bytes.{colon}
 use Rattle.rights.specs.Limits.{most_instructions}
 use Rattle.texts.specs.Names.{is_name}
 use Rattle.prog_asm.specs.Programs.{Instruction, ends_well}
-use Rattle.prog_asm.specs.Lines.{lines_of, uncommented, has_stray, words_of}
+use Rattle.prog_asm.specs.Lines.{text_lines, uncommented, has_stray, quoted_words}
 use Rattle.prog_asm.specs.Fields.{before_last}
 use Rattle.prog_asm.specs.Forms.{Mnemonic, mnemonic_of, Written, Alone, Leading, led, written_of}
 
@@ -64,16 +64,16 @@ abbrev pub labelled : Option (List ℕ) → List ℕ → List (List ℕ) → Res
 labelled None word words = with_label None (instruction_in (word ∷ words))
 labelled (Some name) word words = if is_name name then with_label (Some name) (instruction_in words) else Err Word
 
-abbrev pub line_of_words : List (List ℕ) → Result Line Mistake
-line_of_words [] = Ok (line_with None None)
-line_of_words (word ∷ words) = labelled (before_last colon word) word words
+abbrev pub line_read_of : List (List ℕ) → Result Line Mistake
+line_read_of [] = Ok (line_with None None)
+line_read_of (word ∷ words) = labelled (before_last colon word) word words
 
 abbrev pub line_of_code : List ℕ → Result Line Mistake
-line_of_code code = if has_stray code then Err Word else line_of_words (words_of code)
+line_of_code code = if has_stray code then Err Word else line_read_of (quoted_words code)
 
 -- a line by itself
-unfoldable pub line_of : List ℕ → Result Line Mistake
-line_of text = line_of_code (uncommented text)
+unfoldable pub line_read : List ℕ → Result Line Mistake
+line_read text = line_of_code (uncommented text)
 
 -- An instruction, with its line.
 pub record Step : Type 0 where
@@ -84,7 +84,7 @@ abbrev pub steps_on : ℕ → Option Written → List Step
 steps_on n None = []
 steps_on n (Some written) = record { line = n; written = written } ∷ []
 
--- the instructions of lines that are numbered from n on
+-- the instructions of lines that are told_at from n on
 abbrev pub steps_from : ℕ → List Line → List Step
 steps_from n [] = []
 steps_from n (line ∷ lines) = steps_on n line.instruction ++ steps_from (n + 1) lines
@@ -122,15 +122,15 @@ abbrev pub ◌>>=◌ : {A B : Type 0} → Result A Fault → (A → Result B Fau
 (Err e) >>= f = Err e
 
 -- the line behind others, so many and one more
-abbrev pub numbered : List Line → Result Line Mistake → Result Line Fault
-numbered before (Err mistake) = Err (fault mistake (length before + 1))
-numbered before (Ok line) = Ok line
+abbrev pub told_at : List Line → Result Line Mistake → Result Line Fault
+told_at before (Err mistake) = Err (fault mistake (length before + 1))
+told_at before (Ok line) = Ok line
 
 -- All lines, or the first mistake.
 abbrev pub lines_behind : List Line → List (List ℕ) → Result (List Line) Fault
 lines_behind before [] = Ok before
 lines_behind before (text ∷ texts) = do
-  line ← numbered before (line_behind before (line_of text))
+  line ← told_at before (line_behind before (line_read text))
   lines_behind (before ++ line ∷ []) texts
 
 -- A label names the next instruction: one on its own line, or else the first behind it. Where there is
@@ -145,8 +145,8 @@ point_from point name (line ∷ lines) =
     if is_label name line.label then next_point point (steps_of (line ∷ lines))
     else point_from (point + length (steps_on 1 line.instruction)) name lines
 
-abbrev pub point_of : List Line → List ℕ → Option ℕ
-point_of lines name = point_from 0 name lines
+abbrev pub point_named : List Line → List ℕ → Option ℕ
+point_named lines name = point_from 0 name lines
 
 -- The instructions with points in the place of labels, or the first line that names a missing one.
 abbrev pub placed : (List ℕ → Option ℕ) → Written → Option Instruction
@@ -165,22 +165,22 @@ code_from points (step ∷ steps) = do
   Ok (instruction ∷ code)
 
 -- the line of the last instruction, or 1
-abbrev pub last_line : List Step → ℕ
-last_line [] = 1
-last_line (step ∷ []) = step.line
-last_line (step ∷ next ∷ steps) = last_line (next ∷ steps)
+abbrev pub last_line_number : List Step → ℕ
+last_line_number [] = 1
+last_line_number (step ∷ []) = step.line
+last_line_number (step ∷ next ∷ steps) = last_line_number (next ∷ steps)
 
 -- Nothing goes on past the end.
 abbrev pub complete : List Step → List Instruction → Result (List Instruction) Fault
-complete steps code = if ends_well code then Ok code else Err (fault FallsOff (last_line steps))
+complete steps code = if ends_well code then Ok code else Err (fault FallsOff (last_line_number steps))
 
-abbrev pub program_of : List Line → Result (List Instruction) Fault
-program_of lines = do
-  code ← code_from (point_of lines) (steps_of lines)
+abbrev pub program_read : List Line → Result (List Instruction) Fault
+program_read lines = do
+  code ← code_from (point_named lines) (steps_of lines)
   complete (steps_of lines) code
 
 -- What a text stands for.
 unfoldable pub assembly_of : List ℕ → Result (List Instruction) Fault
 assembly_of text = do
-  lines ← lines_behind [] (lines_of text)
-  program_of lines
+  lines ← lines_behind [] (text_lines text)
+  program_read lines

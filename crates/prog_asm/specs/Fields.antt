@@ -10,25 +10,25 @@ use Rattle.texts.specs.Parts.{parts}
 use Rattle.prog_asm.specs.Programs.{Operand, Register, Number, is_path}
 
 -- a label's name
-abbrev pub name_of : List ℕ → Option (List ℕ)
-name_of word = if is_name word then Some word else None
+abbrev pub read_name : List ℕ → Option (List ℕ)
+read_name word = if is_name word then Some word else None
 
 -- A number that a register can hold.
-abbrev pub value_of : List ℕ → Option ℕ
-value_of word = at_most (2 ^ 32 - 1) (number_of word)
+abbrev pub read_value : List ℕ → Option ℕ
+read_value word = at_most (2 ^ 32 - 1) (number_of word)
 
 -- r0 to r7
-abbrev pub register_of : List ℕ → Option ℕ
-register_of (r ∷ digit ∷ []) = if (r == 114) && nat_le 48 digit && nat_lt digit 56 then Some (digit - 48) else None
-register_of _ = None
+abbrev pub read_register : List ℕ → Option ℕ
+read_register (r ∷ digit ∷ []) = if (r == 114) && nat_le 48 digit && nat_lt digit 56 then Some (digit - 48) else None
+read_register _ = None
 
 -- a register or a number
 abbrev pub operand_from : Option ℕ → Option ℕ → Option Operand
 operand_from (Some register) number = Some (Register register)
 operand_from None number = option_map Number number
 
-abbrev pub operand_of : List ℕ → Option Operand
-operand_of word = operand_from (register_of word) (value_of word)
+abbrev pub read_operand : List ℕ → Option Operand
+read_operand word = operand_from (read_register word) (read_value word)
 
 -- The word without its last byte, where that is this one.
 abbrev pub before_last : ℕ → List ℕ → Option (List ℕ)
@@ -41,34 +41,34 @@ abbrev pub path_in : Option (List ℕ) → Option (List ℕ)
 path_in None = None
 path_in (Some path) = if is_path path then Some path else None
 
-abbrev pub path_of : List ℕ → Option (List ℕ)
-path_of [] = None
-path_of (b ∷ word) = if b == quote then path_in (before_last quote word) else None
+abbrev pub read_path : List ℕ → Option (List ℕ)
+read_path [] = None
+read_path (b ∷ word) = if b == quote then path_in (before_last quote word) else None
 
 -- Lists are joined by commas, each word once, in any order. What a word stands for is a set, and the
 -- list stands for the union; `none` is the empty list.
-abbrev pub is_among : List ℕ → List (List ℕ) → Bool
-is_among word [] = false
-is_among word (w ∷ words) = bytes_eq word w || is_among word words
+abbrev pub is_word_among : List ℕ → List (List ℕ) → Bool
+is_word_among word [] = false
+is_word_among word (w ∷ words) = bytes_eq word w || is_word_among word words
 
-abbrev pub named : List (List ℕ × ℕ) → List ℕ → Option ℕ
-named [] word = None
-named (row ∷ rows) word = if bytes_eq word row.0 then Some row.1 else named rows word
+abbrev pub set_of_word : List (List ℕ × ℕ) → List ℕ → Option ℕ
+set_of_word [] word = None
+set_of_word (row ∷ rows) word = if bytes_eq word row.0 then Some row.1 else set_of_word rows word
 
 abbrev pub union_from : List (List ℕ × ℕ) → ℕ → List (List ℕ) → Option ℕ
 union_from names set [] = Some set
 union_from names set (word ∷ words) =
-    if is_among word words then None
-    else option_and_then (λ more. union_from names (bit_or set more) words) (named names word)
+    if is_word_among word words then None
+    else option_and_then (λ more. union_from names (bit_or set more) words) (set_of_word names word)
 
 abbrev pub set_of : List (List ℕ × ℕ) → List ℕ → Option ℕ
 set_of names word = if bytes_eq word (codes "none") then Some 0 else union_from names 0 (parts comma word)
 
-abbrev pub rights_of : List ℕ → Option ℕ
-rights_of word = set_of right_names word
+abbrev pub read_rights : List ℕ → Option ℕ
+read_rights word = set_of right_names word
 
-abbrev pub commands_of : List ℕ → Option ℕ
-commands_of word = set_of command_names word
+abbrev pub read_commands : List ℕ → Option ℕ
+read_commands word = set_of command_names word
 
 -- The flags of an open are a list too. (open(2))
 abbrev pub flag_names : List (List ℕ × ℕ)
@@ -84,5 +84,5 @@ request_of flags =
 abbrev pub valid_request : OpenRequest → Option OpenRequest
 valid_request request = if is_valid request then Some request else None
 
-abbrev pub flags_of : List ℕ → Option OpenRequest
-flags_of word = option_and_then (λ flags. valid_request (request_of flags)) (set_of flag_names word)
+abbrev pub read_flags : List ℕ → Option OpenRequest
+read_flags word = option_and_then (λ flags. valid_request (request_of flags)) (set_of flag_names word)

@@ -9,7 +9,7 @@ use Rattle.prog_asm.specs.declared.mistakes.Mistake.TheVariants as mistake
 use Rattle.prog_asm.specs.declared.mnemonics.Mnemonic.{Mnemonic as MnemonicCode}
 use Rattle.prog_asm.specs.declared.mnemonics.Mnemonic.TheVariants as mnemonic
 use Rattle.prog_asm.specs.Forms.{Mnemonic, Set, Mov, Add, In, Jmp, Jeq, Jlt, Halt, Make, Always, If_equal, If_less, After_error, Written, Alone, Leading}
-use Rattle.prog_asm.specs.Readings.{FailsField}
+use Rattle.prog_asm.specs.ReadingViews.{FailsField}
 use Rattle.prog_asm.specs.Programs as programs
 use Rattle.prog_asm.specs.Views.{syscall_of}
 
@@ -36,9 +36,9 @@ written_from written.Halt = Alone programs.Halt
 written_from (written.Invoke call otherwise) = Leading (After_error (syscall_of call)) otherwise.now
 
 -- What is taken is what the field is read as, and these words are left.
-abbrev pub Takes : {X Y : Type 0} → (X → Y) → Result X MistakeCode → List (List ℕ) → Option (Y × List (List ℕ)) → Type 0
-Takes view (Ok x) after field = field ≡ Some (view x, after)
-Takes view (Err error) after field = FailsField error field
+abbrev pub TakesField : {X Y : Type 0} → (X → Y) → Result X MistakeCode → List (List ℕ) → Option (Y × List (List ℕ)) → Type 0
+TakesField view (Ok x) after field = field ≡ Some (view x, after)
+TakesField view (Err error) after field = FailsField error field
 
 -- The word is the first one, unless there is none.
 abbrev pub TakesWord : Result (Bor (List ℕ)) MistakeCode → List (List ℕ) → List (List ℕ) → Type 0

@@ -7,7 +7,7 @@ use Rattle.rights.specs.Calls as calls
 use Rattle.rights.specs.Opens.{OpenRequest}
 use Rattle.prog_asm.specs.Programs.{Operand, Syscall, Instruction}
 use Rattle.prog_asm.specs.Programs as programs
-use Rattle.prog_asm.specs.Fields.{name_of, value_of, register_of, operand_of, path_of, rights_of, commands_of, flags_of}
+use Rattle.prog_asm.specs.Fields.{read_name, read_value, read_register, read_operand, read_path, read_rights, read_commands, read_flags}
 
 -- the word that an instruction begins with
 pub data Mnemonic : Type 0 where
@@ -84,28 +84,28 @@ word_at read [] = None
 word_at read (word ∷ words) = option_map (λ a. (a, words)) (read word)
 
 unfoldable pub register_at : Field ℕ
-register_at words = word_at register_of words
+register_at words = word_at read_register words
 
 unfoldable pub number_at : Field ℕ
-number_at words = word_at value_of words
+number_at words = word_at read_value words
 
 unfoldable pub operand_at : Field Operand
-operand_at words = word_at operand_of words
+operand_at words = word_at read_operand words
 
 unfoldable pub path_at : Field (List ℕ)
-path_at words = word_at path_of words
+path_at words = word_at read_path words
 
 unfoldable pub flags_at : Field OpenRequest
-flags_at words = word_at flags_of words
+flags_at words = word_at read_flags words
 
 unfoldable pub rights_at : Field ℕ
-rights_at words = word_at rights_of words
+rights_at words = word_at read_rights words
 
 unfoldable pub commands_at : Field ℕ
-commands_at words = word_at commands_of words
+commands_at words = word_at read_commands words
 
 unfoldable pub label_at : Field (List ℕ)
-label_at words = word_at name_of words
+label_at words = word_at read_name words
 
 -- the word `dir`, or nothing
 unfoldable pub directory_at : Field Bool

@@ -5,8 +5,8 @@ use Rattle.texts.specs.Bytes.{line_feed, is_lower, is_upper, is_digit, quote, se
 use Rattle.texts.specs.Parts.{parts}
 
 -- Lines are parted by line feeds and by nothing else. What stands behind the last one is a line too.
-abbrev pub lines_of : List ℕ → List (List ℕ)
-lines_of text = parts line_feed text
+abbrev pub text_lines : List ℕ → List (List ℕ)
+text_lines text = parts line_feed text
 
 -- A quote begins a quoted part, which the next one or the end of the line ends: whether the bytes
 -- behind this one are quoted, if it is itself.
@@ -39,15 +39,15 @@ abbrev pub has_stray : List ℕ → Bool
 has_stray line = has_stray_from false line
 
 -- Words are parted by blanks outside quotes.
-abbrev pub ended : List ℕ → List (List ℕ)
-ended [] = []
-ended (b ∷ begun) = (b ∷ begun) ∷ []
+abbrev pub word_ended : List ℕ → List (List ℕ)
+word_ended [] = []
+word_ended (b ∷ begun) = (b ∷ begun) ∷ []
 
 abbrev pub words_from : Bool → List ℕ → List ℕ → List (List ℕ)
-words_from quoted [] begun = ended begun
+words_from quoted [] begun = word_ended begun
 words_from quoted (b ∷ line) begun =
-    if not quoted && is_blank b then ended begun ++ words_from false line []
+    if not quoted && is_blank b then word_ended begun ++ words_from false line []
     else words_from (quoted_behind quoted b) line (begun ++ b ∷ [])
 
-abbrev pub words_of : List ℕ → List (List ℕ)
-words_of line = words_from false line []
+abbrev pub quoted_words : List ℕ → List (List ℕ)
+quoted_words line = words_from false line []

@@ -3,6 +3,7 @@ use Rattle.std.specs.Prelude.{◌==◌, ◌^◌, ℕ, Bool, true, false, ◌&&�
 use Rattle.std.specs.List.{list_all}
 use Rattle.rights.specs.Limits.{most_instructions, register_count}
 use Rattle.std.proofs.Math.Bool.{not}
+use Rattle.rights.specs.Values.{PathText, RightSet, CommandSet}
 use Rattle.texts.specs.Bytes.{quote, backslash}
 use Rattle.rights.specs.Opens.{OpenRequest, is_valid}
 use Rattle.rights.specs.Sets.{is_within, all_rights, all_commands}
@@ -20,8 +21,8 @@ pub data Operand : Type 0 where
 -- cap_enter(2), socketpair(2), fork(2); sendfd and recvfd are sendmsg(2) and recvmsg(2) with one
 -- descriptor; that an operand may be a register is own)
 pub data Syscall : Type 0 where
-  Open : (path : List ℕ) (flags : OpenRequest) → Syscall
-  Openat : (descriptor : Operand) (path : List ℕ) (flags : OpenRequest) → Syscall
+  Open : (path : PathText) (flags : OpenRequest) → Syscall
+  Openat : (descriptor : Operand) (path : PathText) (flags : OpenRequest) → Syscall
   Read : (descriptor : Operand) → Syscall
   Write : (descriptor value : Operand) → Syscall
   Sendfd : (descriptor sent value : Operand) → Syscall
@@ -32,17 +33,17 @@ pub data Syscall : Type 0 where
   Fstat : (descriptor : Operand) → Syscall
   Fcntl_getfl : (descriptor : Operand) → Syscall
   Fcntl_setfl : (descriptor flags : Operand) → Syscall
-  Fstatat : (descriptor : Operand) (path : List ℕ) → Syscall
-  Stat : (path : List ℕ) → Syscall
-  Mkdirat : (descriptor : Operand) (path : List ℕ) → Syscall
-  Mkdir : (path : List ℕ) → Syscall
-  Unlinkat : (descriptor : Operand) (path : List ℕ) (directory : Bool) → Syscall
-  Unlink : (path : List ℕ) (directory : Bool) → Syscall
-  Renameat : (descriptor : Operand) (path : List ℕ) (target : Operand) (new_path : List ℕ) → Syscall
+  Fstatat : (descriptor : Operand) (path : PathText) → Syscall
+  Stat : (path : PathText) → Syscall
+  Mkdirat : (descriptor : Operand) (path : PathText) → Syscall
+  Mkdir : (path : PathText) → Syscall
+  Unlinkat : (descriptor : Operand) (path : PathText) (directory : Bool) → Syscall
+  Unlink : (path : PathText) (directory : Bool) → Syscall
+  Renameat : (descriptor : Operand) (path : PathText) (target : Operand) (new_path : PathText) → Syscall
   Dup : (descriptor : Operand) → Syscall
   Close : (descriptor : Operand) → Syscall
-  Cap_rights_limit : (descriptor : Operand) (rights : ℕ) → Syscall
-  Cap_fcntls_limit : (descriptor : Operand) (commands : ℕ) → Syscall
+  Cap_rights_limit : (descriptor : Operand) (rights : RightSet) → Syscall
+  Cap_fcntls_limit : (descriptor : Operand) (commands : CommandSet) → Syscall
   Cap_enter : Syscall
   Cap_getmode : Syscall
   Socketpair : Syscall
@@ -105,7 +106,7 @@ is_operand (Number number) = is_value number
 abbrev pub is_path_byte : ℕ → Bool
 is_path_byte byte = nat_le 33 byte && nat_le byte 126 && not (byte == quote) && not (byte == backslash)
 
-abbrev pub is_path : List ℕ → Bool
+abbrev pub is_path : PathText → Bool
 is_path path = list_all is_path_byte path
 
 -- each operand is one, each path a path, each open's flags are valid, and limits leave rights and commands that there are

@@ -1,9 +1,9 @@
 //! Texts to programs.
 
 ghost use Rattle.std.specs.Prelude.{◌≡◌, ◌≤◌, List, length, map, option_map};
-ghost use Rattle.prog_asm.specs.Assembly.{Line, assembly_of, code_from, last_line, program_of};
-ghost use Rattle.prog_asm.specs.Drafts.{Drafts, below, step_from};
-ghost use Rattle.prog_asm.specs.Faults.{Gives};
+ghost use Rattle.prog_asm.specs.Assembly.{Line, assembly_of, code_from, last_line_number, program_read};
+ghost use Rattle.prog_asm.specs.DraftViews.{Drafts, below, step_from};
+ghost use Rattle.prog_asm.specs.FaultViews.{Gives};
 ghost use Rattle.prog_asm.specs.LineViews.{point_in};
 ghost use Rattle.prog_asm.specs.Programs.{ends_well, is_last};
 ghost use Rattle.prog_asm.specs.Views.{code_of, instruction_of};
@@ -35,7 +35,7 @@ fn ends_well(code: &[Instruction]) -> bool
 
 /// The line of the last instruction, or 1.
 fn last_line(steps: &VecDeque<Step<'_>>) -> usize
-    ensures { result ≡ last_line (map step_from steps.now.items) }
+    ensures { result ≡ last_line_number (map step_from steps.now.items) }
 {
     match steps.back() {
         None => 1,
@@ -70,7 +70,7 @@ fn place_all(
 fn finish(alloc: Global, draft: Draft<'_>) -> Result<Vec<Instruction>, AsmFault>
     requires { length draft.steps.items ≤ 256 }
     ensures { (lines : List Line) → Drafts lines draft.entry
-        → Gives (λ code. code_of code.items) result (program_of lines) }
+        → Gives (λ code. code_of code.items) result (program_read lines) }
 {
     let Draft { labels, steps } = draft;
     let last = last_line(&steps);

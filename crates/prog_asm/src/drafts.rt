@@ -1,11 +1,11 @@
 //! A text that is read line by line, before labels are points.
 
 ghost use Rattle.std.specs.Prelude.{◌≡◌, ◌+◌, Ok, ◌≤◌, [], List, length, map, option_map};
-ghost use Rattle.prog_asm.specs.Assembly.{Line as LineRead, line_of, lines_behind, placed};
-ghost use Rattle.prog_asm.specs.Drafts.{AddsLine, Drafts, DraftsLines, StepAdded, below, step_from};
+ghost use Rattle.prog_asm.specs.Assembly.{Line as LineRead, line_read, lines_behind, placed};
+ghost use Rattle.prog_asm.specs.DraftViews.{AddsLine, Drafts, DraftsLines, StepAdded, below, step_from};
 ghost use Rattle.prog_asm.specs.FormViews.{written_from};
 ghost use Rattle.prog_asm.specs.LineViews.{line_from, point_in};
-ghost use Rattle.prog_asm.specs.Lines.{lines_of};
+ghost use Rattle.prog_asm.specs.Lines.{text_lines};
 ghost use Rattle.prog_asm.specs.Views.{instruction_of};
 
 use crate::faults::{AsmFault, fault_at};
@@ -77,7 +77,7 @@ impl<'t> Draft<'t> {
     /// Reads the line of this number.
     fn read(&mut self, alloc: Global, number: usize, text: &'t [u8]) -> Result<(), Mistake>
         ensures { (before : List LineRead) → Drafts before self.old → number ≡ length before + 1
-            → AddsLine result before (line_of text.entry.now) self.new }
+            → AddsLine result before (line_read text.entry.now) self.new }
     {
         let line = read_line(alloc, text)?;
         self.add(number, line)
@@ -86,7 +86,7 @@ impl<'t> Draft<'t> {
 
 /// Reads a text's lines.
 pub(crate) fn read_lines<'t>(alloc: Global, text: &'t [u8]) -> Result<Draft<'t>, AsmFault>
-    ensures { DraftsLines result (lines_behind [] (lines_of text.now)) }
+    ensures { DraftsLines result (lines_behind [] (text_lines text.now)) }
 {
     let mut draft = Draft::new(alloc);
     for (at, line) in Lines::new(text).enumerate() {

@@ -1,7 +1,7 @@
 //! Why a text is no program.
 
 ghost use Rattle.std.specs.Prelude.{◌≡◌};
-ghost use Rattle.prog_asm.specs.Faults.{fault_at, fault_line, fault_name, fault_number};
+ghost use Rattle.prog_asm.specs.FaultViews.{fault_at, fault_line, fault_name, fault_number};
 ghost use Rattle.prog_asm.specs.declared.faults.AsmFault.TheVariants as asm;
 
 use crate::mistakes::Mistake;

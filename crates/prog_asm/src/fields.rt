@@ -1,8 +1,8 @@
 //! What a word of a line can stand for.
 
 ghost use Rattle.std.specs.Prelude.{◌≡◌, option_map};
-ghost use Rattle.prog_asm.specs.Fields.{before_last, operand_of as operand_in, path_of, register_of, value_of};
-ghost use Rattle.prog_asm.specs.Readings.{ReadsField};
+ghost use Rattle.prog_asm.specs.Fields.{before_last, read_operand as operand_in, read_path, read_register, read_value};
+ghost use Rattle.prog_asm.specs.ReadingViews.{ReadsField};
 ghost use Rattle.prog_asm.specs.Views.{operand_of};
 
 use crate::mistakes::Mistake;
@@ -12,14 +12,14 @@ use texts::number_up_to;
 
 /// The number in decimal digits, without a leading zero, if 32 bits hold it.
 pub(crate) fn number(word: &[u8]) -> Option<u32>
-    ensures { result ≡ value_of word.now }
+    ensures { result ≡ read_value word.now }
 {
     number_up_to(word, u32::MAX).ok()
 }
 
 /// The register: `r0` to `r7`.
 pub(crate) fn register(word: &[u8]) -> Option<Register>
-    ensures { result ≡ register_of word.now }
+    ensures { result ≡ read_register word.now }
 {
     match word {
         [b'r', digit] if *digit >= b'0' => Register::new(*digit - b'0'),
@@ -52,7 +52,7 @@ pub(crate) fn before_last(word: &[u8], byte: u8) -> Option<&[u8]>
 
 /// The path in double quotes.
 pub(crate) fn path(alloc: Global, word: &[u8]) -> Result<Path, Mistake>
-    ensures { ReadsField (λ path. path) result (path_of word.now) }
+    ensures { ReadsField (λ path. path) result (read_path word.now) }
 {
     let [b'"', rest @ ..] = word else {
         return Err(Mistake::Operand);

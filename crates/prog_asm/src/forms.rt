@@ -4,9 +4,9 @@
 ghost use Rattle.std.specs.Prelude.{◌≡◌, map};
 ghost use Rattle.rights.specs.Views.{call_of};
 ghost use Rattle.prog_asm.specs.FormParts.{at_call_at, descriptor_call_at, register_form_at};
-ghost use Rattle.prog_asm.specs.FormViews.{Takes, TakesWord, mnemonic_from, written_from};
+ghost use Rattle.prog_asm.specs.FormViews.{TakesField, TakesWord, mnemonic_from, written_from};
 ghost use Rattle.prog_asm.specs.Forms.{Make, commands_at, directory_at, else_at, flags_at, label_at, number_at, operand_at, path_at, register_at, rights_at, syscall_at, written_at, written_of};
-ghost use Rattle.prog_asm.specs.Readings.{ReadsField};
+ghost use Rattle.prog_asm.specs.ReadingViews.{ReadsField};
 ghost use Rattle.prog_asm.specs.Views.{operand_of, syscall_of};
 
 use crate::instructions::Syscall;
@@ -96,7 +96,7 @@ impl<'w, 't> Words<'w, 't> {
     /// A register.
     #[tactic(auto, unfolding(crate::specs::Forms::register_at))]
     fn register(&mut self) -> Result<Register, Mistake>
-        ensures { Takes (λ register. register) result self.new (register_at self.old) }
+        ensures { TakesField (λ register. register) result self.new (register_at self.old) }
     {
         fields::register(self.word()?).ok_or(Mistake::Operand)
     }
@@ -104,7 +104,7 @@ impl<'w, 't> Words<'w, 't> {
     /// A number.
     #[tactic(auto, unfolding(crate::specs::Forms::number_at))]
     fn number(&mut self) -> Result<u32, Mistake>
-        ensures { Takes (λ number. number) result self.new (number_at self.old) }
+        ensures { TakesField (λ number. number) result self.new (number_at self.old) }
     {
         fields::number(self.word()?).ok_or(Mistake::Operand)
     }
@@ -112,7 +112,7 @@ impl<'w, 't> Words<'w, 't> {
     /// A register or a number.
     #[tactic(auto, unfolding(crate::specs::Forms::operand_at))]
     fn operand(&mut self) -> Result<Operand, Mistake>
-        ensures { Takes operand_of result self.new (operand_at self.old) }
+        ensures { TakesField operand_of result self.new (operand_at self.old) }
     {
         fields::operand(self.word()?).ok_or(Mistake::Operand)
     }
@@ -120,7 +120,7 @@ impl<'w, 't> Words<'w, 't> {
     /// A path in double quotes.
     #[tactic(auto, unfolding(crate::specs::Forms::path_at))]
     fn path(&mut self) -> Result<Path, Mistake>
-        ensures { Takes (λ path. path) result self.new (path_at self.old) }
+        ensures { TakesField (λ path. path) result self.new (path_at self.old) }
     {
         let alloc = self.alloc;
         fields::path(alloc, self.word()?)
@@ -129,7 +129,7 @@ impl<'w, 't> Words<'w, 't> {
     /// The flags of an open.
     #[tactic(auto, unfolding(crate::specs::Forms::flags_at))]
     fn flags(&mut self) -> Result<OpenFlags, Mistake>
-        ensures { Takes (λ flags. flags) result self.new (flags_at self.old) }
+        ensures { TakesField (λ flags. flags) result self.new (flags_at self.old) }
     {
         lists::flags(self.word()?).ok_or(Mistake::Operand)
     }
@@ -137,7 +137,7 @@ impl<'w, 't> Words<'w, 't> {
     /// A list of rights.
     #[tactic(auto, unfolding(crate::specs::Forms::rights_at))]
     fn rights(&mut self) -> Result<Rights, Mistake>
-        ensures { Takes (λ rights. rights.0) result self.new (rights_at self.old) }
+        ensures { TakesField (λ rights. rights.0) result self.new (rights_at self.old) }
     {
         lists::rights(self.word()?).ok_or(Mistake::Operand)
     }
@@ -145,7 +145,7 @@ impl<'w, 't> Words<'w, 't> {
     /// A list of fcntl commands.
     #[tactic(auto, unfolding(crate::specs::Forms::commands_at))]
     fn commands(&mut self) -> Result<Fcntls, Mistake>
-        ensures { Takes (λ commands. commands.0) result self.new (commands_at self.old) }
+        ensures { TakesField (λ commands. commands.0) result self.new (commands_at self.old) }
     {
         lists::commands(self.word()?).ok_or(Mistake::Operand)
     }
@@ -153,7 +153,7 @@ impl<'w, 't> Words<'w, 't> {
     /// The name of a label.
     #[tactic(auto, unfolding(crate::specs::Forms::label_at))]
     fn label(&mut self) -> Result<&'t [u8], Mistake>
-        ensures { Takes (λ name. name.now) result self.new (label_at self.old) }
+        ensures { TakesField (λ name. name.now) result self.new (label_at self.old) }
     {
         let word = self.word()?;
         if is_name(word) {
@@ -166,7 +166,7 @@ impl<'w, 't> Words<'w, 't> {
     /// The word `dir`, or nothing: whether it is there.
     #[tactic(auto, unfolding(crate::specs::Forms::directory_at))]
     fn directory(&mut self) -> Result<bool, Mistake>
-        ensures { Takes (λ directory. directory) result self.new (directory_at self.old) }
+        ensures { TakesField (λ directory. directory) result self.new (directory_at self.old) }
     {
         match self.rest {
             [word, rest @ ..] if *word == b"dir".as_slice() => {
@@ -180,7 +180,7 @@ impl<'w, 't> Words<'w, 't> {
     /// The word `else` and a label.
     #[tactic(auto, unfolding(crate::specs::Forms::else_at))]
     fn otherwise(&mut self) -> Result<&'t [u8], Mistake>
-        ensures { Takes (λ name. name.now) result self.new (else_at self.old) }
+        ensures { TakesField (λ name. name.now) result self.new (else_at self.old) }
     {
         if self.word()? == b"else".as_slice() {
             self.label()
@@ -192,7 +192,7 @@ impl<'w, 't> Words<'w, 't> {
     /// The operands of a call behind its descriptor and its path. A call without these is refused.
     #[tactic(auto, unfolding(crate::specs::FormParts::at_call_at))]
     fn at_call(&mut self, call: Call, descriptor: Operand, path: Path) -> Result<Syscall, Mistake>
-        ensures { Takes syscall_of result self.new
+        ensures { TakesField syscall_of result self.new
             (at_call_at (call_of call) (operand_of descriptor) path self.old) }
     {
         Ok(match call {
@@ -221,7 +221,7 @@ impl<'w, 't> Words<'w, 't> {
     /// The operands of a call behind its descriptor. A call that has no descriptor is refused.
     #[tactic(auto, unfolding(crate::specs::FormParts::descriptor_call_at))]
     fn descriptor_call(&mut self, call: Call, descriptor: Operand) -> Result<Syscall, Mistake>
-        ensures { Takes syscall_of result self.new
+        ensures { TakesField syscall_of result self.new
             (descriptor_call_at (call_of call) (operand_of descriptor) self.old) }
     {
         Ok(match call {
@@ -271,7 +271,7 @@ impl<'w, 't> Words<'w, 't> {
     /// The operands of a call.
     #[tactic(auto, unfolding(crate::specs::Forms::syscall_at, crate::specs::FormParts::descriptor_call_at, crate::specs::FormParts::at_call_at))]
     fn syscall(&mut self, call: Call) -> Result<Syscall, Mistake>
-        ensures { Takes syscall_of result self.new (syscall_at (call_of call) self.old) }
+        ensures { TakesField syscall_of result self.new (syscall_at (call_of call) self.old) }
     {
         Ok(match call {
             Call::Open => Syscall::Open {
@@ -298,7 +298,7 @@ impl<'w, 't> Words<'w, 't> {
     /// The operands of a call, and where it leads after an error.
     #[tactic(auto, unfolding(crate::specs::Forms::written_at, crate::specs::FormViews::written_from))]
     fn invocation(&mut self, call: Call) -> Result<Written<'t>, Mistake>
-        ensures { Takes written_from result self.new (written_at (Make (call_of call)) self.old) }
+        ensures { TakesField written_from result self.new (written_at (Make (call_of call)) self.old) }
     {
         Ok(Written::Invoke {
             call: self.syscall(call)?,
@@ -313,7 +313,7 @@ impl<'w, 't> Words<'w, 't> {
         mnemonic: Mnemonic,
         register: Register,
     ) -> Result<Written<'t>, Mistake>
-        ensures { Takes written_from result self.new
+        ensures { TakesField written_from result self.new
             (register_form_at (mnemonic_from mnemonic) register self.old) }
     {
         Ok(match mnemonic {
@@ -347,7 +347,7 @@ impl<'w, 't> Words<'w, 't> {
     /// The operands of an instruction.
     #[tactic(auto, unfolding(crate::specs::Forms::written_at, crate::specs::FormParts::register_form_at, crate::specs::FormViews::written_from))]
     fn written(&mut self, mnemonic: Mnemonic) -> Result<Written<'t>, Mistake>
-        ensures { Takes written_from result self.new (written_at (mnemonic_from mnemonic) self.old) }
+        ensures { TakesField written_from result self.new (written_at (mnemonic_from mnemonic) self.old) }
     {
         match mnemonic {
             Mnemonic::Jmp => Ok(Written::Jmp {

@@ -1,7 +1,7 @@
 //! A line's comment and words.
 
 ghost use Rattle.std.specs.Prelude.{◌≡◌, map, IfOk};
-ghost use Rattle.prog_asm.specs.Lines.{has_stray, is_blank, is_word_byte, quoted_behind, uncommented, words_of};
+ghost use Rattle.prog_asm.specs.Lines.{has_stray, is_blank, is_word_byte, quoted_behind, uncommented, quoted_words};
 
 use std::alloc::{AllocFailed, Global};
 
@@ -56,7 +56,7 @@ pub(crate) fn has_stray(line: &[u8]) -> bool
 
 /// The words of a line: what stands between blanks outside quotes.
 pub(crate) fn words(alloc: Global, line: &[u8]) -> Result<Vec<&[u8]>, AllocFailed<&[u8]>>
-    ensures { IfOk result (λ words. map (λ word. word.now) words.items ≡ words_of line.now) }
+    ensures { IfOk result (λ words. map (λ word. word.now) words.items ≡ quoted_words line.now) }
 {
     let mut words = Vec::new(alloc);
     let mut quoted = false;

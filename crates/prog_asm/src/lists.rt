@@ -1,7 +1,7 @@
 //! Lists of words: rights, fcntl commands and flags.
 
 ghost use Rattle.std.specs.Prelude.{⊤, ◌≡◌, map, option_map};
-ghost use Rattle.prog_asm.specs.Fields.{commands_of, flag_names, flags_of, is_among, named, rights_of, set_of as set_in};
+ghost use Rattle.prog_asm.specs.Fields.{read_commands, flag_names, read_flags, is_word_among, set_of_word, read_rights, set_of as set_in};
 ghost use Rattle.texts.specs.Parts.{parts};
 
 use bitflags::{Flag, Flags};
@@ -10,7 +10,7 @@ use texts::first_part;
 
 /// Whether the word is one of a list's.
 fn is_among(word: &[u8], list: &[u8]) -> bool
-    ensures { result ≡ is_among word.now (parts 44 list.now) }
+    ensures { result ≡ is_word_among word.now (parts 44 list.now) }
 {
     let mut list = list;
     loop {
@@ -28,7 +28,7 @@ fn is_among(word: &[u8], list: &[u8]) -> bool
 /// The flag of this name.
 fn named<F: Flags + Copy>(rows: &[Flag<F>], word: &[u8]) -> Option<F>
     ensures { option_map F.set_of result
-        ≡ named (map (λ row. (row.name.now, F.set_of row.value)) rows.now) word.now }
+        ≡ set_of_word (map (λ row. (row.name.now, F.set_of row.value)) rows.now) word.now }
 {
     for row in rows {
         if word == row.name.as_bytes() {
@@ -65,14 +65,14 @@ fn set<F: Flags + Copy>(word: &[u8]) -> Option<F>
 
 /// The rights that a list names. `RECV` is another name of `READ`, and `SEND` of `WRITE`.
 pub(crate) fn rights(word: &[u8]) -> Option<Rights>
-    ensures { option_map (λ rights. rights.0) result ≡ rights_of word.now }
+    ensures { option_map (λ rights. rights.0) result ≡ read_rights word.now }
 {
     set(word)
 }
 
 /// The fcntl commands that a list names.
 pub(crate) fn commands(word: &[u8]) -> Option<Fcntls>
-    ensures { option_map (λ commands. commands.0) result ≡ commands_of word.now }
+    ensures { option_map (λ commands. commands.0) result ≡ read_commands word.now }
 {
     set(word)
 }
@@ -129,7 +129,7 @@ impl Flags for FlagWords {
 /// The flags that a list names, where they are valid: read or write is there, and append and trunc
 /// come with write.
 pub(crate) fn flags(word: &[u8]) -> Option<OpenFlags>
-    ensures { result ≡ flags_of word.now }
+    ensures { result ≡ read_flags word.now }
 {
     let words = set::<FlagWords>(word)?;
     OpenFlags::new(

@@ -1,10 +1,10 @@
 //! A line by itself: a label, an instruction, both or neither.
 
 ghost use Rattle.std.specs.Prelude.{◌≡◌, map, option_map};
-ghost use Rattle.prog_asm.specs.Assembly.{instruction_in, line_of, line_of_words};
+ghost use Rattle.prog_asm.specs.Assembly.{instruction_in, line_read, line_read_of};
 ghost use Rattle.prog_asm.specs.FormViews.{written_from};
 ghost use Rattle.prog_asm.specs.LineViews.{line_from};
-ghost use Rattle.prog_asm.specs.Readings.{ReadsAssembly};
+ghost use Rattle.prog_asm.specs.ReadingViews.{ReadsAssembly};
 
 use crate::fields::before_last;
 use crate::forms::{Written, read_written};
@@ -37,7 +37,7 @@ fn instruction_in<'t>(alloc: Global, words: &[&'t [u8]]) -> Result<Option<Writte
 
 /// The line that words stand for. A first word that ends with a colon is a label.
 fn line_of_words<'t>(alloc: Global, words: &[&'t [u8]]) -> Result<Line<'t>, Mistake>
-    ensures { ReadsAssembly line_from result (line_of_words (map (λ word. word.now) words.now)) }
+    ensures { ReadsAssembly line_from result (line_read_of (map (λ word. word.now) words.now)) }
 {
     match words {
         [] => Ok(Line {
@@ -63,9 +63,9 @@ fn line_of_words<'t>(alloc: Global, words: &[&'t [u8]]) -> Result<Line<'t>, Mist
 }
 
 /// The line that a text stands for.
-#[tactic(auto, unfolding(crate::specs::Assembly::line_of))]
+#[tactic(auto, unfolding(crate::specs::Assembly::line_read))]
 pub(crate) fn read_line<'t>(alloc: Global, text: &'t [u8]) -> Result<Line<'t>, Mistake>
-    ensures { ReadsAssembly line_from result (line_of text.now) }
+    ensures { ReadsAssembly line_from result (line_read text.now) }
 {
     let code = before_comment(text);
     if has_stray(code) {

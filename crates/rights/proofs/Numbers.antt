@@ -1,6 +1,7 @@
 -- The numbers of errors.
 use Rattle.std.proofs.Common.{◌≤◌, lit≤}
-use Rattle.rights.specs.Errors.{Errno, errno_number, EPERM, ENOENT, EBADF, EEXIST, ENOTDIR, EISDIR, EINVAL, ENFILE, EMFILE, EFBIG, ENOSPC, EPIPE, EAGAIN, ENOTSOCK, ELOOP, ENAMETOOLONG, ENOTEMPTY, ENOTCAPABLE, ECAPMODE}
+use Rattle.rights.specs.Errors.{Errno, errno_number, EPERM, ENOENT, EBADF, EEXIST, ENOTDIR, EISDIR, EINVAL, ENFILE, EMFILE, EFBIG, ENOSPC, EPIPE, EAGAIN, ENOTSOCK, ELOOP}
+use Rattle.rights.specs.Errors.{ENAMETOOLONG, ENOTEMPTY, ENOTCAPABLE, ECAPMODE}
 
 pub errno_number-le : (errno : Errno) → errno_number errno ≤ 94
 errno_number-le EPERM = lit≤ tt

@@ -60,4 +60,7 @@ IsIn-and_both a b k in_a in_b = omega (arith, bit_at_and a b k, in_a, in_b)
 -- the union of two sets that are within a third is within it
 pub is_within-or : (a b set : ℕ) → is_within a set ≡ true → is_within b set ≡ true → is_within (bit_or a b) set ≡ true
 is_within-or a b set within_a within_b =
-    is_within-from_members _ set (λ k h. elim (one_or_none (bit_at a k) (bit_at-lt a k)) [ inl one ↦ is_within-members a set within_a k one | inr none ↦ is_within-members b set within_b k (IsIn-or a b k h none) ])
+    is_within-from_members _ set (λ k h. elim (one_or_none (bit_at a k) (bit_at-lt a k)) [
+      | inl one ↦ is_within-members a set within_a k one
+      | inr none ↦ is_within-members b set within_b k (IsIn-or a b k h none)
+    ])

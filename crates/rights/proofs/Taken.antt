@@ -18,7 +18,8 @@ took_more (Some s) b c xs ys first then = next b first then
         then ∙ ap (λ t. Some (t ++ ys)) same ∙ ap Some (append_assoc s xs ys)
 
 -- so far, and then some of the rest
-pub took_next : (a b c : Option (List ℕ)) (at count : ℕ) (bytes : List ℕ) → Took a b (take at bytes) → Took b c (take count (take (length bytes - at) (drop at bytes))) → Took a c (take (at + count) bytes)
+pub took_next : (a b c : Option (List ℕ)) (at count : ℕ) (bytes : List ℕ) → Took a b (take at bytes) →
+    Took b c (take count (take (length bytes - at) (drop at bytes))) → Took a c (take (at + count) bytes)
 took_next a b c at count bytes first then =
     let whole : take at bytes ++ take count (drop at bytes) ≡ take (at + count) bytes = sym (take-add at count bytes) in
     let some : Took b c (take count (drop at bytes)) = subst (λ rest. Took b c (take count rest)) (take_rest bytes at) then in

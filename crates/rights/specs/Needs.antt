@@ -3,10 +3,12 @@
 use Rattle.std.specs.Prelude.{ℕ, Bool, true, false, ◌&&◌, ◌||◌, List, [], ◌∷◌, bit_or}
 use Rattle.std.specs.List.{fold}
 use Rattle.std.proofs.Math.Bool.{not}
+use Rattle.rights.specs.Values.{RightSet}
 use Rattle.rights.specs.Calls.{Call}
 use Rattle.rights.specs.Calls as calls
 use Rattle.rights.specs.Opens.{OpenRequest}
-use Rattle.rights.specs.Sets.{read_right, write_right, seek_right, ftruncate_right, fsync_right, fstat_right, fcntl_right, lookup_right, create_right, fstatat_right, mkdirat_right, unlinkat_right, renameat_source_right, renameat_target_right}
+use Rattle.rights.specs.Sets.{read_right, write_right, seek_right, ftruncate_right, fsync_right, fstat_right, fcntl_right, lookup_right, create_right, fstatat_right, mkdirat_right}
+use Rattle.rights.specs.Sets.{unlinkat_right, renameat_source_right, renameat_target_right}
 
 -- which of the call's descriptors is asked
 pub data Position : Type 0 where
@@ -14,17 +16,17 @@ pub data Position : Type 0 where
   Second : Position
 
 -- the set of these rights
-abbrev pub rights_of : List ℕ → ℕ
+abbrev pub rights_of : List ℕ → RightSet
 rights_of rights = fold bit_or 0 rights
 
 -- this right where it is asked for, and else none
-abbrev pub when : Bool → ℕ → ℕ
+abbrev pub when : Bool → RightSet → RightSet
 when true right = right
 when false right = 0
 
 -- Of the directory that openat starts at. A file that is written without append or trunc can be
 -- written anywhere, which needs the right to seek too.
-abbrev pub openat_needs : OpenRequest → ℕ
+abbrev pub openat_needs : OpenRequest → RightSet
 openat_needs request =
     rights_of
     (lookup_right ∷ when request.read read_right ∷ when request.write write_right
@@ -32,7 +34,7 @@ openat_needs request =
     ∷ when request.trunc ftruncate_right ∷ [])
 
 -- of the call's only descriptor, or of the first of two
-abbrev pub first_needs : Call → OpenRequest → ℕ
+abbrev pub first_needs : Call → OpenRequest → RightSet
 first_needs calls.Open request = 0
 first_needs calls.Openat request = openat_needs request
 first_needs calls.Read request = read_right
@@ -63,12 +65,37 @@ first_needs calls.Fork request = 0
 
 -- Of the second of two. A node that renameat replaces goes away as by unlinkat, and this is asked
 -- too. (own) A descriptor that is sent needs nothing itself.
-abbrev pub second_needs : Call → Bool → ℕ
+abbrev pub second_needs : Call → Bool → RightSet
+second_needs calls.Open replaces = 0
+second_needs calls.Openat replaces = 0
+second_needs calls.Read replaces = 0
+second_needs calls.Write replaces = 0
+second_needs calls.Sendfd replaces = 0
+second_needs calls.Recvfd replaces = 0
+second_needs calls.Lseek replaces = 0
+second_needs calls.Ftruncate replaces = 0
+second_needs calls.Fsync replaces = 0
+second_needs calls.Fstat replaces = 0
+second_needs calls.Fcntl_getfl replaces = 0
+second_needs calls.Fcntl_setfl replaces = 0
+second_needs calls.Fstatat replaces = 0
+second_needs calls.Stat replaces = 0
+second_needs calls.Mkdirat replaces = 0
+second_needs calls.Mkdir replaces = 0
+second_needs calls.Unlinkat replaces = 0
+second_needs calls.Unlink replaces = 0
 second_needs calls.Renameat replaces =
     rights_of (lookup_right ∷ renameat_target_right ∷ when replaces unlinkat_right ∷ [])
-second_needs _ replaces = 0
+second_needs calls.Dup replaces = 0
+second_needs calls.Close replaces = 0
+second_needs calls.Cap_rights_limit replaces = 0
+second_needs calls.Cap_fcntls_limit replaces = 0
+second_needs calls.Cap_enter replaces = 0
+second_needs calls.Cap_getmode replaces = 0
+second_needs calls.Socketpair replaces = 0
+second_needs calls.Fork replaces = 0
 
 -- the rights that a descriptor must have for the call
-abbrev pub needs_of : Call → OpenRequest → Position → Bool → ℕ
+abbrev pub needs_of : Call → OpenRequest → Position → Bool → RightSet
 needs_of call request First replaces = first_needs call request
 needs_of call request Second replaces = second_needs call replaces

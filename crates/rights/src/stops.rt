@@ -1,7 +1,7 @@
 //! Why a call that writes or that may take memory stops before its end.
 
 ghost use Rattle.std.specs.Prelude.{◌≡◌};
-ghost use Rattle.rights.specs.Stops.{stop_number};
+ghost use Rattle.rights.specs.StopViews.{stop_number};
 ghost use Rattle.rights.specs.declared.stops.Stop.TheVariants as stop;
 
 use std::alloc::{AllocError, AllocFailed};

@@ -7,7 +7,7 @@ use Rattle.std.proofs.lemmas.Bool.{eq-eqb, both_ways}
 use Rattle.rights.proofs.Changes.{put-cases}
 use Rattle.rights.proofs.Lists.{slice_get-set_cases, slice_get-set_same}
 use Rattle.process.specs.State.{ProcessState, forked}
-use Rattle.fd_table.specs.Descriptions.{Class, At_end, Descriptor, IfHeld}
+use Rattle.fd_table.specs.Descriptions.{PairClass, At_end, Descriptor, IfHeld}
 use Rattle.fd_table.specs.OpenFiles.{is_end}
 use Rattle.kernel.specs.World.{World, Choice}
 use Rattle.kernel.specs.Answers.{TableChange, Same_table, Set_entry, Clear_entry, New_file, New_pair, New_process, Same_queue, Change}
@@ -32,7 +32,7 @@ IfChild (New_pair first second class) Owed = Unit {0}
 IfChild New_process Owed = Owed
 
 -- What a process owes that goes on at t after a call's change.
-pub record OwesChange (plan : Plan) (asks : Asks) (w : World) (classes : ℕ → Class) (p : ℕ) (t : ProcessState) (choice : Choice) (change : Change) : Type 0 where
+pub record OwesChange (plan : Plan) (asks : Asks) (w : World) (classes : ℕ → PairClass) (p : ℕ) (t : ProcessState) (choice : Choice) (change : Change) : Type 0 where
   pub deep : IsDeepChange plan.grants w.tree change.tree
   pub named : BringsNamed w choice classes change.table
   pub own : t.alive ≡ true → asks.Lives (changed w p t choice change) p t
@@ -116,7 +116,7 @@ module _ (plan : Plan) (w : World) (p : ℕ) (s : ProcessState) (choice : Choice
 
   -- ## What is sent
   -- A descriptor that is named is of no new pair, and of the class of its pair.
-  pub named_end : (d : Descriptor) (pair side : ℕ) (class : Class) → IsNamed w choice inv.classes d
+  pub named_end : (d : Descriptor) (pair side : ℕ) (class : PairClass) → IsNamed w choice inv.classes d
       → w.files.objects d.description ≡ At_end pair side class → (pair ≢ choice.pair) × (inv.classes pair ≡ class)
   named_end d pair side class named is = (
     (λ same. both_ways (is_end choice.pair side (At_end pair side class)) (ap (is_end choice.pair side) (sym is) ∙ named.apart.ends side)

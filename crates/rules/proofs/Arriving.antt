@@ -30,14 +30,14 @@ programs_valid plan valid =
     both_right (is_tree plan.nodes && are_grants plan.nodes plan.grants) (are_programs plan.programs)
     (both_left (is_tree plan.nodes && are_grants plan.nodes plan.grants && are_programs plan.programs) (are_starts plan.nodes (length plan.programs) plan.starts) valid)
 
-code_few : (programs : List NamedProgram) (name : List ℕ) → list_all limits.is_named programs ≡ true → length (code_named programs name) ≤ most_instructions
+code_few : (programs : List NamedProgram) (name : List ℕ) → list_all limits.is_program_named programs ≡ true → length (code_named programs name) ≤ most_instructions
 unfolding code_named
 code_few [] name named = omega arith
-code_few (p ∷ programs) name named = go (bytes_eq p.name name) (code_few programs name (both_right (limits.is_named p) (list_all limits.is_named programs) named))
+code_few (p ∷ programs) name named = go (bytes_eq p.name name) (code_few programs name (both_right (limits.is_program_named p) (list_all limits.is_program_named programs) named))
   where
     own : length p.code ≤ most_instructions
     own =
-        let valid = both_right _ (is_program p.code) (both_left (limits.is_named p) (list_all limits.is_named programs) named) in
+        let valid = both_right _ (is_program p.code) (both_left (limits.is_program_named p) (list_all limits.is_program_named programs) named) in
         leb-true _ _ (both_left (nat_le (length p.code) most_instructions) (list_all (is_instruction (length p.code)) p.code)
         (both_left (nat_le (length p.code) most_instructions && list_all (is_instruction (length p.code)) p.code) (ends_well p.code) valid))
 
@@ -67,13 +67,13 @@ pub code_is : (plan : Plan) (program : ℕ) → is_plan plan ≡ true → progra
     → code_named plan.programs (program_name plan program) ≡ programs_of_plan plan program
 code_is plan program valid within =
     code_by_name plan.programs program within
-    (both_right (nat_le (length plan.programs) most_programs && list_all limits.is_named plan.programs) (all_apart are_named_apart plan.programs) (programs_valid plan valid))
+    (both_right (nat_le (length plan.programs) most_programs && list_all limits.is_program_named plan.programs) (all_apart are_named_apart plan.programs) (programs_valid plan valid))
 
 programs_few : (plan : Plan) (name : List ℕ) → is_plan plan ≡ true → length (code_named plan.programs name) ≤ most_instructions
 programs_few plan name valid =
     code_few plan.programs name
-    (both_right (nat_le (length plan.programs) most_programs) (list_all limits.is_named plan.programs)
-    (both_left (nat_le (length plan.programs) most_programs && list_all limits.is_named plan.programs) (all_apart are_named_apart plan.programs) (programs_valid plan valid)))
+    (both_right (nat_le (length plan.programs) most_programs) (list_all limits.is_program_named plan.programs)
+    (both_left (nat_le (length plan.programs) most_programs && list_all limits.is_program_named plan.programs) (all_apart are_named_apart plan.programs) (programs_valid plan valid)))
 
 -- A CERTIFICATE bounds no point past 255.
 abbrev is_low : PointBound → Bool

@@ -11,7 +11,8 @@ use Rattle.rules.specs.Uses.{uses}
 use Rattle.rules.specs.Channels.{keeps_channel_bound, all_have_channels}
 use Rattle.rules.specs.Demands.{demands, keeps_single, keeps_numbers, keeps_beneath}
 use Rattle.rules.specs.Outcomes.{Outcome, successes, error_outcomes}
-use Rattle.rules.specs.Rules.{Test, starts_within, within_if_there, all_within, all_there, keeps_rights, keeps_commands, keeps_limit, works_on_known, keeps_policy, names_known, moves_within, of_call, each_use, in_the_mode, is_started, tests, tests_without, least_broken}
+use Rattle.rules.specs.Rules.{Test, starts_within, within_if_there, all_within, all_there, keeps_rights, keeps_commands, keeps_limit, works_on_known, keeps_policy, names_known}
+use Rattle.rules.specs.Rules.{moves_within, of_call, each_use, in_the_mode, is_started, tests, tests_without, least_broken}
 use Rattle.rules.specs.Verdicts.{found_with, found_at}
 use Rattle.rules.proofs.Members.{Among, each_of}
 

@@ -42,13 +42,13 @@ surely_may_be Either b is = refl
 
 -- what is said of each slot that a call may go through
 pub record AskedOf (grants : List Grant) (certificate : Certificate) (b : Bound) (u : Use) : Type 0 where
-  pub rights : is_within u.rights u.slot.held.least ≡ true
-  pub commands : is_within u.commands u.slot.held.least_fcntls ≡ true
-  pub kept_rights : is_within u.kept_rights u.slot.held.least ≡ true
-  pub kept_commands : is_within u.kept_commands u.slot.held.least_fcntls ≡ true
-  pub known : may_be_on b.mode ≡ true → u.works ≡ true → is_known u.slot.held.target ≡ true
-  pub listed : may_be_on b.mode ≡ true → (operation : Operation) → Among operation u.operations → target_lists grants u.slot.held.target operation ≡ true
-  pub names : u.changes_names ≡ true → is_known u.slot.held.target ≡ true
+  pub rights : is_within u.need.rights u.slot.held.least ≡ true
+  pub commands : is_within u.need.commands u.slot.held.least_fcntls ≡ true
+  pub kept_rights : is_within u.need.kept_rights u.slot.held.least ≡ true
+  pub kept_commands : is_within u.need.kept_commands u.slot.held.least_fcntls ≡ true
+  pub known : may_be_on b.mode ≡ true → u.need.works ≡ true → is_known u.slot.held.target ≡ true
+  pub listed : may_be_on b.mode ≡ true → (operation : Operation) → Among operation u.need.operations → target_lists grants u.slot.held.target operation ≡ true
+  pub names : u.need.changes_names ≡ true → is_known u.slot.held.target ≡ true
   pub moves : (t : OpenSlot) → Among t u.targets → same_grant u.slot.held.target t.held.target ≡ true
   pub channel_bound : keeps_channel_bound certificate u u.passing ≡ true
   pub channel : has_channel certificate u u.passing ≡ true
@@ -72,13 +72,13 @@ module _ (plan : Plan) (certificate : Certificate) (program point : ℕ) (b : Bo
       record {
         rights = each_of keeps_rights through all.rights u among;
         commands = each_of keeps_commands through all.commands u among;
-        kept_rights = both_left _ (is_within u.kept_commands u.slot.held.least_fcntls) limits;
-        kept_commands = both_right (is_within u.kept_rights u.slot.held.least) _ limits;
-        known = λ may works. if_passes u.works _ (each_of works_on_known through (if_passes mode _ all.known may) u among) works;
+        kept_rights = both_left _ (is_within u.need.kept_commands u.slot.held.least_fcntls) limits;
+        kept_commands = both_right (is_within u.need.kept_rights u.slot.held.least) _ limits;
+        known = λ may works. if_passes u.need.works _ (each_of works_on_known through (if_passes mode _ all.known may) u among) works;
         listed = λ may operation one.
-            each_of (target_lists plan.grants u.slot.held.target) u.operations
+            each_of (target_lists plan.grants u.slot.held.target) u.need.operations
             (each_of (keeps_policy plan.grants) through (if_passes mode _ all.policy may) u among) operation one;
-        names = λ changes. if_passes u.changes_names _ (each_of names_known through all.names u among) changes;
+        names = λ changes. if_passes u.need.changes_names _ (each_of names_known through all.names u among) changes;
         moves = λ t one. each_of (λ (x : OpenSlot). same_grant u.slot.held.target x.held.target) u.targets (each_of moves_within through all.moves u among) t one;
         channel_bound = each_of (λ (x : Use). keeps_channel_bound certificate x x.passing) through all.channel_bounds u among;
         channel = each_of (λ (x : Use). has_channel certificate x x.passing) through all.channels u among;

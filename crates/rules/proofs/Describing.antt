@@ -5,7 +5,8 @@ use Rattle.std.specs.List.{slice_index_or}
 use Rattle.std.specs.Cmp.Derive.{both_true}
 use Rattle.std.proofs.lemmas.Bool.{eqb-true}
 use Rattle.rights.proofs.Tests.{both_left, both_right}
-use Rattle.rights.specs.Errors.{Errno, errno_number, EPERM, ENOENT, EBADF, EEXIST, ENOTDIR, EISDIR, EINVAL, ENFILE, EMFILE, EFBIG, ENOSPC, EPIPE, EAGAIN, ENOTSOCK, ELOOP, ENAMETOOLONG, ENOTEMPTY, ENOTCAPABLE, ECAPMODE}
+use Rattle.rights.specs.Errors.{Errno, errno_number, EPERM, ENOENT, EBADF, EEXIST, ENOTDIR, EISDIR, EINVAL, ENFILE, EMFILE, EFBIG, ENOSPC, EPIPE, EAGAIN, ENOTSOCK, ELOOP}
+use Rattle.rights.specs.Errors.{ENAMETOOLONG, ENOTEMPTY, ENOTCAPABLE, ECAPMODE}
 use Rattle.certificate.specs.Bounds.{On, Interval, interval, with_interval, Slot, Closed, slot, with_slot, Bound}
 use Rattle.certificate.specs.Describes.{Seen, Holds, slot_describes, mode_describes, interval_describes, registers_describe, slots_describe, describes}
 use Rattle.rules.specs.Outcomes.{error_interval}

@@ -11,7 +11,8 @@ use Rattle.rights.specs.Limits.{most_instructions}
 use Rattle.prog_asm.specs.Programs.{Instruction}
 use Rattle.task.specs.Plans.{Plan}
 use Rattle.rules.specs.Carrying.{carried_on}
-use Rattle.rules.specs.Expansions.{or_carried, bound_with, bound_there, with_bound, is_named, code_named, may_carry, carried_by, carried_past, carried_to, points_along, programs_behind, programs_given, expanded_points, expanded, expansion}
+use Rattle.rules.specs.Expansions.{or_carried, bound_with, bound_there, with_bound, is_named, code_named, may_carry, carried_by, carried_past, carried_to, points_along}
+use Rattle.rules.specs.Expansions.{programs_behind, programs_given, expanded_points, expanded, expansion}
 
 pub bytes_same : (xs : List ℕ) → bytes_eq xs xs ≡ true
 bytes_same [] = refl

@@ -37,7 +37,8 @@ carried_into_the_mode = refl
 broken_where_it_is_carried : first_found (alone opens_in_the_mode)
     (expansion (alone opens_in_the_mode) (second (main_at 0 (at_main Off []) ∷ main_at 2 (at_main On []) ∷ [])))
     ≡ Some (0, 1, 6)
-unfolding points_along programs_behind code_named joined_at successes error_outcomes slots_in free_numbers uses channel_at bound_in first_found found_at found_with tests tests_without grant_named base created
+unfolding points_along programs_behind code_named joined_at successes error_outcomes slots_in free_numbers uses channel_at bound_in
+    first_found found_at found_with tests tests_without grant_named base created
 broken_where_it_is_carried = refl
 
 -- Both answers of `fork` go to the next point, and are joined.
@@ -51,7 +52,8 @@ both_are_joined = refl
 
 -- A point that an `else` names has no bound but a given one.
 nothing_at_a_named_point : first_found (alone forks) (expansion (alone forks) (second (main_at 0 (at_main Off []) ∷ []))) ≡ Some (0, 0, 16)
-unfolding points_along programs_behind code_named joined_at successes error_outcomes slots_in free_numbers uses channel_at bound_in first_found found_at found_with tests tests_without grant_named base created
+unfolding points_along programs_behind code_named joined_at successes error_outcomes slots_in free_numbers uses channel_at bound_in
+    first_found found_at found_with tests tests_without grant_named base created
 nothing_at_a_named_point = refl
 
 -- Nothing is carried to a point that the one before it doesn't go to; a target that is never gone to is named all the same.

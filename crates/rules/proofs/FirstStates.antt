@@ -15,7 +15,7 @@ use Rattle.certificate.specs.Describes.{Seen, describes}
 use Rattle.fd_table.specs.Descriptions.{Object, At_node, At_end, Descriptor, IfHeld, EachPassed}
 use Rattle.prog_asm.specs.Programs.{Instruction}
 use Rattle.kernel.specs.World.{World}
-use Rattle.kernel.specs.WellFormed.{Numbering, IsObject, IsDescriptor, IsMade, IsPoint, IsWellFormed}
+use Rattle.kernel.specs.WellFormed.{Numbering, IsObject, IsDescriptor, IsProcessIfMade, IsPoint, IsWellFormed}
 use Rattle.task.specs.Plans.{FirstObject, On_node, On_end, FirstDescriptor, Start, Plan, program_name, programs_of_plan}
 use Rattle.task.specs.Limits.{is_plan}
 use Rattle.task.specs.Policies.{grant_holds}
@@ -145,7 +145,7 @@ module _ (plan : Plan) (certificate : Certificate) (valid : is_plan plan ≡ tru
             let b = bounded st.program i at is in
             record { bound = b.bound; at = b.at; is = first_described b.bound (own_start b.bound b.starts) }
 
-  inside : (p : ℕ) (start : Option Start) → slice_get plan.starts p ≡ start → (o : Option ProcessState) → IsMade (programs_of_plan plan) o
+  inside : (p : ℕ) (start : Option Start) → slice_get plan.starts p ≡ start → (o : Option ProcessState) → IsProcessIfMade (programs_of_plan plan) o
       → IsFirstProcess start o → IfAlive (IsDescribed plan certificate (first_world plan) p) o
   inside p start here None made is = tt
   inside p None here (Some s) made is = absurd is

@@ -8,7 +8,8 @@ use Rattle.std.proofs.lemmas.List.{length-set}
 use Rattle.std.proofs.lemmas.List.Folds.{list_all-append}
 use Rattle.rights.specs.Classes.{Class}
 use Rattle.rights.specs.Limits.{most_descriptors, register_count}
-use Rattle.certificate.specs.Bounds.{ModeBound, Interval, Target, In_grant, Any_node, Socket, Unknown, Held, Slot, Closed, Open, Maybe, Bound, ChannelBound, PointBound, held_in, with_interval, with_slot, bound_in}
+use Rattle.certificate.specs.Bounds.{ModeBound, Interval, Target, In_grant, Any_node, Socket, Unknown, Held, Slot, Closed, Open, Maybe, Bound, ChannelBound, PointBound, held_in}
+use Rattle.certificate.specs.Bounds.{with_interval, with_slot, bound_in}
 use Rattle.certificate.specs.Growth.{programs_of_channel, programs_of_class, programs_of_held, programs_of_target}
 use Rattle.certificate.specs.Joins.{bound_join, each_join, interval_join, slot_join, target_join}
 use Rattle.certificate.specs.Order.{same_class}

@@ -14,14 +14,18 @@ use Rattle.certificate.proofs.Fewer.{are_among, is_among}
 use Rattle.certificate.proofs.Fits.{is_fit}
 use Rattle.certificate.proofs.Growing.{and_left, and_right, both_true}
 use Rattle.fd_table.specs.Descriptions.{other_side}
-use Rattle.prog_asm.specs.Programs.{Operand, Syscall, Open, Openat, Read, Write, Sendfd, Recvfd, Lseek, Ftruncate, Fsync, Fstat, Fcntl_getfl, Fcntl_setfl, Fstatat, Stat, Mkdirat, Mkdir, Unlinkat, Unlink, Renameat, Dup, Close, Cap_rights_limit, Cap_fcntls_limit, Cap_enter, Cap_getmode, Socketpair, Fork, Instruction, Set, Mov, Add, In, Jmp, Jeq, Jlt, Halt, Invoke}
+use Rattle.prog_asm.specs.Programs.{Operand, Syscall, Open, Openat, Read, Write, Sendfd, Recvfd, Lseek, Ftruncate, Fsync, Fstat, Fcntl_getfl, Fcntl_setfl, Fstatat, Stat, Mkdirat}
+use Rattle.prog_asm.specs.Programs.{Mkdir, Unlinkat, Unlink, Renameat, Dup, Close, Cap_rights_limit, Cap_fcntls_limit, Cap_enter, Cap_getmode, Socketpair, Fork, Instruction, Set}
+use Rattle.prog_asm.specs.Programs.{Mov, Add, In, Jmp, Jeq, Jlt, Halt, Invoke}
 use Rattle.task.specs.Plans.{Grant}
 use Rattle.rules.specs.Carrying.{carried_on, joined_at, joined_with, outcomes}
 use Rattle.rules.specs.Channels.{channel_at}
 use Rattle.rules.specs.Demands.{demands}
 use Rattle.rules.specs.Intervals.{only, sums, equal_part, other_part, lower_part, upper_part}
 use Rattle.rules.specs.Slots.{OpenSlot, slots_in, free_numbers, operand_interval}
-use Rattle.rules.specs.Outcomes.{Outcome, outcome_to, outcomes_in, is_formed, at_number, at_pair, goes_on, gives_through, gives_at_node, new_end, with_pair, takes, all_held, unknown_held, target_of_path, with_rights, with_commands, from_to, mode_interval, error_interval, opens_beneath, comes, receives_at, successes_of, successes, error_outcomes, beneath_target, may_be_end, may_be_node}
+use Rattle.rules.specs.Outcomes.{Outcome, outcome_to, outcomes_in, is_formed, at_lowest, at_pair, leads_on, gives_through, gives_at_node, new_end, with_pair, takes, all_held}
+use Rattle.rules.specs.Outcomes.{unknown_held, target_of_path, with_rights, with_commands, from_to, mode_interval, error_interval, opens_beneath, comes, receives_at, successes_of}
+use Rattle.rules.specs.Outcomes.{successes, error_outcomes, beneath_target, may_be_end, may_be_node}
 use Rattle.rules.proofs.FitBounds.{fit_interval, fit_join, fit_line, fit_mode, fit_slot, fit_slots, is_fit_bound, is_fit_line, is_fit_open, is_fit_target, parts}
 
 -- what is asked of all, where it is of each that passes a test
@@ -62,17 +66,17 @@ module _ (names : List (List ℕ)) where
     to : (target : ℕ) (after : Bound) → is_fit names after ≡ true → all_fit (outcome_to target after) ≡ true
     to target after is = both_true (is_fit names after) true is refl
 
-    on : (after : Bound) (i : Interval) → is_fit names after ≡ true → all_fit (goes_on grants c name point b after i) ≡ true
+    on : (after : Bound) (i : Interval) → is_fit names after ≡ true → all_fit (leads_on grants c name point b after i) ≡ true
     on after i is = to (point + 1) (with_interval after 0 i) (fit_interval names after 0 i is)
 
-    stays : (i : Interval) → all_fit (goes_on grants c name point b b i) ≡ true
+    stays : (i : Interval) → all_fit (leads_on grants c name point b b i) ≡ true
     stays i = on b i fit
 
     holding : (n : ℕ) (h : Held) (i : Interval) → is_fit_target names h.target ≡ true
-        → all_fit (goes_on grants c name point b (with_slot b n (bounds.Open h)) i) ≡ true
+        → all_fit (leads_on grants c name point b (with_slot b n (bounds.Open h)) i) ≡ true
     holding n h i is = on (with_slot b n (bounds.Open h)) i (fit_slot names b n (bounds.Open h) fit is)
 
-    numbered : (numbers : Option (List ℕ)) (rest : ℕ → List Outcome) → ((n : ℕ) → all_fit (rest n) ≡ true) → all_fit (at_number numbers rest) ≡ true
+    numbered : (numbers : Option (List ℕ)) (rest : ℕ → List Outcome) → ((n : ℕ) → all_fit (rest n) ≡ true) → all_fit (at_lowest numbers rest) ≡ true
     numbered None rest each = refl
     numbered (Some []) rest each = refl
     numbered (Some (n ∷ numbers)) rest each = each n
@@ -84,7 +88,7 @@ module _ (names : List (List ℕ)) where
     paired (Some (n ∷ m ∷ numbers)) rest each = each n m
 
     taking : (h : Held) → is_fit_target names h.target ≡ true → all_fit (takes grants c name point b h) ≡ true
-    taking h is = numbered (free_numbers 1 b) (λ n. goes_on grants c name point b (with_slot b n (bounds.Open h)) (only n)) (λ n. holding n h (only n) is)
+    taking h is = numbered (free_numbers 1 b) (λ n. leads_on grants c name point b (with_slot b n (bounds.Open h)) (only n)) (λ n. holding n h (only n) is)
 
     beneath : (h : Held) (t : Target) → all_fit (opens_beneath grants c name point b h (beneath_target t)) ≡ true
     beneath h (In_grant grant) = taking (record h { target = In_grant grant }) refl
@@ -111,14 +115,14 @@ module _ (names : List (List ℕ)) where
         all_of_passing (is_fit_open names) is_fit_outcome rest (slots_in b x) (fit_slots names 0 (operand_interval b x) b.slots (parts names b fit).slots) each
 
     gives : (x : Operand) (i : Interval) → all_fit (gives_through grants c name point b x i) ≡ true
-    gives x i = each_slot x (λ (s : OpenSlot). goes_on grants c name point b b i) (λ s is. stays i)
+    gives x i = each_slot x (λ (s : OpenSlot). leads_on grants c name point b b i) (λ s is. stays i)
 
     at_node : (x : Operand) (rest : List Outcome) → all_fit rest ≡ true → all_fit (gives_at_node grants c name point b x rest) ≡ true
     at_node x rest all =
         each_slot x (λ (s : OpenSlot). if may_be_node s.held.target then rest else []) (λ s is. all_if is_fit_outcome (may_be_node s.held.target) rest all)
 
     -- both ends of a pair are of the point's own program
-    ends : (first second : ℕ) → all_fit (goes_on grants c name point b (with_pair grants c name point b first second) (only first)) ≡ true
+    ends : (first second : ℕ) → all_fit (leads_on grants c name point b (with_pair grants c name point b first second) (only first)) ≡ true
     ends first second =
         let mine : is_fit_target names (Socket (Made_at name point) 0) ≡ true = both_true (is_among names name) true own refl in
         let nought = bounds.Open (new_end grants c name point b 0) in
@@ -145,32 +149,32 @@ module _ (names : List (List ℕ)) where
     call_fits (Fstat x) = gives x (from_to 1 3)
     call_fits (Fcntl_getfl x) = gives x (from_to 0 3)
     call_fits (Fcntl_setfl x v) = gives x (only 0)
-    call_fits (Fstatat x path) = at_node x (goes_on grants c name point b b (from_to 1 2)) (stays (from_to 1 2))
+    call_fits (Fstatat x path) = at_node x (leads_on grants c name point b b (from_to 1 2)) (stays (from_to 1 2))
     call_fits (Stat path) = stays (from_to 1 2)
-    call_fits (Mkdirat x path) = at_node x (goes_on grants c name point b b (only 0)) (stays (only 0))
+    call_fits (Mkdirat x path) = at_node x (leads_on grants c name point b b (only 0)) (stays (only 0))
     call_fits (Mkdir path) = stays (only 0)
-    call_fits (Unlinkat x path directory) = at_node x (goes_on grants c name point b b (only 0)) (stays (only 0))
+    call_fits (Unlinkat x path directory) = at_node x (leads_on grants c name point b b (only 0)) (stays (only 0))
     call_fits (Unlink path directory) = stays (only 0)
     call_fits (Renameat x from y to) =
-        at_node x (gives_at_node grants c name point b y (goes_on grants c name point b b (only 0)))
-        (at_node y (goes_on grants c name point b b (only 0)) (stays (only 0)))
+        at_node x (gives_at_node grants c name point b y (leads_on grants c name point b b (only 0)))
+        (at_node y (leads_on grants c name point b b (only 0)) (stays (only 0)))
     call_fits (Dup x) = each_slot x (λ (s : OpenSlot). takes grants c name point b s.held) (λ s is. taking s.held is)
     call_fits (Close x) =
-        each_slot x (λ (s : OpenSlot). goes_on grants c name point b (with_slot b s.number Closed) (only 0))
+        each_slot x (λ (s : OpenSlot). leads_on grants c name point b (with_slot b s.number Closed) (only 0))
         (λ s is. on (with_slot b s.number Closed) (only 0) (fit_slot names b s.number Closed fit refl))
     call_fits (Cap_rights_limit x rights) =
-        each_slot x (λ (s : OpenSlot). goes_on grants c name point b (with_slot b s.number (bounds.Open (with_rights s.held rights))) (only 0))
+        each_slot x (λ (s : OpenSlot). leads_on grants c name point b (with_slot b s.number (bounds.Open (with_rights s.held rights))) (only 0))
         (λ s is. holding s.number (with_rights s.held rights) (only 0) is)
     call_fits (Cap_fcntls_limit x commands) =
-        each_slot x (λ (s : OpenSlot). goes_on grants c name point b (with_slot b s.number (bounds.Open (with_commands s.held commands))) (only 0))
+        each_slot x (λ (s : OpenSlot). leads_on grants c name point b (with_slot b s.number (bounds.Open (with_commands s.held commands))) (only 0))
         (λ s is. holding s.number (with_commands s.held commands) (only 0) is)
     call_fits Cap_enter = on (record b { mode = On }) (only 0) (fit_mode names b On fit)
     call_fits Cap_getmode = stays (mode_interval b.mode)
     call_fits Socketpair =
-        paired (free_numbers 2 b) (λ first second. goes_on grants c name point b (with_pair grants c name point b first second) (only first))
+        paired (free_numbers 2 b) (λ first second. leads_on grants c name point b (with_pair grants c name point b first second) (only first))
         (λ first second. ends first second)
     call_fits Fork =
-        both_fit (goes_on grants c name point b b (only 0)) (goes_on grants c name point b b (from_to 1 (most_processes - 1))) (stays (only 0))
+        both_fit (leads_on grants c name point b b (only 0)) (leads_on grants c name point b b (from_to 1 (most_processes - 1))) (stays (only 0))
         (stays (from_to 1 (most_processes - 1)))
 
     -- AN INSTRUCTION

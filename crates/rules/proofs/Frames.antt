@@ -14,7 +14,7 @@ use Rattle.process.specs.State.{ProcessState}
 use Rattle.certificate.specs.Bounds.{Target, In_grant, Any_node, Socket, Unknown, Held, Slot, Closed, Open, Maybe, Certificate}
 use Rattle.certificate.specs.Describes.{Holds, target_describes, held_describes, slot_describes, mode_describes, registers_describe, slots_describe}
 use Rattle.certificate.proofs.Smaller.{between, from_between}
-use Rattle.fd_table.specs.Descriptions.{Class, Object, At_node, At_end, Descriptor, Message, IfHeld, EachPassed}
+use Rattle.fd_table.specs.Descriptions.{PairClass, Object, At_node, At_end, Descriptor, Message, IfHeld, EachPassed}
 use Rattle.fd_table.specs.OpenFiles.{is_end, IsOther}
 use Rattle.kernel.specs.World.{World, Choice, IsFresh}
 use Rattle.kernel.specs.Answers.{QueueChange, Same_queue, Push, Pop}
@@ -48,11 +48,11 @@ pub record Frame (plan : Plan) (w v : World) (choice : Choice) (queue : QueueCha
 -- What is asked of a process whose table stays, and of a descriptor whose description does, holds on.
 pub record Persists (asks : Asks) (w v : World) : Type 0 where
   pub lives : (q : ℕ) (s : ProcessState) → ((n : ℕ) → v.files.table q n ≡ w.files.table q n) → asks.Lives w q s → asks.Lives v q s
-  pub carries : (class : Class) (side : ℕ) (d : Descriptor) → v.files.objects d.description ≡ w.files.objects d.description
+  pub carries : (class : PairClass) (side : ℕ) (d : Descriptor) → v.files.objects d.description ≡ w.files.objects d.description
       → asks.Carries w class side d → asks.Carries v class side d
 
 -- Pairs keep their classes, but for a new one, and each entry has that of its pair.
-pub record KeepsClasses (v : World) (choice : Choice) (classes after : ℕ → Class) : Type 0 where
+pub record KeepsClasses (v : World) (choice : Choice) (classes after : ℕ → PairClass) : Type 0 where
   pub same : (pair : ℕ) → pair ≢ choice.pair → after pair ≡ classes pair
   pub ends : (q n : ℕ) → IfHeld (HasClass v.files.objects after) (v.files.table q n)
 
@@ -62,7 +62,7 @@ IfPushed P Same_queue = Unit {0}
 IfPushed P (Push pair side m) = IfHeld (P pair side) m.passed
 IfPushed P (Pop pair side) = Unit {0}
 
-pub record Owes (asks : Asks) (w v : World) (classes : ℕ → Class) (queue : QueueChange) (p : ℕ) : Type 0 where
+pub record Owes (asks : Asks) (w v : World) (classes : ℕ → PairClass) (queue : QueueChange) (p : ℕ) : Type 0 where
   pub own : IfAlive (asks.Lives v p) (slice_get v.processes p)
   pub child : (q : ℕ) → slice_get w.processes q ≡ None → IfAlive (asks.Lives v q) (slice_get v.processes q)
   pub pushed : IfPushed (IsCarried asks v classes) queue
@@ -109,23 +109,23 @@ module _ (plan : Plan) (w v : World) (choice : Choice) (queue : QueueChange) (p 
   object_stays n apart = frame.keeps.objects n apart.first apart.second
 
   -- ### Classes
-  other_pair : (pair side : ℕ) (class : Class) → is_end choice.pair side (At_end pair side class) ≡ false → pair ≢ choice.pair
+  other_pair : (pair side : ℕ) (class : PairClass) → is_end choice.pair side (At_end pair side class) ≡ false → pair ≢ choice.pair
   other_pair pair side class none same =
       both_ways (is_end choice.pair side (At_end pair side class)) none (rw (eq-eqb pair choice.pair same, eq-eqb side side refl) refl)
 
-  of_class_later : (classes after : ℕ → Class) → ((pair : ℕ) → pair ≢ choice.pair → after pair ≡ classes pair) → (o : Object)
+  of_class_later : (classes after : ℕ → PairClass) → ((pair : ℕ) → pair ≢ choice.pair → after pair ≡ classes pair) → (o : Object)
       → ((side : ℕ) → is_end choice.pair side o ≡ false) → IsOfClass classes o → IsOfClass after o
   of_class_later classes after same (At_node n access) none is = tt
   of_class_later classes after same (At_end pair side class) none is = same pair (other_pair pair side class (none side)) ∙ is
 
-  pub class_later : (classes after : ℕ → Class) → ((pair : ℕ) → pair ≢ choice.pair → after pair ≡ classes pair) → (d : Descriptor)
+  pub class_later : (classes after : ℕ → PairClass) → ((pair : ℕ) → pair ≢ choice.pair → after pair ≡ classes pair) → (d : Descriptor)
       → IsApart w.files choice d.description → HasClass w.files.objects classes d → HasClass v.files.objects after d
   class_later classes after same d apart is =
       subst (IsOfClass after) (sym (object_stays d.description apart))
       (of_class_later classes after same (w.files.objects d.description) apart.ends is)
 
   -- ### What is on its way
-  pub carried_later : (asks : Asks) → Persists asks w v → (classes after : ℕ → Class) → ((pair : ℕ) → pair ≢ choice.pair → after pair ≡ classes pair)
+  pub carried_later : (asks : Asks) → Persists asks w v → (classes after : ℕ → PairClass) → ((pair : ℕ) → pair ≢ choice.pair → after pair ≡ classes pair)
       → (pair side : ℕ) → pair ≢ choice.pair → (d : Descriptor) → IsApart w.files choice d.description → IsCarried asks w classes pair side d
       → IsCarried asks v after pair side d
   carried_later asks persists classes after same pair side other d apart is = (
@@ -134,7 +134,7 @@ module _ (plan : Plan) (w v : World) (choice : Choice) (queue : QueueChange) (p 
         (persists.carries (classes pair) side d (object_stays d.description apart) is.1),
   )
 
-  module _ (asks : Asks) (persists : Persists asks w v) (inv : Invariant plan asks w) (after : ℕ → Class) (kept : KeepsClasses v choice inv.classes after) where
+  module _ (asks : Asks) (persists : Persists asks w v) (inv : Invariant plan asks w) (after : ℕ → PairClass) (kept : KeepsClasses v choice inv.classes after) where
     old_messages : (pair side : ℕ) → EachPassed (IsCarried asks v after pair side) (w.files.queue pair side)
     old_messages pair side =
         elim (eqb_tells pair choice.pair) [

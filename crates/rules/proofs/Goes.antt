@@ -9,13 +9,17 @@ use Rattle.certificate.specs.Bounds.{On, Target, In_grant, Any_node, Socket, Unk
 use Rattle.certificate.specs.Bounds as bounds
 use Rattle.certificate.proofs.Growing.{both_true}
 use Rattle.fd_table.specs.Descriptions.{other_side}
-use Rattle.prog_asm.specs.Programs.{Operand, Syscall, Open, Openat, Read, Write, Sendfd, Recvfd, Lseek, Ftruncate, Fsync, Fstat, Fcntl_getfl, Fcntl_setfl, Fstatat, Stat, Mkdirat, Mkdir, Unlinkat, Unlink, Renameat, Dup, Close, Cap_rights_limit, Cap_fcntls_limit, Cap_enter, Cap_getmode, Socketpair, Fork, Instruction, Set, Mov, Add, In, Jmp, Jeq, Jlt, Halt, Invoke}
+use Rattle.prog_asm.specs.Programs.{Operand, Syscall, Open, Openat, Read, Write, Sendfd, Recvfd, Lseek, Ftruncate, Fsync, Fstat, Fcntl_getfl, Fcntl_setfl, Fstatat, Stat, Mkdirat}
+use Rattle.prog_asm.specs.Programs.{Mkdir, Unlinkat, Unlink, Renameat, Dup, Close, Cap_rights_limit, Cap_fcntls_limit, Cap_enter, Cap_getmode, Socketpair, Fork, Instruction, Set}
+use Rattle.prog_asm.specs.Programs.{Mov, Add, In, Jmp, Jeq, Jlt, Halt, Invoke}
 use Rattle.task.specs.Plans.{Grant}
 use Rattle.rules.specs.Intervals.{only, sums, equal_part, other_part, lower_part, upper_part}
 use Rattle.rules.specs.Slots.{OpenSlot, slots_in, free_numbers}
 use Rattle.rules.specs.Channels.{channel_at}
 use Rattle.rules.specs.Demands.{demands}
-use Rattle.rules.specs.Outcomes.{Outcome, outcomes_in, is_formed, at_number, at_pair, goes_on, gives_through, gives_at_node, with_pair, takes, all_held, unknown_held, target_of_path, with_rights, with_commands, from_to, mode_interval, error_interval, opens_beneath, comes, receives_at, successes_of, successes, error_outcomes, beneath_target, may_be_end, may_be_node}
+use Rattle.rules.specs.Outcomes.{Outcome, outcomes_in, is_formed, at_lowest, at_pair, leads_on, gives_through, gives_at_node, with_pair, takes, all_held, unknown_held}
+use Rattle.rules.specs.Outcomes.{target_of_path, with_rights, with_commands, from_to, mode_interval, error_interval, opens_beneath, comes, receives_at, successes_of, successes}
+use Rattle.rules.specs.Outcomes.{error_outcomes, beneath_target, may_be_end, may_be_node}
 use Rattle.rules.specs.Expansions.{names_point}
 
 all_of_each : {A : Type 0} (test : Outcome → Bool) (rest : A → List Outcome) (xs : List A) → ((x : A) → list_all test (rest x) ≡ true) → list_all test (flat_map rest xs) ≡ true
@@ -37,10 +41,10 @@ or_right false = refl
 module _ (grants : List Grant) (c : Certificate) (name : List ℕ) (point : ℕ) (b : Bound) where
   -- A test that each outcome to the next point passes.
   module _ (test : Outcome → Bool) (next : (after : Bound) → test (record { point = point + 1; bound = after }) ≡ true) where
-    on : (after : Bound) (i : Interval) → list_all test (goes_on grants c name point b after i) ≡ true
+    on : (after : Bound) (i : Interval) → list_all test (leads_on grants c name point b after i) ≡ true
     on after i = both_true (test (record { point = point + 1; bound = with_interval after 0 i })) true (next (with_interval after 0 i)) refl
 
-    numbered : (numbers : Option (List ℕ)) (rest : ℕ → List Outcome) → ((n : ℕ) → list_all test (rest n) ≡ true) → list_all test (at_number numbers rest) ≡ true
+    numbered : (numbers : Option (List ℕ)) (rest : ℕ → List Outcome) → ((n : ℕ) → list_all test (rest n) ≡ true) → list_all test (at_lowest numbers rest) ≡ true
     numbered None rest each = refl
     numbered (Some []) rest each = refl
     numbered (Some (n ∷ numbers)) rest each = each n
@@ -52,7 +56,7 @@ module _ (grants : List Grant) (c : Certificate) (name : List ℕ) (point : ℕ)
     paired (Some (n ∷ m ∷ numbers)) rest each = each n m
 
     taking : (h : Held) → list_all test (takes grants c name point b h) ≡ true
-    taking h = numbered (free_numbers 1 b) (λ n. goes_on grants c name point b (with_slot b n (bounds.Open h)) (only n)) (λ n. on (with_slot b n (bounds.Open h)) (only n))
+    taking h = numbered (free_numbers 1 b) (λ n. leads_on grants c name point b (with_slot b n (bounds.Open h)) (only n)) (λ n. on (with_slot b n (bounds.Open h)) (only n))
 
     beneath : (h : Held) (t : Option Target) → list_all test (opens_beneath grants c name point b h t) ≡ true
     beneath h None = refl
@@ -73,7 +77,7 @@ module _ (grants : List Grant) (c : Certificate) (name : List ℕ) (point : ℕ)
     each_slot x rest each = all_of_each test rest (slots_in b x) each
 
     gives : (x : Operand) (i : Interval) → list_all test (gives_through grants c name point b x i) ≡ true
-    gives x i = each_slot x (λ (s : OpenSlot). goes_on grants c name point b b i) (λ s. on b i)
+    gives x i = each_slot x (λ (s : OpenSlot). leads_on grants c name point b b i) (λ s. on b i)
 
     at_node : (x : Operand) (rest : List Outcome) → list_all test rest ≡ true → list_all test (gives_at_node grants c name point b x rest) ≡ true
     at_node x rest all = each_slot x (λ (s : OpenSlot). if may_be_node s.held.target then rest else []) (λ s. all_if test (may_be_node s.held.target) rest all)
@@ -94,31 +98,31 @@ module _ (grants : List Grant) (c : Certificate) (name : List ℕ) (point : ℕ)
     call_goes (Fstat x) = gives x (from_to 1 3)
     call_goes (Fcntl_getfl x) = gives x (from_to 0 3)
     call_goes (Fcntl_setfl x v) = gives x (only 0)
-    call_goes (Fstatat x path) = at_node x (goes_on grants c name point b b (from_to 1 2)) (on b (from_to 1 2))
+    call_goes (Fstatat x path) = at_node x (leads_on grants c name point b b (from_to 1 2)) (on b (from_to 1 2))
     call_goes (Stat path) = on b (from_to 1 2)
-    call_goes (Mkdirat x path) = at_node x (goes_on grants c name point b b (only 0)) (on b (only 0))
+    call_goes (Mkdirat x path) = at_node x (leads_on grants c name point b b (only 0)) (on b (only 0))
     call_goes (Mkdir path) = on b (only 0)
-    call_goes (Unlinkat x path directory) = at_node x (goes_on grants c name point b b (only 0)) (on b (only 0))
+    call_goes (Unlinkat x path directory) = at_node x (leads_on grants c name point b b (only 0)) (on b (only 0))
     call_goes (Unlink path directory) = on b (only 0)
     call_goes (Renameat x from y to) =
-        at_node x (gives_at_node grants c name point b y (goes_on grants c name point b b (only 0)))
-        (at_node y (goes_on grants c name point b b (only 0)) (on b (only 0)))
+        at_node x (gives_at_node grants c name point b y (leads_on grants c name point b b (only 0)))
+        (at_node y (leads_on grants c name point b b (only 0)) (on b (only 0)))
     call_goes (Dup x) = each_slot x (λ (s : OpenSlot). takes grants c name point b s.held) (λ s. taking s.held)
-    call_goes (Close x) = each_slot x (λ (s : OpenSlot). goes_on grants c name point b (with_slot b s.number Closed) (only 0))
+    call_goes (Close x) = each_slot x (λ (s : OpenSlot). leads_on grants c name point b (with_slot b s.number Closed) (only 0))
         (λ s. on (with_slot b s.number Closed) (only 0))
     call_goes (Cap_rights_limit x rights) =
-        each_slot x (λ (s : OpenSlot). goes_on grants c name point b (with_slot b s.number (bounds.Open (with_rights s.held rights))) (only 0))
+        each_slot x (λ (s : OpenSlot). leads_on grants c name point b (with_slot b s.number (bounds.Open (with_rights s.held rights))) (only 0))
         (λ s. on (with_slot b s.number (bounds.Open (with_rights s.held rights))) (only 0))
     call_goes (Cap_fcntls_limit x commands) =
-        each_slot x (λ (s : OpenSlot). goes_on grants c name point b (with_slot b s.number (bounds.Open (with_commands s.held commands))) (only 0))
+        each_slot x (λ (s : OpenSlot). leads_on grants c name point b (with_slot b s.number (bounds.Open (with_commands s.held commands))) (only 0))
         (λ s. on (with_slot b s.number (bounds.Open (with_commands s.held commands))) (only 0))
     call_goes Cap_enter = on (record b { mode = On }) (only 0)
     call_goes Cap_getmode = on b (mode_interval b.mode)
     call_goes Socketpair =
-        paired (free_numbers 2 b) (λ first second. goes_on grants c name point b (with_pair grants c name point b first second) (only first))
+        paired (free_numbers 2 b) (λ first second. leads_on grants c name point b (with_pair grants c name point b first second) (only first))
         (λ first second. on (with_pair grants c name point b first second) (only first))
     call_goes Fork =
-        both_lists test (goes_on grants c name point b b (only 0)) (goes_on grants c name point b b (from_to 1 (most_processes - 1))) (on b (only 0))
+        both_lists test (leads_on grants c name point b b (only 0)) (leads_on grants c name point b b (from_to 1 (most_processes - 1))) (on b (only 0))
         (on b (from_to 1 (most_processes - 1)))
 
   -- whether an outcome of an instruction goes where it may
@@ -166,7 +170,8 @@ module _ (grants : List Grant) (c : Certificate) (name : List ℕ) (point : ℕ)
       (part_next (Jlt r value target) r (upper_part (interval b.registers r) value))
   successes_go Halt = refl
   successes_go (Invoke call otherwise) =
-      all_if (goes (Invoke call otherwise)) (is_formed c b call) (successes_of grants c name point b call) (call_goes (goes (Invoke call otherwise)) (λ after. goes_next (Invoke call otherwise) after) call)
+      all_if (goes (Invoke call otherwise)) (is_formed c b call) (successes_of grants c name point b call)
+      (call_goes (goes (Invoke call otherwise)) (λ after. goes_next (Invoke call otherwise) after) call)
 
   errors_if : (never : Bool) (call : Syscall) (otherwise : ℕ) (after : Bound)
       → list_all (goes (Invoke call otherwise)) (if never then [] else (record { point = otherwise; bound = after }) ∷ []) ≡ true

@@ -6,7 +6,7 @@ use Rattle.std.specs.Str.{bytes_eq}
 use Rattle.std.proofs.lemmas.List.Folds.{list_all-append}
 use Rattle.rights.specs.Limits.{most_instructions}
 use Rattle.certificate.specs.Bounds.{Bound, PointBound, Version, One, Two, Certificate, bound_at}
-use Rattle.certificate.specs.Growth.{programs_of, programs_of_channel}
+use Rattle.certificate.specs.Growth.{programs_named, programs_of_channel}
 use Rattle.certificate.proofs.Fewer.{are_among, is_among}
 use Rattle.certificate.proofs.Fits.{is_fit, is_fit_point}
 use Rattle.certificate.proofs.Growing.{and_left, and_right, both_true}
@@ -15,7 +15,8 @@ use Rattle.certificate.proofs.Whole.{fits_itself}
 use Rattle.prog_asm.specs.Programs.{Instruction}
 use Rattle.task.specs.Plans.{Plan}
 use Rattle.rules.specs.Carrying.{carried_on}
-use Rattle.rules.specs.Expansions.{ExpansionIsGrown, bound_with, carried_by, carried_past, code_at, expanded, expanded_points, expansion, may_carry, or_carried, points_along, programs_behind, programs_given, with_bound}
+use Rattle.rules.specs.Expansions.{ExpansionIsGrown, bound_with, carried_by, carried_past, code_at, expanded, expanded_points, expansion, may_carry, or_carried, points_along}
+use Rattle.rules.specs.Expansions.{programs_behind, programs_given, with_bound}
 use Rattle.rules.proofs.FitBounds.{fit_given, is_fit_bound}
 use Rattle.rules.proofs.FitOutcomes.{carried_fits}
 use Rattle.rules.proofs.RisingPoints.{expanded_rise}
@@ -110,4 +111,4 @@ expanded_fits Two plan c names fits = record {
 }
 
 pub expansion_grown : ExpansionIsGrown
-expansion_grown plan c valid = makes_itself (programs_of c) (expansion plan c) (expanded_fits c.version plan c (programs_of c) (fits_itself c valid))
+expansion_grown plan c valid = makes_itself (programs_named c) (expansion plan c) (expanded_fits c.version plan c (programs_named c) (fits_itself c valid))

@@ -18,7 +18,8 @@ use Rattle.certificate.specs.OrderLaws.{class_is}
 use Rattle.certificate.specs.Describes.{Node_at, End_of, Seen, Holds, target_describes, held_describes}
 use Rattle.certificate.proofs.Smaller.{from_between, slot_smaller}
 use Rattle.rules.specs.Slots.{OpenSlot, slots_in}
-use Rattle.rules.specs.Uses.{Use, moving_to}
+use Rattle.rules.specs.Needs.{moving_to}
+use Rattle.rules.specs.Uses.{Use, use_of}
 use Rattle.rules.specs.Channels.{channel_at, lets_through, sends_into, sends_known}
 use Rattle.rules.specs.Rules.{is_known, target_lists, same_grant}
 use Rattle.rules.proofs.Members.{Among, each_of}
@@ -67,8 +68,8 @@ allowed_by (g ∷ grants) name operation place holds listed = go (bytes_eq g.nam
 -- What a call that works on a node's slot does in the mode, at a place that is in each grant that holds the node's, is
 -- allowed.
 pub allowed_where :
-    (plan : Plan) (certificate : Certificate) (on : Bool) (u : Use) (d : Seen) → Used plan certificate on u d → on ≡ true → u.works ≡ true
-    → (operation : Operation) → Among operation u.operations → (from place : List (List ℕ))
+    (plan : Plan) (certificate : Certificate) (on : Bool) (u : Use) (d : Seen) → Used plan certificate on u d → on ≡ true → u.need.works ≡ true
+    → (operation : Operation) → Among operation u.need.operations → (from place : List (List ℕ))
     → target_describes (grant_holds plan.grants) u.slot.held.target (Node_at from) ≡ true
     → ((name : List ℕ) → grant_holds plan.grants name from ≡ true → grant_holds plan.grants name place ≡ true) → Allowed plan.grants operation place
 allowed_where plan certificate on u d has is_on works operation one from place is beneath =
@@ -78,8 +79,8 @@ allowed_where plan certificate on u d has is_on works operation one from place i
 
 -- at the node itself
 pub allowed_here :
-    (plan : Plan) (certificate : Certificate) (on : Bool) (u : Use) (d : Seen) → Used plan certificate on u d → on ≡ true → u.works ≡ true
-    → (operation : Operation) → Among operation u.operations → (place : List (List ℕ))
+    (plan : Plan) (certificate : Certificate) (on : Bool) (u : Use) (d : Seen) → Used plan certificate on u d → on ≡ true → u.need.works ≡ true
+    → (operation : Operation) → Among operation u.need.operations → (place : List (List ℕ))
     → target_describes (grant_holds plan.grants) u.slot.held.target (Node_at place) ≡ true → Allowed plan.grants operation place
 allowed_here plan certificate on u d has is_on works operation one place is =
     allowed_where plan certificate on u d has is_on works operation one place place is (λ name holds. holds)
@@ -178,7 +179,7 @@ renames_in plan certificate s table x y source to otherwise known d e from place
     let call = Renameat x source y to in
     let b = known.bound in
     let way : Through plan certificate b s.mode x (value_of s x) (first_use b call) d = through plan certificate s table call otherwise known x d refl here in
-    let other : Through plan certificate b s.mode y (value_of s y) (moving_to call) e = through_second plan certificate s table x y source to otherwise known e there in
+    let other : Through plan certificate b s.mode y (value_of s y) (use_of b moving_to) e = through_second plan certificate s table x y source to otherwise known e there in
     one_grant plan.grants way.slot.held.target other.slot.held.target from place
     (known_node plan.grants way.slot.held.target from (subst (λ z. target_describes holds way.slot.held.target z ≡ true) node way.slot.facts.target) (way.has.names refl))
     (known_node plan.grants other.slot.held.target place (subst (λ z. target_describes holds other.slot.held.target z ≡ true) target other.slot.facts.target) (other.has.names refl))

@@ -16,7 +16,7 @@ use Rattle.lookup.proofs.PlaceLaws.{no_directory_link, followed_good}
 use Rattle.prog_asm.specs.Programs.{Operand, Fstatat, Stat, Invoke}
 use Rattle.kernel.specs.World.{World, Choice}
 use Rattle.kernel.specs.Answers.{Event, Same_tree, Same_queue, Same_state}
-use Rattle.kernel.specs.Calls.{answer, kind_number, looked_at}
+use Rattle.kernel.specs.Calls.{answer, kind_number, stats_at}
 use Rattle.task.specs.Plans.{Plan}
 use Rattle.rules.specs.Outcomes.{from_to}
 use Rattle.rules.proofs.Seen.{subject_of, seen_of, table_of}
@@ -36,8 +36,8 @@ module _ (plan : Plan) (certificate : Certificate) (w : World) (e : Event) (s : 
   module _ (x : Operand) (path : List ℕ) (otherwise : ℕ) (known : Standing plan certificate w e.process s choice (Invoke (Fstatat x path) otherwise))
       (d : Descriptor) (opened : Opened plan certificate w e s choice (Fstatat x path) otherwise known x d) (n : ℕ) (access : Access)
       (is : w.files.objects d.description ≡ At_node n access) where
-    looked_beneath : (a : lookups.Answer) → find_of w.tree n path Beneath Follow ≡ a
-        → OwedBy plan certificate w e.process s choice (Fstatat x path) otherwise known (looked_at w e.process s e a)
+    looked_beneath : (a : lookups.Finding) → find_of w.tree n path Beneath Follow ≡ a
+        → OwedBy plan certificate w e.process s choice (Fstatat x path) otherwise known (stats_at w e.process s e a)
     looked_beneath (Not_found fault) found = owed_lost plan certificate w e s choice (Fstatat x path) otherwise known refl fault
     looked_beneath (Found_free k) found = owed_fails plan certificate w e.process s choice (Fstatat x path) otherwise known refl ENOENT errors.Path tt
     looked_beneath (Found_node m) found =
@@ -61,8 +61,8 @@ module _ (plan : Plan) (certificate : Certificate) (w : World) (e : Event) (s : 
       (looked_beneath x path otherwise known d opened n access is)))
 
   looked_anywhere : (path : List ℕ) (otherwise : ℕ) (known : Standing plan certificate w e.process s choice (Invoke (Stat path) otherwise))
-      (a : lookups.Answer) → find_of w.tree 0 path Global Follow ≡ a
-      → OwedBy plan certificate w e.process s choice (Stat path) otherwise known (looked_at w e.process s e a)
+      (a : lookups.Finding) → find_of w.tree 0 path Global Follow ≡ a
+      → OwedBy plan certificate w e.process s choice (Stat path) otherwise known (stats_at w e.process s e a)
   looked_anywhere path otherwise known (Not_found fault) found = owed_lost plan certificate w e s choice (Stat path) otherwise known refl fault
   looked_anywhere path otherwise known (Found_free k) found = owed_fails plan certificate w e.process s choice (Stat path) otherwise known refl ENOENT errors.Path tt
   looked_anywhere path otherwise known (Found_node m) found =

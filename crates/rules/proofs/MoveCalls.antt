@@ -24,7 +24,8 @@ use Rattle.task.specs.Plans.{Plan}
 use Rattle.task.specs.Policies.{grant_holds}
 use Rattle.task.specs.Sandboxed.{Allowed, AreAllowed}
 use Rattle.rules.specs.Intervals.{only}
-use Rattle.rules.specs.Uses.{moving_to}
+use Rattle.rules.specs.Needs.{moving_to}
+use Rattle.rules.specs.Uses.{use_of}
 use Rattle.rules.proofs.Seen.{subject_of, seen_of, table_of}
 use Rattle.rules.proofs.IntervalLaws.{only_fits}
 use Rattle.rules.proofs.Members.{Among}
@@ -55,7 +56,7 @@ module _ (plan : Plan) (certificate : Certificate) (w : World) (e : Event) (s : 
     is_second : w.files.objects target.description ≡ At_node m second_access
 
   module _ (d target : Descriptor) (n m : ℕ) (both : Both d target n m) where
-    second : Through plan certificate known.stands.bound s.mode y (value_of s y) (moving_to (Renameat x from y to)) (seen_of plan w target)
+    second : Through plan certificate known.stands.bound s.mode y (value_of s y) (use_of known.stands.bound moving_to) (seen_of plan w target)
     second = through_second plan certificate s (table_of plan w e.process) x y from to otherwise known.stands (seen_of plan w target) both.there
 
     leads : GoesOn plan certificate s known.stands.bound (only 0)
@@ -76,7 +77,7 @@ module _ (plan : Plan) (certificate : Certificate) (w : World) (e : Event) (s : 
     source_deep k name found held =
         subst (IsFoundDeep plan.grants name w.tree from) found (found_deep plan.grants name w.tree n from held known.acts.formed.world.tree)
 
-    target_deep : (a : lookups.Answer) (name : List ℕ) → find_of w.tree m to Beneath Keep ≡ a → grant_holds plan.grants name (node w.tree m).place ≡ true
+    target_deep : (a : lookups.Finding) (name : List ℕ) → find_of w.tree m to Beneath Keep ≡ a → grant_holds plan.grants name (node w.tree m).place ≡ true
         → IsFoundDeep plan.grants name w.tree to a
     target_deep a name found held =
         subst (IsFoundDeep plan.grants name w.tree to) found (found_deep plan.grants name w.tree m to held known.acts.formed.world.tree)
@@ -92,7 +93,7 @@ module _ (plan : Plan) (certificate : Certificate) (w : World) (e : Event) (s : 
         → Allowed plan.grants operation place
     at_target operation among place deep on =
         let g = second.slot in
-        allowed_where plan certificate s.mode (moving_to (Renameat x from y to) (record { number = value_of s y; held = g.held })) (seen_of plan w target) second.has on refl
+        allowed_where plan certificate s.mode (use_of known.stands.bound moving_to (record { number = value_of s y; held = g.held })) (seen_of plan w target) second.has on refl
         operation among (node w.tree m).place place
         (subject_is (grant_holds plan.grants) g.held (seen_of plan w target) (Node_at (node w.tree m).place) g.facts (ap (subject_of plan w.tree) both.is_second))
         (λ name held. deep_held plan.grants name place (deep name held))
@@ -135,14 +136,14 @@ module _ (plan : Plan) (certificate : Certificate) (w : World) (e : Event) (s : 
         owed_passed plan certificate w e.process s choice (Renameat x from y to) otherwise known _ _ _ _ second.has.rights
         (to_node k j found (λ name held. target_deep (Found_node j) name place held))
 
-    goes_to : (k : ℕ) → find_of w.tree n from Beneath Keep ≡ Found_node k → (b : lookups.Answer) → find_of w.tree m to Beneath Keep ≡ b
+    goes_to : (k : ℕ) → find_of w.tree n from Beneath Keep ≡ Found_node k → (b : lookups.Finding) → find_of w.tree m to Beneath Keep ≡ b
         → OwesMove (renamed_to w e.process s e (Renameat x from y to) target k to b)
     goes_to k found (Not_found fault) place = owed_lost plan certificate w e s choice (Renameat x from y to) otherwise known refl fault
     goes_to k found (Found_free j) place =
         to_free k (at_name (node w.tree j).place (last_component to)) found (λ name held. target_deep (Found_free j) name place held)
     goes_to k found (Found_node j) place = unless_same k j (k == j) found place
 
-    comes_from : (a b : lookups.Answer) → find_of w.tree n from Beneath Keep ≡ a → find_of w.tree m to Beneath Keep ≡ b
+    comes_from : (a b : lookups.Finding) → find_of w.tree n from Beneath Keep ≡ a → find_of w.tree m to Beneath Keep ≡ b
         → OwesMove (renamed_from w e.process s e a (λ k. renamed_to w e.process s e (Renameat x from y to) target k to b))
     comes_from (Not_found fault) b found place = owed_lost plan certificate w e s choice (Renameat x from y to) otherwise known refl fault
     comes_from (Found_free k) b found place = owed_fails plan certificate w e.process s choice (Renameat x from y to) otherwise known refl ENOENT errors.Path tt

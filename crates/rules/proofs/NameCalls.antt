@@ -18,7 +18,7 @@ use Rattle.lookup.specs.Paths.{last_component}
 use Rattle.prog_asm.specs.Programs.{Operand, Syscall, Mkdirat, Mkdir, Unlinkat, Unlink, Invoke}
 use Rattle.kernel.specs.World.{World, Choice}
 use Rattle.kernel.specs.Answers.{Event, Answer, Make, Remove, Same_queue, Same_state}
-use Rattle.kernel.specs.Calls.{answer, made_directory, unlinked_as, unlinked}
+use Rattle.kernel.specs.Calls.{answer, made_directory, unlinks_as, unlinks}
 use Rattle.task.specs.Plans.{Plan}
 use Rattle.task.specs.Policies.{grant_holds}
 use Rattle.rules.specs.Demands.{demands}
@@ -46,7 +46,7 @@ module _ (plan : Plan) (certificate : Certificate) (w : World) (e : Event) (s : 
   module _ (x : Operand) (path : List ℕ) (otherwise : ℕ) (known : Standing plan certificate w e.process s choice (Invoke (Mkdirat x path) otherwise))
       (d : Descriptor) (opened : Opened plan certificate w e s choice (Mkdirat x path) otherwise known x d) (n : ℕ) (access : Access)
       (is : w.files.objects d.description ≡ At_node n access) where
-    made_beneath : (a : lookups.Answer) → find_of w.tree n path Beneath Keep ≡ a
+    made_beneath : (a : lookups.Finding) → find_of w.tree n path Beneath Keep ≡ a
         → OwedBy plan certificate w e.process s choice (Mkdirat x path) otherwise known (made_directory w e.process s e path a)
     made_beneath (Not_found fault) found = owed_lost plan certificate w e s choice (Mkdirat x path) otherwise known refl fault
     made_beneath (Found_node m) found = owed_fails plan certificate w e.process s choice (Mkdirat x path) otherwise known refl EEXIST errors.Path tt
@@ -84,7 +84,7 @@ module _ (plan : Plan) (certificate : Certificate) (w : World) (e : Event) (s : 
     abbrev OwesUnlinkat : Answer → Type 0
     OwesUnlinkat a = OwedBy plan certificate w e.process s choice (Unlinkat x path directory) otherwise known a
 
-    kind_asked : (b : Bool) (m : ℕ) (rest : Answer) → OwesUnlinkat rest → OwesUnlinkat (unlinked_as w e.process s e b m rest)
+    kind_asked : (b : Bool) (m : ℕ) (rest : Answer) → OwesUnlinkat rest → OwesUnlinkat (unlinks_as w e.process s e b m rest)
     kind_asked true m rest owed =
         owed_unless plan certificate w e.process s choice (Unlinkat x path directory) otherwise known refl (is_dir (node w.tree m).kind) ENOTDIR errors.Path _ tt (λ dir.
         owed_unless plan certificate w e.process s choice (Unlinkat x path directory) otherwise known refl (not (has_below w.tree (node w.tree m).place)) ENOTEMPTY errors.Path rest tt
@@ -98,7 +98,7 @@ module _ (plan : Plan) (certificate : Certificate) (w : World) (e : Event) (s : 
     deep_found m name found held =
         subst (IsFoundDeep plan.grants name w.tree path) found (found_deep plan.grants name w.tree n path held known.acts.formed.world.tree)
 
-    removed_beneath : (a : lookups.Answer) → find_of w.tree n path Beneath Keep ≡ a → OwesUnlinkat (unlinked w e.process s e directory a)
+    removed_beneath : (a : lookups.Finding) → find_of w.tree n path Beneath Keep ≡ a → OwesUnlinkat (unlinks w e.process s e directory a)
     removed_beneath (Not_found fault) found = owed_lost plan certificate w e s choice (Unlinkat x path directory) otherwise known refl fault
     removed_beneath (Found_free k) found = owed_fails plan certificate w e.process s choice (Unlinkat x path directory) otherwise known refl ENOENT errors.Path tt
     removed_beneath (Found_node m) found =

@@ -10,11 +10,11 @@ use Rattle.file_tree.specs.Places.{at_name}
 use Rattle.file_tree.specs.WellFormed.{IsTree}
 use Rattle.file_tree.proofs.PlaceLaws.{begins_append}
 use Rattle.file_tree.proofs.TreeLaws.{filled_same}
-use Rattle.lookup.specs.Answers.{Way, Beneath, Global, Last, Follow, Keep, Fault, Answer, Found_node, Found_free, Not_found, Escape, No_entry, Not_dir, Loop, Too_long, Bad_last}
+use Rattle.lookup.specs.Answers.{Way, Beneath, Global, Last, Follow, Keep, LookupFault, Finding, Found_node, Found_free, Not_found, Escape, No_entry, Not_dir, Loop, Too_long, Bad_last}
 use Rattle.lookup.specs.Answers as lookups
 use Rattle.lookup.specs.Looks.{find_of}
 use Rattle.lookup.specs.Paths.{last_component}
-use Rattle.lookup.specs.Promises.{IsThere, IsFollowed}
+use Rattle.lookup.specs.Promises.{IsFindingThere, IsFollowed}
 use Rattle.lookup.proofs.LookLaws.{find_looks}
 use Rattle.lookup.proofs.PlaceLaws.{looks_there, followed_good}
 use Rattle.process.specs.State.{ProcessState}
@@ -32,7 +32,7 @@ use Rattle.task.specs.Plans.{Grant, Plan}
 use Rattle.task.specs.Policies.{grant_holds}
 use Rattle.task.specs.Sandboxed.{Allowed, AreAllowed}
 use Rattle.rules.specs.Demands.{demands}
-use Rattle.rules.specs.Uses.{operation_if}
+use Rattle.rules.specs.Needs.{operation_if}
 use Rattle.rules.specs.Intervals.{only}
 use Rattle.rules.specs.Outcomes.{target_of_path}
 use Rattle.rules.proofs.Seen.{subject_of, seen_of, table_of}
@@ -63,7 +63,7 @@ abbrev at_node : List (List ℕ) → ℕ → ℕ → Seen
 at_node place rights fcntls = record { subject = Node_at place; rights = rights; fcntls = fcntls }
 
 -- What a lookup finds, or where what it would make comes to stand.
-abbrev IsReached : List Node → List ℕ → Bool → (List (List ℕ) → Type 0) → lookups.Answer → Type 0
+abbrev IsReached : List Node → List ℕ → Bool → (List (List ℕ) → Type 0) → lookups.Finding → Type 0
 IsReached t path create Reaches (Found_node n) = (n < length t) × Reaches (node t n).place
 IsReached t path create Reaches (Found_free d) = (create ≡ true) × Reaches (at_name (node t d).place (last_component path))
 IsReached t path create Reaches (Not_found fault) = Unit {0}
@@ -144,7 +144,7 @@ module _ (plan : Plan) (certificate : Certificate) (w : World) (e : Event) (s : 
         (deep_truncated plan w.tree f.trunc n) (truncating f.trunc refl (node w.tree n).place reaches) (truncated_place w.tree f.trunc n there)
         (takes (node w.tree n).place number reaches free)))
 
-    pub owed_opened : (path : List ℕ) (a : lookups.Answer) → IsReached w.tree path f.create Reaches a
+    pub owed_opened : (path : List ℕ) (a : lookups.Finding) → IsReached w.tree path f.create Reaches a
         → OwedBy plan certificate w e.process s choice call otherwise known (opened w e.process s e f rights fcntls path a)
     owed_opened path (Not_found fault) reached = owed_lost plan certificate w e s choice call otherwise known may fault
     owed_opened path (Found_node n) reached = owed_opened_as n (node w.tree n).kind reached.0 reached.1
@@ -169,7 +169,7 @@ free_made : (t : List Node) (start : ℕ) (path : List ℕ) (way : Way) → IsTr
 free_made t start path way tree no_link create Reaches node_there name_there =
     go create node_there name_there
   where
-    found : (last : Last) (made : Bool) (a : lookups.Answer) → IsThere t a → (last ≡ Follow → IsFollowed t a) → (made ≡ false → last ≡ Follow)
+    found : (last : Last) (made : Bool) (a : lookups.Finding) → IsFindingThere t a → (last ≡ Follow → IsFollowed t a) → (made ≡ false → last ≡ Follow)
         → ((n : ℕ) → a ≡ Found_node n → Reaches (node t n).place)
         → ((d : ℕ) → made ≡ true → a ≡ Found_free d → Reaches (at_name (node t d).place (last_component path)))
         → IsReached t path made Reaches a
@@ -178,7 +178,7 @@ free_made t start path way tree no_link create Reaches node_there name_there =
     found last false (Found_free d) there followed follows nodes names = absurd (followed (follows refl))
     found last made (Not_found fault) there followed follows nodes names = tt
 
-    there_at : (last : Last) → IsThere t (find_of t start path way last)
+    there_at : (last : Last) → IsFindingThere t (find_of t start path way last)
     there_at last = looks_there t start path way last (find_of t start path way last) (find_looks t start path way last)
 
     go : (made : Bool)

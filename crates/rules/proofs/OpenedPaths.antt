@@ -4,14 +4,14 @@ use Rattle.std.specs.Prelude.{Option, Some, None, MatchOption}
 use Rattle.std.specs.List.{slice_get, list_all}
 use Rattle.std.specs.Str.{bytes_eq}
 use Rattle.rights.proofs.Words.{same_bytes}
-use Rattle.file_tree.specs.Places.{begins, is_name, place_text}
+use Rattle.file_tree.specs.Places.{begins, is_file_name, place_text}
 use Rattle.file_tree.specs.Nodes.{Node, node}
 use Rattle.file_tree.specs.WellFormed.{IsTree}
 use Rattle.file_tree.proofs.KeptByCreate.{names_kept}
 use Rattle.file_tree.proofs.NodeLaws.{Directory, directory}
 use Rattle.file_tree.proofs.PlaceLaws.{begins_refl}
 use Rattle.file_tree.proofs.PlaceTexts.{components_of_text}
-use Rattle.lookup.specs.Answers.{Global, Last, Fault, Answer, Found_node, Found_free, Not_found}
+use Rattle.lookup.specs.Answers.{Global, Last, LookupFault, Finding, Found_node, Found_free, Not_found}
 use Rattle.lookup.specs.ByPlaces.{by_places}
 use Rattle.lookup.specs.Leads.{Leads}
 use Rattle.lookup.specs.Looks.{lookup_fault, first_stand, Looks, find_of}
@@ -29,7 +29,7 @@ use Rattle.rules.specs.Outcomes.{target_of_path}
 use Rattle.rules.proofs.Invariant.{AreClear}
 
 -- the target that a path has describes the node that is found
-abbrev pub IsTargeted : Plan → List Node → Target → Answer → Type 0
+abbrev pub IsTargeted : Plan → List Node → Target → Finding → Type 0
 IsTargeted plan t target (Found_node n) = target_describes (grant_holds plan.grants) target (Node_at (node t n).place) ≡ true
 IsTargeted plan t target (Found_free d) = Unit {0}
 IsTargeted plan t target (Not_found fault) = Unit {0}
@@ -40,7 +40,7 @@ module _ (plan : Plan) (grants : KeepsGrants plan) (w : World) (tree : IsTree w.
   unfolding Looks
   no_fault path n led = go (lookup_fault w.tree 0 path Global last) refl led
     where
-      go : (o : Option Fault) → lookup_fault w.tree 0 path Global last ≡ o
+      go : (o : Option LookupFault) → lookup_fault w.tree 0 path Global last ≡ o
           → MatchOption o (Leads (by_places w.tree Global last []) (first_stand [] path) (Found_node n)) (λ fault. Found_node n ≡ Not_found fault)
           → lookup_fault w.tree 0 path Global last ≡ None
       go None is led = is
@@ -50,7 +50,7 @@ module _ (plan : Plan) (grants : KeepsGrants plan) (w : World) (tree : IsTree w.
   spelled : (j : ℕ) (g : Grant) → slice_get plan.grants j ≡ Some g → (n : ℕ) → find_of w.tree 0 (place_text g.path) Global last ≡ Found_node n → (node w.tree n).place ≡ g.path
   spelled j g there n found =
       let d : Directory w.tree g.path = directory w.tree g.path (clear j g there) in
-      let names : list_all is_name g.path ≡ true = subst (λ p. list_all is_name p ≡ true) d.place (names_kept w.tree tree d.number d.linked) in
+      let names : list_all is_file_name g.path ≡ true = subst (λ p. list_all is_file_name p ≡ true) d.place (names_kept w.tree tree d.number d.linked) in
       let spells : Spells w.tree [] (place_text g.path) d.number = record {
         linked = d.linked;
         opened = no_directory_link (node w.tree d.number).kind d.kind;
@@ -67,7 +67,7 @@ module _ (plan : Plan) (grants : KeepsGrants plan) (w : World) (tree : IsTree w.
       subst (λ o. holds_in o (node w.tree n).place ≡ true) (sym (grants.found j g there)) (subst (λ p. begins g.path p ≡ true) (sym place) (begins_refl g.path))
 
   targeted : (path : List ℕ) (gs : List Grant) → ((i : ℕ) (g : Grant) → slice_get gs i ≡ Some g → (j : ℕ) × (slice_get plan.grants j ≡ Some g))
-      → (a : Answer) → find_of w.tree 0 path Global last ≡ a → IsTargeted plan w.tree (target_of_path gs path) a
+      → (a : Finding) → find_of w.tree 0 path Global last ≡ a → IsTargeted plan w.tree (target_of_path gs path) a
   targeted path gs among (Found_free d) found = tt
   targeted path gs among (Not_found fault) found = tt
   targeted path [] among (Found_node n) found = refl

@@ -3,7 +3,9 @@ use Rattle.std.proofs.Common.{◌≡◌, [], ◌∷◌, refl}
 use Rattle.std.specs.Prelude.{◌++◌, ◌-◌, ℕ, true, false, List, map, codes, Some, None}
 use Rattle.rights.specs.Classes.{Made_at}
 use Rattle.rights.specs.Opens.{OpenRequest, open_request}
-use Rattle.prog_asm.specs.Programs.{Register, Number, Syscall, Open, Openat, Read, Write, Sendfd, Recvfd, Lseek, Ftruncate, Fsync, Fstat, Fcntl_getfl, Fcntl_setfl, Fstatat, Stat, Mkdirat, Mkdir, Unlinkat, Unlink, Renameat, Dup, Close, Cap_rights_limit, Cap_fcntls_limit, Cap_enter, Cap_getmode, Socketpair, Fork, Instruction, Set, Mov, Add, In, Jmp, Jeq, Jlt, Halt, Invoke}
+use Rattle.prog_asm.specs.Programs.{Register, Number, Syscall, Open, Openat, Read, Write, Sendfd, Recvfd, Lseek, Ftruncate, Fsync, Fstat, Fcntl_getfl, Fcntl_setfl, Fstatat, Stat}
+use Rattle.prog_asm.specs.Programs.{Mkdirat, Mkdir, Unlinkat, Unlink, Renameat, Dup, Close, Cap_rights_limit, Cap_fcntls_limit, Cap_enter, Cap_getmode, Socketpair, Fork}
+use Rattle.prog_asm.specs.Programs.{Instruction, Set, Mov, Add, In, Jmp, Jeq, Jlt, Halt, Invoke}
 use Rattle.certificate.specs.Bounds.{ModeBound, Off, On, Either, Interval, full_interval, with_interval, Any_node, Socket, Held, Slot, Closed, Maybe, with_slot, Bound, ChannelBound}
 use Rattle.certificate.specs.Growth.{copies}
 use Rattle.rules.specs.Intervals.{only}
@@ -11,7 +13,7 @@ use Rattle.rules.specs.Slots.{slots_in, free_numbers}
 use Rattle.rules.specs.Uses.{uses}
 use Rattle.rules.specs.Channels.{channel_at}
 use Rattle.rules.specs.Outcomes.{Outcome, outcome_to, from_to, all_held, unknown_held, successes, error_outcomes}
-use Rattle.rules.specs.Probes.{bound_with, in_work, any_node, side_a, channel}
+use Rattle.rules.specs.Probes.{bound_of_slots, in_work, any_node, side_a, channel}
 use Rattle.rules.proofs.Samples.{work, log, few_rights, few, few_or_all, is_open, certificate_of}
 
 abbrev to_read : OpenRequest
@@ -22,7 +24,7 @@ name = codes "in"
 
 -- Slot 0 has a directory with some rights, slot 1 an end, slot 2 is free, and slot 3 may have any node. Register 1 is 0 or 1.
 abbrev here_in : ModeBound → List Slot → Bound
-here_in mode slots = with_interval (bound_with mode slots) 1 (from_to 0 1)
+here_in mode slots = with_interval (bound_of_slots mode slots) 1 (from_to 0 1)
 
 abbrev some_slots : List Slot
 some_slots = is_open few_or_all ∷ is_open side_a ∷ Closed ∷ Maybe any_node ∷ []
@@ -229,7 +231,7 @@ makes_a_pair = refl
 
 -- ## Numbers that are free
 abbrev all_but_free : ℕ → Bound
-all_but_free free = bound_with Off (copies (16 - free) (is_open few))
+all_but_free free = bound_of_slots Off (copies (16 - free) (is_open few))
 
 takes_the_last : after (all_but_free 1) (Dup (Number 0)) ≡ gives (with_slot (all_but_free 1) 15 (is_open few)) (only 15)
 unfolding slots_in free_numbers uses channel_at successes error_outcomes
@@ -239,12 +241,12 @@ takes_none : after (all_but_free 0) (Dup (Number 0)) ++ after (all_but_free 0) (
 unfolding slots_in free_numbers uses channel_at successes error_outcomes
 takes_none = refl
 
-takes_two_behind_open_ones : after (bound_with Off (is_open few ∷ Closed ∷ is_open few ∷ Closed ∷ Maybe few ∷ [])) Socketpair
-    ≡ gives (with_interval (with_slot (with_slot (bound_with Off (is_open few ∷ Closed ∷ is_open few ∷ Closed ∷ Maybe few ∷ [])) 1 (new_end 0)) 3 (new_end 1)) 1 (only 3)) (only 1)
+takes_two_behind_open_ones : after (bound_of_slots Off (is_open few ∷ Closed ∷ is_open few ∷ Closed ∷ Maybe few ∷ [])) Socketpair
+    ≡ gives (with_interval (with_slot (with_slot (bound_of_slots Off (is_open few ∷ Closed ∷ is_open few ∷ Closed ∷ Maybe few ∷ [])) 1 (new_end 0)) 3 (new_end 1)) 1 (only 3)) (only 1)
 unfolding slots_in free_numbers uses channel_at successes error_outcomes
 takes_two_behind_open_ones = refl
 
-takes_none_that_may_be_taken : after (bound_with Off (Closed ∷ Maybe few ∷ [])) Socketpair ++ after (bound_with Off (Maybe few ∷ [])) (Open name to_read) ≡ []
+takes_none_that_may_be_taken : after (bound_of_slots Off (Closed ∷ Maybe few ∷ [])) Socketpair ++ after (bound_of_slots Off (Maybe few ∷ [])) (Open name to_read) ≡ []
 unfolding slots_in free_numbers uses channel_at successes error_outcomes
 takes_none_that_may_be_taken = refl
 

@@ -18,7 +18,7 @@ use Rattle.certificate.specs.Describes.{Subject, Node_at, End_of, Seen, Holds, t
 use Rattle.certificate.proofs.Smaller.{Between, from_between}
 use Rattle.rules.specs.Intervals.{only}
 use Rattle.rules.specs.Slots.{OpenSlot, slots_in, free_numbers}
-use Rattle.rules.specs.Outcomes.{Outcome, all_held, unknown_held, target_of_path, beneath_target, may_be_end, may_be_node, at_number, goes_on, takes, successes_of}
+use Rattle.rules.specs.Outcomes.{Outcome, all_held, unknown_held, target_of_path, beneath_target, may_be_end, may_be_node, at_lowest, leads_on, takes, successes_of}
 use Rattle.rules.proofs.Members.{Among, among_flat}
 use Rattle.rules.proofs.Asked.{Leads}
 use Rattle.rules.proofs.AskedCalls.{AskedCall}
@@ -120,7 +120,7 @@ module _ (plan : Plan) (certificate : Certificate) (s : ProcessState) (table : �
   name = program_name plan s.program
 
   abbrev pub next : Bound → Bound → Interval → List Outcome
-  next b after i = goes_on plan.grants certificate name s.point b after i
+  next b after i = leads_on plan.grants certificate name s.point b after i
 
   abbrev pub to_next : Bound → Interval → Outcome
   to_next after i = record { point = s.point + 1; bound = with_interval after 0 i }
@@ -169,5 +169,5 @@ module _ (plan : Plan) (certificate : Certificate) (s : ProcessState) (table : �
         → Among (to_next (with_slot known.bound k (bounds.Open h)) (only k)) (takes plan.grants certificate name s.point known.bound h)
     taken k h numbers =
         let P : Option (List ℕ) → Type 0 = λ o.
-        Among (to_next (with_slot known.bound k (bounds.Open h)) (only k)) (at_number o (λ n. next known.bound (with_slot known.bound n (bounds.Open h)) (only n))) in
+        Among (to_next (with_slot known.bound k (bounds.Open h)) (only k)) (at_lowest o (λ n. next known.bound (with_slot known.bound n (bounds.Open h)) (only n))) in
         subst P (sym numbers) (inl refl)

@@ -4,7 +4,7 @@ use Rattle.std.proofs.Common.{◌≡◌, ℕ, Bool, true, false, List, refl, sym
 use Rattle.std.specs.Prelude.{◌||◌, slice_set, Option, Some, None}
 use Rattle.rights.specs.Errors.{Errno, Cause, EBADF, BadDescriptor, EMFILE, Full}
 use Rattle.process.specs.State.{ProcessState}
-use Rattle.fd_table.specs.Descriptions.{Class, Access, Object, At_node, At_end, Descriptor}
+use Rattle.fd_table.specs.Descriptions.{PairClass, Access, Object, At_node, At_end, Descriptor}
 use Rattle.prog_asm.specs.Programs.{Syscall, Instruction, Invoke}
 use Rattle.certificate.specs.Bounds.{Interval, with_interval, Bound, Certificate}
 use Rattle.certificate.specs.Describes.{interval_describes}
@@ -92,7 +92,7 @@ module _ (plan : Plan) (certificate : Certificate) (w : World) (p : ℕ) (s : Pr
 
   pub owed_object : (o : Object) (on_node : ℕ → Access → Answer) (on_end : ℕ → ℕ → Answer)
       → ((n : ℕ) (access : Access) → o ≡ At_node n access → OwedBy (on_node n access))
-      → ((pair side : ℕ) (class : Class) → o ≡ At_end pair side class → OwedBy (on_end pair side)) → OwedBy (at_object o on_node on_end)
+      → ((pair side : ℕ) (class : PairClass) → o ≡ At_end pair side class → OwedBy (on_end pair side)) → OwedBy (at_object o on_node on_end)
   unfolding at_object
   owed_object (At_node n access) on_node on_end node end = node n access refl
   owed_object (At_end pair side class) on_node on_end node end = end pair side class refl

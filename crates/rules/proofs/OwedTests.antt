@@ -11,7 +11,7 @@ use Rattle.process.specs.State.{ProcessState}
 use Rattle.certificate.specs.Bounds.{Certificate}
 use Rattle.certificate.specs.Describes.{Node_at, target_describes}
 use Rattle.fd_table.specs.Descriptions.{Access, At_node, Descriptor, IfHeld}
-use Rattle.lookup.specs.Answers.{Way, Beneath, Last, Keep, Fault, Escape, No_entry, Not_dir, Loop, Too_long, Bad_last}
+use Rattle.lookup.specs.Answers.{Way, Beneath, Last, Keep, LookupFault, Escape, No_entry, Not_dir, Loop, Too_long, Bad_last}
 use Rattle.lookup.specs.Answers as lookups
 use Rattle.lookup.specs.Looks.{find_of}
 use Rattle.prog_asm.specs.Programs.{Operand, Syscall, Invoke}
@@ -59,7 +59,7 @@ module _ (plan : Plan) (certificate : Certificate) (w : World) (e : Event) (s : 
   -- the call goes through it
   pub owed_through :
       (x : Operand) → first_operand call ≡ Some x → (demands call).never_fails ≡ false → (need : ℕ)
-      → ((slot : OpenSlot) → (first_use known.stands.bound call slot).rights ≡ need) → (rest : Descriptor → Answer)
+      → ((slot : OpenSlot) → (first_use known.stands.bound call slot).need.rights ≡ need) → (rest : Descriptor → Answer)
       → ((d : Descriptor) → Opened x d → Owes (rest d)) → Owes (through need (w.files.table e.process (value_of s x)) rest)
   owed_through x first may need needs rest owed =
       owed_held plan certificate w e.process s choice call otherwise known may (w.files.table e.process (value_of s x)) (λ d. granted need d (rest d)) (λ d here.
@@ -72,8 +72,8 @@ module _ (plan : Plan) (certificate : Certificate) (w : World) (e : Event) (s : 
   -- What the call does to a node is allowed, if the node is in each grant that holds the descriptor's, or is that.
   pub allowed_through :
       (x : Operand) (d : Descriptor) (opened : Opened x d) (n : ℕ) (access : Access) → w.files.objects d.description ≡ At_node n access
-      → ((slot : OpenSlot) → (first_use known.stands.bound call slot).works ≡ true) → (operation : Operation)
-      → ((slot : OpenSlot) → Among operation (first_use known.stands.bound call slot).operations)
+      → ((slot : OpenSlot) → (first_use known.stands.bound call slot).need.works ≡ true) → (operation : Operation)
+      → ((slot : OpenSlot) → Among operation (first_use known.stands.bound call slot).need.operations)
       → ((slot : OpenSlot) → (first_use known.stands.bound call slot).slot ≡ slot) → (place : List (List ℕ))
       → ((name : List ℕ) → grant_holds plan.grants name (node w.tree n).place ≡ true → grant_holds plan.grants name place ≡ true)
       → s.mode ≡ true → AreAllowed plan.grants (does operation place)
@@ -133,7 +133,7 @@ module _ (plan : Plan) (certificate : Certificate) (w : World) (e : Event) (s : 
       (λ pair side class is. owed_fails plan certificate w e.process s choice call otherwise known may EINVAL errors.Kind tt)
 
   -- ## Lookups
-  pub owed_lost : (demands call).never_fails ≡ false → (fault : Fault) → Owes (lookup_fails fault)
+  pub owed_lost : (demands call).never_fails ≡ false → (fault : LookupFault) → Owes (lookup_fails fault)
   owed_lost may Escape = owed_fails plan certificate w e.process s choice call otherwise known may ENOTCAPABLE errors.Escape tt
   owed_lost may No_entry = owed_fails plan certificate w e.process s choice call otherwise known may ENOENT errors.Path tt
   owed_lost may Not_dir = owed_fails plan certificate w e.process s choice call otherwise known may ENOTDIR errors.Path tt
@@ -142,14 +142,14 @@ module _ (plan : Plan) (certificate : Certificate) (w : World) (e : Event) (s : 
   owed_lost may Bad_last = owed_fails plan certificate w e.process s choice call otherwise known may EINVAL errors.Path tt
 
   pub owed_looks :
-      (start : ℕ) (way : Way) (path : List ℕ) (last : Last) (rest : lookups.Answer → Answer)
-      → ((a : lookups.Answer) → find_of w.tree start path way last ≡ a → Owes (rest a)) → Owes (looks w e.process s e start way path last rest)
+      (start : ℕ) (way : Way) (path : List ℕ) (last : Last) (rest : lookups.Finding → Answer)
+      → ((a : lookups.Finding) → find_of w.tree start path way last ≡ a → Owes (rest a)) → Owes (looks w e.process s e start way path last rest)
   unfolding looks
   owed_looks start way path last rest owed = owed (find_of w.tree start path way last) refl
 
   pub owed_twice :
-      (n : ℕ) (from : List ℕ) (m : ℕ) (to : List ℕ) (rest : lookups.Answer → lookups.Answer → Answer)
-      → ((a b : lookups.Answer) → find_of w.tree n from Beneath Keep ≡ a → find_of w.tree m to Beneath Keep ≡ b → Owes (rest a b))
+      (n : ℕ) (from : List ℕ) (m : ℕ) (to : List ℕ) (rest : lookups.Finding → lookups.Finding → Answer)
+      → ((a b : lookups.Finding) → find_of w.tree n from Beneath Keep ≡ a → find_of w.tree m to Beneath Keep ≡ b → Owes (rest a b))
       → Owes (looks_twice w e.process s e n from m to rest)
   unfolding looks_twice
   owed_twice n from m to rest owed = owed (find_of w.tree n from Beneath Keep) (find_of w.tree m to Beneath Keep) refl refl

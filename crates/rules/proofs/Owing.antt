@@ -7,7 +7,7 @@ use Rattle.rights.specs.Errors.{Errno, Cause}
 use Rattle.rights.proofs.Changes.{put-cases}
 use Rattle.rights.proofs.Lists.{slice_get-set_same, slice_get-set_cases}
 use Rattle.process.specs.State.{ProcessState}
-use Rattle.fd_table.specs.Descriptions.{Class, Descriptor, IfHeld}
+use Rattle.fd_table.specs.Descriptions.{PairClass, Descriptor, IfHeld}
 use Rattle.prog_asm.specs.Programs.{Instruction}
 use Rattle.certificate.specs.Bounds.{Certificate}
 use Rattle.kernel.specs.World.{World, Choice}
@@ -33,16 +33,16 @@ pub record Standing (plan : Plan) (certificate : Certificate) (w : World) (p : �
 
 -- What a step leaves: the frame, the classes of pairs, and what the acting process owes of itself, of a child, and of what
 -- it has sent.
-pub record Leaves (plan : Plan) (certificate : Certificate) (w v : World) (p : ℕ) (choice : Choice) (classes : ℕ → Class) : Type 0 where
+pub record Leaves (plan : Plan) (certificate : Certificate) (w v : World) (p : ℕ) (choice : Choice) (classes : ℕ → PairClass) : Type 0 where
   pub queue : QueueChange
   pub frame : Frame plan w v choice queue p
-  pub after : ℕ → Class
+  pub after : ℕ → PairClass
   pub kept : KeepsClasses v choice classes after
   pub owes : Owes (bounds plan certificate) w v after queue p
 
 -- What is owed of a step: in the mode its effects are allowed, no call is refused for a right or by the mode, and it
 -- leaves what it must.
-pub record Owed (plan : Plan) (certificate : Certificate) (w : World) (p : ℕ) (s : ProcessState) (choice : Choice) (classes : ℕ → Class) (x : Executed) : Type 0 where
+pub record Owed (plan : Plan) (certificate : Certificate) (w : World) (p : ℕ) (s : ProcessState) (choice : Choice) (classes : ℕ → PairClass) (x : Executed) : Type 0 where
   pub allowed : s.mode ≡ true → AreAllowed plan.grants x.effects
   pub unrefused : IsUnrefused x.outcome
   pub leaves : Leaves plan certificate w x.world p choice classes

@@ -9,7 +9,7 @@ use Rattle.rights.proofs.Changes.{put-same, put-other}
 use Rattle.rights.proofs.Tests.{both_left, both_right}
 use Rattle.certificate.specs.Bounds.{Slot}
 use Rattle.certificate.specs.Describes.{Seen, Holds, slot_describes, slots_describe}
-use Rattle.fd_table.specs.Descriptions.{Access, Class, Object, At_node, At_end, Descriptor, descriptor_of}
+use Rattle.fd_table.specs.Descriptions.{Access, PairClass, Object, At_node, At_end, Descriptor, descriptor_of}
 use Rattle.kernel.specs.World.{World, Choice}
 use Rattle.kernel.specs.Answers.{TableChange, Same_table, Set_entry, Clear_entry, New_file, New_pair, New_process, QueueChange}
 use Rattle.kernel.specs.Changes.{objects_after, table_after}
@@ -103,13 +103,13 @@ pub file_object : (objects : ℕ → Object) (choice : Choice) (number n : ℕ) 
     → objects_after objects choice (New_file number n access append rights fcntls) choice.first ≡ At_node n access
 file_object objects choice number n access append rights fcntls = put-same objects choice.first (At_node n access)
 
-pub first_object : (objects : ℕ → Object) (choice : Choice) (first second : ℕ) (class : Class) → choice.first ≢ choice.second
+pub first_object : (objects : ℕ → Object) (choice : Choice) (first second : ℕ) (class : PairClass) → choice.first ≢ choice.second
     → objects_after objects choice (New_pair first second class) choice.first ≡ At_end choice.pair 0 class
 first_object objects choice first second class apart =
     put-other (put objects choice.first (At_end choice.pair 0 class)) choice.second (At_end choice.pair 1 class) choice.first apart
     ∙ put-same objects choice.first (At_end choice.pair 0 class)
 
-pub second_object : (objects : ℕ → Object) (choice : Choice) (first second : ℕ) (class : Class)
+pub second_object : (objects : ℕ → Object) (choice : Choice) (first second : ℕ) (class : PairClass)
     → objects_after objects choice (New_pair first second class) choice.second ≡ At_end choice.pair 1 class
 second_object objects choice first second class =
     put-same (put objects choice.first (At_end choice.pair 0 class)) choice.second (At_end choice.pair 1 class)

@@ -7,7 +7,7 @@ use Rattle.file_tree.specs.Nodes.{node}
 use Rattle.process.specs.State.{ProcessState}
 use Rattle.certificate.specs.Bounds.{Held, Slot, Closed, Open}
 use Rattle.certificate.specs.Describes.{Seen, Node_at, End_of, held_describes, slots_describe}
-use Rattle.fd_table.specs.Descriptions.{Access, Class, Descriptor, descriptor_of}
+use Rattle.fd_table.specs.Descriptions.{Access, PairClass, Descriptor, descriptor_of}
 use Rattle.kernel.specs.World.{World, Choice}
 use Rattle.kernel.specs.Answers.{TableChange, Same_table, Set_entry, Clear_entry, New_file, New_pair, New_process, Change}
 use Rattle.kernel.specs.Changes.{tree_after, objects_after, table_after, files_after, changed}
@@ -23,7 +23,7 @@ use Rattle.rules.proofs.OwnRows.{row_of, row_put, row_stays, row_after, own_row,
 module _ (plan : Plan) (w : World) (p : ℕ) (s : ProcessState) (choice : Choice)
     (acts : Acts plan w p s choice) (t : ProcessState) (change : Change) (deep : IsDeepChange plan.grants w.tree change.tree) where
   -- a descriptor that is named is seen as before
-  pub held_later : (classes : ℕ → Class) (h : Held) (d : Descriptor) → IsNamed w choice classes d
+  pub held_later : (classes : ℕ → PairClass) (h : Held) (d : Descriptor) → IsNamed w choice classes d
       → held_describes (grant_holds plan.grants) h (seen_of plan w d) ≡ true
       → held_describes (grant_holds plan.grants) h (seen_of plan (changed w p t choice change) d) ≡ true
   held_later classes h d named is =
@@ -69,7 +69,7 @@ module _ (plan : Plan) (w : World) (p : ℕ) (s : ProcessState) (choice : Choice
       (subst (λ c. slots_describe (grant_holds plan.grants) 0 slots (row_of plan (changed w p t choice change) (row_after (w.files.table p) choice c)) ≡ true) (sym is) row)
 
   -- a number gets a descriptor that is named
-  pub set_slots : (number : ℕ) (d : Descriptor) → change.table ≡ Set_entry number d → (classes : ℕ → Class) (h : Held) → IsNamed w choice classes d
+  pub set_slots : (number : ℕ) (d : Descriptor) → change.table ≡ Set_entry number d → (classes : ℕ → PairClass) (h : Held) → IsNamed w choice classes d
       → held_describes (grant_holds plan.grants) h (seen_of plan w d) ≡ true → (slots : List Slot)
       → slots_describe (grant_holds plan.grants) 0 slots (table_of plan w p) ≡ true
       → slots_describe (grant_holds plan.grants) 0 (slice_set slots number (Open h)) (table_of plan (changed w p t choice change) p) ≡ true
@@ -108,7 +108,7 @@ module _ (plan : Plan) (w : World) (p : ℕ) (s : ProcessState) (choice : Choice
       (sym (ap (λ c. objects_after w.files.objects choice c choice.first) opens ∙ file_object w.files.objects choice number n access append rights fcntls)) held)
       (old_slots slots is))
 
-  pub pair_slots : (first second : ℕ) (class : Class) → change.table ≡ New_pair first second class → (one other : Held)
+  pub pair_slots : (first second : ℕ) (class : PairClass) → change.table ≡ New_pair first second class → (one other : Held)
       → held_describes (grant_holds plan.grants) one (record { subject = End_of (class_of plan class) 0; rights = all_rights; fcntls = all_commands }) ≡ true
       → held_describes (grant_holds plan.grants) other (record { subject = End_of (class_of plan class) 1; rights = all_rights; fcntls = all_commands }) ≡ true
       → (slots : List Slot) → slots_describe (grant_holds plan.grants) 0 slots (table_of plan w p) ≡ true

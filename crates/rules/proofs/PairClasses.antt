@@ -5,7 +5,7 @@ use Rattle.rights.specs.Maps.{put, put2}
 use Rattle.rights.specs.Sets.{all_rights, all_commands}
 use Rattle.rights.proofs.Changes.{put-cases, put2-cases, put-other}
 use Rattle.process.specs.State.{ProcessState}
-use Rattle.fd_table.specs.Descriptions.{Class, Object, At_node, At_end, Descriptor, descriptor_of, IfHeld, EachPassed}
+use Rattle.fd_table.specs.Descriptions.{PairClass, Object, At_node, At_end, Descriptor, descriptor_of, IfHeld, EachPassed}
 use Rattle.kernel.specs.World.{World, Choice}
 use Rattle.kernel.specs.Answers.{TableChange, Same_table, Set_entry, Clear_entry, New_file, New_pair, New_process, Change}
 use Rattle.kernel.specs.Changes.{objects_after, table_after, files_after, changed}
@@ -18,7 +18,7 @@ use Rattle.rules.proofs.Frames.{KeepsClasses, each_known, class_later}
 use Rattle.rules.proofs.ChangeKinds.{Acts, frame_changed}
 
 -- A new pair is of its own class.
-abbrev pub classes_after : (ℕ → Class) → Choice → TableChange → ℕ → Class
+abbrev pub classes_after : (ℕ → PairClass) → Choice → TableChange → ℕ → PairClass
 classes_after classes choice Same_table = classes
 classes_after classes choice (Set_entry number d) = classes
 classes_after classes choice (Clear_entry number) = classes
@@ -26,7 +26,7 @@ classes_after classes choice (New_file number n access append rights fcntls) = c
 classes_after classes choice (New_pair first second class) = put classes choice.pair class
 classes_after classes choice New_process = classes
 
-pub classes_kept : (classes : ℕ → Class) (choice : Choice) (table : TableChange) (pair : ℕ) → pair ≢ choice.pair → classes_after classes choice table pair ≡ classes pair
+pub classes_kept : (classes : ℕ → PairClass) (choice : Choice) (table : TableChange) (pair : ℕ) → pair ≢ choice.pair → classes_after classes choice table pair ≡ classes pair
 classes_kept classes choice Same_table pair other = refl
 classes_kept classes choice (Set_entry number d) pair other = refl
 classes_kept classes choice (Clear_entry number) pair other = refl
@@ -35,12 +35,12 @@ classes_kept classes choice (New_pair first second class) pair other = put-other
 classes_kept classes choice New_process pair other = refl
 
 -- a descriptor that is named: no choice is of its description, and it has its pair's class
-pub record IsNamed (w : World) (choice : Choice) (classes : ℕ → Class) (d : Descriptor) : Type 0 where
+pub record IsNamed (w : World) (choice : Choice) (classes : ℕ → PairClass) (d : Descriptor) : Type 0 where
   pub apart : IsApart w.files choice d.description
   pub class : HasClass w.files.objects classes d
 
 -- what is put into a table is named already
-abbrev pub BringsNamed : World → Choice → (ℕ → Class) → TableChange → Type 0
+abbrev pub BringsNamed : World → Choice → (ℕ → PairClass) → TableChange → Type 0
 BringsNamed w choice classes Same_table = Unit {0}
 BringsNamed w choice classes (Set_entry number d) = IsNamed w choice classes d
 BringsNamed w choice classes (Clear_entry number) = Unit {0}
@@ -74,18 +74,18 @@ each_entry P table p made choice New_process new old q n =
     put-cases (λ (row : ℕ → Option Descriptor). IfHeld P (row n)) table made (table p) q (λ _. old p n) (λ _. old q n)
 
 -- new descriptions are of the class of their pair
-module _ (objects : ℕ → Object) (classes : ℕ → Class) (choice : Choice) where
-  at_new : (first second : ℕ) (class : Class) (side : ℕ) → IsOfClass (put classes choice.pair class) (At_end choice.pair side class)
+module _ (objects : ℕ → Object) (classes : ℕ → PairClass) (choice : Choice) where
+  at_new : (first second : ℕ) (class : PairClass) (side : ℕ) → IsOfClass (put classes choice.pair class) (At_end choice.pair side class)
   at_new first second class side = put-cases (λ c. c ≡ class) classes choice.pair class choice.pair (λ _. refl) (λ other. absurd (other refl))
 
-  new_first : (first second : ℕ) (class : Class) → choice.first ≢ choice.second
+  new_first : (first second : ℕ) (class : PairClass) → choice.first ≢ choice.second
       → IsOfClass (put classes choice.pair class) (objects_after objects choice (New_pair first second class) choice.first)
   new_first first second class apart =
       put-cases (IsOfClass (put classes choice.pair class)) (put objects choice.first (At_end choice.pair 0 class)) choice.second (At_end choice.pair 1 class) choice.first
       (λ same. absurd (apart same))
       (λ _. put-cases (IsOfClass (put classes choice.pair class)) objects choice.first (At_end choice.pair 0 class) choice.first (λ _. at_new first second class 0) (λ other. absurd (other refl)))
 
-  new_second : (first second : ℕ) (class : Class) → IsOfClass (put classes choice.pair class) (objects_after objects choice (New_pair first second class) choice.second)
+  new_second : (first second : ℕ) (class : PairClass) → IsOfClass (put classes choice.pair class) (objects_after objects choice (New_pair first second class) choice.second)
   new_second first second class =
       put-cases (IsOfClass (put classes choice.pair class)) (put objects choice.first (At_end choice.pair 0 class)) choice.second (At_end choice.pair 1 class) choice.second
       (λ _. at_new first second class 1) (λ other. absurd (other refl))

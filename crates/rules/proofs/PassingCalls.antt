@@ -7,7 +7,7 @@ use Rattle.std.proofs.lemmas.Bool.{ltb-true, le-leb}
 use Rattle.rights.specs.Limits.{most_processes, most_messages, most_descriptors}
 use Rattle.rights.specs.Classes as classes
 use Rattle.process.specs.State.{ProcessState, forked}
-use Rattle.fd_table.specs.Descriptions.{Class, Made_at, At_end, Descriptor, Message, IfHeld, other_side}
+use Rattle.fd_table.specs.Descriptions.{PairClass, Made_at, At_end, Descriptor, Message, IfHeld, other_side}
 use Rattle.fd_table.specs.OpenFiles.{lowest_from, lowest_free}
 use Rattle.prog_asm.specs.Programs.{Operand, Syscall, Sendfd, Recvfd, Socketpair, Fork, Invoke}
 use Rattle.certificate.specs.Bounds.{Interval, with_interval, Socket, Held, with_slot, Bound, Certificate}
@@ -68,7 +68,7 @@ module _ (plan : Plan) (certificate : Certificate) (w : World) (e : Event) (s : 
   -- ## recvfd
   -- what the front message carries
   owed_received : (x : Operand) (otherwise : ℕ) (known : Standing plan certificate w e.process s choice (Invoke (Recvfd x) otherwise))
-      → (pair side number : ℕ) (class : Class) (d : Descriptor) → w.files.table e.process (value_of s x) ≡ Some d
+      → (pair side number : ℕ) (class : PairClass) (d : Descriptor) → w.files.table e.process (value_of s x) ≡ Some d
       → w.files.objects d.description ≡ At_end pair side class → lowest_free (w.files.table e.process) ≡ Some number → (o : Option Descriptor)
       → IfHeld (λ c. IsNamed w choice known.inv.classes c × IsInLine plan certificate w (known.inv.classes pair) (other_side side) c) o
       → IfHeld (IsDescriptor w.tree known.acts.formed.numbering w.files.objects w.files.states) o
@@ -92,7 +92,7 @@ module _ (plan : Plan) (certificate : Certificate) (w : World) (e : Event) (s : 
       is.describes (only_fits number) is.leads
 
   owed_receive_end : (x : Operand) (otherwise : ℕ) (known : Standing plan certificate w e.process s choice (Invoke (Recvfd x) otherwise))
-      → (pair side number : ℕ) (class : Class) (d : Descriptor) → w.files.table e.process (value_of s x) ≡ Some d
+      → (pair side number : ℕ) (class : PairClass) (d : Descriptor) → w.files.table e.process (value_of s x) ≡ Some d
       → w.files.objects d.description ≡ At_end pair side class → lowest_free (w.files.table e.process) ≡ Some number
       → (messages : List Message) → w.files.queue pair (other_side side) ≡ messages
       → OwedBy plan certificate w e.process s choice (Recvfd x) otherwise known (receive_end w e.process s e d.description pair side number messages)

@@ -13,7 +13,9 @@ use Rattle.rules.specs.Outcomes.{successes, error_outcomes}
 use Rattle.rules.specs.Rules.{tests, tests_without}
 use Rattle.rules.specs.Verdicts.{found_with, found_at, first_found}
 use Rattle.rules.specs.Probes.{channel}
-use Rattle.rules.proofs.Samples.{work, work_with, given, to_read, task_of, alone, joined, enters, opens_in_the_mode, reads_to_the_end, limits_and_opens, limits_twice, renames_between_grants, reads_in_the_mode, child_enters, sends_a_file, reads_what_comes, sends_its_directory, reads_beneath_what_comes, in_work, any_node, few, is_open, entering, entering_with, no_points, opened_file, limited, passing, handing, parent_alone}
+use Rattle.rules.proofs.Samples.{work, work_with, given, to_read, task_of, alone, joined, enters, opens_in_the_mode, reads_to_the_end, limits_and_opens, limits_twice}
+use Rattle.rules.proofs.Samples.{renames_between_grants, reads_in_the_mode, child_enters, sends_a_file, reads_what_comes, sends_its_directory, reads_beneath_what_comes, in_work}
+use Rattle.rules.proofs.Samples.{any_node, few, is_open, entering, entering_with, no_points, opened_file, limited, passing, handing, parent_alone}
 
 opens_by_a_path_in_the_mode : first_found (alone opens_in_the_mode) entering ≡ Some (0, 1, 6)
 unfolding first_found found_at found_with tests tests_without bound_in grant_named slots_in free_numbers uses channel_at successes error_outcomes base created

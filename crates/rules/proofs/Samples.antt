@@ -10,7 +10,7 @@ use Rattle.certificate.specs.Bounds as bounds
 use Rattle.kernel.proofs.Samples.{base}
 use Rattle.task.specs.Plans.{Grant, NamedProgram, FirstObject, On_node, On_end, FirstDescriptor, Start, Plan}
 use Rattle.rules.specs.Outcomes.{all_held, with_rights, from_to}
-use Rattle.rules.specs.Probes.{bound_with, block, channel}
+use Rattle.rules.specs.Probes.{bound_of_slots, block, channel}
 
 -- ## The task
 abbrev pub work_with : List Operation → Grant
@@ -145,7 +145,7 @@ certificate_of points channels = record { version = One; points = points; channe
 
 -- at a point of `main`: the directories of both grants, and what more there is
 abbrev pub at_main : ModeBound → List Slot → Bound
-at_main mode more = bound_with mode (is_open in_work ∷ is_open in_log ∷ more)
+at_main mode more = bound_of_slots mode (is_open in_work ∷ is_open in_log ∷ more)
 
 -- into the mode at once; with what more there is at each point
 abbrev pub entering_with : List Slot → Certificate
@@ -177,8 +177,8 @@ abbrev pub limited : Certificate
 limited =
     certificate_of
     (main_blocks
-    (at_main Off [] ∷ bound_with Off (is_open few ∷ is_open in_log ∷ [])
-    ∷ bound_with Off (is_open few_or_all ∷ is_open in_log ∷ Maybe few ∷ []) ∷ []))
+    (at_main Off [] ∷ bound_of_slots Off (is_open few ∷ is_open in_log ∷ [])
+    ∷ bound_of_slots Off (is_open few_or_all ∷ is_open in_log ∷ Maybe few ∷ []) ∷ []))
     []
 
 -- A file that `main` opens goes to `child`, which takes what comes for this.
@@ -186,7 +186,7 @@ abbrev pub passing : Held → Certificate
 passing held =
     certificate_of
     (blocks_from (codes "child") 0
-    (bound_with On (end 1 ∷ []) ∷ bound_with On (end 1 ∷ is_open held ∷ []) ∷ bound_with On (end 1 ∷ Maybe held ∷ []) ∷ [])
+    (bound_of_slots On (end 1 ∷ []) ∷ bound_of_slots On (end 1 ∷ is_open held ∷ []) ∷ bound_of_slots On (end 1 ∷ Maybe held ∷ []) ∷ [])
     ++ main_blocks
     (at_main Off (end 0 ∷ []) ∷ at_main Off (end 0 ∷ is_open any_node ∷ []) ∷ at_main Off (end 0 ∷ Maybe any_node ∷ []) ∷ []))
     (channel 0 (Some held) ∷ [])
@@ -196,11 +196,11 @@ abbrev pub handing : List ChannelBound → Certificate
 handing channels =
     certificate_of
     (blocks_from (codes "child") 0
-    (bound_with On (end 1 ∷ []) ∷ bound_with On (end 1 ∷ is_open few ∷ [])
-    ∷ bound_with On (end 1 ∷ is_open few ∷ is_open few ∷ []) ∷ bound_with On (end 1 ∷ Maybe few ∷ Maybe few ∷ []) ∷ [])
+    (bound_of_slots On (end 1 ∷ []) ∷ bound_of_slots On (end 1 ∷ is_open few ∷ [])
+    ∷ bound_of_slots On (end 1 ∷ is_open few ∷ is_open few ∷ []) ∷ bound_of_slots On (end 1 ∷ Maybe few ∷ Maybe few ∷ []) ∷ [])
     ++ main_blocks
-    (at_main Off (end 0 ∷ []) ∷ bound_with Off (is_open few ∷ is_open in_log ∷ end 0 ∷ [])
-    ∷ bound_with Off (is_open few_or_all ∷ is_open in_log ∷ end 0 ∷ []) ∷ []))
+    (at_main Off (end 0 ∷ []) ∷ bound_of_slots Off (is_open few ∷ is_open in_log ∷ end 0 ∷ [])
+    ∷ bound_of_slots Off (is_open few_or_all ∷ is_open in_log ∷ end 0 ∷ []) ∷ []))
     channels
 
 -- The parent's answer is taken for the only one at point 1.

@@ -6,12 +6,12 @@ use Rattle.rights.specs.Classes.{Class as NamedClass}
 use Rattle.rights.specs.Classes as classes
 use Rattle.certificate.specs.Describes.{Subject, Node_at, End_of, Seen}
 use Rattle.file_tree.specs.Nodes.{Node, node}
-use Rattle.fd_table.specs.Descriptions.{Class, Initial, Made_at, Object, At_node, At_end, Descriptor}
+use Rattle.fd_table.specs.Descriptions.{PairClass, Initial, Made_at, Object, At_node, At_end, Descriptor}
 use Rattle.kernel.specs.World.{World}
 use Rattle.task.specs.Plans.{Plan, program_name}
 
 -- a class of pairs, with the name of its program
-abbrev pub class_of : Plan → Class → NamedClass
+abbrev pub class_of : Plan → PairClass → NamedClass
 class_of plan (Initial pair) = classes.Initial pair
 class_of plan (Made_at program point) = classes.Made_at (program_name plan program) point
 

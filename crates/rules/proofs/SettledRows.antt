@@ -2,7 +2,8 @@
 use Rattle.std.proofs.Common.{◌≡◌, [], ◌∷◌, refl}
 use Rattle.std.specs.Prelude.{ℕ, true, false, List, map, codes, Option, Some, None}
 use Rattle.rights.specs.Opens.{OpenRequest, open_request}
-use Rattle.prog_asm.specs.Programs.{Register, Number, Syscall, Lseek, Open, Openat, Read, Sendfd, Recvfd, Mkdirat, Mkdir, Unlink, Renameat, Dup, Close, Cap_rights_limit, Cap_fcntls_limit, Cap_enter, Socketpair, Jeq, Jlt, Jmp, Halt, Invoke}
+use Rattle.prog_asm.specs.Programs.{Register, Number, Syscall, Lseek, Open, Openat, Read, Sendfd, Recvfd, Mkdirat, Mkdir, Unlink, Renameat, Dup, Close, Cap_rights_limit}
+use Rattle.prog_asm.specs.Programs.{Cap_fcntls_limit, Cap_enter, Socketpair, Jeq, Jlt, Jmp, Halt, Invoke}
 use Rattle.certificate.specs.Bounds.{Off, On, Held, Closed, Maybe, Interval, with_interval, Bound, bound_in}
 use Rattle.task.specs.Policies.{grant_named}
 use Rattle.rules.specs.Intervals.{only}
@@ -12,7 +13,7 @@ use Rattle.rules.specs.Channels.{channel_at}
 use Rattle.rules.specs.Outcomes.{successes, error_outcomes, from_to}
 use Rattle.rules.specs.Rules.{tests, tests_without}
 use Rattle.rules.specs.Verdicts.{found_with, found_at, first_found}
-use Rattle.rules.specs.Probes.{bound_with, all_open, in_work, in_log, any_node, side_a, side_b, with_least, channel, block, Probe, probed_plan, plain, probed, probe, probe_over, broken}
+use Rattle.rules.specs.Probes.{bound_of_slots, all_open, in_work, in_log, any_node, side_a, side_b, with_least, channel, block, Probe, probed_plan, plain_probe, probed, probe, probe_over, broken}
 use Rattle.rules.proofs.Samples.{is_open, certificate_of}
 
 abbrev to_read : OpenRequest
@@ -24,10 +25,10 @@ name = codes "in"
 -- ## A success isn't formed where a rule is broken at the point, whatever the slot
 -- Register 0 is 0 or 1, and an error alone leads to the next point's bound.
 abbrev unsure : List Held → Bound
-unsure held = with_interval (bound_with Off (all_open held)) 0 (from_to 0 1)
+unsure held = with_interval (bound_of_slots Off (all_open held)) 0 (from_to 0 1)
 
 abbrev errors_alone : List Held → Probe
-errors_alone held = record (plain (unsure held)) { next = Some (with_interval (unsure held) 7 (from_to 1 94)) }
+errors_alone held = record (plain_probe (unsure held)) { next = Some (with_interval (unsure held) 7 (from_to 1 94)) }
 
 closes_neither : probed (errors_alone (in_work ∷ in_work ∷ [])) (Invoke (Close (Register 0)) 1) ≡ broken 4
 unfolding first_found found_at found_with tests tests_without bound_in grant_named slots_in free_numbers uses channel_at successes error_outcomes
@@ -46,8 +47,8 @@ sends_through_the_one : probed (record (errors_alone (side_a ∷ side_b ∷ []))
 unfolding first_found found_at found_with tests tests_without bound_in grant_named slots_in free_numbers uses channel_at successes error_outcomes
 sends_through_the_one = refl
 
-takes_no_number_that_may_be_taken : probed (record (plain (bound_with Off (Maybe in_work ∷ []))) {
-  next = Some (with_interval (bound_with Off (Maybe in_work
+takes_no_number_that_may_be_taken : probed (record (plain_probe (bound_of_slots Off (Maybe in_work ∷ []))) {
+  next = Some (with_interval (bound_of_slots Off (Maybe in_work
       ∷ [])) 7 (from_to 1 94));
 }) (Invoke (Open name to_read) 1)
     ≡ broken 5
@@ -79,7 +80,7 @@ unfolding first_found found_at found_with tests tests_without bound_in grant_nam
 sends_into_nothing = refl
 
 -- A slot that may be open is sent as an open one.
-sends_what_may_be_open : probed (record (plain (bound_with Off (is_open side_a ∷ Maybe any_node ∷ []))) {
+sends_what_may_be_open : probed (record (plain_probe (bound_of_slots Off (is_open side_a ∷ Maybe any_node ∷ []))) {
   channels = channel 0 (Some in_work)
       ∷ [];
 }) (Invoke (Sendfd (Number 0) (Number 1) (Number 1)) 1)
@@ -87,7 +88,7 @@ sends_what_may_be_open : probed (record (plain (bound_with Off (is_open side_a �
 unfolding first_found found_at found_with tests tests_without bound_in grant_named slots_in free_numbers uses channel_at successes error_outcomes
 sends_what_may_be_open = refl
 
-sends_within_the_line : probed (record (plain (bound_with Off (is_open side_a ∷ Maybe in_work ∷ []))) {
+sends_within_the_line : probed (record (plain_probe (bound_of_slots Off (is_open side_a ∷ Maybe in_work ∷ []))) {
   channels = channel 0 (Some any_node)
       ∷ [];
 }) (Invoke (Sendfd (Number 0) (Number 1) (Number 1)) 1)
@@ -96,29 +97,29 @@ unfolding first_found found_at found_with tests tests_without bound_in grant_nam
 sends_within_the_line = refl
 
 -- ## Programs that no process starts
-asks_no_start_of_them : probed (record (plain (bound_with On [])) { next = Some (bound_with On []) }) (Invoke (Dup (Number 0)) 1) ≡ None
+asks_no_start_of_them : probed (record (plain_probe (bound_of_slots On [])) { next = Some (bound_of_slots On []) }) (Invoke (Dup (Number 0)) 1) ≡ None
 unfolding first_found found_at found_with tests tests_without bound_in grant_named slots_in free_numbers uses channel_at successes error_outcomes
 asks_no_start_of_them = refl
 
-asks_the_start_of_others : probed (record (plain (bound_with On [])) { started = 1; next = Some (bound_with On []) }) (Invoke (Dup (Number 0)) 1) ≡ broken 1
+asks_the_start_of_others : probed (record (plain_probe (bound_of_slots On [])) { started = 1; next = Some (bound_of_slots On []) }) (Invoke (Dup (Number 0)) 1) ≡ broken 1
 unfolding first_found found_at found_with tests tests_without bound_in grant_named slots_in free_numbers uses channel_at successes error_outcomes
 asks_the_start_of_others = refl
 
-needs_no_bound_at_their_start : first_found (probed_plan 0 (Jmp 1)) (certificate_of (block (codes "main") 0 (bound_with Off []) ∷ []) []) ≡ None
+needs_no_bound_at_their_start : first_found (probed_plan 0 (Jmp 1)) (certificate_of (block (codes "main") 0 (bound_of_slots Off []) ∷ []) []) ≡ None
 unfolding first_found found_at found_with tests tests_without bound_in grant_named slots_in free_numbers uses channel_at successes error_outcomes
 needs_no_bound_at_their_start = refl
 
-needs_one_at_the_start_of_others : first_found (probed_plan 1 (Jmp 1)) (certificate_of (block (codes "main") 0 (bound_with Off []) ∷ []) []) ≡ broken 16
+needs_one_at_the_start_of_others : first_found (probed_plan 1 (Jmp 1)) (certificate_of (block (codes "main") 0 (bound_of_slots Off []) ∷ []) []) ≡ broken 16
 unfolding first_found found_at found_with tests tests_without bound_in grant_named slots_in free_numbers uses channel_at successes error_outcomes
 needs_one_at_the_start_of_others = refl
 
-needs_none_at_further_points : probed (record (plain (bound_with Off [])) { started = 1; next = None }) Halt ≡ None
+needs_none_at_further_points : probed (record (plain_probe (bound_of_slots Off [])) { started = 1; next = None }) Halt ≡ None
 unfolding first_found found_at found_with tests tests_without bound_in grant_named slots_in free_numbers uses channel_at successes error_outcomes
 needs_none_at_further_points = refl
 
 -- ## Rules that ask nothing of operands, or of slots
 abbrev finds_a_maybe : Syscall → Option (ℕ × ℕ × ℕ)
-finds_a_maybe call = probed (plain (bound_with Off (Maybe in_work ∷ []))) (Invoke call 1)
+finds_a_maybe call = probed (plain_probe (bound_of_slots Off (Maybe in_work ∷ []))) (Invoke call 1)
 
 asks_for_the_lowest_number : map finds_a_maybe
     (Dup (Number 9) ∷ Recvfd (Number 9) ∷ Openat (Number 9) name to_read ∷ Open name to_read ∷ Read (Number 9) ∷ [])
@@ -132,11 +133,11 @@ asks_for_one_operand : map finds_a_maybe
 unfolding first_found found_at found_with tests tests_without bound_in grant_named slots_in free_numbers uses channel_at successes error_outcomes
 asks_for_one_operand = refl
 
-asks_for_two_numbers : probed (plain (bound_with Off (Closed ∷ Maybe in_work ∷ []))) (Invoke Socketpair 1) ≡ broken 5
+asks_for_two_numbers : probed (plain_probe (bound_of_slots Off (Closed ∷ Maybe in_work ∷ []))) (Invoke Socketpair 1) ≡ broken 5
 unfolding first_found found_at found_with tests tests_without bound_in grant_named slots_in free_numbers uses channel_at successes error_outcomes
 asks_for_two_numbers = refl
 
-asks_for_one_number : probed (plain (bound_with Off (Closed ∷ Maybe in_work ∷ []))) (Invoke (Dup (Number 9)) 1) ≡ None
+asks_for_one_number : probed (plain_probe (bound_of_slots Off (Closed ∷ Maybe in_work ∷ []))) (Invoke (Dup (Number 9)) 1) ≡ None
 unfolding first_found found_at found_with tests tests_without bound_in grant_named slots_in free_numbers uses channel_at successes error_outcomes
 asks_for_one_number = refl
 
@@ -151,29 +152,29 @@ asks_an_end_for_rights_to_open = refl
 
 -- ## A target that is missing
 -- The success goes to a point without a bound, and the error to one that is too narrow.
-tells_the_narrow_target : probed (record (plain (with_interval (bound_with Off (is_open in_work ∷ [])) 7 (only 0))) { next = None }) (Invoke (Dup (Number 0)) 0) ≡ broken 3
+tells_the_narrow_target : probed (record (plain_probe (with_interval (bound_of_slots Off (is_open in_work ∷ [])) 7 (only 0))) { next = None }) (Invoke (Dup (Number 0)) 0) ≡ broken 3
 unfolding first_found found_at found_with tests tests_without bound_in grant_named slots_in free_numbers uses channel_at successes error_outcomes
 tells_the_narrow_target = refl
 
 -- Nothing is less than 0, so that nothing leads there; point 5 has no bound.
-leads_nowhere_if_less_than_none : probed (plain (bound_with Off [])) (Jlt 0 0 5) ∷ probed (plain (bound_with Off [])) (Jlt 0 1 5) ∷ [] ≡ None ∷ broken 16 ∷ []
+leads_nowhere_if_less_than_none : probed (plain_probe (bound_of_slots Off [])) (Jlt 0 0 5) ∷ probed (plain_probe (bound_of_slots Off [])) (Jlt 0 1 5) ∷ [] ≡ None ∷ broken 16 ∷ []
 unfolding first_found found_at found_with tests tests_without bound_in grant_named slots_in free_numbers uses channel_at successes error_outcomes
 leads_nowhere_if_less_than_none = refl
 
-leads_nowhere_if_nothing_is_equal : probed (plain (unsure [])) (Jeq 0 2 5) ∷ probed (plain (unsure [])) (Jeq 0 1 5) ∷ [] ≡ None ∷ broken 16 ∷ []
+leads_nowhere_if_nothing_is_equal : probed (plain_probe (unsure [])) (Jeq 0 2 5) ∷ probed (plain_probe (unsure [])) (Jeq 0 1 5) ∷ [] ≡ None ∷ broken 16 ∷ []
 unfolding first_found found_at found_with tests tests_without bound_in grant_named slots_in free_numbers uses channel_at successes error_outcomes
 leads_nowhere_if_nothing_is_equal = refl
 
-enters_without_an_error : probed (plain (bound_with Off [])) (Invoke Cap_enter 5) ≡ None
+enters_without_an_error : probed (plain_probe (bound_of_slots Off [])) (Invoke Cap_enter 5) ≡ None
 unfolding first_found found_at found_with tests tests_without bound_in grant_named slots_in free_numbers uses channel_at successes error_outcomes
 enters_without_an_error = refl
 
 -- On the way on, a number within an interval leaves it whole, and one at an end is left out.
 abbrev up_to_ten : Bound
-up_to_ten = with_interval (bound_with Off []) 0 (from_to 0 10)
+up_to_ten = with_interval (bound_of_slots Off []) 0 (from_to 0 10)
 
 abbrev on_to : Interval → Probe
-on_to i = record (plain up_to_ten) { next = Some (with_interval (bound_with Off []) 0 i) }
+on_to i = record (plain_probe up_to_ten) { next = Some (with_interval (bound_of_slots Off []) 0 i) }
 
 is_left_whole : probed (on_to (from_to 0 10)) (Jeq 0 5 1) ∷ probed (on_to (from_to 0 9)) (Jeq 0 5 1) ∷ [] ≡ None ∷ broken 2 ∷ []
 unfolding first_found found_at found_with tests tests_without bound_in grant_named slots_in free_numbers uses channel_at successes error_outcomes

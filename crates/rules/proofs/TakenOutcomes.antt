@@ -23,11 +23,13 @@ use Rattle.certificate.proofs.Smaller.{from_between}
 use Rattle.rules.specs.Intervals.{only}
 use Rattle.rules.specs.Slots.{OpenSlot, slots_in, free_numbers}
 use Rattle.rules.specs.Channels.{channel_at, receives_known}
-use Rattle.rules.specs.Outcomes.{Outcome, all_held, unknown_held, target_of_path, beneath_target, with_rights, with_commands, may_be_end, may_be_node, at_pair, takes, opens_beneath, comes, receives_at, with_pair}
+use Rattle.rules.specs.Outcomes.{Outcome, all_held, unknown_held, target_of_path, beneath_target, with_rights, with_commands, may_be_end, may_be_node, at_pair, takes}
+use Rattle.rules.specs.Outcomes.{opens_beneath, comes, receives_at, with_pair}
 use Rattle.rules.proofs.Members.{Among, among_flat}
 use Rattle.rules.proofs.Stands.{Stands, Gone}
 use Rattle.rules.proofs.Uses.{Through, first_use, through}
-use Rattle.rules.proofs.Outcomes.{GoesOn, Takes, Limits, node_may, end_may, where_true, subject_is, Beneath, beneath, all_described, unknown_described, next, to_next, at, succeeds, goes_through, taken}
+use Rattle.rules.proofs.Outcomes.{GoesOn, Takes, Limits, node_may, end_may, where_true, subject_is, Beneath, beneath, all_described, unknown_described, next, to_next, at, succeeds}
+use Rattle.rules.proofs.Outcomes.{goes_through, taken}
 
 -- a descriptor that a call leaves beneath another, with the other's rights
 abbrev pub same_rights : Seen → Subject → Seen

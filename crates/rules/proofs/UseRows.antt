@@ -5,7 +5,9 @@ use Rattle.std.specs.Prelude.{ℕ, ◌++◌, ◌-◌, true, false, List, map, co
 use Rattle.rights.specs.Sets.{all_rights, all_commands, lookup_right, read_right, getfl_command, setfl_command}
 use Rattle.rights.specs.Opens.{OpenRequest, open_request}
 use Rattle.rights.specs.Operations.{Operation, Create as Creates, Remove as Removes}
-use Rattle.prog_asm.specs.Programs.{Invoke, Operand, Register, Number, Syscall, Open, Openat, Read, Write, Sendfd, Recvfd, Lseek, Ftruncate, Fsync, Fstat, Fcntl_getfl, Fcntl_setfl, Fstatat, Stat, Mkdirat, Mkdir, Unlinkat, Unlink, Renameat, Dup, Close, Cap_rights_limit, Cap_fcntls_limit, Cap_enter, Cap_getmode, Socketpair, Fork}
+use Rattle.prog_asm.specs.Programs.{Invoke, Operand, Register, Number, Syscall, Open, Openat, Read, Write, Sendfd, Recvfd, Lseek, Ftruncate, Fsync, Fstat, Fcntl_getfl, Fcntl_setfl}
+use Rattle.prog_asm.specs.Programs.{Fstatat, Stat, Mkdirat, Mkdir, Unlinkat, Unlink, Renameat, Dup, Close, Cap_rights_limit, Cap_fcntls_limit, Cap_enter, Cap_getmode, Socketpair}
+use Rattle.prog_asm.specs.Programs.{Fork}
 use Rattle.certificate.specs.Bounds.{Off, On, Either, Held, bound_in}
 use Rattle.certificate.specs.Growth.{copies}
 use Rattle.task.specs.Policies.{grant_named}
@@ -16,7 +18,7 @@ use Rattle.rules.specs.Outcomes.{successes, error_outcomes}
 use Rattle.rules.specs.Rules.{tests, tests_without}
 use Rattle.rules.specs.Verdicts.{found_with, found_at, first_found}
 use Rattle.rules.proofs.Samples.{work_with}
-use Rattle.rules.specs.Probes.{probed_plan, probed_certificate, plain, bound_with, all_open, in_work, in_log, any_node, side_a, with_least, channel, probe, probe_over, broken}
+use Rattle.rules.specs.Probes.{probed_plan, probed_certificate, plain_probe, bound_of_slots, all_open, in_work, in_log, any_node, side_a, with_least, channel, probe, probe_over, broken}
 
 abbrev to_read : OpenRequest
 to_read = open_request true false false false false
@@ -146,7 +148,7 @@ abbrev moved_with : List Operation → Held → Option (ℕ × ℕ × ℕ)
 moved_with operations source =
     first_found
     (record (probed_plan 0 (Invoke (moves (Number 0) (Number 1)) 1)) { grants = work_with operations ∷ [] })
-    (probed_certificate (plain (bound_with On (all_open (source ∷ in_work ∷ [])))))
+    (probed_certificate (plain_probe (bound_of_slots On (all_open (source ∷ in_work ∷ [])))))
 
 moves_ask_both_sides : moved_with (Removes ∷ []) in_work ∷ moved_with (Creates ∷ []) in_work ∷ moved_with (Creates ∷ Removes ∷ []) in_work
     ∷ moved_with (Removes ∷ []) side_a ∷ moved_with (Creates ∷ []) side_a ∷ moved_with (Creates ∷ Removes ∷ []) side_a ∷ []

@@ -1,28 +1,29 @@
 -- What an instruction carries on to the next point: the join of its outcomes that go there. (own)
 use Rattle.std.specs.Prelude.{◌==◌, ◌+◌, ◌++◌, ℕ, List, [], ◌∷◌, Option, Some, None, if◌then◌else◌}
+use Rattle.rights.specs.Values.{Name}
 use Rattle.certificate.specs.Bounds.{Bound, Certificate}
 use Rattle.certificate.specs.Joins.{bound_join}
 use Rattle.prog_asm.specs.Programs.{Instruction}
 use Rattle.task.specs.Plans.{Grant}
 use Rattle.rules.specs.Outcomes.{Outcome, successes, error_outcomes}
 
--- a bound, joined to what came before it, if anything did
-abbrev pub joined : Option Bound → Bound → Option Bound
-joined None b = Some b
-joined (Some a) b = Some (bound_join a b)
+-- a bound, joined_bound to what came before it, if anything did
+abbrev pub joined_bound : Option Bound → Bound → Option Bound
+joined_bound None b = Some b
+joined_bound (Some a) b = Some (bound_join a b)
 
 -- with an outcome too, if it goes to the point
 abbrev pub joined_with : ℕ → Option Bound → Outcome → Option Bound
-joined_with point before o = if o.point == point then joined before o.bound else before
+joined_with point before o = if o.point == point then joined_bound before o.bound else before
 
 unfoldable pub joined_at : ℕ → Option Bound → List Outcome → Option Bound
 joined_at point before [] = before
 joined_at point before (o ∷ outs) = joined_at point (joined_with point before o) outs
 
 -- where an instruction may lead, errors too
-abbrev pub outcomes : List Grant → Certificate → List ℕ → ℕ → Bound → Instruction → List Outcome
+abbrev pub outcomes : List Grant → Certificate → Name → ℕ → Bound → Instruction → List Outcome
 outcomes grants certificate name point b i = successes grants certificate name point b i ++ error_outcomes b i
 
 -- nothing, where no outcome goes to the next point
-abbrev pub carried_on : List Grant → Certificate → List ℕ → ℕ → Bound → Instruction → Option Bound
+abbrev pub carried_on : List Grant → Certificate → Name → ℕ → Bound → Instruction → Option Bound
 carried_on grants certificate name point b i = joined_at (point + 1) None (outcomes grants certificate name point b i)

@@ -1,6 +1,7 @@
 -- What comes through socket pairs, by the channels of a certificate. (own, after sendmsg(2) and recvmsg(2))
 use Rattle.std.specs.Prelude.{◌==◌, ◌&&◌, ℕ, Bool, true, false, List, [], ◌∷◌, Option, Some, None, is_some, if◌then◌else◌}
 use Rattle.std.specs.List.{list_all}
+use Rattle.rights.specs.Values.{SideNumber}
 use Rattle.rights.specs.Classes.{Class}
 use Rattle.fd_table.specs.Descriptions.{other_side}
 use Rattle.certificate.specs.Bounds.{Target, In_grant, Any_node, Socket, Unknown, Held, ChannelBound, Certificate}
@@ -9,12 +10,12 @@ use Rattle.rules.specs.Slots.{OpenSlot}
 use Rattle.rules.specs.Uses.{Passing, Passes_none, Sends, Receives, Use}
 
 -- The line of a class and side, which is `None` where nothing is sent: the first that is listed.
-abbrev pub line_in : List ChannelBound → Class → ℕ → Option (Option Held)
+abbrev pub line_in : List ChannelBound → Class → SideNumber → Option (Option Held)
 line_in [] class side = None
 line_in (c ∷ channels) class side =
     if same_class c.class class && (c.side == side) then Some c.sends else line_in channels class side
 
-unfoldable pub channel_at : Certificate → Class → ℕ → Option (Option Held)
+unfoldable pub channel_at : Certificate → Class → SideNumber → Option (Option Held)
 channel_at certificate class side = line_in certificate.channels class side
 
 -- What is sent into a channel lies within its line, where it has one; a line of nothing lets nothing be sent.

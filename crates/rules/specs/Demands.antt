@@ -2,7 +2,8 @@
 -- capability mode is of capsicum(4) and cap_enter(2))
 use Rattle.std.specs.Prelude.{◌&&◌, not, ℕ, Bool, true, false, Option, Some, None, is_some}
 use Rattle.certificate.specs.Bounds.{Bound}
-use Rattle.prog_asm.specs.Programs.{Operand, Syscall, Open, Openat, Read, Write, Sendfd, Recvfd, Lseek, Ftruncate, Fsync, Fstat, Fcntl_getfl, Fcntl_setfl, Fstatat, Stat, Mkdirat, Mkdir, Unlinkat, Unlink, Renameat, Dup, Close, Cap_rights_limit, Cap_fcntls_limit, Cap_enter, Cap_getmode, Socketpair, Fork}
+use Rattle.prog_asm.specs.Programs.{Operand, Syscall, Open, Openat, Read, Write, Sendfd, Recvfd, Lseek, Ftruncate, Fsync, Fstat, Fcntl_getfl, Fcntl_setfl, Fstatat, Stat, Mkdirat}
+use Rattle.prog_asm.specs.Programs.{Mkdir, Unlinkat, Unlink, Renameat, Dup, Close, Cap_rights_limit, Cap_fcntls_limit, Cap_enter, Cap_getmode, Socketpair, Fork}
 use Rattle.rules.specs.Slots.{may_be_on, operand_interval, is_single, free_numbers}
 
 pub record Demands : Type 0 where
@@ -12,37 +13,37 @@ pub record Demands : Type 0 where
   pub changes_global_names : Bool  -- and may make or remove a name there
   pub never_fails : Bool
 
-abbrev pub nothing : Demands
-nothing = record { single = None; takes = 0; is_global = false; changes_global_names = false; never_fails = false }
+abbrev pub no_demand : Demands
+no_demand = record { single = None; takes = 0; is_global = false; changes_global_names = false; never_fails = false }
 
 abbrev pub demands : Syscall → Demands
-demands (Open path f) = record nothing { takes = 1; is_global = true; changes_global_names = f.create }
-demands (Openat x path f) = record nothing { takes = 1 }
-demands (Read x) = nothing
-demands (Write x v) = nothing
-demands (Sendfd x y v) = nothing
-demands (Recvfd x) = record nothing { takes = 1 }
-demands (Lseek x v) = nothing
-demands (Ftruncate x v) = nothing
-demands (Fsync x) = nothing
-demands (Fstat x) = nothing
-demands (Fcntl_getfl x) = nothing
-demands (Fcntl_setfl x v) = nothing
-demands (Fstatat x path) = nothing
-demands (Stat path) = record nothing { is_global = true }
-demands (Mkdirat x path) = nothing
-demands (Mkdir path) = record nothing { is_global = true; changes_global_names = true }
-demands (Unlinkat x path directory) = nothing
-demands (Unlink path directory) = record nothing { is_global = true; changes_global_names = true }
-demands (Renameat x from y to) = nothing
-demands (Dup x) = record nothing { takes = 1 }
-demands (Close x) = record nothing { single = Some x }
-demands (Cap_rights_limit x rights) = record nothing { single = Some x }
-demands (Cap_fcntls_limit x commands) = record nothing { single = Some x }
-demands Cap_enter = record nothing { never_fails = true }
-demands Cap_getmode = record nothing { never_fails = true }
-demands Socketpair = record nothing { takes = 2 }
-demands Fork = nothing
+demands (Open path f) = record no_demand { takes = 1; is_global = true; changes_global_names = f.create }
+demands (Openat x path f) = record no_demand { takes = 1 }
+demands (Read x) = no_demand
+demands (Write x v) = no_demand
+demands (Sendfd x y v) = no_demand
+demands (Recvfd x) = record no_demand { takes = 1 }
+demands (Lseek x v) = no_demand
+demands (Ftruncate x v) = no_demand
+demands (Fsync x) = no_demand
+demands (Fstat x) = no_demand
+demands (Fcntl_getfl x) = no_demand
+demands (Fcntl_setfl x v) = no_demand
+demands (Fstatat x path) = no_demand
+demands (Stat path) = record no_demand { is_global = true }
+demands (Mkdirat x path) = no_demand
+demands (Mkdir path) = record no_demand { is_global = true; changes_global_names = true }
+demands (Unlinkat x path directory) = no_demand
+demands (Unlink path directory) = record no_demand { is_global = true; changes_global_names = true }
+demands (Renameat x from y to) = no_demand
+demands (Dup x) = record no_demand { takes = 1 }
+demands (Close x) = record no_demand { single = Some x }
+demands (Cap_rights_limit x rights) = record no_demand { single = Some x }
+demands (Cap_fcntls_limit x commands) = record no_demand { single = Some x }
+demands Cap_enter = record no_demand { never_fails = true }
+demands Cap_getmode = record no_demand { never_fails = true }
+demands Socketpair = record no_demand { takes = 2 }
+demands Fork = no_demand
 
 -- Rule 4: an operand of a call that changes its slot is a single number.
 abbrev pub single_operand : Bound → Option Operand → Bool

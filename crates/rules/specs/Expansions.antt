@@ -3,6 +3,7 @@
 use Rattle.std.specs.Prelude.{◌≡◌, ◌==◌, ◌&&◌, ◌||◌, ◌++◌, not, ℕ, zero, suc, Bool, true, false, nat_lt, List, [], ◌∷◌, length, Option, Some, None, if◌then◌else◌}
 use Rattle.std.specs.List.{flat_map, list_any, slice_get}
 use Rattle.std.specs.Str.{bytes_eq}
+use Rattle.rights.specs.Values.{Name}
 use Rattle.rights.specs.Limits.{most_instructions}
 use Rattle.certificate.specs.Bounds.{Bound, PointBound, Version, One, Two, Certificate, bound_at}
 use Rattle.certificate.specs.Growth.{IsCertificate}
@@ -37,7 +38,7 @@ may_carry One code point = false
 may_carry Two code point = nat_lt point (length code) && not (is_named code point)
 
 -- the code of the program of a name; where a task has none, there is the empty list
-unfoldable pub code_named : List NamedProgram → List ℕ → List Instruction
+unfoldable pub code_named : List NamedProgram → Name → List Instruction
 code_named [] name = []
 code_named (p ∷ programs) name = if bytes_eq p.name name then p.code else code_named programs name
 
@@ -47,11 +48,11 @@ or_carried None carried = carried
 or_carried (Some given) carried = Some given
 
 -- The bound of a point as an outcome meets it: the one that is given, or else, at the next point, what is carried on to it.
-abbrev pub bound_met : Certificate → List ℕ → ℕ → Option Bound → ℕ → Option Bound
+abbrev pub bound_met : Certificate → Name → ℕ → Option Bound → ℕ → Option Bound
 bound_met c name next carried point = or_carried (bound_at c name point) (if point == next then carried else None)
 
 -- a point's bound, if it has one
-abbrev pub with_bound : List ℕ → ℕ → Option Bound → List PointBound
+abbrev pub with_bound : Name → ℕ → Option Bound → List PointBound
 with_bound name point None = []
 with_bound name point (Some b) = record { program = name; point = point; bound = b } ∷ []
 

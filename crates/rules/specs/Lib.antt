@@ -1,6 +1,7 @@
 pub mod Intervals
 pub mod Points
 pub mod Slots
+pub mod Needs
 pub mod Uses
 pub mod Demands
 pub mod Channels

@@ -3,6 +3,7 @@
 use Rattle.std.specs.Prelude.{◌+◌, ◌-◌, ◌++◌, ◌&&◌, not, ℕ, Bool, true, false, List, [], ◌∷◌, Option, Some, None, if◌then◌else◌}
 use Rattle.std.specs.List.{flat_map}
 use Rattle.std.specs.Str.{bytes_eq}
+use Rattle.rights.specs.Values.{PathText, SideNumber, RightSet, CommandSet}
 use Rattle.rights.specs.Limits.{most_bytes, most_processes}
 use Rattle.rights.specs.Sets.{all_rights, all_commands}
 use Rattle.rights.specs.Classes.{Made_at}
@@ -10,7 +11,9 @@ use Rattle.file_tree.specs.Places.{place_text}
 use Rattle.fd_table.specs.Descriptions.{other_side}
 use Rattle.certificate.specs.Bounds.{ModeBound, Off, On, Either, Interval, interval, with_interval, Target, In_grant, Any_node, Socket, Unknown, Held, Closed, with_slot, Bound, Certificate}
 use Rattle.certificate.specs.Bounds as bounds
-use Rattle.prog_asm.specs.Programs.{Operand, Syscall, Open, Openat, Read, Write, Sendfd, Recvfd, Lseek, Ftruncate, Fsync, Fstat, Fcntl_getfl, Fcntl_setfl, Fstatat, Stat, Mkdirat, Mkdir, Unlinkat, Unlink, Renameat, Dup, Close, Cap_rights_limit, Cap_fcntls_limit, Cap_enter, Cap_getmode, Socketpair, Fork, Instruction, Set, Mov, Add, In, Jmp, Jeq, Jlt, Halt, Invoke}
+use Rattle.prog_asm.specs.Programs.{Operand, Syscall, Open, Openat, Read, Write, Sendfd, Recvfd, Lseek, Ftruncate, Fsync, Fstat, Fcntl_getfl, Fcntl_setfl, Fstatat, Stat, Mkdirat}
+use Rattle.prog_asm.specs.Programs.{Mkdir, Unlinkat, Unlink, Renameat, Dup, Close, Cap_rights_limit, Cap_fcntls_limit, Cap_enter, Cap_getmode, Socketpair, Fork, Instruction, Set}
+use Rattle.prog_asm.specs.Programs.{Mov, Add, In, Jmp, Jeq, Jlt, Halt, Invoke}
 use Rattle.task.specs.Plans.{Grant}
 use Rattle.rules.specs.Intervals.{only, sums, equal_part, other_part, lower_part, upper_part}
 use Rattle.rules.specs.Slots.{OpenSlot, slots_in, free_numbers}
@@ -60,7 +63,7 @@ abbrev pub unknown_held : Held
 unknown_held = record { target = Unknown; least = 0; greatest = all_rights; least_fcntls = 0; greatest_fcntls = all_commands }
 
 -- What `open` leads to lies in a grant where the path is the grant's, byte for byte; else it is any node.
-abbrev pub target_of_path : List Grant → List ℕ → Target
+abbrev pub target_of_path : List Grant → PathText → Target
 target_of_path [] path = Any_node
 target_of_path (g ∷ grants) path = if bytes_eq (place_text g.path) path then In_grant g.name else target_of_path grants path
 
@@ -72,10 +75,10 @@ beneath_target (Socket class side) = None
 beneath_target Unknown = Some Any_node
 
 -- What a limit leaves: the rights, or the commands, are those that are asked for.
-abbrev pub with_rights : Held → ℕ → Held
+abbrev pub with_rights : Held → RightSet → Held
 with_rights h rights = record h { least = rights; greatest = rights }
 
-abbrev pub with_commands : Held → ℕ → Held
+abbrev pub with_commands : Held → CommandSet → Held
 with_commands h commands = record h { least_fcntls = commands; greatest_fcntls = commands }
 
 -- whether a slot may be of an end of a socket pair, and whether it may be of a node
@@ -111,10 +114,10 @@ is_formed certificate b call =
     && not (is_surely_on b.mode && (demands call).is_global)
 
 -- the lowest number, or the two lowest, where there are so many
-abbrev pub at_number : Option (List ℕ) → (ℕ → List Outcome) → List Outcome
-at_number None rest = []
-at_number (Some []) rest = []
-at_number (Some (n ∷ numbers)) rest = rest n
+abbrev pub at_lowest : Option (List ℕ) → (ℕ → List Outcome) → List Outcome
+at_lowest None rest = []
+at_lowest (Some []) rest = []
+at_lowest (Some (n ∷ numbers)) rest = rest n
 
 abbrev pub at_pair : Option (List ℕ) → (ℕ → ℕ → List Outcome) → List Outcome
 at_pair None rest = []
@@ -125,23 +128,23 @@ at_pair (Some (n ∷ m ∷ numbers)) rest = rest n m
 -- The grants of the policy, the certificate, and the program's name and the point that has this bound.
 module _ (grants : List Grant) (certificate : Certificate) (name : List ℕ) (point : ℕ) (b : Bound) where
   -- on to the next point, with register 0 in an interval
-  abbrev pub goes_on : Bound → Interval → List Outcome
-  goes_on after i = outcome_to (point + 1) (with_interval after 0 i)
+  abbrev pub leads_on : Bound → Interval → List Outcome
+  leads_on after i = outcome_to (point + 1) (with_interval after 0 i)
 
-  -- through each slot that an operand may name
-  abbrev pub through : Operand → (OpenSlot → List Outcome) → List Outcome
-  through x rest = flat_map rest (slots_in b x)
+  -- through_each each slot that an operand may name
+  abbrev pub through_each : Operand → (OpenSlot → List Outcome) → List Outcome
+  through_each x rest = flat_map rest (slots_in b x)
 
   abbrev pub gives_through : Operand → Interval → List Outcome
-  gives_through x i = through x (λ (s : OpenSlot). goes_on b i)
+  gives_through x i = through_each x (λ (s : OpenSlot). leads_on b i)
 
-  -- through each that may be of a node
+  -- through_each each that may be of a node
   abbrev pub gives_at_node : Operand → List Outcome → List Outcome
-  gives_at_node x rest = through x (λ (s : OpenSlot). if may_be_node s.held.target then rest else [])
+  gives_at_node x rest = through_each x (λ (s : OpenSlot). if may_be_node s.held.target then rest else [])
 
   -- the lowest free number is taken, and given
   abbrev pub takes : Held → List Outcome
-  takes h = at_number (free_numbers 1 b) (λ n. goes_on (with_slot b n (bounds.Open h)) (only n))
+  takes h = at_lowest (free_numbers 1 b) (λ n. leads_on (with_slot b n (bounds.Open h)) (only n))
 
   abbrev pub opens_beneath : Held → Option Target → List Outcome
   opens_beneath h None = []
@@ -160,7 +163,7 @@ module _ (grants : List Grant) (certificate : Certificate) (name : List ℕ) (po
   receives_at Unknown = takes unknown_held
 
   -- both ends of a new pair, of this point's class; register 1 has the second number
-  abbrev pub new_end : ℕ → Held
+  abbrev pub new_end : SideNumber → Held
   new_end side = all_held (Socket (Made_at name point) side)
 
   abbrev pub with_pair : ℕ → ℕ → Bound
@@ -170,35 +173,35 @@ module _ (grants : List Grant) (certificate : Certificate) (name : List ℕ) (po
   -- The successes of a call: what register 0 gets, and what becomes of the slots. A slot that isn't named stays.
   abbrev pub successes_of : Syscall → List Outcome
   successes_of (Open path f) = takes (all_held (target_of_path grants path))
-  successes_of (Openat x path f) = through x (λ (s : OpenSlot). opens_beneath s.held (beneath_target s.held.target))
+  successes_of (Openat x path f) = through_each x (λ (s : OpenSlot). opens_beneath s.held (beneath_target s.held.target))
   successes_of (Read x) = gives_through x (from_to 0 256)
   successes_of (Write x v) = gives_through x (only 1)
   successes_of (Sendfd x y v) =
-      through x (λ (s : OpenSlot). if may_be_end s.held.target then gives_through y (only 1) else [])
-  successes_of (Recvfd x) = through x (λ (s : OpenSlot). receives_at s.held.target)
+      through_each x (λ (s : OpenSlot). if may_be_end s.held.target then gives_through y (only 1) else [])
+  successes_of (Recvfd x) = through_each x (λ (s : OpenSlot). receives_at s.held.target)
   successes_of (Lseek x v) = gives_through x (from_to 0 most_bytes)
   successes_of (Ftruncate x v) = gives_through x (only 0)
   successes_of (Fsync x) = gives_through x (only 0)
   successes_of (Fstat x) = gives_through x (from_to 1 3)
   successes_of (Fcntl_getfl x) = gives_through x (from_to 0 3)
   successes_of (Fcntl_setfl x v) = gives_through x (only 0)
-  successes_of (Fstatat x path) = gives_at_node x (goes_on b (from_to 1 2))
-  successes_of (Stat path) = goes_on b (from_to 1 2)
-  successes_of (Mkdirat x path) = gives_at_node x (goes_on b (only 0))
-  successes_of (Mkdir path) = goes_on b (only 0)
-  successes_of (Unlinkat x path directory) = gives_at_node x (goes_on b (only 0))
-  successes_of (Unlink path directory) = goes_on b (only 0)
-  successes_of (Renameat x from y to) = gives_at_node x (gives_at_node y (goes_on b (only 0)))
-  successes_of (Dup x) = through x (λ (s : OpenSlot). takes s.held)
-  successes_of (Close x) = through x (λ (s : OpenSlot). goes_on (with_slot b s.number Closed) (only 0))
+  successes_of (Fstatat x path) = gives_at_node x (leads_on b (from_to 1 2))
+  successes_of (Stat path) = leads_on b (from_to 1 2)
+  successes_of (Mkdirat x path) = gives_at_node x (leads_on b (only 0))
+  successes_of (Mkdir path) = leads_on b (only 0)
+  successes_of (Unlinkat x path directory) = gives_at_node x (leads_on b (only 0))
+  successes_of (Unlink path directory) = leads_on b (only 0)
+  successes_of (Renameat x from y to) = gives_at_node x (gives_at_node y (leads_on b (only 0)))
+  successes_of (Dup x) = through_each x (λ (s : OpenSlot). takes s.held)
+  successes_of (Close x) = through_each x (λ (s : OpenSlot). leads_on (with_slot b s.number Closed) (only 0))
   successes_of (Cap_rights_limit x rights) =
-      through x (λ (s : OpenSlot). goes_on (with_slot b s.number (bounds.Open (with_rights s.held rights))) (only 0))
+      through_each x (λ (s : OpenSlot). leads_on (with_slot b s.number (bounds.Open (with_rights s.held rights))) (only 0))
   successes_of (Cap_fcntls_limit x commands) =
-      through x (λ (s : OpenSlot). goes_on (with_slot b s.number (bounds.Open (with_commands s.held commands))) (only 0))
-  successes_of Cap_enter = goes_on (record b { mode = On }) (only 0)
-  successes_of Cap_getmode = goes_on b (mode_interval b.mode)
-  successes_of Socketpair = at_pair (free_numbers 2 b) (λ first second. goes_on (with_pair first second) (only first))
-  successes_of Fork = goes_on b (only 0) ++ goes_on b (from_to 1 (most_processes - 1))
+      through_each x (λ (s : OpenSlot). leads_on (with_slot b s.number (bounds.Open (with_commands s.held commands))) (only 0))
+  successes_of Cap_enter = leads_on (record b { mode = On }) (only 0)
+  successes_of Cap_getmode = leads_on b (mode_interval b.mode)
+  successes_of Socketpair = at_pair (free_numbers 2 b) (λ first second. leads_on (with_pair first second) (only first))
+  successes_of Fork = leads_on b (only 0) ++ leads_on b (from_to 1 (most_processes - 1))
 
   -- All outcomes but those of errors. `halt` has none.
   unfoldable pub successes : Instruction → List Outcome

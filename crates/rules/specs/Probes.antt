@@ -13,12 +13,12 @@ use Rattle.rules.specs.Outcomes.{all_held, unknown_held}
 use Rattle.rules.specs.Verdicts.{first_found}
 
 -- a bound with full registers and these slots, from number 0 on; the others are closed
-abbrev pub bound_with : ModeBound → List Slot → Bound
-bound_with mode slots = record (open_bound mode) { slots = slots ++ copies (most_descriptors - length slots) Closed }
+abbrev pub bound_of_slots : ModeBound → List Slot → Bound
+bound_of_slots mode slots = record (open_bound mode) { slots = slots ++ copies (most_descriptors - length slots) Closed }
 
 -- the bound that every other is within
 abbrev pub loosest : Bound
-loosest = bound_with Either (copies most_descriptors (Maybe unknown_held))
+loosest = bound_of_slots Either (copies most_descriptors (Maybe unknown_held))
 
 -- What a slot holds: a node of the task's grant, of a grant that the task hasn't, or any; or one side of a pair.
 abbrev pub in_work : Held
@@ -84,16 +84,16 @@ abbrev pub probed : Probe → Instruction → Option (ℕ × ℕ × ℕ)
 probed p i = first_found (probed_plan p.started i) (probed_certificate p)
 
 -- Unless it is said, `main` is run, and any state is good after the instruction.
-abbrev pub plain : Bound → Probe
-plain here = record { started = 0; main = bound_with Off []; here = here; next = Some loosest; channels = [] }
+abbrev pub plain_probe : Bound → Probe
+plain_probe here = record { started = 0; main = bound_of_slots Off []; here = here; next = Some loosest; channels = [] }
 
 -- a call with these slots, in the mode or outside it
 abbrev pub probe : Syscall → ModeBound → List Held → Option (ℕ × ℕ × ℕ)
-probe call mode held = probed (plain (bound_with mode (all_open held))) (Invoke call 1)
+probe call mode held = probed (plain_probe (bound_of_slots mode (all_open held))) (Invoke call 1)
 
 abbrev pub probe_over : List ChannelBound → Syscall → ModeBound → List Held → Option (ℕ × ℕ × ℕ)
 probe_over channels call mode held =
-    probed (record (plain (bound_with mode (all_open held))) { channels = channels }) (Invoke call 1)
+    probed (record (plain_probe (bound_of_slots mode (all_open held))) { channels = channels }) (Invoke call 1)
 
 -- a rule is broken at point 0 of `probe`
 abbrev pub broken : ℕ → Option (ℕ × ℕ × ℕ)

@@ -3,6 +3,7 @@ use Rattle.std.specs.Prelude.{◌==◌, ◌&&◌, ◌||◌, not, ℕ, Bool, true
 use Rattle.std.specs.List.{list_all, list_any}
 use Rattle.std.specs.Str.{bytes_eq}
 use Rattle.std.specs.Option.{option_map}
+use Rattle.rights.specs.Values.{Name}
 use Rattle.rights.specs.Limits.{register_count}
 use Rattle.rights.specs.Sets.{is_within}
 use Rattle.rights.specs.Operations.{Operation}
@@ -61,24 +62,24 @@ abbrev pub within_if_there : Bound → Option Bound → Bool
 within_if_there b None = true
 within_if_there b (Some there) = bound_within b there
 
-abbrev pub all_within : Certificate → List ℕ → List Outcome → Bool
+abbrev pub all_within : Certificate → Name → List Outcome → Bool
 all_within certificate name outs =
     list_all (λ (o : Outcome). within_if_there o.bound (bound_at certificate name o.point)) outs
 
 -- Rule 16: and it has one.
-abbrev pub all_there : Certificate → List ℕ → List Outcome → Bool
+abbrev pub all_there : Certificate → Name → List Outcome → Bool
 all_there certificate name outs = list_all (λ (o : Outcome). is_some (bound_at certificate name o.point)) outs
 
 -- ## Rules on each slot that a call may go through
 -- Rules 7, 8 and 9: what the call needs, or a limit keeps, is surely there.
 abbrev pub keeps_rights : Use → Bool
-keeps_rights u = is_within u.rights u.slot.held.least
+keeps_rights u = is_within u.need.rights u.slot.held.least
 
 abbrev pub keeps_commands : Use → Bool
-keeps_commands u = is_within u.commands u.slot.held.least_fcntls
+keeps_commands u = is_within u.need.commands u.slot.held.least_fcntls
 
 abbrev pub keeps_limit : Use → Bool
-keeps_limit u = is_within u.kept_rights u.slot.held.least && is_within u.kept_commands u.slot.held.least_fcntls
+keeps_limit u = is_within u.need.kept_rights u.slot.held.least && is_within u.need.kept_commands u.slot.held.least_fcntls
 
 -- a slot that is in a grant, whether or not the task has it, or a socket
 abbrev pub is_known : Target → Bool
@@ -89,7 +90,7 @@ is_known Unknown = false
 
 -- Rule 10: where the mode may be on, what a call works on is known. (capsicum(4))
 abbrev pub works_on_known : Use → Bool
-works_on_known u = not u.works || is_known u.slot.held.target
+works_on_known u = not u.need.works || is_known u.slot.held.target
 
 -- Rule 11: where the mode may be on and the slot is in a grant, the grant lists each operation of the call.
 abbrev pub target_lists : List Grant → Target → Operation → Bool
@@ -99,12 +100,12 @@ target_lists grants (Socket class side) operation = true
 target_lists grants Unknown operation = true
 
 abbrev pub keeps_policy : List Grant → Use → Bool
-keeps_policy grants u = list_all (target_lists grants u.slot.held.target) u.operations
+keeps_policy grants u = list_all (target_lists grants u.slot.held.target) u.need.operations
 
 -- Rule 12: in either mode, names are made, removed and moved beneath a slot that is known, and nowhere else: so each
 -- grant's directory stays where it is.
 abbrev pub names_known : Use → Bool
-names_known u = not u.changes_names || is_known u.slot.held.target
+names_known u = not u.need.changes_names || is_known u.slot.held.target
 
 -- Rule 13: in either mode, nothing is moved from one grant into another.
 abbrev pub same_grant : Target → Target → Bool

@@ -1,6 +1,7 @@
 -- The slots of a bound that a call may go through, and those that it takes. (own; that a new descriptor has the lowest free
 -- number is of open(2), dup(2) and socketpair(2))
 use Rattle.std.specs.Prelude.{◌+◌, ◌==◌, ◌&&◌, ℕ, zero, suc, Bool, true, false, nat_le, List, [], ◌∷◌, ◌++◌, Option, Some, None, option_map, if◌then◌else◌}
+use Rattle.rights.specs.Values.{DescriptorNumber}
 use Rattle.certificate.specs.Bounds.{ModeBound, Off, On, Either, Interval, interval, Held, Slot, Closed, Open, Maybe, held_in, Bound}
 use Rattle.prog_asm.specs.Programs.{Operand, Register, Number}
 use Rattle.rules.specs.Intervals.{only}
@@ -24,7 +25,7 @@ holds_number i n = nat_le i.low n && nat_le n i.high
 
 -- a slot that may be open, with what it holds then
 pub record OpenSlot : Type 0 where
-  pub number : ℕ
+  pub number : DescriptorNumber
   pub held : Held
 
 abbrev pub open_slot : ℕ → Option Held → List OpenSlot

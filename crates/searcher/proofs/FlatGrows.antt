@@ -18,15 +18,17 @@ use Rattle.file_tree.specs.Places.{begins}
 use Rattle.texts.specs.Names.{is_name}
 use Rattle.prog_asm.specs.Programs.{Instruction, ends_well, is_instruction, is_program}
 use Rattle.task.specs.Plans.{FirstDescriptor, FirstObject, On_node, On_end, Grant, NamedProgram, Start, Plan, code_in}
-use Rattle.task.specs.Limits.{all_apart, is_tree, are_grants, is_named, are_named_apart, is_start, are_descriptors, are_programs, are_starts, is_plan}
+use Rattle.task.specs.Limits.{all_apart, is_tree, are_grants, is_program_named, are_named_apart, is_start, are_descriptors, are_programs, are_starts, is_plan}
 use Rattle.certificate.specs.Bounds.{ModeBound, Target, In_grant, Slot, Open, Bound, PointBound, Two, Certificate}
-use Rattle.certificate.specs.Growth.{above_blocks, copies, distinct, distinct_behind, name_order, nothing, open_bound, programs_of_block, programs_of_slot, programs_of_target}
+use Rattle.certificate.specs.Growth.{above_blocks, copies, distinct, distinct_behind, name_order, empty, open_bound, programs_of_block, programs_of_slot, programs_of_target}
 use Rattle.certificate.proofs.Distinct.{behind-append}
 use Rattle.certificate.proofs.Last.{above_blocks-last, above_blocks-none}
-use Rattle.certificate.specs.Growths.{Grows, grown_by, then_grown}
+use Rattle.certificate.specs.Growths.{grown_by, then_grown}
+use Rattle.certificate.specs.GrowthViews.{Grows}
 use Rattle.certificate.specs.declared.lines.Refusal.{Refusal}
 use Rattle.certificate.specs.declared.lines.Refusal.TheVariants.{Limit, Order, Memory}
-use Rattle.searcher.specs.Flat.{code_of, enters, first_held, first_target, flat, flat_bound, flat_points, flat_points_of, grant_target, have_own, mode_in, name_of_start, nearer, next_behind, points_behind, points_from, with_first, with_next}
+use Rattle.searcher.specs.Flat.{code_of_start, enters, first_held, first_target, flat, flat_bound, flat_points, flat_points_of, grant_target, have_own, flat_mode, name_of_start}
+use Rattle.searcher.specs.Flat.{nearer, next_behind, points_behind, points_from, with_first, with_next}
 use Rattle.certificate.proofs.Growths.{by_append}
 use Rattle.searcher.proofs.Taken.{AllPlain, flat_of, listed, names, of_points, one_more, plain_closed, points_grown, room_for, run_names}
 use Rattle.searcher.proofs.Valid.{programs_named, starts_valid}
@@ -126,13 +128,13 @@ run_above name b points point i (j ∷ code) q less =
     ap (λ list. above_blocks list q 0) (sym (append_assoc points (last ∷ []) (points_from name b (point + 1) (j ∷ code))))
     ∙ run_above name b (points ++ last ∷ []) (point + 1) j code q less
 
-code_there : (programs : List NamedProgram) (n : ℕ) → n < length programs → list_all is_named programs ≡ true
+code_there : (programs : List NamedProgram) (n : ℕ) → n < length programs → list_all is_program_named programs ≡ true
     → ends_well (code_in (slice_get programs n)) ≡ true
 code_there [] n within named = absurd (omega arith)
 code_there (p ∷ programs) zero within named =
-    let is = both_right (is_name p.name) (is_program p.code) (both_left (is_named p) (list_all is_named programs) named) in
+    let is = both_right (is_name p.name) (is_program p.code) (both_left (is_program_named p) (list_all is_program_named programs) named) in
     both_right (nat_le (length p.code) 256 && list_all (is_instruction (length p.code)) p.code) (ends_well p.code) is
-code_there (p ∷ programs) (suc n) within named = code_there programs n (omega arith) (both_right (is_named p) (list_all is_named programs) named)
+code_there (p ∷ programs) (suc n) within named = code_there programs n (omega arith) (both_right (is_program_named p) (list_all is_program_named programs) named)
 
 some_above : (name : List ℕ) (b : Bound) (points : List PointBound) (code : List Instruction) → ends_well code ≡ true
     → Above (points ++ points_from name b 0 code) name
@@ -144,12 +146,12 @@ IsGrown : List PointBound → List PointBound → Type 0
 IsGrown points more = grown_by more (of_points points) ≡ Some (of_points (points ++ more))
 
 module _ (plan : Plan) (valid : is_plan plan ≡ true) where
-  start_form : (s : Start) → flat_bound plan s ≡ flat_of (mode_in s.mode (list_any enters (code_of plan s))) (flat_bound plan s).slots
-  start_form s = first_form plan (open_bound (mode_in s.mode (list_any enters (code_of plan s)))) s.descriptors
+  start_form : (s : Start) → flat_bound plan s ≡ flat_of (flat_mode s.mode (list_any enters (code_of_start plan s))) (flat_bound plan s).slots
+  start_form s = first_form plan (open_bound (flat_mode s.mode (list_any enters (code_of_start plan s)))) s.descriptors
 
   module _ (s : Start) where
     abbrev mode : ModeBound
-    mode = mode_in s.mode (list_any enters (code_of plan s))
+    mode = flat_mode s.mode (list_any enters (code_of_start plan s))
 
     abbrev slots : List Slot
     slots = (flat_bound plan s).slots
@@ -166,25 +168,25 @@ module _ (plan : Plan) (valid : is_plan plan ≡ true) where
     unfolding IsGrown
     start_grown points few above =
         let name = name_of_start plan s in
-        ap (λ b. grown_by (points_from name b 0 (code_of plan s)) (of_points points)) (start_form s)
-        ∙ points_grown name mode slots long plain points 0 (code_of plan s) (room_for points name few) above
-        ∙ ap (λ b. Some (of_points (points ++ points_from name b 0 (code_of plan s)))) (sym (start_form s))
+        ap (λ b. grown_by (points_from name b 0 (code_of_start plan s)) (of_points points)) (start_form s)
+        ∙ points_grown name mode slots long plain points 0 (code_of_start plan s) (room_for points name few) above
+        ∙ ap (λ b. Some (of_points (points ++ points_from name b 0 (code_of_start plan s)))) (sym (start_form s))
 
     start_listed : (points : List PointBound) → length (listed (points ++ flat_points_of plan s)) ≤ length (listed points) + 1
     start_listed points =
         let name = name_of_start plan s in
-        let more = one_more (listed points) (length (code_of plan s)) name in
-        let own : names (flat_points_of plan s) ≡ copies (length (code_of plan s)) name =
-        ap (λ b. names (points_from name b 0 (code_of plan s))) (start_form s) ∙ run_names name mode slots long plain 0 (code_of plan s) in
-        let same : listed (points ++ flat_points_of plan s) ≡ distinct_behind bytes_eq (listed points) (copies (length (code_of plan s)) name) =
+        let more = one_more (listed points) (length (code_of_start plan s)) name in
+        let own : names (flat_points_of plan s) ≡ copies (length (code_of_start plan s)) name =
+        ap (λ b. names (points_from name b 0 (code_of_start plan s))) (start_form s) ∙ run_names name mode slots long plain 0 (code_of_start plan s) in
+        let same : listed (points ++ flat_points_of plan s) ≡ distinct_behind bytes_eq (listed points) (copies (length (code_of_start plan s)) name) =
         ap (λ list. distinct bytes_eq list) (flat_map-append programs_of_block points (flat_points_of plan s) ∙ ap (λ list. names points ++ list) own)
-        ∙ behind-append bytes_eq [] (names points) (copies (length (code_of plan s)) name) in
+        ∙ behind-append bytes_eq [] (names points) (copies (length (code_of_start plan s)) name) in
         subst (λ list. length list ≤ length (listed points) + 1) (sym same) more
 
     start_above : is_start plan.nodes (length plan.programs) s ≡ true → (points : List PointBound) → Above (points ++ flat_points_of plan s) (name_of_start plan s)
     start_above is points =
         let within = ltb-true s.program (length plan.programs) (both_left (nat_lt s.program (length plan.programs)) (are_descriptors plan.nodes s.descriptors) is) in
-        some_above (name_of_start plan s) (flat_bound plan s) points (code_of plan s) (code_there plan.programs s.program within (programs_named plan valid))
+        some_above (name_of_start plan s) (flat_bound plan s) points (code_of_start plan s) (code_there plan.programs s.program within (programs_named plan valid))
 
   none_grown : (points : List PointBound) → IsGrown points []
   unfolding grown_by IsGrown
@@ -253,25 +255,26 @@ few_programs plan valid =
     let are : programs ≡ true =
     both_right before programs (both_left (before && programs) (are_starts plan.nodes (length plan.programs) plan.starts) valid) in
     let few = nat_le (length plan.programs) most_programs in
-    let each = list_all is_named plan.programs in
+    let each = list_all is_program_named plan.programs in
     leb-true (length plan.programs) 8 (both_left few each (both_left (few && each) (all_apart are_named_apart plan.programs) are))
 
 few_starts : (plan : Plan) → is_plan plan ≡ true → have_own plan.starts ≡ true → length plan.starts ≤ 8
 few_starts plan valid own =
     let few = few_programs plan valid in
-    let most = length-le_from_distinct_below (numbers plan.starts) (length plan.programs) (own_distinct plan.starts own) (each_below plan.starts plan.nodes (length plan.programs) (starts_valid plan valid)) in
+    let most = length-le_from_distinct_below (numbers plan.starts) (length plan.programs) (own_distinct plan.starts own)
+    (each_below plan.starts plan.nodes (length plan.programs) (starts_valid plan valid)) in
     let same = length-map plan.starts (λ (s : Start). s.program) in
     omega (arith, few, most, same)
 
 pub flat_grows : (plan : Plan) → is_plan plan ≡ true → have_own plan.starts ≡ true
-    → grown_by (flat_points plan) (nothing Two) ≡ Some (of_points (flat_points plan))
+    → grown_by (flat_points plan) (empty Two) ≡ Some (of_points (flat_points plan))
 unfolding distinct_behind IsGrown
 flat_grows plan valid own =
     let few = few_starts plan valid own in
     turns_grown plan valid plan.starts [] [] (λ q less. above_blocks-none q 0) (omega (arith, few))
 
 -- what the code's growing comes to, then
-pub flat_taken : (plan : Plan) (starts others : List Start) (c : Certificate) (own : Bool) → starts ≡ plan.starts → others ≡ plan.starts → c ≡ nothing Two
+pub flat_taken : (plan : Plan) (starts others : List Start) (c : Certificate) (own : Bool) → starts ≡ plan.starts → others ≡ plan.starts → c ≡ empty Two
     → own ≡ have_own starts → own ≡ true → is_plan plan ≡ true → grown_by (points_behind plan others []) c ≡ Some (of_points (flat_points plan))
 flat_taken plan starts others c own same again new is owned valid =
     (λ k. grown_by (points_behind plan (again k) []) (new k))

@@ -6,7 +6,7 @@ use Rattle.std.proofs.Math.ListN.{drop_of_length-le}
 use Rattle.std.proofs.lemmas.List.{drop_more}
 use Rattle.std.proofs.lemmas.List.Folds.{list_all-map}
 use Rattle.certificate.specs.Bounds.{PointBound, Two, Certificate}
-use Rattle.certificate.specs.Growth.{IsCertificate, nothing, programs_of}
+use Rattle.certificate.specs.Growth.{IsCertificate, empty, programs_named}
 use Rattle.certificate.specs.Growths.{grown, grown_by, then_grown}
 use Rattle.certificate.specs.Lines.{Bounds_channel, block_lines, lines_of}
 use Rattle.certificate.specs.Rising.{places_of, precedes, rises}
@@ -58,24 +58,24 @@ rises_left keep (b ∷ points) up =
     go false first rest = rest
 
 -- THE SHORT FORM is a certificate,
-short_fits : (plan : Plan) (c : Certificate) → IsCertificate c → Fits (programs_of c) (short_form plan c)
+short_fits : (plan : Plan) (c : Certificate) → IsCertificate c → Fits (programs_named c) (short_form plan c)
 unfolding short_form
 short_fits plan c valid =
     let fits = fits_itself c valid in
     record {
       few = fits.few;
-      fit = all_left (is_fit_point (programs_of c)) (is_at_named plan) c.points fits.fit;
+      fit = all_left (is_fit_point (programs_named c)) (is_at_named plan) c.points fits.fit;
       up = rises_left (is_at_named plan) c.points fits.up;
       among = fits.among;
       stand = fits.stand;
       classes = fits.classes;
     }
 
-pub short_taken : (plan : Plan) (c start : Certificate) → IsCertificate c → start ≡ nothing Two
+pub short_taken : (plan : Plan) (c start : Certificate) → IsCertificate c → start ≡ empty Two
     → grown (lines_of (short_form plan c)) start ≡ Some (short_form plan c)
 unfolding short_form
 short_taken plan c start valid begun =
-    ap (grown (lines_of (short_form plan c))) begun ∙ makes_itself (programs_of c) (short_form plan c) (short_fits plan c valid)
+    ap (grown (lines_of (short_form plan c))) begun ∙ makes_itself (programs_named c) (short_form plan c) (short_fits plan c valid)
 
 -- of version 2,
 pub short_is_two : (plan : Plan) (c : Certificate) → (short_form plan c).version ≡ Two

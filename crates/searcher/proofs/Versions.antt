@@ -3,7 +3,8 @@ use Rattle.std.proofs.Common.{◌≡◌, Bool, true, false, List, [], ◌∷◌,
 use Rattle.std.specs.Prelude.{IfSome, OnOk, Option, Some, None, Result, Ok, Err, if◌then◌else◌}
 use Rattle.certificate.specs.Bounds.{Two, Certificate}
 use Rattle.certificate.specs.Growth.{Refused, taken}
-use Rattle.certificate.specs.Growths.{Grows, grown, grown_behind}
+use Rattle.certificate.specs.Growths.{grown, grown_behind}
+use Rattle.certificate.specs.GrowthViews.{Grows}
 use Rattle.certificate.specs.declared.lines.Refusal.{Refusal}
 use Rattle.certificate.specs.Lines.{Line}
 use Rattle.certificate.proofs.Growing.{taken_keeps}

@@ -38,24 +38,24 @@ with_first plan b [] = b
 with_first plan b (d ∷ descriptors) = with_slot (with_first plan b descriptors) d.number (bounds.Open (first_held plan d))
 
 -- The mode is what it is at first; but either, where the program may enter it.
-abbrev pub is_entering : Syscall → Bool
-is_entering Cap_enter = true
-is_entering _ = false
+abbrev pub is_cap_enter : Syscall → Bool
+is_cap_enter Cap_enter = true
+is_cap_enter _ = false
 
 abbrev pub enters : Instruction → Bool
-enters (Invoke call otherwise) = is_entering call
+enters (Invoke call otherwise) = is_cap_enter call
 enters _ = false
 
-abbrev pub mode_in : Bool → Bool → ModeBound
-mode_in true entered = On
-mode_in false true = Either
-mode_in false false = Off
+abbrev pub flat_mode : Bool → Bool → ModeBound
+flat_mode true entered = On
+flat_mode false true = Either
+flat_mode false false = Off
 
-abbrev pub code_of : Plan → Start → List Instruction
-code_of plan s = programs_of_plan plan s.program
+abbrev pub code_of_start : Plan → Start → List Instruction
+code_of_start plan s = programs_of_plan plan s.program
 
 abbrev pub flat_bound : Plan → Start → Bound
-flat_bound plan s = with_first plan (open_bound (mode_in s.mode (list_any enters (code_of plan s)))) s.descriptors
+flat_bound plan s = with_first plan (open_bound (flat_mode s.mode (list_any enters (code_of_start plan s)))) s.descriptors
 
 -- one bound at each point of a program, from this one on
 unfoldable pub points_from : List ℕ → Bound → ℕ → List Instruction → List PointBound
@@ -67,7 +67,7 @@ abbrev pub name_of_start : Plan → Start → List ℕ
 name_of_start plan s = program_name plan s.program
 
 abbrev pub flat_points_of : Plan → Start → List PointBound
-flat_points_of plan s = points_from (name_of_start plan s) (flat_bound plan s) 0 (code_of plan s)
+flat_points_of plan s = points_from (name_of_start plan s) (flat_bound plan s) 0 (code_of_start plan s)
 
 -- The first processes by the names of their programs: of those behind a name the next one.
 abbrev pub nearer : Plan → List ℕ → Start → Option Start → Option Start

@@ -11,8 +11,10 @@ ghost use Rattle.task.specs.Limits.{is_descriptor, is_object, is_start};
 ghost use Rattle.task.specs.Plans.{programs_of_plan};
 ghost use Rattle.task.specs.Views.{first_descriptor_of, first_object_of, grants_of, nodes_of, start_of, starts_of};
 ghost use Rattle.transfer.specs.Tested.{has_name};
-ghost use Rattle.certificate.specs.Growths.{Grows, grown_by};
-ghost use Rattle.searcher.specs.Flat.{enters, first_held, first_target, flat, flat_bound, flat_points_of, grant_target, have_own, is_entering, mode_in, name_of_start, next_behind, points_behind, points_from, with_first};
+ghost use Rattle.certificate.specs.Growths.{grown_by};
+ghost use Rattle.certificate.specs.GrowthViews.{Grows};
+ghost use Rattle.searcher.specs.Flat.{enters, first_held, first_target, flat, flat_bound, flat_points_of, grant_target, have_own, is_cap_enter, flat_mode, name_of_start};
+ghost use Rattle.searcher.specs.Flat.{next_behind, points_behind, points_from, with_first};
 
 use certificate::{
     Bound, Cert, Class, FcntlsRange, Held, ModeBound, Name, Pair, Refusal, RightsRange, Side, Slot,
@@ -127,7 +129,7 @@ fn may_enter(code: &[Instruction]) -> bool
 
 /// The mode at each point.
 fn mode_in(mode: bool, entered: bool) -> ModeBound
-    ensures { mode_of result ≡ mode_in mode entered }
+    ensures { mode_of result ≡ flat_mode mode entered }
 {
     if mode {
         return ModeBound::On;
@@ -209,7 +211,7 @@ fn push_start(cert: &mut Cert, task: &Task, start: &Start) -> Result<(), Refusal
     requires { is_start task.now.nodes (length task.now.programs) (start_of start.now) ≡ true }
     ensures { Grows result cert.new (grown_by (flat_points_of task.now (start_of start.now)) cert.old) }
 {
-    let _programs = task.programs();
+    task.note_valid();
     let name = Name::new(task.program_name(start.program));
     let bound = flat_bound(task, start);
     push_points(cert, &name, &bound, 0, code_of_start(task, start))
@@ -223,7 +225,7 @@ fn push_behind(cert: &mut Cert, task: &Task, turns: &[Start], name: &[u8]) -> Re
     match turns {
         [] => Ok(()),
         [_, rest @ ..] => {
-            let _programs = task.programs();
+            task.note_valid();
             match next_behind(task, name, task.starts()) {
                 None => Ok(()),
                 Some(start) => {
@@ -263,7 +265,7 @@ pub(crate) fn flat(alloc: Global, task: &Task) -> Result<Option<Cert>, AllocErro
     if !have_own(task.starts()) {
         return Ok(None);
     }
-    let _programs = task.programs();
+    task.note_valid();
     let mut cert = Cert::new(alloc, Version::Two);
     match push_behind(&mut cert, task, task.starts(), b"") {
         Ok(()) => Ok(Some(cert)),

@@ -167,7 +167,7 @@ pub(crate) fn settle(
     channels: &mut Channels,
     ways: &mut Vec<Way>,
 ) -> Result<bool, Refusal> {
-    let _programs = task.programs();
+    task.note_valid();
     begin(task, ways, task.starts());
     for _ in 0..MOST_ROUNDS {
         if !go_through(alloc, task, channels, ways)? {

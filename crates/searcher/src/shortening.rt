@@ -2,7 +2,8 @@
 
 ghost use Rattle.std.specs.Prelude.{◌≡◌, [], ◌∷◌, IfOk};
 ghost use Rattle.std.specs.List.{filter};
-ghost use Rattle.certificate.specs.Growths.{Grows, grown, grown_by};
+ghost use Rattle.certificate.specs.Growths.{grown, grown_by};
+ghost use Rattle.certificate.specs.GrowthViews.{Grows};
 ghost use Rattle.certificate.specs.Lines.{lines_of};
 ghost use Rattle.certificate.specs.Views.{point_of, points_of};
 ghost use Rattle.searcher.specs.Shortening.{is_at_named, short_form};
@@ -47,7 +48,7 @@ fn push_short(short: &mut Cert, task: &Task, cert: &Cert) -> Result<(), Refusal>
 pub(crate) fn shortened(alloc: Global, task: &Task, cert: &Cert) -> Result<Cert, Memory>
     ensures { IfOk result (λ short. short ≡ short_form task.now cert.now) }
 {
-    let _points = cert.points();
+    cert.note_made();
     let mut short = Cert::new(alloc, Version::Two);
     match push_short(&mut short, task, cert) {
         Ok(()) => Ok(short),

@@ -22,7 +22,7 @@ use Rattle.task.specs.Limits.{is_plan}
 use Rattle.task.specs.Plans.{Plan, programs_of_plan}
 use Rattle.task.specs.Policies.{grant_named}
 use Rattle.task.proofs.FirstWorlds.{first_well_formed}
-use Rattle.file_tree.specs.Places.{is_name, is_target, path_components}
+use Rattle.file_tree.specs.Places.{is_file_name, is_target, path_components}
 use Rattle.rules.specs.Slots.{slots_in, free_numbers}
 use Rattle.rules.specs.Uses.{uses}
 use Rattle.rules.specs.Channels.{channel_at}
@@ -50,7 +50,7 @@ accepted plan certificate processes text valid none shows =
     record { meets = meets; sandboxed = sound plan certificate valid meets; lines = run.0; run = run.1; shows = shows run.0 run.1 }
 
 passing_is_task : is_plan passing_plan ≡ true
-unfolding is_within_limits is_name is_target
+unfolding is_within_limits is_file_name is_target
 passing_is_task = refl
 
 passing_meets : first_found passing_plan passing_certificate ≡ None
@@ -58,14 +58,16 @@ unfolding first_found found_at found_with tests tests_without bound_in grant_nam
 passing_meets = refl
 
 passing_shows : AlwaysShows passing_plan (turns (0 ∷ 0 ∷ 1 ∷ 1 ∷ [])) (codes "0 main:0 = 0\n0 main:1 = 1\n1 child:0 = 1\n1 child:1 = 2\n")
-unfolding ℕ_discrete digits removed filled find_of looks looks_twice lookup_fault path_fault path_components last_component looked by_places node_at unless held at_object at_number any_below lowest_from answer files_after changed answered jumped executed stepped_at stepped_by stepped step first_world first_files
+unfolding ℕ_discrete digits removed filled find_of looks looks_twice lookup_fault path_fault path_components last_component looked by_places node_at
+    unless held at_object at_number any_below lowest_from answer files_after changed answered jumped executed stepped_at stepped_by stepped step
+    first_world first_files
 passing_shows = always passing_plan (turns (0 ∷ 0 ∷ 1 ∷ 1 ∷ [])) (codes "0 main:0 = 0\n0 main:1 = 1\n1 child:0 = 1\n1 child:1 = 2\n") (λ choose. refl)
 
 pub passing : ActsAccepted passing_plan passing_certificate (0 ∷ 0 ∷ 1 ∷ 1 ∷ []) (codes "0 main:0 = 0\n0 main:1 = 1\n1 child:0 = 1\n1 child:1 = 2\n")
 passing = accepted passing_plan passing_certificate (0 ∷ 0 ∷ 1 ∷ 1 ∷ []) _ passing_is_task passing_meets passing_shows
 
 forking_is_task : is_plan forking_plan ≡ true
-unfolding is_within_limits is_name is_target
+unfolding is_within_limits is_file_name is_target
 forking_is_task = refl
 
 forking_meets : first_found forking_plan forking_certificate ≡ None
@@ -73,14 +75,16 @@ unfolding first_found found_at found_with tests tests_without bound_in grant_nam
 forking_meets = refl
 
 forking_shows : AlwaysShows forking_plan (turns (0 ∷ 0 ∷ 1 ∷ 1 ∷ [])) (codes "0 main:0 = 0\n0 main:1 = 1\n1 main:2 ok\n1 main:4 = 2\n")
-unfolding ℕ_discrete digits removed filled find_of looks looks_twice lookup_fault path_fault path_components last_component looked by_places node_at unless held at_object at_number any_below lowest_from answer files_after changed answered jumped executed stepped_at stepped_by stepped step first_world first_files
+unfolding ℕ_discrete digits removed filled find_of looks looks_twice lookup_fault path_fault path_components last_component looked by_places node_at
+    unless held at_object at_number any_below lowest_from answer files_after changed answered jumped executed stepped_at stepped_by stepped step
+    first_world first_files
 forking_shows = always forking_plan (turns (0 ∷ 0 ∷ 1 ∷ 1 ∷ [])) (codes "0 main:0 = 0\n0 main:1 = 1\n1 main:2 ok\n1 main:4 = 2\n") (λ choose. refl)
 
 pub forking : ActsAccepted forking_plan forking_certificate (0 ∷ 0 ∷ 1 ∷ 1 ∷ []) (codes "0 main:0 = 0\n0 main:1 = 1\n1 main:2 ok\n1 main:4 = 2\n")
 forking = accepted forking_plan forking_certificate (0 ∷ 0 ∷ 1 ∷ 1 ∷ []) _ forking_is_task forking_meets forking_shows
 
 renaming_is_task : is_plan renaming_plan ≡ true
-unfolding is_within_limits is_name is_target
+unfolding is_within_limits is_file_name is_target
 renaming_is_task = refl
 
 renaming_meets : first_found renaming_plan renaming_certificate ≡ None
@@ -88,7 +92,9 @@ unfolding first_found found_at found_with tests tests_without bound_in grant_nam
 renaming_meets = refl
 
 renaming_shows : AlwaysShows renaming_plan (turns (0 ∷ 0 ∷ [])) (codes "0 main:0 = 0\n0 main:1 = 0 remove /work/in create /work/out/in\n")
-unfolding ℕ_discrete digits removed filled find_of looks looks_twice lookup_fault path_fault path_components last_component looked by_places node_at unless held at_object at_number any_below lowest_from answer files_after changed answered jumped executed stepped_at stepped_by stepped step first_world first_files
+unfolding ℕ_discrete digits removed filled find_of looks looks_twice lookup_fault path_fault path_components last_component looked by_places node_at
+    unless held at_object at_number any_below lowest_from answer files_after changed answered jumped executed stepped_at stepped_by stepped step
+    first_world first_files
 renaming_shows = always renaming_plan (turns (0 ∷ 0 ∷ [])) (codes "0 main:0 = 0\n0 main:1 = 0 remove /work/in create /work/out/in\n") (λ choose. refl)
 
 pub renaming : ActsAccepted renaming_plan renaming_certificate (0 ∷ 0 ∷ []) (codes "0 main:0 = 0\n0 main:1 = 0 remove /work/in create /work/out/in\n")

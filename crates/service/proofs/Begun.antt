@@ -11,7 +11,7 @@ use Rattle.rights.specs.declared.stops.Stop.TheVariants.{Memory, Device, Spent}
 use Rattle.kernel.specs.Answers.{Event, IsEvent, AreEvents}
 use Rattle.kernel.proofs.Determined.{run_exists, same_lines_here}
 use Rattle.file_tree.specs.WellFormed.{is_within_limits}
-use Rattle.file_tree.specs.Places.{is_name, is_target}
+use Rattle.file_tree.specs.Places.{is_file_name, is_target}
 use Rattle.task.specs.Begins.{first_world}
 use Rattle.task.specs.Limits.{is_plan}
 use Rattle.task.specs.Plans.{Plan, programs_of_plan}
@@ -21,11 +21,11 @@ use Rattle.task_reader.specs.Reading.{Not_toml, plan_in, task_of}
 use Rattle.task_reader.proofs.ValidPlans.{ok-some, read-valid}
 use Rattle.certificate.specs.Bounds.{Certificate}
 use Rattle.certificate_text.specs.Readings.{certificate_of_text}
-use Rattle.simulator.specs.Schedules.{Too_many, event_with, event_from, event_of_words, event_of_line, with_event, unended, events_from, limited, schedule_of}
+use Rattle.simulator.specs.Schedules.{Too_many, event_with, event_from, event_of_words, event_of_line, with_event, unended, events_from, within_limit, schedule_of}
 use Rattle.simulator.specs.Simulations.{WritesFront, WritesTrace}
 use Rattle.simulator.specs.Traces.{trace_text}
 use Rattle.words.specs.Orders.{Order, Example, Run, Check, Report, Search, Expand, AsksFor}
-use Rattle.service.specs.Begun.{Begins}
+use Rattle.service.specs.Begun.{HasBegun}
 use Rattle.service.specs.declared.faults.Fault.{Fault as FaultCode}
 use Rattle.service.specs.Expanded.{Expands}
 use Rattle.service.specs.Examples.{first_plan, example_events}
@@ -33,7 +33,7 @@ use Rattle.service.specs.Fails.{Fails, LacksMemory, WordsFail, asked_for, not_as
 use Rattle.service.specs.Faults.{Fault, Refused, No_memory, No_output}
 use Rattle.service.specs.FaultViews.{fault_of, stop_fault}
 use Rattle.service.specs.Files.{Files, IsRead, IsTask}
-use Rattle.service.specs.Served.{Does, Serves}
+use Rattle.service.specs.Served.{DoesOrder, Serves}
 
 -- ## The events of a schedule have bytes
 at-most : (limit : ℕ) (o : Option ℕ) (n : ℕ) → at_most limit o ≡ Some n → n ≤ limit
@@ -68,9 +68,8 @@ words-byte (process ∷ input ∷ word ∷ []) e is = go (bytes_eq word (codes "
     go false none = absurd cc
 words-byte (process ∷ input ∷ word ∷ more ∷ words) e is = absurd cc
 
-with-events :
-    (n : ℕ) (o : Option Event) (r : Result (List Event) ℕ) (events : List Event) → ((e : Event) → o ≡ Some e → IsEvent e)
-    → ((rest : List Event) → r ≡ Ok rest → AreEvents rest) → with_event n o r ≡ Ok events → AreEvents events
+with-events : (n : ℕ) (o : Option Event) (r : Result (List Event) ℕ) (events : List Event) → ((e : Event) → o ≡ Some e → IsEvent e) →
+    ((rest : List Event) → r ≡ Ok rest → AreEvents rest) → with_event n o r ≡ Ok events → AreEvents events
 with-events n None r events byte bytes is = absurd cc
 with-events n (Some e) (Err line) events byte bytes is = absurd cc
 with-events n (Some e) (Ok rest) events byte bytes is =
@@ -87,7 +86,7 @@ lines-events n (last ∷ []) events is = last-events n last events is
 lines-events n (line ∷ next ∷ lines) events is =
     with-events n (event_of_line line) (events_from (n + 1) (next ∷ lines)) events (words-byte (parts 32 line)) (lines-events (n + 1) (next ∷ lines)) is
 
-limited-ok : (r : Result (List Event) ℕ) (events : List Event) → limited r ≡ Ok events → r ≡ Ok events
+limited-ok : (r : Result (List Event) ℕ) (events : List Event) → within_limit r ≡ Ok events → r ≡ Ok events
 limited-ok (Err line) events is = absurd cc
 limited-ok (Ok all) events is = ap Ok (go (nat_le (length all) 65536) is)
   where
@@ -106,10 +105,8 @@ task-valid text plan is =
     read-valid p.0 plan p.2
 
 -- A beginning of the trace of every run is one of the trace that is written in whole.
-trace-begun :
-    (plan : Plan) (events : List Event) (before after : Option (List ℕ)) → is_plan plan ≡ true → AreEvents events
-    → WritesFront plan events before after
-    → Begins (λ status before after. (status ≡ 0) × WritesTrace plan events before after) before after
+trace-begun : (plan : Plan) (events : List Event) (before after : Option (List ℕ)) → is_plan plan ≡ true → AreEvents events →
+    WritesFront plan events before after → HasBegun (λ status before after. (status ≡ 0) × WritesTrace plan events before after) before after
 trace-begun plan events before after valid bytes front =
     let first = first_well_formed plan valid in
     let run = run_exists (programs_of_plan plan) (first_world plan) events first.0 first.1 bytes in
@@ -121,18 +118,15 @@ trace-begun plan events before after valid bytes front =
         record {
           lines = run.0;
           run = run.1;
-          every = λ others other.
-              ap (λ lines. Some (trace_text plan events lines))
-              (same_lines_here (programs_of_plan plan) (first_world plan) events run.0 others first.0 first.1 bytes run.1 other);
+          every = λ others other. ap (λ lines. Some (trace_text plan events lines)) (same_lines_here (programs_of_plan plan) (first_world plan) events run.0 others first.0 first.1 bytes run.1 other);
         },
       );
       begun = front run.0 run.1;
     }
 
-pub run-begun :
-    (files : Files) (task schedule : List ℕ) (plan : Plan) (events : List Event) (before after : Option (List ℕ))
-    → IsTask files task plan → IsRead files schedule schedule_of (Ok events) → WritesFront plan events before after
-    → Begins (Does files (Run task schedule)) before after
+pub run-begun : (files : Files) (task schedule : List ℕ) (plan : Plan) (events : List Event) (before after : Option (List ℕ)) →
+    IsTask files task plan → IsRead files schedule schedule_of (Ok events) → WritesFront plan events before after →
+    HasBegun (DoesOrder files (Run task schedule)) before after
 run-begun files task schedule plan events before after is_task is_schedule front =
     let trace = trace-begun plan events before after (task-valid is_task.text plan is_task.is) (schedule-events is_schedule.text events is_schedule.is) front in
     record {
@@ -142,10 +136,9 @@ run-begun files task schedule plan events before after is_task is_schedule front
       begun = trace.begun;
     }
 
-pub expansion-begun :
-    (files : Files) (task certificate : List ℕ) (plan : Plan) (bounds : Certificate) (before after : Option (List ℕ))
-    → IsTask files task plan → IsRead files certificate certificate_of_text (Ok bounds)
-    → Begins (λ status. Expands plan bounds) before after → Begins (Does files (Expand task certificate)) before after
+pub expansion-begun : (files : Files) (task certificate : List ℕ) (plan : Plan) (bounds : Certificate) (before after : Option (List ℕ)) →
+    IsTask files task plan → IsRead files certificate certificate_of_text (Ok bounds) → HasBegun (λ status. Expands plan bounds) before after →
+    HasBegun (DoesOrder files (Expand task certificate)) before after
 expansion-begun files task certificate plan bounds before after is_task is_certificate begun = record {
   status = 0;
   text = begun.text;
@@ -154,10 +147,10 @@ expansion-begun files task certificate plan bounds before after is_task is_certi
 }
 
 first_is_task : is_plan first_plan ≡ true
-unfolding is_within_limits is_name is_target
+unfolding is_within_limits is_file_name is_target
 first_is_task = refl
 
-pub example-begun : (before after : Option (List ℕ)) → WritesFront first_plan example_events before after → Begins (Does None Example) before after
+pub example-begun : (before after : Option (List ℕ)) → WritesFront first_plan example_events before after → HasBegun (DoesOrder None Example) before after
 example-begun before after front = trace-begun first_plan example_events before after first_is_task (lit< tt, (lit< tt, tt)) front
 
 -- ## Stops
@@ -167,20 +160,18 @@ stop-is (Ok a) stop given is gives = absurd is.1
 stop-is (Err passed) stop given is gives = let same : passed ≡ given = cc in sym is.1 ∙ same
 
 module _ (files : Files) (order : Order) (before after : Option (List ℕ)) (failures failed : ℕ) where
-  fails :
-      (stop : Stop) → (stop ≡ Device → failures < failed) → (stop ≡ Device → Begins (Does files order) before after)
-      → (stop ≡ Memory → LacksMemory files order before after) → (stop ≡ Spent → ⊥)
-      → Fails files order before after failures failed (fault_of (stop_fault stop))
+  fails : (stop : Stop) → (stop ≡ Device → failures < failed) → (stop ≡ Device → HasBegun (DoesOrder files order) before after) →
+      (stop ≡ Memory → LacksMemory files order before after) → (stop ≡ Spent → ⊥) →
+      Fails files order before after failures failed (fault_of (stop_fault stop))
   fails Device device begun memory spent = (device refl, begun refl)
   fails Memory device begun memory spent = memory refl
   fails Spent device begun memory spent = absurd (spent refl)
 
   -- what fails where a stop is made into a fault
-  pub stopped :
-      {A : Type 0} (r : Result A FaultCode) (stop : Stop) → IsErr r × IsErrAnd r (λ fault. fault ≡ stop_fault stop)
-      → (stop ≡ Device → failures < failed) → (stop ≡ Device → Begins (Does files order) before after)
-      → (stop ≡ Memory → LacksMemory files order before after) → (stop ≡ Spent → ⊥)
-      → IfErr r (λ fault. Fails files order before after failures failed (fault_of fault))
+  pub stopped : {A : Type 0} (r : Result A FaultCode) (stop : Stop) → IsErr r × IsErrAnd r (λ fault. fault ≡ stop_fault stop) →
+      (stop ≡ Device → failures < failed) → (stop ≡ Device → HasBegun (DoesOrder files order) before after) →
+      (stop ≡ Memory → LacksMemory files order before after) → (stop ≡ Spent → ⊥) →
+      IfErr r (λ fault. Fails files order before after failures failed (fault_of fault))
   stopped (Ok a) stop is device begun memory spent = absurd is.1
   stopped (Err fault) stop is device begun memory spent =
       subst (λ (fault : FaultCode). Fails files order before after failures failed (fault_of fault)) (sym is.1) (fails stop device begun memory spent)
@@ -188,7 +179,7 @@ module _ (files : Files) (order : Order) (before after : Option (List ℕ)) (fai
 -- A beginning of what one writes is one of what another writes, if that writes all that the one does.
 pub begins-too :
     (P Q : ℕ → Option (List ℕ) → Option (List ℕ) → Type 0) (before after : Option (List ℕ))
-    → ((status : ℕ) (text : List ℕ) → P status (Some []) (Some text) → Q status (Some []) (Some text)) → Begins P before after → Begins Q before after
+    → ((status : ℕ) (text : List ℕ) → P status (Some []) (Some text) → Q status (Some []) (Some text)) → HasBegun P before after → HasBegun Q before after
 begins-too P Q before after too begins = record {
   status = begins.status;
   text = begins.text;
@@ -197,11 +188,11 @@ begins-too P Q before after too begins = record {
 }
 
 module _ (files : Files) (words : List (List ℕ)) (before after : Option (List ℕ)) where
-  serves-too : (order : Order) → AsksFor words order → Begins (Does files order) before after → Begins (Serves files words) before after
+  serves-too : (order : Order) → AsksFor words order → HasBegun (DoesOrder files order) before after → HasBegun (Serves files words) before after
   serves-too order asked =
-      begins-too (Does files order) (Serves files words) before after (λ status text done. record { order = order; asked = asked; done = done })
+      begins-too (DoesOrder files order) (Serves files words) before after (λ status text done. record { order = order; asked = asked; done = done })
 
-  memory-begun : (order : Order) → AsksFor words order → LacksMemory files order before after → (after ≡ before) ⊎ Begins (Serves files words) before after
+  memory-begun : (order : Order) → AsksFor words order → LacksMemory files order before after → (after ≡ before) ⊎ HasBegun (Serves files words) before after
   memory-begun Example asked (inl same) = inl same
   memory-begun Example asked (inr begun) = inr (serves-too Example asked begun)
   memory-begun (Run task schedule) asked (inl same) = inl same
@@ -211,15 +202,14 @@ module _ (files : Files) (words : List (List ℕ)) (before after : Option (List 
   memory-begun (Search task) asked same = inl same
   memory-begun (Expand task certificate) asked same = inl same
 
-  order-begun :
-      (order : Order) (failures failed : ℕ) (fault : Fault) → AsksFor words order
-      → Fails files order before after failures failed fault → (after ≡ before) ⊎ Begins (Serves files words) before after
+  order-begun : (order : Order) (failures failed : ℕ) (fault : Fault) → AsksFor words order → Fails files order before after failures failed fault →
+      (after ≡ before) ⊎ HasBegun (Serves files words) before after
   order-begun order failures failed (Refused refusal) asked fails = inl fails.0
   order-begun order failures failed No_memory asked fails = memory-begun order asked fails
   order-begun order failures failed No_output asked fails = inr (serves-too order asked fails.1)
 
   -- Whatever fails, nothing was written or a beginning.
-  pub words-begun : (failures failed : ℕ) (fault : Fault) → WordsFail files words before after failures failed fault → (after ≡ before) ⊎ Begins (Serves files words) before after
+  pub words-begun : (failures failed : ℕ) (fault : Fault) → WordsFail files words before after failures failed fault → (after ≡ before) ⊎ HasBegun (Serves files words) before after
   words-begun failures failed fault (asked_for order asked fails) = order-begun order failures failed fault asked fails
   words-begun failures failed _ (not_asked none same) = inl same
   words-begun failures failed _ (unread same) = inl same

@@ -10,11 +10,11 @@ use Rattle.certificate.specs.Bounds.{Slot, Certificate, bound_at}
 use Rattle.certificate_text.specs.Pieces.{in_order}
 use Rattle.prog_asm.specs.Programs.{Instruction}
 use Rattle.task.specs.Plans.{Grant, NamedProgram}
-use Rattle.service.specs.Reports.{grant_line, names_in, own_names, parted, point_lines, program_lines, rights_in, rights_text}
+use Rattle.service.specs.Reports.{grant_line, names_in, own_names, parted, point_lines, program_lines, rights_there, rights_text}
 
 -- the line of a grant at a point
 abbrev pub line_at : List ℕ → ℕ → List Slot → ℕ → Grant → List ℕ
-line_at program point slots n g = grant_line program point g.name (rights_in g.name slots)
+line_at program point slots n g = grant_line program point g.name (rights_there g.name slots)
 
 -- the lines of a point of a program
 abbrev pub lines_at : List Grant → Certificate → List ℕ → ℕ → Instruction → List ℕ
@@ -37,7 +37,10 @@ pub rights-listed : (set : ℕ) (rows : List (List ℕ × ℕ)) → rows ≡ own
 rights-listed set rows own some = ap (λ (rows : List (List ℕ × ℕ)). parted [] (names_in set rows)) own ∙ parted-first (names_in set own_names) ∙ rw some refl
 
 -- the first row's name, and the others
-pub first-named : {A : Type 0} (view : A → List ℕ × ℕ) (rows : List A) (d : A) (separator : List ℕ) (set : ℕ) → 1 ≤ length rows → is_within (view (slice_index_or rows 0 d)).1 set ≡ true → (separator ++ (view (slice_index_or rows 0 d)).0) ++ parted (codes ",") (names_in set (map view (take (length rows - 1) (drop 1 rows)))) ≡ parted separator (names_in set (map view rows))
+pub first-named : {A : Type 0} (view : A → List ℕ × ℕ) (rows : List A) (d : A) (separator : List ℕ) (set : ℕ) → 1 ≤ length rows →
+    is_within (view (slice_index_or rows 0 d)).1 set ≡ true →
+    (separator ++ (view (slice_index_or rows 0 d)).0)
+    ++ parted (codes ",") (names_in set (map view (take (length rows - 1) (drop 1 rows)))) ≡ parted separator (names_in set (map view rows))
 first-named view [] d separator set some has = absurd (omega arith)
 first-named view (row ∷ rows) d separator set some has =
     let fewer : length (row ∷ rows) - 1 ≡ length rows = omega arith in
@@ -54,6 +57,7 @@ same-at [] i d e within = absurd (omega arith)
 same-at (x ∷ xs) zero d e within = refl
 same-at (x ∷ xs) (suc i) d e within = same-at xs i d e (omega arith)
 
-pub program-as : (grants : List Grant) (certificate : Certificate) (name : List ℕ) (code : List Instruction) (p : NamedProgram) → name ≡ p.name → code ≡ p.code → in_order (lines_at grants certificate name) 0 code ≡ program_lines grants certificate p
+pub program-as : (grants : List Grant) (certificate : Certificate) (name : List ℕ) (code : List Instruction) (p : NamedProgram) → name ≡ p.name →
+    code ≡ p.code → in_order (lines_at grants certificate name) 0 code ≡ program_lines grants certificate p
 program-as grants certificate name code p named is =
     ap (λ name. in_order (lines_at grants certificate name) 0 code) named ∙ ap (λ code. in_order (lines_at grants certificate p.name) 0 code) is

@@ -32,7 +32,8 @@ no_choice : Choice
 no_choice = record { first = 0; second = 0; pair = 0 }
 
 -- What a run shows is the trace under the numbers that it chooses.
-run_shows : (plan : Plan) (w : World) (events : List Event) (lines : List (Option Acted)) → Runs (programs_of_plan plan) w events lines → (choose : ℕ → Choice) × (trace_text plan events lines ≡ trace plan w events choose)
+run_shows : (plan : Plan) (w : World) (events : List Event) (lines : List (Option Acted)) → Runs (programs_of_plan plan) w events lines →
+    (choose : ℕ → Choice) × (trace_text plan events lines ≡ trace plan w events choose)
 run_shows plan w [] [] run = ((λ n. no_choice), refl)
 run_shows plan w [] (line ∷ lines) run = absurd run
 run_shows plan w (e ∷ events) [] run = absurd run
@@ -56,7 +57,8 @@ pub every_bare : AlwaysShows bare_plan (events_of_first 3) (codes "0 main:0 = 0\
 unfolding ℕ_discrete digits unless held at_object answer files_after changed answered jumped executed stepped_at stepped_by stepped step first_world first_files
 every_bare = always bare_plan (events_of_first 3) _ (λ choose. refl)
 
-pub every_loop : AlwaysShows loop_plan (events_of_first 10) (codes "0 main:0 = 65 read /work/in\n0 main:1 ok\n0 main:2 ok\n0 main:0 = 66 read /work/in\n0 main:1 ok\n0 main:2 ok\n0 main:3 ok\n0 main:0 = 256 read /work/in\n0 main:1 ok\n0 main:4 halt\n")
+pub every_loop : AlwaysShows loop_plan (events_of_first 10)
+    (codes "0 main:0 = 65 read /work/in\n0 main:1 ok\n0 main:2 ok\n0 main:0 = 66 read /work/in\n0 main:1 ok\n0 main:2 ok\n0 main:3 ok\n0 main:0 = 256 read /work/in\n0 main:1 ok\n0 main:4 halt\n")
 unfolding ℕ_discrete digits unless held at_object answer files_after changed answered jumped executed stepped_at stepped_by stepped step first_world first_files
 every_loop = always loop_plan (events_of_first 10) _ (λ choose. refl)
 

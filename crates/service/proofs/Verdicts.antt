@@ -6,14 +6,14 @@ use Rattle.certificate.specs.Bounds.{Certificate}
 use Rattle.checker.specs.Verdicts.{Verdict, Yes, IsVerdict}
 use Rattle.task.specs.Plans.{Plan}
 use Rattle.task.specs.Sandboxed.{IsSandboxed}
-use Rattle.service.specs.Begun.{Begins}
+use Rattle.service.specs.Begun.{HasBegun}
 use Rattle.service.specs.Judged.{Judges, verdict_status, verdict_text}
 use Rattle.service.specs.Reports.{Reports, answer_text}
 
 pub verdict_begun :
     (plan : Plan) (bounds : Certificate) (verdict : Verdict) (text : List ℕ) (before after : Option (List ℕ))
     → IsVerdict plan bounds verdict → (verdict ≡ Yes → IsSandboxed plan) → text ≡ verdict_text plan verdict
-    → TookFront before after text → Begins (Judges plan bounds) before after
+    → TookFront before after text → HasBegun (Judges plan bounds) before after
 verdict_begun plan bounds verdict text before after is sound told begun = record {
   status = verdict_status verdict;
   text = text;
@@ -24,7 +24,7 @@ verdict_begun plan bounds verdict text before after is sound told begun = record
 pub report_begun :
     (plan : Plan) (bounds : Certificate) (verdict : Verdict) (before after : Option (List ℕ)) → IsVerdict plan bounds verdict
     → (verdict ≡ Yes → IsSandboxed plan) → TookFront before after (answer_text plan bounds verdict)
-    → Begins (Reports plan bounds) before after
+    → HasBegun (Reports plan bounds) before after
 report_begun plan bounds verdict before after is sound begun = record {
   status = verdict_status verdict;
   text = answer_text plan bounds verdict;

@@ -14,7 +14,7 @@ use Rattle.task.specs.Sandboxed.{IsSandboxed}
 use Rattle.simulator.specs.Simulations.{IsRun}
 use Rattle.simulator.specs.Traces.{trace_text}
 use Rattle.rules.specs.Outcomes.{with_rights, from_to}
-use Rattle.rules.specs.Probes.{in_work, in_log, side_a, side_b, bound_with, block, channel}
+use Rattle.rules.specs.Probes.{in_work, in_log, side_a, side_b, bound_of_slots, block, channel}
 use Rattle.rules.specs.Verdicts.{MeetsRules}
 
 -- ## The tasks
@@ -42,8 +42,8 @@ work operations = record { name = codes "work"; path = codes "work" ∷ []; oper
 abbrev pub log : Grant
 log = record { name = codes "log"; path = codes "log" ∷ []; operations = Creates ∷ Writes ∷ Removes ∷ [] }
 
-abbrev pub given : ℕ → FirstObject → FirstDescriptor
-given number object = record { number = number; object = object; rights = all_rights; fcntls = all_commands }
+abbrev pub given_first : ℕ → FirstObject → FirstDescriptor
+given_first number object = record { number = number; object = object; rights = all_rights; fcntls = all_commands }
 
 abbrev pub directory : ℕ → FirstObject
 directory n = On_node n (record { readable = true; writable = false })
@@ -53,22 +53,22 @@ abbrev pub main_start : List FirstDescriptor → Start
 main_start more = record {
   program = 0;
   mode = false;
-  descriptors = given 0 (directory 1) ∷ given 1 (directory 9) ∷ more;
+  descriptors = given_first 0 (directory 1) ∷ given_first 1 (directory 9) ∷ more;
 }
 
-abbrev pub named : List ℕ → List Instruction → NamedProgram
-named name code = record { name = name; code = code }
+abbrev pub program_named : List ℕ → List Instruction → NamedProgram
+program_named name code = record { name = name; code = code }
 
 abbrev pub alone : List Operation → List Instruction → Plan
 alone operations code = record {
   nodes = tree;
   grants = work operations ∷ log ∷ [];
-  programs = named (codes "main") code ∷ [];
+  programs = program_named (codes "main") code ∷ [];
   starts = main_start [] ∷ [];
 }
 
-abbrev pub to_read : OpenRequest
-to_read = open_request true false false false false
+abbrev pub reads_below : OpenRequest
+reads_below = open_request true false false false false
 
 -- `LOOKUP,READ`
 abbrev pub few_rights : ℕ
@@ -80,21 +80,21 @@ passing_plan = record {
   nodes = tree;
   grants = work (Look ∷ Reads ∷ []) ∷ log ∷ [];
   programs =
-      named (codes "main")
+      program_named (codes "main")
       (Invoke (Cap_rights_limit (Number 0) few_rights) 2 ∷ Invoke (Sendfd (Number 2) (Number 0) (Number 0)) 2 ∷ Halt ∷ [])
-      ∷ named (codes "child")
-      (Invoke (Recvfd (Number 0)) 3 ∷ Invoke (Openat (Number 1) (codes "in") to_read) 3 ∷ Invoke (Read (Number 2)) 3 ∷ Halt ∷ [])
+      ∷ program_named (codes "child")
+      (Invoke (Recvfd (Number 0)) 3 ∷ Invoke (Openat (Number 1) (codes "in") reads_below) 3 ∷ Invoke (Read (Number 2)) 3 ∷ Halt ∷ [])
       ∷ [];
   starts =
-      main_start (given 2 (On_end 0 0) ∷ [])
-      ∷ record { program = 1; mode = true; descriptors = given 0 (On_end 0 1) ∷ [] } ∷ [];
+      main_start (given_first 2 (On_end 0 0) ∷ [])
+      ∷ record { program = 1; mode = true; descriptors = given_first 0 (On_end 0 1) ∷ [] } ∷ [];
 }
 
 -- enters the mode and forks; the child opens a file beneath its directory
 abbrev pub forking_plan : Plan
 forking_plan =
     alone (Look ∷ Reads ∷ [])
-    (Invoke Cap_enter 5 ∷ Invoke Fork 5 ∷ Jeq 0 0 4 ∷ Jmp 5 ∷ Invoke (Openat (Number 0) (codes "in") to_read) 5 ∷ Halt ∷ [])
+    (Invoke Cap_enter 5 ∷ Invoke Fork 5 ∷ Jeq 0 0 4 ∷ Jmp 5 ∷ Invoke (Openat (Number 0) (codes "in") reads_below) 5 ∷ Halt ∷ [])
 
 -- enters the mode and moves a file into another directory of its grant
 abbrev pub renaming_plan : Plan
@@ -109,12 +109,12 @@ blocks program n (b ∷ bounds) = block program n b ∷ blocks program (n + 1) b
 
 -- both directories, and what more there is
 abbrev pub at_main : ModeBound → List Slot → Bound
-at_main mode more = bound_with mode (Open in_work ∷ Open in_log ∷ more)
+at_main mode more = bound_of_slots mode (Open in_work ∷ Open in_log ∷ more)
 
-abbrev pub few : Held
-few = with_rights in_work few_rights
+abbrev pub few_held : Held
+few_held = with_rights in_work few_rights
 
--- with few rights or more
+-- with few_held rights or more
 abbrev pub few_at_least : Held
 few_at_least = record in_work { least = few_rights }
 
@@ -123,12 +123,12 @@ passing_certificate = record {
   version = One;
   points =
       blocks (codes "child") 0
-      (bound_with On (Open side_b ∷ []) ∷ bound_with On (Open side_b ∷ Open few ∷ [])
-      ∷ bound_with On (Open side_b ∷ Open few ∷ Open few ∷ []) ∷ bound_with On (Open side_b ∷ Maybe few ∷ Maybe few ∷ []) ∷ [])
+      (bound_of_slots On (Open side_b ∷ []) ∷ bound_of_slots On (Open side_b ∷ Open few_held ∷ [])
+      ∷ bound_of_slots On (Open side_b ∷ Open few_held ∷ Open few_held ∷ []) ∷ bound_of_slots On (Open side_b ∷ Maybe few_held ∷ Maybe few_held ∷ []) ∷ [])
       ++ blocks (codes "main") 0
-      (at_main Off (Open side_a ∷ []) ∷ bound_with Off (Open few ∷ Open in_log ∷ Open side_a ∷ [])
-      ∷ bound_with Off (Open few_at_least ∷ Open in_log ∷ Open side_a ∷ []) ∷ []);
-  channels = channel 0 (Some few) ∷ [];
+      (at_main Off (Open side_a ∷ []) ∷ bound_of_slots Off (Open few_held ∷ Open in_log ∷ Open side_a ∷ [])
+      ∷ bound_of_slots Off (Open few_at_least ∷ Open in_log ∷ Open side_a ∷ []) ∷ []);
+  channels = channel 0 (Some few_held) ∷ [];
 }
 
 abbrev pub forking_certificate : Certificate

@@ -4,7 +4,7 @@ use Rattle.rights.specs.Output.{TookFront}
 
 -- `Writes` says what is written in whole, and with which status, to a writer that has taken nothing before. A beginning of such a
 -- text was taken.
-pub record Begins (Writes : ℕ → Option (List ℕ) → Option (List ℕ) → Type 0) (before after : Option (List ℕ)) : Type 0 where
+pub record HasBegun (Writes : ℕ → Option (List ℕ) → Option (List ℕ) → Type 0) (before after : Option (List ℕ)) : Type 0 where
   pub status : ℕ
   pub text : List ℕ
   pub whole : Writes status (Some []) (Some text)

@@ -15,8 +15,8 @@ abbrev pub work_grant : Grant
 work_grant = record { name = codes "work"; path = codes "work" ∷ []; operations = Look ∷ Reads ∷ [] }
 
 -- the one process, with these rights on the file
-abbrev pub start_with : ℕ → Start
-start_with rights = record {
+abbrev pub small_start : ℕ → Start
+small_start rights = record {
   program = 0;
   mode = false;
   descriptors =
@@ -29,12 +29,12 @@ start_with rights = record {
       ∷ [];
 }
 
-abbrev pub plan_of : List Instruction → ℕ → Plan
-plan_of code rights = record {
+abbrev pub small_plan : List Instruction → ℕ → Plan
+small_plan code rights = record {
   nodes = small_tree;
   grants = work_grant ∷ [];
   programs = record { name = codes "main"; code = code } ∷ [];
-  starts = start_with rights ∷ [];
+  starts = small_start rights ∷ [];
 }
 
 -- enters the mode and reads a byte
@@ -47,14 +47,14 @@ read_on = Invoke (Read (Number 2)) 4 ∷ Jeq 0 256 4 ∷ Jeq 0 65 0 ∷ Jeq 0 66
 
 -- the task that runs without words
 abbrev pub first_plan : Plan
-first_plan = plan_of enter_and_read all_rights
+first_plan = small_plan enter_and_read all_rights
 
 -- the same without the right to read
 abbrev pub bare_plan : Plan
-bare_plan = plan_of enter_and_read seek_right
+bare_plan = small_plan enter_and_read seek_right
 
 abbrev pub loop_plan : Plan
-loop_plan = plan_of read_on all_rights
+loop_plan = small_plan read_on all_rights
 
 -- so many events of process 0
 abbrev pub events_of_first : ℕ → List Event

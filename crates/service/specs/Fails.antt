@@ -6,19 +6,19 @@ use Rattle.task.specs.Plans.{Plan}
 use Rattle.task_reader.specs.Reading.{Mistake, task_of}
 use Rattle.certificate_text.specs.Readings.{certificate_of_text}
 use Rattle.simulator.specs.Schedules.{schedule_of}
-use Rattle.service.specs.Begun.{Begins}
+use Rattle.service.specs.Begun.{HasBegun}
 use Rattle.service.specs.Faults.{Fault, Refusal, Wrong_words, No_file, No_task, No_schedule, No_certificate, Refused, No_memory, No_output, fault_status, fault_text}
-use Rattle.service.specs.Files.{Files, IsMissing, IsRead, IsTask, IsThere}
-use Rattle.service.specs.Served.{Does}
+use Rattle.service.specs.Files.{Files, IsMissing, IsRead, IsTask, IsFileThere}
+use Rattle.service.specs.Served.{DoesOrder}
 
 -- Of two files this one isn't there. Both are fetched before either text is read, in this order.
 abbrev pub LacksOne : Files → List ℕ → List ℕ → List ℕ → Type 0
 LacksOne files first second name =
-    ((name ≡ first) × IsMissing files first) ⊎ ((name ≡ second) × IsThere files first × IsMissing files second)
+    ((name ≡ first) × IsMissing files first) ⊎ ((name ≡ second) × IsFileThere files first × IsMissing files second)
 
 -- Both are there, and the first is no task.
 abbrev pub HasNoTask : Files → List ℕ → List ℕ → Mistake → Type 0
-HasNoTask files task second mistake = IsRead files task task_of (Err mistake) × IsThere files second
+HasNoTask files task second mistake = IsRead files task task_of (Err mistake) × IsFileThere files second
 
 -- A run of these files is refused so.
 abbrev pub IsRunRefused : Files → List ℕ → List ℕ → Refusal → Type 0
@@ -56,8 +56,8 @@ IsRefused files (Expand task certificate) refusal = IsCheckRefused files task ce
 
 -- There was no memory for that: nothing was written, but of a trace a beginning may have been.
 abbrev pub LacksMemory : Files → Order → Option (List ℕ) → Option (List ℕ) → Type 0
-LacksMemory files Example before after = (after ≡ before) ⊎ Begins (Does files Example) before after
-LacksMemory files (Run task schedule) before after = (after ≡ before) ⊎ Begins (Does files (Run task schedule)) before after
+LacksMemory files Example before after = (after ≡ before) ⊎ HasBegun (DoesOrder files Example) before after
+LacksMemory files (Run task schedule) before after = (after ≡ before) ⊎ HasBegun (DoesOrder files (Run task schedule)) before after
 LacksMemory files (Check task certificate) before after = after ≡ before
 LacksMemory files (Report task certificate) before after = after ≡ before
 LacksMemory files (Search task) before after = after ≡ before
@@ -69,7 +69,7 @@ LacksMemory files (Expand task certificate) before after = after ≡ before
 abbrev pub Fails : Files → Order → Option (List ℕ) → Option (List ℕ) → ℕ → ℕ → Fault → Type 0
 Fails files order before after failures failed (Refused refusal) = (after ≡ before) × IsRefused files order refusal
 Fails files order before after failures failed No_memory = LacksMemory files order before after
-Fails files order before after failures failed No_output = (failures < failed) × Begins (Does files order) before after
+Fails files order before after failures failed No_output = (failures < failed) × HasBegun (DoesOrder files order) before after
 
 -- What the words ask for isn't done; or they are no line of the program; or there was no memory to read them. Where they aren't
 -- read nothing was written.
@@ -91,7 +91,7 @@ IsTold fault status before after failures failed =
     IsToldAs fault status before after failures failed ⊎ IsToldAs No_memory status before after failures failed
 
 -- There is a fault, and it was told.
-pub record Refuses (files : Files) (words : List (List ℕ)) (status : ℕ)
+pub record RefusesWords (files : Files) (words : List (List ℕ)) (status : ℕ)
     (before after : Option (List ℕ)) (failures failed : ℕ)
     (told_before told_after : Option (List ℕ)) (told_failures told_failed : ℕ) : Type 0 where
   pub fault : Fault

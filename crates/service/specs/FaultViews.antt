@@ -2,7 +2,7 @@
 use Rattle.std.specs.Prelude.{ℕ, List, Option, Some, None, string_bytes}
 use Rattle.task_reader.specs.declared.faults.TaskFault.{TaskFault}
 use Rattle.task_reader.specs.declared.faults.TaskFault.TheVariants as task
-use Rattle.task_reader.specs.Faults.{text_fault}
+use Rattle.task_reader.specs.FaultViews.{text_fault}
 use Rattle.task_reader.specs.Reading.{Not_toml, Wrong_field, Wrong_node, Wrong_grant, Wrong_descriptor, Wrong_program, Past_limit}
 use Rattle.prog_asm.specs.Assembly as assembly
 use Rattle.simulator.specs.declared.schedule.ScheduleFault.{ScheduleFault}

@@ -12,15 +12,15 @@ IsFile None name text = Unit {0}
 IsFile (Some files) name text = files name ≡ Some text
 
 -- There is a file of this name.
-abbrev pub IsThere : Files → List ℕ → Type 0
-IsThere files name = (text : List ℕ) × IsFile files name text
+abbrev pub IsFileThere : Files → List ℕ → Type 0
+IsFileThere files name = (text : List ℕ) × IsFile files name text
 
 -- There is none.
 abbrev pub IsMissing : Files → List ℕ → Type 0
 IsMissing None name = Unit {0}
 IsMissing (Some files) name = files name ≡ None
 
--- The file of this name has a text that is read as this.
+-- The text of the file of this name is read so.
 pub record IsRead {R : Type 0} (files : Files) (name : List ℕ) (reading_of : List ℕ → R) (reading : R) : Type 0 where
   pub text : List ℕ
   pub file : IsFile files name text
@@ -29,7 +29,7 @@ pub record IsRead {R : Type 0} (files : Files) (name : List ℕ) (reading_of : L
 abbrev pub IsTask : Files → List ℕ → Plan → Type 0
 IsTask files name plan = IsRead files name task_of (Ok plan)
 
--- Of the files of these names the first is a task and the second has a value, as `reading_of` reads it, and this holds of both.
+-- The first of two files is a task, the second what it is read as, and this holds of both.
 pub record OfFiles {R F : Type 0} (files : Files) (task second : List ℕ) (reading_of : List ℕ → Result R F) (Holds : Plan → R → Type 0) : Type 0 where
   pub plan : Plan
   pub is_task : IsTask files task plan

@@ -30,12 +30,12 @@ halting_plan = record {
       ∷ [];
 }
 
-abbrev pub few : Held
-few = record { target = In_grant (codes "work"); least = 0x0081; greatest = 0x0081; least_fcntls = 3; greatest_fcntls = 3 }
+abbrev pub few_in_work : Held
+few_in_work = record { target = In_grant (codes "work"); least = 0x0081; greatest = 0x0081; least_fcntls = 3; greatest_fcntls = 3 }
 
 abbrev pub halting_certificate : Certificate
 halting_certificate = record {
   version = One;
-  points = record { program = codes "main"; point = 0; bound = with_slot (open_bound Off) 0 (Open few) } ∷ [];
+  points = record { program = codes "main"; point = 0; bound = with_slot (open_bound Off) 0 (Open few_in_work) } ∷ [];
   channels = [];
 }

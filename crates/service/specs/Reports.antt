@@ -34,9 +34,9 @@ either_set (Some a) None = Some a
 either_set (Some a) (Some b) = Some (bit_or a b)
 
 -- The greatest rights of all slots that may be open in the grant of this name; none where no slot may be.
-abbrev pub rights_in : List ℕ → List Slot → Option ℕ
-rights_in name [] = None
-rights_in name (s ∷ slots) = either_set (greatest_in name (held_in s)) (rights_in name slots)
+abbrev pub rights_there : List ℕ → List Slot → Option ℕ
+rights_there name [] = None
+rights_there name (s ∷ slots) = either_set (greatest_in name (held_in s)) (rights_there name slots)
 
 -- ## Its line
 -- the fourteen rights by their names, without the two aliases
@@ -52,13 +52,13 @@ abbrev pub rights_text : ℕ → List ℕ
 rights_text set = if set == 0 then codes "none" else joined comma (names_in set own_names)
 
 -- `main:0 work `
-abbrev pub place_text : List ℕ → ℕ → List ℕ → List ℕ
-place_text program point grant = program ++ codes ":" ++ decimal point ++ codes " " ++ grant ++ codes " "
+abbrev pub point_text : List ℕ → ℕ → List ℕ → List ℕ
+point_text program point grant = program ++ codes ":" ++ decimal point ++ codes " " ++ grant ++ codes " "
 
 -- `main:0 work READ,LOOKUP`
 abbrev pub grant_line : List ℕ → ℕ → List ℕ → Option ℕ → List ℕ
 grant_line program point grant None = []
-grant_line program point grant (Some rights) = place_text program point grant ++ rights_text rights ++ codes "\n"
+grant_line program point grant (Some rights) = point_text program point grant ++ rights_text rights ++ codes "\n"
 
 -- names, with what separates the first of them from what stands before it
 abbrev pub parted : List ℕ → List (List ℕ) → List ℕ
@@ -70,7 +70,7 @@ parted separator (name ∷ names) = separator ++ name ++ parted (codes ",") name
 abbrev pub point_lines : List Grant → List ℕ → ℕ → Option Bound → List ℕ
 point_lines grants program point None = []
 point_lines grants program point (Some b) =
-    in_order (λ n (g : Grant). grant_line program point g.name (rights_in g.name b.slots)) 0 grants
+    in_order (λ n (g : Grant). grant_line program point g.name (rights_there g.name b.slots)) 0 grants
 
 -- of a program, by its points
 abbrev pub program_lines : List Grant → Certificate → NamedProgram → List ℕ

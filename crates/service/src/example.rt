@@ -2,7 +2,7 @@
 //! descriptor 2; it enters the mode and reads a byte. Its one grant, `work`, is to look and read beneath `/work`.
 
 ghost use Rattle.std.specs.Prelude.{◌≡◌, ◌∷◌, [], codes, IfOk};
-ghost use Rattle.service.specs.Examples.{enter_and_read, first_plan, start_with, work_grant};
+ghost use Rattle.service.specs.Examples.{enter_and_read, first_plan, small_start, work_grant};
 ghost use Rattle.task.specs.Breaches.{small_tree};
 ghost use Rattle.file_tree.specs.Views.{names_of};
 ghost use Rattle.rights.specs.Sets.{all_rights};
@@ -69,7 +69,7 @@ fn grants(alloc: Global) -> Result<Vec<Grant>, AllocError>
 }
 
 fn starts(alloc: Global) -> Result<Vec<Start>, AllocError>
-    ensures { IfOk result (λ starts. starts_of starts.items ≡ start_with all_rights ∷ []) }
+    ensures { IfOk result (λ starts. starts_of starts.items ≡ small_start all_rights ∷ []) }
 {
     let mut descriptors = Vec::new(alloc);
     descriptors.push(FirstDescriptor {
@@ -113,7 +113,7 @@ fn enter_and_read(alloc: Global) -> Result<Program, AllocError>
 }
 
 /// The example's task.
-#[tactic(auto, unfolding(file_tree::specs::WellFormed::is_within_limits, file_tree::specs::Places::is_name))]
+#[tactic(auto, unfolding(file_tree::specs::WellFormed::is_within_limits, file_tree::specs::Places::is_file_name))]
 pub fn example_task(alloc: Global) -> Result<Task, AllocError>
     ensures { IfOk result (λ task. task ≡ first_plan) }
 {

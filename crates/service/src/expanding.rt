@@ -1,7 +1,7 @@
 //! Certificates that are written out.
 
 ghost use Rattle.std.specs.Prelude.{◌≡◌, ◌<◌, ◌-◌, ◌^◌, IsErrOf, OnOk};
-ghost use Rattle.service.specs.Begun.{Begins};
+ghost use Rattle.service.specs.Begun.{HasBegun};
 ghost use Rattle.service.specs.Expanded.{Expands};
 
 use certificate::Cert;
@@ -23,7 +23,7 @@ pub fn write_expansion<W: Out>(
     requires { W.faults out.old < 2 ^ 64 - 1 }
     ensures expanded { OnOk result (Expands task.now cert.now (W.taken out.old) (W.taken out.new)) }
     ensures device { IsErrOf result Stop.Device → W.faults out.old < W.faults out.new }
-    ensures begun { IsErrOf result Stop.Device → Begins (λ status. Expands task.now cert.now) (W.taken out.old) (W.taken out.new) }
+    ensures begun { IsErrOf result Stop.Device → HasBegun (λ status. Expands task.now cert.now) (W.taken out.old) (W.taken out.new) }
     ensures memory { IsErrOf result Stop.Memory → W.taken out.new ≡ W.taken out.old }
     ensures not_spent { IsErrOf result Stop.Spent → ⊥ }
 {

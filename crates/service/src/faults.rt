@@ -2,7 +2,7 @@
 
 ghost use Rattle.std.specs.Prelude.{◌≡◌, ◌<◌, ◌++◌, ◌-◌, ◌^◌, IfOk, codes};
 ghost use Rattle.std.specs.Fmt.{decimal};
-ghost use Rattle.task_reader.specs.Faults.{text_fault};
+ghost use Rattle.task_reader.specs.FaultViews.{text_fault};
 ghost use Rattle.service.specs.Fails.{IsTold};
 ghost use Rattle.service.specs.Faults.{fault_status, fault_text, fault_words};
 ghost use Rattle.certificate_text.specs.Views.{fault_name, fault_number};

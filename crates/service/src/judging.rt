@@ -1,7 +1,7 @@
 //! Verdicts on tasks and certificates, and how they are told.
 
 ghost use Rattle.std.specs.Prelude.{◌≡◌, ◌<◌, ◌-◌, ◌^◌, IfOk, IsErrOf};
-ghost use Rattle.service.specs.Begun.{Begins};
+ghost use Rattle.service.specs.Begun.{HasBegun};
 ghost use Rattle.service.specs.Judged.{Judges, no_at, verdict_status, verdict_text};
 ghost use Rattle.checker.specs.Views.{verdict_of};
 
@@ -65,7 +65,7 @@ pub fn judge<W: Out>(alloc: Global, task: &Task, cert: &Cert, out: &mut W) -> Re
     requires { W.faults out.old < 2 ^ 64 - 1 }
     ensures judged { IfOk result (λ status. Judges task.now cert.now status (W.taken out.old) (W.taken out.new)) }
     ensures device { IsErrOf result Stop.Device → W.faults out.old < W.faults out.new }
-    ensures begun { IsErrOf result Stop.Device → Begins (Judges task.now cert.now) (W.taken out.old) (W.taken out.new) }
+    ensures begun { IsErrOf result Stop.Device → HasBegun (Judges task.now cert.now) (W.taken out.old) (W.taken out.new) }
     ensures memory { IsErrOf result Stop.Memory → W.taken out.new ≡ W.taken out.old }
     ensures not_spent { IsErrOf result Stop.Spent → ⊥ }
 {

@@ -1,6 +1,6 @@
 //! What every run of small tasks shows. Each law is the contract of a function that does nothing.
 
-ghost use Rattle.std.specs.Prelude.{◌≡◌, ◌∷◌, [], codes};
+ghost use Rattle.std.specs.Prelude.{◌≡◌, ◌∷◌, ◌++◌, [], codes};
 ghost use Rattle.service.specs.Accepted.{ActsAccepted, forking_certificate, forking_plan, passing_certificate, passing_plan, renaming_certificate, renaming_plan};
 ghost use Rattle.service.specs.Examples.{AlwaysShows, absent_event, bare_plan, events_of_first, example_events, first_plan, loop_plan};
 ghost use Rattle.service.specs.ReportRows.{halting_certificate, halting_plan};
@@ -15,7 +15,8 @@ pub fn small_tasks_show_these_traces()
     ensures bare { AlwaysShows bare_plan (events_of_first 3)
         (codes "0 main:0 = 0\n0 main:1 ! ENOTCAPABLE MissingRight\n0 main:2 halt\n") }
     ensures reads_on { AlwaysShows loop_plan (events_of_first 10)
-        (codes "0 main:0 = 65 read /work/in\n0 main:1 ok\n0 main:2 ok\n0 main:0 = 66 read /work/in\n0 main:1 ok\n0 main:2 ok\n0 main:3 ok\n0 main:0 = 256 read /work/in\n0 main:1 ok\n0 main:4 halt\n") }
+        (codes "0 main:0 = 65 read /work/in\n0 main:1 ok\n0 main:2 ok\n0 main:0 = 66 read /work/in\n0 main:1 ok\n0 main:2 ok\n0 main:3 ok\n" ++
+        codes "0 main:0 = 256 read /work/in\n0 main:1 ok\n0 main:4 halt\n") }
     ensures absent { AlwaysShows first_plan (absent_event ∷ events_of_first 1)
         (codes "5 - none\n0 main:0 = 0\n") }
 {}

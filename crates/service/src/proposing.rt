@@ -3,7 +3,7 @@
 ghost use Rattle.std.specs.Prelude.{◌≡◌, ◌<◌, ◌-◌, ◌^◌, IfOk, IsErrOf, OnOk, codes};
 ghost use Rattle.rights.specs.Output.{Took};
 ghost use Rattle.certificate_text.specs.Texts.{certificate_text};
-ghost use Rattle.service.specs.Begun.{Begins};
+ghost use Rattle.service.specs.Begun.{HasBegun};
 ghost use Rattle.service.specs.Searched.{Searches};
 
 use crate::statuses::{BROKEN, DONE};
@@ -20,11 +20,11 @@ pub fn propose<W: Out>(alloc: Global, task: &Task, out: &mut W) -> Result<u8, St
     requires { W.faults out.old < 2 ^ 64 - 1 }
     ensures proposed { IfOk result (λ status. Searches task.now status (W.taken out.old) (W.taken out.new)) }
     ensures device { IsErrOf result Stop.Device → W.faults out.old < W.faults out.new }
-    ensures begun { IsErrOf result Stop.Device → Begins (Searches task.now) (W.taken out.old) (W.taken out.new) }
+    ensures begun { IsErrOf result Stop.Device → HasBegun (Searches task.now) (W.taken out.old) (W.taken out.new) }
     ensures memory { IsErrOf result Stop.Memory → W.taken out.new ≡ W.taken out.old }
     ensures not_spent { IsErrOf result Stop.Spent → ⊥ }
 {
-    let _programs = task.programs();
+    task.note_valid();
     match search(alloc, task)? {
         Some(cert) => {
             write_cert(&cert, out)?;

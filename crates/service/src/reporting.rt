@@ -5,11 +5,12 @@ ghost use Rattle.std.specs.Fmt.{decimal};
 ghost use Rattle.certificate.specs.Bounds.{bound_at, held_in};
 ghost use Rattle.certificate.specs.Views.{bound_of, slot_of};
 ghost use Rattle.certificate_text.specs.Pieces.{in_order};
-ghost use Rattle.certificate_text.specs.Writings.{Writes};
+ghost use Rattle.certificate_text.specs.WritingViews.{Writes};
 ghost use Rattle.checker.specs.Views.{verdict_of};
 ghost use Rattle.rights.specs.Output.{Took, TookFront};
-ghost use Rattle.service.specs.Begun.{Begins};
-ghost use Rattle.service.specs.Reports.{Reports, answer_text, either_set, grant_line, greatest_in, names_in, own_names, parted, place_text, point_lines, program_lines, report_text, rights_in, rights_text};
+ghost use Rattle.service.specs.Begun.{HasBegun};
+ghost use Rattle.service.specs.Reports.{Reports, answer_text, either_set, grant_line, greatest_in, names_in, own_names, parted, point_text, point_lines, program_lines};
+ghost use Rattle.service.specs.Reports.{report_text, rights_there, rights_text};
 ghost use Rattle.rules.specs.Expansions.{expansion};
 ghost use Rattle.task.specs.Views.{grant_of, grants_of, program_of, programs_of};
 ghost use Rattle.prog_asm.specs.Views.{code_of};
@@ -54,7 +55,7 @@ fn either_set(first: Option<Rights>, second: Option<Rights>) -> Option<Rights>
 
 /// The greatest rights of all slots that may be open in the grant of this name.
 fn rights_in(slots: &[Slot], grant: &[u8]) -> Option<Rights>
-    ensures { option_map (λ rights. rights.0) result ≡ rights_in grant.now (map slot_of slots.now) }
+    ensures { option_map (λ rights. rights.0) result ≡ rights_there grant.now (map slot_of slots.now) }
 {
     match slots {
         [] => None,
@@ -82,7 +83,7 @@ fn write_number<W: Out>(out: &mut W, number: u32) -> Result<(), Stop>
 fn write_place<W: Out>(out: &mut W, program: &[u8], point: u32, grant: &[u8]) -> Result<(), Stop>
     requires { W.faults out.old < 2 ^ 64 - 1 }
     ensures { Writes result (W.taken out.old) (W.taken out.new) (W.faults out.old) (W.faults out.new)
-        (place_text program.now point grant.now) }
+        (point_text program.now point grant.now) }
 {
     write_bytes(out, program)?;
     write_bytes(out, b":")?;
@@ -170,7 +171,7 @@ fn write_line<W: Out>(
 ) -> Result<(), Stop>
     requires { W.faults out.old < 2 ^ 64 - 1 }
     ensures { Writes result (W.taken out.old) (W.taken out.new) (W.faults out.old) (W.faults out.new)
-        (place_text program.now point grant.now ++ (rights_text set.0 ++ codes "\n")) }
+        (point_text program.now point grant.now ++ (rights_text set.0 ++ codes "\n")) }
 {
     write_place(out, program, point, grant)?;
     write_end(out, set)
@@ -186,7 +187,7 @@ fn write_grant<W: Out>(
 ) -> Result<(), Stop>
     requires { W.faults out.old < 2 ^ 64 - 1 }
     ensures { Writes result (W.taken out.old) (W.taken out.new) (W.faults out.old) (W.faults out.new)
-        (grant_line program.now point (grant_of grant.now).name (rights_in (grant_of grant.now).name (bound_of bound.now).slots)) }
+        (grant_line program.now point (grant_of grant.now).name (rights_there (grant_of grant.now).name (bound_of bound.now).slots)) }
 {
     let name = grant.name.as_bytes();
     match rights_in(bound.slots(), name) {
@@ -205,7 +206,7 @@ fn write_bound<W: Out>(
 ) -> Result<(), Stop>
     requires { W.faults out.old < 2 ^ 64 - 1 }
     ensures { Writes result (W.taken out.old) (W.taken out.new) (W.faults out.old) (W.faults out.new)
-        (in_order (λ n g. grant_line program.now point g.name (rights_in g.name (bound_of bound.now).slots)) 0 (grants_of grants.now)) }
+        (in_order (λ n g. grant_line program.now point g.name (rights_there g.name (bound_of bound.now).slots)) 0 (grants_of grants.now)) }
 {
     for grant in grants {
         write_grant(out, program, point, bound, grant)?;
@@ -349,7 +350,7 @@ pub fn report_checked<W: Out>(
     requires { W.faults out.old < 2 ^ 64 - 1 }
     ensures reported { IfOk result (λ status. Reports task.now cert.now status (W.taken out.old) (W.taken out.new)) }
     ensures device { IsErrOf result Stop.Device → W.faults out.old < W.faults out.new }
-    ensures begun { IsErrOf result Stop.Device → Begins (Reports task.now cert.now) (W.taken out.old) (W.taken out.new) }
+    ensures begun { IsErrOf result Stop.Device → HasBegun (Reports task.now cert.now) (W.taken out.old) (W.taken out.new) }
     ensures memory { IsErrOf result Stop.Memory → W.taken out.new ≡ W.taken out.old }
     ensures not_spent { IsErrOf result Stop.Spent → ⊥ }
 {

@@ -1,12 +1,12 @@
 //! What the program does with its words, and with the files that they name.
 
 ghost use Rattle.std.specs.Prelude.{◌≡◌, ◌<◌, ◌⊎◌, ◌-◌, ◌^◌, IfErr, IfOk, IsTrue, None, OnOk, map, string_bytes};
-ghost use Rattle.service.specs.Begun.{Begins};
-ghost use Rattle.service.specs.Fails.{Fails, Refuses, WordsFail};
+ghost use Rattle.service.specs.Begun.{HasBegun};
+ghost use Rattle.service.specs.Fails.{Fails, RefusesWords, WordsFail};
 ghost use Rattle.service.specs.Faults.{No_file, No_memory, Refused};
 ghost use Rattle.service.specs.FaultViews.{fault_of};
 ghost use Rattle.service.specs.Files.{IsFile, IsMissing};
-ghost use Rattle.service.specs.Served.{Does, Serves, is_done_status, is_fault_status, is_status};
+ghost use Rattle.service.specs.Served.{DoesOrder, Serves, is_done_status, is_fault_status, is_status};
 ghost use Rattle.words.specs.Orders.{Check, Example, Expand, Report, Run, Search};
 ghost use Rattle.words.specs.OrderViews.{order_of};
 
@@ -43,7 +43,7 @@ const EXAMPLE: [Event; 2] = [
 /// The trace of the example's task on two events.
 fn example<'a, W: Out>(alloc: Global, out: &mut W) -> Result<(), Fault<'a>>
     requires { W.faults out.old < 2 ^ 64 - 1 }
-    ensures done { OnOk result (Does None Example 0 (W.taken out.old) (W.taken out.new)) }
+    ensures done { OnOk result (DoesOrder None Example 0 (W.taken out.old) (W.taken out.new)) }
     ensures fails { IfErr result (λ fault. Fails None Example
         (W.taken out.old) (W.taken out.new) (W.faults out.old) (W.faults out.new) (fault_of fault)) }
 {
@@ -74,7 +74,7 @@ fn run<'a, S: Source, W: Out>(
     out: &mut W,
 ) -> Result<(), Fault<'a>>
     requires { W.faults out.old < 2 ^ 64 - 1 }
-    ensures done { OnOk result (Does (S.files files.old) (Run task.now schedule.now) 0 (W.taken out.old) (W.taken out.new)) }
+    ensures done { OnOk result (DoesOrder (S.files files.old) (Run task.now schedule.now) 0 (W.taken out.old) (W.taken out.new)) }
     ensures fails { IfErr result (λ fault. Fails (S.files files.old) (Run task.now schedule.now)
         (W.taken out.old) (W.taken out.new) (W.faults out.old) (W.faults out.new) (fault_of fault)) }
 {
@@ -96,7 +96,7 @@ fn check_files<'a, S: Source, W: Out>(
     out: &mut W,
 ) -> Result<u8, Fault<'a>>
     requires { W.faults out.old < 2 ^ 64 - 1 }
-    ensures done { IfOk result (λ status. Does (S.files files.old) (Check task.now cert.now) status (W.taken out.old) (W.taken out.new)) }
+    ensures done { IfOk result (λ status. DoesOrder (S.files files.old) (Check task.now cert.now) status (W.taken out.old) (W.taken out.new)) }
     ensures fails { IfErr result (λ fault. Fails (S.files files.old) (Check task.now cert.now)
         (W.taken out.old) (W.taken out.new) (W.faults out.old) (W.faults out.new) (fault_of fault)) }
 {
@@ -116,7 +116,7 @@ fn report_files<'a, S: Source, W: Out>(
     out: &mut W,
 ) -> Result<u8, Fault<'a>>
     requires { W.faults out.old < 2 ^ 64 - 1 }
-    ensures done { IfOk result (λ status. Does (S.files files.old) (Report task.now cert.now) status (W.taken out.old) (W.taken out.new)) }
+    ensures done { IfOk result (λ status. DoesOrder (S.files files.old) (Report task.now cert.now) status (W.taken out.old) (W.taken out.new)) }
     ensures fails { IfErr result (λ fault. Fails (S.files files.old) (Report task.now cert.now)
         (W.taken out.old) (W.taken out.new) (W.faults out.old) (W.faults out.new) (fault_of fault)) }
 {
@@ -134,7 +134,7 @@ fn search_file<'a, S: Source, W: Out>(
     out: &mut W,
 ) -> Result<u8, Fault<'a>>
     requires { W.faults out.old < 2 ^ 64 - 1 }
-    ensures done { IfOk result (λ status. Does (S.files files.old) (Search task.now) status (W.taken out.old) (W.taken out.new)) }
+    ensures done { IfOk result (λ status. DoesOrder (S.files files.old) (Search task.now) status (W.taken out.old) (W.taken out.new)) }
     ensures fails { IfErr result (λ fault. Fails (S.files files.old) (Search task.now)
         (W.taken out.old) (W.taken out.new) (W.faults out.old) (W.faults out.new) (fault_of fault)) }
 {
@@ -152,7 +152,7 @@ fn expand_files<'a, S: Source, W: Out>(
     out: &mut W,
 ) -> Result<(), Fault<'a>>
     requires { W.faults out.old < 2 ^ 64 - 1 }
-    ensures done { OnOk result (Does (S.files files.old) (Expand task.now cert.now) 0 (W.taken out.old) (W.taken out.new)) }
+    ensures done { OnOk result (DoesOrder (S.files files.old) (Expand task.now cert.now) 0 (W.taken out.old) (W.taken out.new)) }
     ensures fails { IfErr result (λ fault. Fails (S.files files.old) (Expand task.now cert.now)
         (W.taken out.old) (W.taken out.new) (W.faults out.old) (W.faults out.new) (fault_of fault)) }
 {
@@ -170,7 +170,7 @@ fn perform<'a, S: Source, W: Out>(
     out: &mut W,
 ) -> Result<u8, Fault<'a>>
     requires { W.faults out.old < 2 ^ 64 - 1 }
-    ensures done { IfOk result (λ status. Does (S.files files.old) (order_of order.entry) status (W.taken out.old) (W.taken out.new)) }
+    ensures done { IfOk result (λ status. DoesOrder (S.files files.old) (order_of order.entry) status (W.taken out.old) (W.taken out.new)) }
     ensures fails { IfErr result (λ fault. Fails (S.files files.old) (order_of order.entry)
         (W.taken out.old) (W.taken out.new) (W.faults out.old) (W.faults out.new) (fault_of fault)) }
 {
@@ -230,11 +230,11 @@ pub fn serve<S: Source, W: Out, V: Out>(
     requires err { V.faults err.old < 2 ^ 64 - 1 }
     ensures done { IsTrue (is_done_status result) → Serves (S.files files.old) (map string_bytes words.now) result (W.taken out.old) (W.taken out.new)
         × (V.taken err.new ≡ V.taken err.old) }
-    ensures refused { IsTrue (is_fault_status result) → Refuses (S.files files.old) (map string_bytes words.now) result
+    ensures refused { IsTrue (is_fault_status result) → RefusesWords (S.files files.old) (map string_bytes words.now) result
         (W.taken out.old) (W.taken out.new) (W.faults out.old) (W.faults out.new)
         (V.taken err.old) (V.taken err.new) (V.faults err.old) (V.faults err.new) }
     ensures stopped { result ≡ 3 → (W.taken out.new ≡ W.taken out.old)
-        ⊎ Begins (Serves (S.files files.old) (map string_bytes words.now)) (W.taken out.old) (W.taken out.new) }
+        ⊎ HasBegun (Serves (S.files files.old) (map string_bytes words.now)) (W.taken out.old) (W.taken out.new) }
     ensures known { IsTrue (is_status result) }
 {
     match serve_words(alloc, words, files, out) {

@@ -1,4 +1,4 @@
--- First descriptors, opened one after another under any numbers.
+-- First descriptors, with_opened one after another under any numbers.
 use Rattle.std.proofs.Common.{◌≡◌, inl, inr, ℕ, zero, suc, ◌+◌, ◌<◌, true, false, List, [], ◌∷◌, length, take, drop, ◌-◌, refl, ap, sym, subst, ◌∙◌, arith}
 use Rattle.std.specs.Prelude.{◌≢◌, ◌||◌, Option, Some, None, option_map}
 use Rattle.std.specs.Option.{IsSome}
@@ -13,10 +13,10 @@ use Rattle.rights.proofs.Tests.{both_left, both_right}
 use Rattle.fd_table.specs.Descriptions.{Access, At_node, Descriptor, descriptor_of, new_state, IfHeld}
 use Rattle.fd_table.specs.declared.descriptors.Entry.{Entry as EntryCode}
 use Rattle.fd_table.specs.Views.{entry_seen}
-use Rattle.fd_table.specs.Filled.{Entry, IsFreeAt, MayLimit, Opens, limited}
-use Rattle.fd_table.specs.Openings.{described, opened, with_entry, with_table}
+use Rattle.fd_table.specs.Filled.{Entry, IsFreeAt, MayLimit, Opens, with_limit}
+use Rattle.fd_table.specs.Openings.{described, with_opened, with_entry, with_table}
 use Rattle.fd_table.specs.OpenFiles.{Alike, OpenFiles}
-use Rattle.kernel.specs.Renamings.{Renaming, SameDescription, SameFiles, renamed_descriptor, renamed_entry, renamed_object}
+use Rattle.kernel.specs.Renamings.{Renaming, SameObject, SameFiles, renamed_descriptor, renamed_entry, renamed_object}
 use Rattle.kernel.proofs.Aimed.{aimed, swap-left}
 use Rattle.task.specs.Plans.{FirstObject, On_node, On_end}
 use Rattle.task.specs.Limits.{all_apart}
@@ -24,9 +24,11 @@ use Rattle.task.specs.Begins.{description_of, end_description, node_description,
 use Rattle.task.proofs.Openings.{at_node}
 use Rattle.simulator.specs.declared.gifts.Gift.{Gift as GiftCode}
 use Rattle.simulator.specs.GiftViews.{gift_of, gifts_of}
-use Rattle.simulator.specs.Starts.{Gift, given_in, is_gift, are_apart, are_gifts, last_of, whole_end, whole_or_none, waiting, awaiting, is_opened, is_among, are_among, HasTable, IsEnd, Awaits}
+use Rattle.simulator.specs.Starts.{Gift, given_in, is_gift, gifts_differ, are_gifts, last_gift, whole_end, whole_or_none, waiting, awaiting, is_opened, is_below, are_among}
+use Rattle.simulator.specs.Starts.{HasTable, IsGiftOfEnd, Awaits}
 use Rattle.simulator.proofs.Numbered.{then_alike, differs, retabled, put-twice, turned_same, described_same, filled_same}
-use Rattle.simulator.proofs.Waiting.{Fits, IsGift, Table, all_dropped, all_gifts, apart_dropped, at_place, awaiting_away, awaiting_fits, gift_is, given_fits, given_here, last_away, last_whole, put2-away, put2-here}
+use Rattle.simulator.proofs.Waiting.{Fits, IsGift, Table, all_dropped, all_gifts, apart_dropped, at_place, awaiting_away, awaiting_fits, gift_is, given_fits, given_here, last_away}
+use Rattle.simulator.proofs.Waiting.{last_whole, put2-away, put2-here}
 
 drop_at : {A : Type 0} (xs : List A) (k : ℕ) (x : A) → slice_get xs k ≡ Some x → drop k xs ≡ x ∷ drop (suc k) xs
 drop_at [] k x is = absurd cc
@@ -86,8 +88,8 @@ module _ (gifts : List Gift) (valid : are_gifts gifts ≡ true) (k : ℕ) (g : G
   rest : drop k gifts ≡ g ∷ later
   rest = drop_at gifts k g here
 
-  apart : all_apart are_apart (g ∷ later) ≡ true
-  apart = subst (λ xs. all_apart are_apart xs ≡ true) rest (apart_dropped gifts k (all_gifts gifts valid).1)
+  apart : all_apart gifts_differ (g ∷ later) ≡ true
+  apart = subst (λ xs. all_apart gifts_differ xs ≡ true) rest (apart_dropped gifts k (all_gifts gifts valid).1)
 
   pub gift : IsGift g
   gift = gift_is g (list_all-slice_get is_gift gifts k g (all_gifts gifts valid).0 here)
@@ -102,7 +104,7 @@ module _ (gifts : List Gift) (valid : are_gifts gifts ≡ true) (k : ℕ) (g : G
   -- once it is open it is as it is given
   done : awaiting full later g.process g.given.number ≡ Some (first_entry g.process g.given)
   done =
-      awaiting_away full later g (both_left _ (all_apart are_apart later) apart)
+      awaiting_away full later g (both_left _ (all_apart gifts_differ later) apart)
       ∙ ap (option_map (first_entry g.process)) (given_here gifts k g (all_gifts gifts valid).1 here)
 
   next_table : (q m : ℕ) → awaiting full later q m ≡ put2 waits g.process g.given.number (Some (first_entry g.process g.given)) q m
@@ -157,20 +159,23 @@ module _ (gifts : List Gift) (valid : are_gifts gifts ≡ true) (k : ℕ) (g : G
 
       same : SameFiles turned model with_node
       same =
-          described_same turned model f (turned_same r model f b.files (no_queue gifts waits) number x.description unnamed x.fresh) (no_queue gifts waits) x.description x.fresh (At_node node access) false
+          described_same turned model f (turned_same r model f b.files (no_queue gifts waits) number x.description unnamed x.fresh)
+          (no_queue gifts waits) x.description x.fresh (At_node node access) false
 
       object : (first_files (given_in gifts)).objects number ≡ At_node node access
       object = node_object gifts g.process g.given.number gift.number ∙ ap object_given (given_here gifts k g (all_gifts gifts valid).1 here) ∙ ap first_object of
 
-      twin : SameDescription turned model with_node number
+      twin : SameObject turned model with_node number
       twin = record {
         object = ap with_node.objects at ∙ put-same f.objects x.description (At_node node access) ∙ sym (ap (renamed_object turned) object);
         state = ap with_node.states at ∙ put-same f.states x.description (new_state false) ∙ sym (first_state gifts number);
       }
 
-      filled : SameFiles turned (with_entry model g.process g.given.number (Some (descriptor_of number g.given.rights g.given.fcntls))) (opened f x.description g.process g.given.number node access false g.given.rights g.given.fcntls)
+      filled : SameFiles turned (with_entry model g.process g.given.number (Some (descriptor_of number g.given.rights g.given.fcntls)))
+          (with_opened f x.description g.process g.given.number node access false g.given.rights g.given.fcntls)
       filled =
-          subst (λ n. SameFiles turned (with_entry model g.process g.given.number (Some (descriptor_of number g.given.rights g.given.fcntls))) (with_entry with_node g.process g.given.number (Some (descriptor_of n g.given.rights g.given.fcntls)))) at
+          subst (λ n. SameFiles turned (with_entry model g.process g.given.number (Some (descriptor_of number g.given.rights g.given.fcntls)))
+          (with_entry with_node g.process g.given.number (Some (descriptor_of n g.given.rights g.given.fcntls)))) at
           (filled_same turned model with_node same (no_queue gifts waits) g.process g.given.number (descriptor_of number g.given.rights g.given.fcntls) twin)
 
       entry : Some (first_entry g.process g.given) ≡ Some (descriptor_of number g.given.rights g.given.fcntls)
@@ -191,7 +196,7 @@ module _ (gifts : List Gift) (valid : are_gifts gifts ≡ true) (k : ℕ) (g : G
     Ready f = HasTable gifts (put2 waits g.process g.given.number (Some (whole_end pair side))) f
 
     -- it had so before, or shares it
-    pub ready_own : (f : OpenFiles) → Awaits gifts (g ∷ later) f → last_of pair side later ≡ None → Ready f
+    pub ready_own : (f : OpenFiles) → Awaits gifts (g ∷ later) f → last_gift pair side later ≡ None → Ready f
     ready_own f b none =
         differs b.renaming _ f (retabled b.renaming model f (put2 waits g.process g.given.number (Some (whole_end pair side))) same (no_queue gifts waits) b.files)
       where
@@ -203,13 +208,13 @@ module _ (gifts : List Gift) (valid : are_gifts gifts ≡ true) (k : ℕ) (g : G
             at_place (λ x. x ≡ waits q m) waits g.process g.given.number (Some (whole_end pair side)) q m
             (λ process number. sym (ap (λ p. waits p m) process ∙ ap (waits g.process) number ∙ here_now)) (λ _. refl)
 
-    module _ (f : OpenFiles) (b : Awaits gifts (g ∷ later) f) (e : Entry) (found : last_of pair side later ≡ Some e) where
+    module _ (f : OpenFiles) (b : Awaits gifts (g ∷ later) f) (e : Entry) (found : last_gift pair side later ≡ Some e) where
       source_waits : waits e.process e.number ≡ Some (whole_end pair side)
       unfolding awaiting
       source_waits =
           put2-away (awaiting full later) g.process g.given.number (waiting later g.given.object) e.process e.number
-          (last_away pair side later g e (both_left _ (all_apart are_apart later) apart) found)
-          ∙ last_whole full pair side later e (both_right (list_all (are_apart g) later) _ apart) found
+          (last_away pair side later g e (both_left _ (all_apart gifts_differ later) apart) found)
+          ∙ last_whole full pair side later e (both_right (list_all (gifts_differ g) later) _ apart) found
 
       pub source_is : f.table e.process e.number ≡ Some (renamed_descriptor b.renaming (whole_end pair side))
       source_is = b.files.table e.process e.number ∙ ap (renamed_entry b.renaming) source_waits
@@ -217,8 +222,8 @@ module _ (gifts : List Gift) (valid : are_gifts gifts ≡ true) (k : ℕ) (g : G
       pub end_free : f.table g.process g.given.number ≡ None
       end_free = b.files.table g.process g.given.number ∙ ap (renamed_entry b.renaming) (own ∙ ap (waiting later) of ∙ ap (λ o. whole_or_none o pair side) found)
 
-      source_twin : SameDescription b.renaming model f (end_description pair side)
-      source_twin = subst (IfHeld (λ d. SameDescription b.renaming model f d.description)) source_waits (b.files.entries e.process e.number)
+      source_twin : SameObject b.renaming model f (end_description pair side)
+      source_twin = subst (IfHeld (λ d. SameObject b.renaming model f d.description)) source_waits (b.files.entries e.process e.number)
 
       pub ready_shared : (next : OpenFiles) → Alike (with_entry f g.process g.given.number (f.table e.process e.number)) next → Ready next
       ready_shared next alike =
@@ -226,7 +231,7 @@ module _ (gifts : List Gift) (valid : are_gifts gifts ≡ true) (k : ℕ) (g : G
           (differs b.renaming _ _ (filled_same b.renaming model f b.files (no_queue gifts waits) g.process g.given.number (whole_end pair side) source_twin))
           (subst (λ x. Alike (with_entry f g.process g.given.number x) next) source_is alike)
 
-    -- then it is limited
+    -- then it is with_limit
     module _ (f : OpenFiles) (b : Ready f) where
       abbrev readied : Table
       readied = put2 waits g.process g.given.number (Some (whole_end pair side))
@@ -237,9 +242,9 @@ module _ (gifts : List Gift) (valid : are_gifts gifts ≡ true) (k : ℕ) (g : G
       pub may_limit : MayLimit (f.table g.process g.given.number) g.given.rights g.given.fcntls
       may_limit = subst (λ x. MayLimit x g.given.rights g.given.fcntls) (sym entry_is) (gift.rights, gift.fcntls)
 
-      end_twin : SameDescription b.renaming (with_entries gifts readied) f (end_description pair side)
+      end_twin : SameObject b.renaming (with_entries gifts readied) f (end_description pair side)
       end_twin =
-          subst (IfHeld (λ d. SameDescription b.renaming (with_entries gifts readied) f d.description)) (put2-here waits g.process g.given.number (Some (whole_end pair side)))
+          subst (IfHeld (λ d. SameObject b.renaming (with_entries gifts readied) f d.description)) (put2-here waits g.process g.given.number (Some (whole_end pair side)))
           (b.files.entries g.process g.given.number)
 
       abbrev narrow : Descriptor
@@ -256,7 +261,7 @@ module _ (gifts : List Gift) (valid : are_gifts gifts ≡ true) (k : ℕ) (g : G
           (λ away.
           sym (put2-away waits g.process g.given.number (Some (whole_end pair side)) q m away ∙ put2-away (awaiting full later) g.process g.given.number (waiting later g.given.object) q m away))
 
-      pub end_opened : (next : OpenFiles) → Alike (limited f g.process g.given.number g.given.rights g.given.fcntls) next → Awaits gifts later next
+      pub end_opened : (next : OpenFiles) → Alike (with_limit f g.process g.given.number g.given.rights g.given.fcntls) next → Awaits gifts later next
       end_opened next alike =
           then_alike (with_entries gifts (awaiting full later)) _ next
           (differs b.renaming _ _
@@ -278,12 +283,14 @@ module _ (gifts : List GiftCode) (k : ℕ) (none : GiftCode) (low : k < length g
   pub next_awaits : (f : OpenFiles) → Awaits (gifts_of gifts) (drop (suc k) (gifts_of gifts)) f → Awaits (gifts_of gifts) (drop (k + 1) (gifts_of gifts)) f
   next_awaits f b = subst (λ xs. Awaits (gifts_of gifts) xs f) (next_index (gifts_of gifts) k) b
 
-  module _ (pair side : ℕ) (is : IsEnd (slice_get (gifts_of gifts) k) pair side) (f : OpenFiles) (b : Awaits (gifts_of gifts) (drop k (gifts_of gifts)) f) (o : Option EntryCode) (last : option_map entry_seen o ≡ last_of pair side (gifts_of (take (length gifts - (k + 1)) (drop (k + 1) gifts)))) where
+  module _ (pair side : ℕ) (is : IsGiftOfEnd (slice_get (gifts_of gifts) k) pair side) (f : OpenFiles)
+      (b : Awaits (gifts_of gifts) (drop k (gifts_of gifts)) f) (o : Option EntryCode)
+      (last : option_map entry_seen o ≡ last_gift pair side (gifts_of (take (length gifts - (k + 1)) (drop (k + 1) gifts)))) where
     pub of : gift_at.given.object ≡ On_end pair side
-    of = subst (λ g. IsEnd g pair side) is_at is
+    of = subst (λ g. IsGiftOfEnd g pair side) is_at is
 
-    last_is : (e : Option EntryCode) → o ≡ e → last_of pair side (drop (suc k) (gifts_of gifts)) ≡ option_map entry_seen e
-    last_is e same = sym (last ∙ ap (last_of pair side) (rest_of gifts k)) ∙ ap (option_map entry_seen) same
+    last_is : (e : Option EntryCode) → o ≡ e → last_gift pair side (drop (suc k) (gifts_of gifts)) ≡ option_map entry_seen e
+    last_is e same = sym (last ∙ ap (last_gift pair side) (rest_of gifts k)) ∙ ap (option_map entry_seen) same
 
     waits_now : Awaits (gifts_of gifts) (gift_at ∷ drop (suc k) (gifts_of gifts)) f
     waits_now = begun (gifts_of gifts) valid k gift_at is_at f b
@@ -307,7 +314,9 @@ module _ (gifts : List GiftCode) (k : ℕ) (none : GiftCode) (low : k < length g
     pub ready_may : (g : OpenFiles) → IsReady g → MayLimit (g.table gift_at.process gift_at.given.number) gift_at.given.rights gift_at.given.fcntls
     ready_may g r = may_limit (gifts_of gifts) valid k gift_at is_at pair side of g r
 
-    pub ready_opened : (g : OpenFiles) → IsReady g → (next : OpenFiles) → Alike (limited g gift_at.process gift_at.given.number gift_at.given.rights gift_at.given.fcntls) next → Awaits (gifts_of gifts) (drop (k + 1) (gifts_of gifts)) next
+    pub ready_opened : (g : OpenFiles) → IsReady g → (next : OpenFiles) →
+        Alike (with_limit g gift_at.process gift_at.given.number gift_at.given.rights gift_at.given.fcntls) next →
+        Awaits (gifts_of gifts) (drop (k + 1) (gifts_of gifts)) next
     ready_opened g r next alike = next_awaits next (end_opened (gifts_of gifts) valid k gift_at is_at pair side of g r next alike)
 
   module _ (node : ℕ) (access : Access) (is : gift_at.given.object ≡ On_node node access) where
@@ -315,11 +324,13 @@ module _ (gifts : List GiftCode) (k : ℕ) (none : GiftCode) (low : k < length g
     used = subst (λ x. is_opened x ≡ true) is is_gift_at.object
 
     pub is_there : (nodes : ℕ) → are_among nodes (gifts_of gifts) ≡ true → node < nodes
-    is_there nodes all = ltb-true node nodes (subst (λ x. is_among nodes x ≡ true) is (list_all-slice_get (λ (g : Gift). is_among nodes g.given.object) (gifts_of gifts) k gift_at all is_at))
+    is_there nodes all = ltb-true node nodes (subst (λ x. is_below nodes x ≡ true) is (list_all-slice_get (λ (g : Gift). is_below nodes g.given.object) (gifts_of gifts) k gift_at all is_at))
 
     module _ (f : OpenFiles) (b : Awaits (gifts_of gifts) (drop k (gifts_of gifts)) f) where
       pub is_free : IsFreeAt f gift_at.process gift_at.given.number
       is_free = (is_gift_at.process, is_gift_at.number, node_free (gifts_of gifts) valid k gift_at is_at node access is f (begun (gifts_of gifts) valid k gift_at is_at f b))
 
-      pub awaits_opened : (next : OpenFiles) → Opens f next gift_at.process gift_at.given.number node access false gift_at.given.rights gift_at.given.fcntls → Awaits (gifts_of gifts) (drop (k + 1) (gifts_of gifts)) next
+      pub awaits_opened : (next : OpenFiles) →
+          Opens f next gift_at.process gift_at.given.number node access false gift_at.given.rights gift_at.given.fcntls →
+          Awaits (gifts_of gifts) (drop (k + 1) (gifts_of gifts)) next
       awaits_opened next x = next_awaits next (node_opened (gifts_of gifts) valid k gift_at is_at node access is f (begun (gifts_of gifts) valid k gift_at is_at f b) next x)

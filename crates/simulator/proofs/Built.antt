@@ -8,7 +8,7 @@ use Rattle.std.proofs.lemmas.Bool.{ltb-true}
 use Rattle.std.proofs.lemmas.Option.{slice_get-get_or}
 use Rattle.std.proofs.lemmas.List.{append-nil, get_or-map, get_or-set_same, length-take-le, map-append, take-map, set-get_or, set-set}
 use Rattle.rights.proofs.Tests.{both_left, both_right}
-use Rattle.file_tree.specs.Places.{is_name, above, at_name}
+use Rattle.file_tree.specs.Places.{is_file_name, above, at_name}
 use Rattle.file_tree.specs.Nodes.{Kind, File, Dir, Link, Node, node, is_dir, node_at, stands_at, nowhere}
 use Rattle.rights.specs.Limits.{most_nodes}
 use Rattle.file_tree.specs.Changes.{filled, resized, written}
@@ -48,7 +48,9 @@ pub written_end : (content : List ℕ) (at b : ℕ) → length content ≡ at �
 written_end content at b is = subst (λ n. written content n b ≡ content ++ b ∷ []) is (written_here content b)
 
 -- one byte more
-pub byte_more : (t : List Node) (n at : ℕ) (content : List ℕ) → n < length t → at < length content → filled (filled t n (take at content)) n (written (node (filled t n (take at content)) n).content at (slice_index_or content at 0)) ≡ filled t n (take (at + 1) content)
+pub byte_more : (t : List Node) (n at : ℕ) (content : List ℕ) → n < length t → at < length content →
+    filled (filled t n (take at content)) n (written (node (filled t n (take at content)) n).content at (slice_index_or content at 0)) ≡ filled t n
+    (take (at + 1) content)
 byte_more t n at content low here =
     let same : (node (filled t n (take at content)) n).content ≡ take at content = ap (λ (m : Node). m.content) (filled_same t n (take at content) low) in
     let long : length (take at content) ≡ at = length-take-le at content (omega arith) in
@@ -138,7 +140,8 @@ has_holder made m test =
     let facts = can made m test in
     directory_from made (above m.place) facts.holder
 
-pub made_in : (made : List Node) (m : Node) (d : ℕ) (name : List ℕ) → length made < most_nodes → can_follow made m ≡ true → is_directory_at (above m.place) (node made d) ≡ true → at_name (above m.place) name ≡ m.place → IsMadeIn made d name m
+pub made_in : (made : List Node) (m : Node) (d : ℕ) (name : List ℕ) → length made < most_nodes → can_follow made m ≡ true →
+    is_directory_at (above m.place) (node made d) ≡ true → at_name (above m.place) name ≡ m.place → IsMadeIn made d name m
 made_in made m d name room test at named =
     let facts = can made m test in
     let limits = limits_of m facts.fits in
@@ -146,7 +149,7 @@ made_in made m d name room test at named =
     let there : at_name (node made d).place name ≡ m.place = ap (λ p. at_name p name) (sym stands.1) ∙ named in
     record {
       kind = directory_kind (node made d).kind (both_right (stands_at (above m.place) (node made d)) _ at);
-      named = all_last is_name (above m.place) name (ap (list_all is_name) named ∙ limits.names);
+      named = all_last is_file_name (above m.place) name (ap (list_all is_file_name) named ∙ limits.names);
       content = limits.content;
       allowed = no_fault made d name stands.0 (ap (node_at made) there ∙ free_place made m.place facts.free) room;
       makes = same_node made m d name facts.linked there;

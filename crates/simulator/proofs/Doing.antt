@@ -148,7 +148,8 @@ moved w e choice s (Jlt r value target) is = refl
 moved w e choice s Halt is = absurd cc
 moved w e choice s (Invoke call otherwise) is = absurd cc
 
-ended : (w : World) (e : Event) (choice : Choice) (s : ProcessState) (i : Instruction) → Ends ≡ action i → executed w e choice s i ≡ record { world = halted w e.process s; outcome = Halted; effects = [] }
+ended : (w : World) (e : Event) (choice : Choice) (s : ProcessState) (i : Instruction) → Ends ≡ action i →
+    executed w e choice s i ≡ record { world = halted w e.process s; outcome = Halted; effects = [] }
 unfolding executed
 ended w e choice s (Set r value) is = absurd cc
 ended w e choice s (Mov r source) is = absurd cc
@@ -161,7 +162,9 @@ ended w e choice s Halt is = refl
 ended w e choice s (Invoke call otherwise) is = absurd cc
 
 -- what was done is what the model does
-as_executed : (w : World) (e : Event) (i : Instruction) (outcome : LineResult) (effects : List Shown) (next : World) → (at : StandsAt w e.process i) → (choice : Choice) → IsFresh w.files choice → (x : Executed) → executed w e choice at.process i ≡ x → outcome ≡ x.outcome → effects ≡ map shown x.effects → AlikeWorlds x.world next → Executes w e i outcome effects next
+as_executed : (w : World) (e : Event) (i : Instruction) (outcome : LineResult) (effects : List Shown) (next : World) → (at : StandsAt w e.process i) →
+    (choice : Choice) → IsFresh w.files choice → (x : Executed) → executed w e choice at.process i ≡ x → outcome ≡ x.outcome →
+    effects ≡ map shown x.effects → AlikeWorlds x.world next → Executes w e i outcome effects next
 as_executed w e i outcome effects next at choice fresh x is told prints alike = record {
   process = at.process;
   made = at.made;
@@ -172,18 +175,26 @@ as_executed w e i outcome effects next at choice fresh x is told prints alike = 
   world_is = subst (λ (y : Executed). AlikeWorlds y.world next) (sym is) alike;
 }
 
-pub executes_moved : (w : World) (e : Event) (x next : ProcessState) (i : Instruction) (outcome : LineResult) (effects : List Shown) → StandsAt w e.process i → x ≡ get_or w.processes e.process x → Moves ≡ action i → next ≡ acted_on x e.input i → outcome ≡ Done → effects ≡ [] → Executes w e i outcome effects (record w { processes = slice_set w.processes e.process next })
+pub executes_moved : (w : World) (e : Event) (x next : ProcessState) (i : Instruction) (outcome : LineResult) (effects : List Shown) →
+    StandsAt w e.process i → x ≡ get_or w.processes e.process x → Moves ≡ action i → next ≡ acted_on x e.input i → outcome ≡ Done → effects ≡ [] →
+    Executes w e i outcome effects (record w { processes = slice_set w.processes e.process next })
 executes_moved w e x next i outcome effects at read moves is told none =
     let some = fresh_some at.programs at.good.numbering w at.good.world in
     let same : acted_on at.process e.input i ≡ next = ap (λ y. acted_on y e.input i) (sym (stands w.processes e.process at.process x at.made read)) ∙ sym is in
-    as_executed w e i outcome effects _ at some.0 some.1 (plain w e.process next) (moved w e some.0 at.process i moves ∙ ap (plain w e.process) same) told none (alike_world w e.process i at (slice_set w.processes e.process next))
+    as_executed w e i outcome effects _ at some.0 some.1 (plain w e.process next)
+    (moved w e some.0 at.process i moves ∙ ap (plain w e.process) same) told none
+    (alike_world w e.process i at (slice_set w.processes e.process next))
 
-pub executes_ended : (w : World) (e : Event) (i : Instruction) (outcome : LineResult) (effects : List Shown) (next : World) → StandsAt w e.process i → Ends ≡ action i → outcome ≡ Halted → effects ≡ [] → ((s : ProcessState) → slice_get w.processes e.process ≡ Some s → AlikeWorlds (halted w e.process s) next) → Executes w e i outcome effects next
+pub executes_ended : (w : World) (e : Event) (i : Instruction) (outcome : LineResult) (effects : List Shown) (next : World) → StandsAt w e.process i →
+    Ends ≡ action i → outcome ≡ Halted → effects ≡ [] →
+    ((s : ProcessState) → slice_get w.processes e.process ≡ Some s → AlikeWorlds (halted w e.process s) next) → Executes w e i outcome effects next
 executes_ended w e i outcome effects next at is told none alike =
     let some = fresh_some at.programs at.good.numbering w at.good.world in
-    as_executed w e i outcome effects next at some.0 some.1 (record { world = halted w e.process at.process; outcome = Halted; effects = [] }) (ended w e some.0 at.process i is) told none (alike at.process at.made)
+    as_executed w e i outcome effects next at some.0 some.1 (record { world = halted w e.process at.process; outcome = Halted; effects = [] })
+    (ended w e some.0 at.process i is) told none (alike at.process at.made)
 
-pub executes_called : (w : World) (e : Event) (i : Instruction) (outcome : LineResult) (effects : List Shown) (next : World) → StandsAt w e.process i → CallComes w e.process e i outcome effects next → Executes w e i outcome effects next
+pub executes_called : (w : World) (e : Event) (i : Instruction) (outcome : LineResult) (effects : List Shown) (next : World) →
+    StandsAt w e.process i → CallComes w e.process e i outcome effects next → Executes w e i outcome effects next
 unfolding executed
 executes_called w e (Set r value) outcome effects next at comes = absurd comes
 executes_called w e (Mov r source) outcome effects next at comes = absurd comes
@@ -201,7 +212,14 @@ executes_called w e (Invoke call otherwise) outcome effects next at comes =
 pub some_same : {x y : ProcessState} → Some x ≡ Some y → x ≡ y
 some_same is = cc
 
-does_nothing : (programs : Programs) (w : World) (e : Event) (s : ProcessState) (outcome : LineResult) (effects : List Shown) → IsWellFormed programs w → ((choice : Choice) → stepped programs w e choice (Some s) ≡ record { world = w; acted = Some (record { program = s.program; point = s.point; outcome = Ended; effects = [] }) }) → slice_get w.processes e.process ≡ Some s → outcome ≡ Ended → effects ≡ [] → DoesAs programs w e outcome effects w
+does_nothing : (programs : Programs) (w : World) (e : Event) (s : ProcessState) (outcome : LineResult) (effects : List Shown) →
+    IsWellFormed programs w → ((choice : Choice) →
+    stepped programs w e choice (Some s) ≡ record {
+      world = w;
+      acted = Some
+          (record { program = s.program; point = s.point; outcome = Ended; effects = [] });
+    }) → slice_get w.processes e.process ≡ Some s → outcome ≡ Ended →
+    effects ≡ [] → DoesAs programs w e outcome effects w
 does_nothing programs w e s outcome effects good is made told none =
     let some = fresh_some programs good.numbering w good.world in
     record {
@@ -215,24 +233,31 @@ does_nothing programs w e s outcome effects good is made told none =
       world_is = subst (λ (x : Stepped). AlikeWorlds x.world w) (sym (is some.0)) (record { tree = refl; processes = refl; files = alike_refl w.files good.world.idle });
     }
 
-pub does_ended : (programs : Programs) (w : World) (e : Event) (s : ProcessState) (outcome : LineResult) (effects : List Shown) → IsWellFormed programs w → s.alive ≡ false → slice_get w.processes e.process ≡ Some s → outcome ≡ Ended → effects ≡ [] → DoesAs programs w e outcome effects w
+pub does_ended : (programs : Programs) (w : World) (e : Event) (s : ProcessState) (outcome : LineResult) (effects : List Shown) →
+    IsWellFormed programs w → s.alive ≡ false → slice_get w.processes e.process ≡ Some s → outcome ≡ Ended → effects ≡ [] →
+    DoesAs programs w e outcome effects w
 unfolding stepped stepped_by
 does_ended programs w e s outcome effects good dead made told none =
     does_nothing programs w e s outcome effects good
     (λ choice. ap (stepped_by programs w e choice s) dead) made told none
 
-pub does_nowhere : (programs : Programs) (w : World) (e : Event) (s : ProcessState) (outcome : LineResult) (effects : List Shown) → IsWellFormed programs w → s.alive ≡ true → slice_get (programs s.program) s.point ≡ None → slice_get w.processes e.process ≡ Some s → outcome ≡ Ended → effects ≡ [] → DoesAs programs w e outcome effects w
+pub does_nowhere : (programs : Programs) (w : World) (e : Event) (s : ProcessState) (outcome : LineResult) (effects : List Shown) →
+    IsWellFormed programs w → s.alive ≡ true → slice_get (programs s.program) s.point ≡ None → slice_get w.processes e.process ≡ Some s →
+    outcome ≡ Ended → effects ≡ [] → DoesAs programs w e outcome effects w
 unfolding stepped stepped_by stepped_at
 does_nowhere programs w e s outcome effects good lives nowhere made told none =
     does_nothing programs w e s outcome effects good
     (λ choice. ap (stepped_by programs w e choice s) lives ∙ ap (stepped_at w e choice s) nowhere) made told none
 
-pub does_executed : (programs : Programs) (w : World) (e : Event) (s : ProcessState) (i : Instruction) (outcome : LineResult) (effects : List Shown) (next : World) → slice_get w.processes e.process ≡ Some s → s.alive ≡ true → slice_get (programs s.program) s.point ≡ Some i → Executes w e i outcome effects next → DoesAs programs w e outcome effects next
+pub does_executed : (programs : Programs) (w : World) (e : Event) (s : ProcessState) (i : Instruction) (outcome : LineResult) (effects : List Shown)
+    (next : World) → slice_get w.processes e.process ≡ Some s → s.alive ≡ true → slice_get (programs s.program) s.point ≡ Some i →
+    Executes w e i outcome effects next → DoesAs programs w e outcome effects next
 unfolding stepped stepped_by stepped_at
 does_executed programs w e s i outcome effects next made lives here x =
     let same : x.process ≡ s = some_same (sym x.made ∙ made) in
     let is : (choice : Choice) → stepped programs w e choice (Some x.process) ≡ stepped_at w e choice x.process (Some i) =
-    λ choice. ap (stepped_by programs w e choice x.process) (ap (λ (y : ProcessState). y.alive) same ∙ lives) ∙ ap (stepped_at w e choice x.process) (ap (λ (y : ProcessState). slice_get (programs y.program) y.point) same ∙ here)
+    λ choice. ap (stepped_by programs w e choice x.process) (ap (λ (y : ProcessState). y.alive) same ∙ lives)
+    ∙ ap (stepped_at w e choice x.process) (ap (λ (y : ProcessState). slice_get (programs y.program) y.point) same ∙ here)
     in
     record {
       process = x.process;
@@ -245,7 +270,8 @@ does_executed programs w e s i outcome effects next made lives here x =
       world_is = subst (λ (y : Stepped). AlikeWorlds y.world next) (sym (is x.choice)) x.world_is;
     }
 
-pub steps_unmade : (programs : Programs) (w : World) (e : Event) → IsWellFormed programs w → slice_get w.processes e.process ≡ None → StepsMachine programs w e (record { process = e.process; acted = None }) w
+pub steps_unmade : (programs : Programs) (w : World) (e : Event) → IsWellFormed programs w → slice_get w.processes e.process ≡ None →
+    StepsMachine programs w e (record { process = e.process; acted = None }) w
 unfolding step stepped
 steps_unmade programs w e good none =
     let some = fresh_some programs good.numbering w good.world in
@@ -257,7 +283,14 @@ steps_unmade programs w e good none =
       world_is = subst (λ (x : Stepped). AlikeWorlds x.world w) (sym is) (record { tree = refl; processes = refl; files = alike_refl w.files good.world.idle });
     }
 
-pub steps_done : (programs : Programs) (w : World) (e : Event) (program point : ℕ) (outcome : LineResult) (effects : List Shown) (next : World) → ((s : ProcessState) → slice_get w.processes e.process ≡ Some s → (program ≡ s.program) × (point ≡ s.point)) → DoesAs programs w e outcome effects next → StepsMachine programs w e (record { process = e.process; acted = Some (record { program = program; point = point; outcome = outcome; effects = effects }) }) next
+pub steps_done : (programs : Programs) (w : World) (e : Event) (program point : ℕ) (outcome : LineResult) (effects : List Shown) (next : World) →
+    ((s : ProcessState) → slice_get w.processes e.process ≡ Some s → (program ≡ s.program) × (point ≡ s.point)) →
+    DoesAs programs w e outcome effects next →
+    StepsMachine programs w e (record {
+      process = e.process;
+      acted = Some
+          (record { program = program; point = point; outcome = outcome; effects = effects });
+    }) next
 unfolding step
 steps_done programs w e program point outcome effects next here x =
     let is : step programs w e x.choice ≡ stepped programs w e x.choice (Some x.process) = ap (stepped programs w e x.choice) x.made in
@@ -265,6 +298,11 @@ steps_done programs w e program point outcome effects next here x =
     record {
       choice = x.choice;
       fresh = x.fresh;
-      line_is = (λ k. record { process = e.process; acted = Some (record { program = at.0 k; point = at.1 k; outcome = outcome; effects = effects }) }) ∙ (λ k. record { process = e.process; acted = sym x.does k }) ∙ ap (λ (y : Stepped). line_at e y.acted) (sym is);
+      line_is = (λ k. record {
+        process = e.process;
+        acted = Some
+            (record { program = at.0 k; point = at.1 k; outcome = outcome; effects = effects });
+      })
+          ∙ (λ k. record { process = e.process; acted = sym x.does k }) ∙ ap (λ (y : Stepped). line_at e y.acted) (sym is);
       world_is = subst (λ (y : Stepped). AlikeWorlds y.world next) (sym is) x.world_is;
     }

@@ -8,7 +8,8 @@ four_from : (process input word : List ℕ) (text begun : List ℕ) → event_of
 four_from process input word [] begun = refl
 four_from process input word (b ∷ text) begun = go (b == 32) (four_from process input word text (begun ++ b ∷ []))
   where
-    go : (blank : Bool) → event_of_words (process ∷ input ∷ word ∷ parts_from 32 text (begun ++ b ∷ [])) ≡ None → event_of_words (process ∷ input ∷ word ∷ cond blank (begun ∷ parts_from 32 text []) (parts_from 32 text (begun ++ b ∷ []))) ≡ None
+    go : (blank : Bool) → event_of_words (process ∷ input ∷ word ∷ parts_from 32 text (begun ++ b ∷ [])) ≡ None →
+        event_of_words (process ∷ input ∷ word ∷ cond blank (begun ∷ parts_from 32 text []) (parts_from 32 text (begun ++ b ∷ []))) ≡ None
     go true rest = refl
     go false rest = rest
 

@@ -12,7 +12,7 @@ use Rattle.task.specs.Limits.{all_apart, are_numbered_apart, is_descriptor, is_o
 use Rattle.task.specs.Begins.{given_by, given_to, with_number}
 use Rattle.task.proofs.FirstWorlds.{checked}
 use Rattle.task.proofs.Openings.{not_a_link, tested}
-use Rattle.simulator.specs.Starts.{Gift, gifts_to, gifts_from, given_in, is_opened, is_gift, are_apart, are_gifts, is_among, are_among}
+use Rattle.simulator.specs.Starts.{Gift, gifts_to, gifts_from, given_in, is_opened, is_gift, gifts_differ, are_gifts, is_below, are_among}
 use Rattle.simulator.proofs.Waiting.{put2-here, put2-away}
 
 -- ## Over two lists
@@ -20,7 +20,8 @@ all_both : {A : Type 0} (test : A → Bool) (xs ys : List A) → list_all test x
 all_both test [] ys one other = other
 all_both test (x ∷ xs) ys one other = both_true (both_left _ (list_all test xs) one) (all_both test xs ys (both_right (test x) _ one) other)
 
-all_apart_both : {A : Type 0} (apart : A → A → Bool) (xs ys : List A) → all_apart apart xs ≡ true → all_apart apart ys ≡ true → list_all (λ x. list_all (apart x) ys) xs ≡ true → all_apart apart (xs ++ ys) ≡ true
+all_apart_both : {A : Type 0} (apart : A → A → Bool) (xs ys : List A) → all_apart apart xs ≡ true → all_apart apart ys ≡ true →
+    list_all (λ x. list_all (apart x) ys) xs ≡ true → all_apart apart (xs ++ ys) ≡ true
 all_apart_both apart [] ys one other across = other
 all_apart_both apart (x ∷ xs) ys one other across =
     both_true
@@ -38,7 +39,7 @@ there [] n is = absurd cc
 there (m ∷ tree) zero is = omega arith
 there (m ∷ tree) (suc n) is = let low : n < length tree = there tree n is in omega arith
 
-object_among : (tree : List Node) (x : FirstObject) → is_object tree x ≡ true → is_among (length tree) x ≡ true
+object_among : (tree : List Node) (x : FirstObject) → is_object tree x ≡ true → is_below (length tree) x ≡ true
 object_among tree (On_node n access) test = lt-ltb n (length tree) (there tree n (not_a_link tree n access test))
 object_among tree (On_end pair side) test = refl
 
@@ -57,7 +58,8 @@ own_among tree p (d ∷ descriptors) all =
     (own_among tree p descriptors (both_right (is_descriptor tree d) _ all))
 
 -- those of one process are at numbers of their own
-apart_from : (p : ℕ) (d : FirstDescriptor) (descriptors : List FirstDescriptor) → list_all (are_numbered_apart d) descriptors ≡ true → list_all (are_apart (record { process = p; given = d })) (gifts_to p descriptors) ≡ true
+apart_from : (p : ℕ) (d : FirstDescriptor) (descriptors : List FirstDescriptor) → list_all (are_numbered_apart d) descriptors ≡ true →
+    list_all (gifts_differ (record { process = p; given = d })) (gifts_to p descriptors) ≡ true
 apart_from p d [] all = refl
 apart_from p d (e ∷ descriptors) all =
     both_true (go (p == p) (d.number == e.number) (not_true _ (both_left _ (list_all (are_numbered_apart d) descriptors) all)))
@@ -68,39 +70,42 @@ apart_from p d (e ∷ descriptors) all =
     go true false is = refl
     go false b is = refl
 
-own_apart : (p : ℕ) (descriptors : List FirstDescriptor) → all_apart are_numbered_apart descriptors ≡ true → all_apart are_apart (gifts_to p descriptors) ≡ true
+own_apart : (p : ℕ) (descriptors : List FirstDescriptor) → all_apart are_numbered_apart descriptors ≡ true → all_apart gifts_differ (gifts_to p descriptors) ≡ true
 own_apart p [] all = refl
 own_apart p (d ∷ descriptors) all =
     both_true (apart_from p d descriptors (both_left _ (all_apart are_numbered_apart descriptors) all))
     (own_apart p descriptors (both_right (list_all (are_numbered_apart d) descriptors) _ all))
 
 -- and those of two processes are of two processes
-other_process : (g h : Gift) → g.process ≢ h.process → are_apart g h ≡ true
+other_process : (g h : Gift) → g.process ≢ h.process → gifts_differ g h ≡ true
 other_process g h other = ap (λ b. not (b && (g.given.number == h.given.number))) (ne_eqb g.process h.process other)
 
-later_own : (g : Gift) (q : ℕ) (descriptors : List FirstDescriptor) → g.process < q → list_all (are_apart g) (gifts_to q descriptors) ≡ true
+later_own : (g : Gift) (q : ℕ) (descriptors : List FirstDescriptor) → g.process < q → list_all (gifts_differ g) (gifts_to q descriptors) ≡ true
 later_own g q [] low = refl
 later_own g q (d ∷ descriptors) low = both_true (other_process g (record { process = q; given = d }) (λ same. absurd (omega (arith, same)))) (later_own g q descriptors low)
 
-later_all : (g : Gift) (q : ℕ) (starts : List Start) → g.process < q → list_all (are_apart g) (gifts_from q starts) ≡ true
+later_all : (g : Gift) (q : ℕ) (starts : List Start) → g.process < q → list_all (gifts_differ g) (gifts_from q starts) ≡ true
 later_all g q [] low = refl
 later_all g q (s ∷ starts) low =
-    all_both (are_apart g) (gifts_to q s.descriptors) (gifts_from (q + 1) starts) (later_own g q s.descriptors low) (later_all g (q + 1) starts (omega arith))
+    all_both (gifts_differ g) (gifts_to q s.descriptors) (gifts_from (q + 1) starts) (later_own g q s.descriptors low) (later_all g (q + 1) starts (omega arith))
 
-across : (p : ℕ) (descriptors : List FirstDescriptor) (starts : List Start) → list_all (λ g. list_all (are_apart g) (gifts_from (p + 1) starts)) (gifts_to p descriptors) ≡ true
+across : (p : ℕ) (descriptors : List FirstDescriptor) (starts : List Start) → list_all (λ g. list_all (gifts_differ g) (gifts_from (p + 1) starts)) (gifts_to p descriptors) ≡ true
 across p [] starts = refl
 across p (d ∷ descriptors) starts = both_true (later_all (record { process = p; given = d }) (p + 1) starts (omega arith)) (across p descriptors starts)
 
 -- ## All of them
-all_are : (tree : List Node) (programs p : ℕ) (starts : List Start) → p + length starts ≤ 16 → list_all (is_start tree programs) starts ≡ true → (list_all is_gift (gifts_from p starts) ≡ true) × (all_apart are_apart (gifts_from p starts) ≡ true) × (are_among (length tree) (gifts_from p starts) ≡ true)
+all_are : (tree : List Node) (programs p : ℕ) (starts : List Start) → p + length starts ≤ 16 → list_all (is_start tree programs) starts ≡ true →
+    (list_all is_gift (gifts_from p starts) ≡ true) × (all_apart gifts_differ (gifts_from p starts) ≡ true)
+    × (are_among (length tree) (gifts_from p starts) ≡ true)
 all_are tree programs p [] few all = (refl, refl, refl)
 all_are tree programs p (s ∷ starts) few all =
     let own = both_right (nat_lt s.program programs) _ (both_left _ (list_all (is_start tree programs) starts) all) in
     let good = both_left _ (all_apart are_numbered_apart s.descriptors) own in
     let rest = all_are tree programs (p + 1) starts (omega arith) (both_right (is_start tree programs s) _ all) in (
       all_both is_gift (gifts_to p s.descriptors) (gifts_from (p + 1) starts) (own_gifts tree p s.descriptors (omega arith) good) rest.0,
-      all_apart_both are_apart (gifts_to p s.descriptors) (gifts_from (p + 1) starts) (own_apart p s.descriptors (both_right (list_all (is_descriptor tree) s.descriptors) _ own)) rest.1 (across p s.descriptors starts),
-      all_both (λ (g : Gift). is_among (length tree) g.given.object) (gifts_to p s.descriptors) (gifts_from (p + 1) starts) (own_among tree p s.descriptors good) rest.2,
+      all_apart_both gifts_differ (gifts_to p s.descriptors) (gifts_from (p + 1) starts)
+          (own_apart p s.descriptors (both_right (list_all (is_descriptor tree) s.descriptors) _ own)) rest.1 (across p s.descriptors starts),
+      all_both (λ (g : Gift). is_below (length tree) g.given.object) (gifts_to p s.descriptors) (gifts_from (p + 1) starts) (own_among tree p s.descriptors good) rest.2,
     )
 
 few_starts : (plan : Plan) → is_plan plan ≡ true → 0 + length plan.starts ≤ 16
@@ -118,7 +123,9 @@ own_given : (p : ℕ) (descriptors : List FirstDescriptor) (rest : List Gift) (n
 own_given p [] rest n none = none
 own_given p (d ∷ descriptors) rest n none = by_number (eqb_tells d.number n) (own_given p descriptors rest n none)
   where
-    by_number : (((d.number == n) ≡ true) × (d.number ≡ n)) ⊎ (((d.number == n) ≡ false) × (d.number ≢ n)) → given_in (gifts_to p descriptors ++ rest) p n ≡ with_number n descriptors → given_in (gifts_to p (d ∷ descriptors) ++ rest) p n ≡ with_number n (d ∷ descriptors)
+    by_number : (((d.number == n) ≡ true) × (d.number ≡ n)) ⊎ (((d.number == n) ≡ false) × (d.number ≢ n)) →
+        given_in (gifts_to p descriptors ++ rest) p n ≡ with_number n descriptors →
+        given_in (gifts_to p (d ∷ descriptors) ++ rest) p n ≡ with_number n (d ∷ descriptors)
     by_number (inl own) more =
         let found : with_number n (d ∷ descriptors) ≡ Some d = rw own.0 refl in
         ap (given_in (gifts_to p (d ∷ descriptors) ++ rest) p) (sym own.1) ∙ put2-here (given_in (gifts_to p descriptors ++ rest)) p d.number (Some d) ∙ sym found

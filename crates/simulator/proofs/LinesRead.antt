@@ -7,7 +7,7 @@ use Rattle.kernel.specs.Answers.{Event}
 use Rattle.texts.specs.Parts.{parts}
 use Rattle.texts.specs.Lines.{Line, lines_from, lines_of}
 use Rattle.texts.proofs.LineLaws.{Next, has_more, next-line}
-use Rattle.simulator.specs.Schedules.{Faulty, Too_many, event_of_line, with_event, events_from, limited, schedule_of, unended}
+use Rattle.simulator.specs.Schedules.{Faulty, Too_many, event_of_line, with_event, events_from, within_limit, schedule_of, unended}
 
 -- events, and then what comes of the rest
 abbrev pub behind : List Event → Result (List Event) ℕ → Result (List Event) ℕ
@@ -52,7 +52,8 @@ module _ (all : List ℕ) (line : Line) (left : List Line) (kept : List Event) (
   next : Next so_far.texts line left
   next = next-line so_far.offset so_far.texts line left so_far.left_is
 
-  leads-line : (o : Option Event) → line.is_ended ≡ true → event_of_line line.text ≡ o → events_from 1 (parts 10 all) ≡ behind so_far.so_far (with_event (count + 1) o (events_from (count + 1 + 1) next.rest))
+  leads-line : (o : Option Event) → line.is_ended ≡ true → event_of_line line.text ≡ o →
+      events_from 1 (parts 10 all) ≡ behind so_far.so_far (with_event (count + 1) o (events_from (count + 1 + 1) next.rest))
   leads-line o ended is =
       so_far.leads
       ∙ ap (λ texts. behind so_far.so_far (events_from (count + 1) texts)) next.texts_are
@@ -93,7 +94,7 @@ module _ (all : List ℕ) (line : Line) (left : List Line) (kept : List Event) (
       }
 
   pub read-faulty : line.is_ended ≡ true → event_of_line line.text ≡ None → schedule_of all ≡ Err (Faulty (count + 1))
-  read-faulty ended is = ap limited (leads-line None ended is)
+  read-faulty ended is = ap within_limit (leads-line None ended is)
 
   -- what stands behind the last line feed
   leads-last : line.is_ended ≡ false → events_from 1 (parts 10 all) ≡ behind so_far.so_far (unended (count + 1) line.text)
@@ -106,7 +107,7 @@ module _ (all : List ℕ) (line : Line) (left : List Line) (kept : List Event) (
       only n text (more ∷ texts) none = absurd cc
 
   pub read-unended : line.is_ended ≡ false → (length line.text == 0) ≡ false → schedule_of all ≡ Err (Faulty (count + 1))
-  read-unended last some = ap limited (leads-last last ∙ ap (behind so_far.so_far) (faulty (count + 1) line.text some))
+  read-unended last some = ap within_limit (leads-last last ∙ ap (behind so_far.so_far) (faulty (count + 1) line.text some))
     where
       faulty : (n : ℕ) (text : List ℕ) → (length text == 0) ≡ false → unended n text ≡ Err n
       faulty n [] some = absurd cc
@@ -143,7 +144,7 @@ all-read all kept count so_far =
 
 pub read-too_many : (all : List ℕ) (kept : List Event) (count : ℕ) → ReadSoFar all [] kept count → 65536 < count → schedule_of all ≡ Err Too_many
 read-too_many all kept count so_far past =
-    ap limited (all-read all kept count so_far) ∙ go (nat_le (length so_far.so_far) 65536) refl
+    ap within_limit (all-read all kept count so_far) ∙ go (nat_le (length so_far.so_far) 65536) refl
   where
     go : (b : Bool) → nat_le (length so_far.so_far) 65536 ≡ b → cond b (Ok so_far.so_far) (Err Too_many) ≡ Err Too_many
     go true is = let low : length so_far.so_far ≤ 65536 = leb-true _ _ is in absurd (omega (arith, so_far.counted))
@@ -152,6 +153,6 @@ read-too_many all kept count so_far past =
 pub read-ended : (all : List ℕ) (kept : List Event) (count : ℕ) → ReadSoFar all [] kept count → count ≤ 65536 → schedule_of all ≡ Ok kept
 read-ended all kept count so_far fits =
     let low : length so_far.so_far ≤ 65536 = omega (arith, so_far.counted) in
-    ap limited (all-read all kept count so_far)
+    ap within_limit (all-read all kept count so_far)
     ∙ ap (λ b. cond b (Ok so_far.so_far) (Err Too_many)) (le-leb (length so_far.so_far) 65536 low)
     ∙ ap Ok (sym (so_far.kept_is ∙ take_all 65536 so_far.so_far low))

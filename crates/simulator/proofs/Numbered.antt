@@ -6,7 +6,7 @@ use Rattle.rights.proofs.Changes.{put-cases, put2-cases, put-both, put-same, put
 use Rattle.fd_table.specs.Descriptions.{At_node, At_end, Descriptor, Object, new_state, IfHeld}
 use Rattle.fd_table.specs.Openings.{described, with_entry, with_table}
 use Rattle.fd_table.specs.OpenFiles.{Alike, IsOther, IsUnnamed, OpenFiles}
-use Rattle.kernel.specs.Renamings.{DiffersInNumbers, EachNamed, Renaming, SameDescription, SameFiles, renamed_descriptor, renamed_entry, renamed_messages, renamed_object}
+use Rattle.kernel.specs.Renamings.{DiffersInNumbers, EachNamed, Renaming, SameObject, SameFiles, renamed_descriptor, renamed_entry, renamed_messages, renamed_object}
 use Rattle.kernel.proofs.Aimed.{aim-kept, aimed}
 use Rattle.kernel.proofs.Determined.{alike_share, differs_twice}
 use Rattle.kernel.proofs.Fresh.{held_map}
@@ -21,19 +21,21 @@ pub differs : (r : Renaming) (w f : OpenFiles) → SameFiles r w f → DiffersIn
 differs r w f same = record { renaming = r; tree = refl; processes = refl; files = same }
 
 -- descriptions are the same whatever the tables
-pub twin_of : (r : Renaming) (w f : OpenFiles) (t u : ℕ → ℕ → Option Descriptor) (n : ℕ) → SameDescription r w f n → SameDescription r (with_table w t) (with_table f u) n
+pub twin_of : (r : Renaming) (w f : OpenFiles) (t u : ℕ → ℕ → Option Descriptor) (n : ℕ) → SameObject r w f n → SameObject r (with_table w t) (with_table f u) n
 twin_of r w f t u n twin = record { object = twin.object; state = twin.state }
 
-twins_of : (r : Renaming) (w f : OpenFiles) (t u : ℕ → ℕ → Option Descriptor) (e : Option Descriptor) → IfHeld (λ d. SameDescription r w f d.description) e → IfHeld (λ d. SameDescription r (with_table w t) (with_table f u) d.description) e
-twins_of r w f t u e = held_map (λ d. SameDescription r w f d.description) (λ d. SameDescription r (with_table w t) (with_table f u) d.description) (λ d. twin_of r w f t u d.description) e
+twins_of : (r : Renaming) (w f : OpenFiles) (t u : ℕ → ℕ → Option Descriptor) (e : Option Descriptor) →
+    IfHeld (λ d. SameObject r w f d.description) e → IfHeld (λ d. SameObject r (with_table w t) (with_table f u) d.description) e
+twins_of r w f t u e = held_map (λ d. SameObject r w f d.description) (λ d. SameObject r (with_table w t) (with_table f u) d.description) (λ d. twin_of r w f t u d.description) e
 
 -- a table that says the same at each number
-pub retabled : (r : Renaming) (w f : OpenFiles) (table : ℕ → ℕ → Option Descriptor) → ((p n : ℕ) → table p n ≡ w.table p n) → ((pair side : ℕ) → w.queue pair side ≡ []) → SameFiles r w f → SameFiles r (with_table w table) f
+pub retabled : (r : Renaming) (w f : OpenFiles) (table : ℕ → ℕ → Option Descriptor) → ((p n : ℕ) → table p n ≡ w.table p n) →
+    ((pair side : ℕ) → w.queue pair side ≡ []) → SameFiles r w f → SameFiles r (with_table w table) f
 retabled r w f table is empty same = record {
   table = λ p n. same.table p n ∙ ap (renamed_entry r) (sym (is p n));
   queue = same.queue;
-  entries = λ p n. subst (IfHeld (λ d. SameDescription r (with_table w table) f d.description)) (sym (is p n)) (twins_of r w f table f.table (w.table p n) (same.entries p n));
-  messages = λ pair side. subst (EachNamed (SameDescription r (with_table w table) f)) (sym (empty pair side)) tt;
+  entries = λ p n. subst (IfHeld (λ d. SameObject r (with_table w table) f d.description)) (sym (is p n)) (twins_of r w f table f.table (w.table p n) (same.entries p n));
+  messages = λ pair side. subst (EachNamed (SameObject r (with_table w table) f)) (sym (empty pair side)) tt;
 }
 
 -- an entry that is filled twice has what it got last
@@ -55,14 +57,14 @@ module _ (r : Renaming) (w f : OpenFiles) (same : SameFiles r w f) (empty : (pai
     turned = aimed r n k
 
     record IsKept (d : Descriptor) : Type 0 where
-      twin : SameDescription r w f d.description
+      twin : SameObject r w f d.description
       here : d.description ≢ n
       there : r.description d.description ≢ k
 
     number : (d : Descriptor) → IsKept d → turned.description d.description ≡ r.description d.description
     number d is = aim-kept r n k d.description is.here is.there
 
-    kept_one : (e : Option Descriptor) → IfHeld (λ d. SameDescription r w f d.description) e → IfHeld (λ d. d.description ≢ n) e → IsOther k (renamed_entry r e) → IfHeld IsKept e
+    kept_one : (e : Option Descriptor) → IfHeld (λ d. SameObject r w f d.description) e → IfHeld (λ d. d.description ≢ n) e → IsOther k (renamed_entry r e) → IfHeld IsKept e
     kept_one None twin here there = tt
     kept_one (Some d) twin here there = record { twin = twin; here = here; there = there }
 
@@ -77,7 +79,7 @@ module _ (r : Renaming) (w f : OpenFiles) (same : SameFiles r w f) (empty : (pai
     object_again (At_node node access) = refl
     object_again (At_end pair side class) = refl
 
-    twin_again : (d : Descriptor) → IsKept d → SameDescription turned w f d.description
+    twin_again : (d : Descriptor) → IsKept d → SameObject turned w f d.description
     twin_again d is = record {
       object = ap f.objects (number d is) ∙ is.twin.object ∙ object_again (w.objects d.description);
       state = ap f.states (number d is) ∙ is.twin.state;
@@ -87,13 +89,13 @@ module _ (r : Renaming) (w f : OpenFiles) (same : SameFiles r w f) (empty : (pai
     turned_same = record {
       table = λ q j. same.table q j ∙ entry_again (w.table q j) (kept q j);
       queue = λ pair side. same.queue pair side ∙ ap (renamed_messages r) (empty pair side) ∙ sym (ap (renamed_messages turned) (empty pair side));
-      entries = λ q j. held_map IsKept (λ d. SameDescription turned w f d.description) twin_again (w.table q j) (kept q j);
+      entries = λ q j. held_map IsKept (λ d. SameObject turned w f d.description) twin_again (w.table q j) (kept q j);
       messages = no_messages _;
     }
 
   -- ## A description is made at a number that nobody names
   module _ (k : ℕ) (fresh : IsUnnamed f k) (object : Object) (append : Bool) where
-    still : (e : Option Descriptor) → IsOther k (renamed_entry r e) → IfHeld (λ d. SameDescription r w f d.description) e → IfHeld (λ d. SameDescription r w (described f k object append) d.description) e
+    still : (e : Option Descriptor) → IsOther k (renamed_entry r e) → IfHeld (λ d. SameObject r w f d.description) e → IfHeld (λ d. SameObject r w (described f k object append) d.description) e
     still None other is = tt
     still (Some d) other is = record {
       object = put-other f.objects k object (r.description d.description) other ∙ is.object;
@@ -109,7 +111,7 @@ module _ (r : Renaming) (w f : OpenFiles) (same : SameFiles r w f) (empty : (pai
     }
 
   -- ## An entry is filled
-  module _ (p n : ℕ) (d : Descriptor) (twin : SameDescription r w f d.description) where
+  module _ (p n : ℕ) (d : Descriptor) (twin : SameObject r w f d.description) where
     pub filled_same : SameFiles r (with_entry w p n (Some d)) (with_entry f p n (Some (renamed_descriptor r d)))
     filled_same = record {
       table = λ q j.
@@ -119,6 +121,6 @@ module _ (r : Renaming) (w f : OpenFiles) (same : SameFiles r w f) (empty : (pai
       queue = same.queue;
       entries = λ q j.
           twins_of r w f (put2 w.table p n (Some d)) (put2 f.table p n (Some (renamed_descriptor r d))) (put2 w.table p n (Some d) q j)
-          (put2-cases (IfHeld (λ e. SameDescription r w f e.description)) w.table p n (Some d) q j twin (same.entries q j));
+          (put2-cases (IfHeld (λ e. SameObject r w f e.description)) w.table p n (Some d) q j twin (same.entries q j));
       messages = no_messages _;
     }

@@ -7,12 +7,12 @@ use Rattle.rights.specs.Sets.{all_rights, all_commands}
 use Rattle.rights.proofs.Changes.{put-same, put-other}
 use Rattle.rights.proofs.Tests.{both_left, both_right}
 use Rattle.fd_table.specs.Descriptions.{Initial, At_end, Descriptor, descriptor_of, new_state, IfHeld}
-use Rattle.fd_table.specs.Filled.{Entry, IsEmpty, IsFree, AreApart, Pairs, ended, paired, with_end}
+use Rattle.fd_table.specs.Filled.{Entry, IsEmpty, IsFree, AreApart, Pairs, end_entered, paired, with_end}
 use Rattle.fd_table.specs.Openings.{described, with_entry, with_table}
 use Rattle.fd_table.specs.OpenFiles.{IsOther, OpenFiles, SameDescriptions, any_below, is_end, names_end}
 use Rattle.fd_table.specs.OpenFiles.{SameDescription as Same}
 use Rattle.kernel.specs.World.{Choice}
-use Rattle.kernel.specs.Renamings.{EachNamed, Renaming, SameDescription, SameFiles, renamed_entry, renamed_object}
+use Rattle.kernel.specs.Renamings.{EachNamed, Renaming, SameObject, SameFiles, renamed_entry, renamed_object}
 use Rattle.kernel.proofs.Aimed.{Separate, aimed_at, aimed_files, aims}
 use Rattle.kernel.proofs.ChangedAlike.{Aims}
 use Rattle.kernel.proofs.Determined.{alike_share}
@@ -20,7 +20,7 @@ use Rattle.kernel.proofs.Fresh.{lt_or_le, none_below}
 use Rattle.syscalls.specs.Views.{world_with}
 use Rattle.task.specs.Begins.{end_description, first_entry, first_entries, first_files}
 use Rattle.task.proofs.Openings.{at_end}
-use Rattle.simulator.specs.Starts.{Gift, given_in, is_gift, are_gifts, entry_of, is_on, last_or, last_of, whole_end, awaiting, nothing_given, if_below, HasPairs, Awaits}
+use Rattle.simulator.specs.Starts.{Gift, given_in, is_gift, are_gifts, entry_of, is_on, later_or, last_gift, whole_end, awaiting, nothing_given, if_below, HasPairs, Awaits}
 use Rattle.simulator.proofs.Numbered.{then_alike, differs, retabled, described_same, filled_same, twin_of}
 use Rattle.simulator.proofs.Waiting.{Table, all_gifts, all_wait, at_place, gift_is, last_whole, waits_whole}
 
@@ -53,13 +53,13 @@ module _ (gifts : List Gift) (valid : are_gifts gifts ≡ true) where
   stays_below bound d low = rw (lt-ltb d.description bound low) refl
 
   -- ## Where the last of a side is
-  placed : (pair side : ℕ) (some : List Gift) (e : Entry) → list_all is_gift some ≡ true → last_of pair side some ≡ Some e → (e.process < 16) × (e.number < 16)
-  unfolding last_of
+  placed : (pair side : ℕ) (some : List Gift) (e : Entry) → list_all is_gift some ≡ true → last_gift pair side some ≡ Some e → (e.process < 16) × (e.number < 16)
+  unfolding last_gift
   placed pair side [] e all is = absurd cc
   placed pair side (g ∷ some) e all is =
-      go (last_of pair side some) (is_on pair side g.given.object) is (placed pair side some e (both_right (is_gift g) _ all))
+      go (last_gift pair side some) (is_on pair side g.given.object) is (placed pair side some e (both_right (is_gift g) _ all))
     where
-      go : (o : Option Entry) (on : Bool) → last_or o on g ≡ Some e → (o ≡ Some e → (e.process < 16) × (e.number < 16)) → (e.process < 16) × (e.number < 16)
+      go : (o : Option Entry) (on : Bool) → later_or o on g ≡ Some e → (o ≡ Some e → (e.process < 16) × (e.number < 16)) → (e.process < 16) × (e.number < 16)
       go (Some x) on is more = more is
       go None true is more =
           let own = gift_is g (both_left _ (list_all is_gift some) all) in
@@ -98,7 +98,7 @@ module _ (gifts : List Gift) (valid : are_gifts gifts ≡ true) where
   -- ## Where the ends of the next pair go
   module _ (pair : ℕ) (few : pair < 32) where
     abbrev to : ℕ → Option Entry
-    to side = last_of pair side gifts
+    to side = last_gift pair side gifts
 
     at_whole : (side : ℕ) (e : Entry) → to side ≡ Some e → waits e.process e.number ≡ Some (whole_end pair side)
     at_whole side e is = last_whole nothing_given pair side gifts e (all_gifts gifts valid).1 is
@@ -129,13 +129,14 @@ module _ (gifts : List Gift) (valid : are_gifts gifts ≡ true) where
             let w = waits_whole gifts q m d (all_gifts gifts valid).0 is in
             let number : d.description ≡ end_description w.pair w.side = ap (λ (x : Descriptor). x.description) w.whole in
             let side_two : w.side < 2 = w.two in
-            let not_this : w.pair ≢ pair = λ same. away w.side w.two (ap (λ p. last_of p w.side gifts) (sym same) ∙ w.last) in
+            let not_this : w.pair ≢ pair = λ same. away w.side w.two (ap (λ p. last_gift p w.side gifts) (sym same) ∙ w.last) in
             by_order (lt_or_le w.pair pair) not_this number side_two
           where
             past : {a : ℕ} (b : ℕ) → pair ≤ a → a ≢ pair → d.description ≡ end_description a b → end_description (pair + 1) 0 ≤ d.description
             past {a = a} b high not_this number = elim (lt_or_le pair a) [ inl more ↦ omega (arith, number) | inr less ↦ absurd (not_this (omega arith)) ]
 
-            by_order : {a b : ℕ} → (a < pair) ⊎ (pair ≤ a) → a ≢ pair → d.description ≡ end_description a b → b < 2 → if_below (end_description (pair + 1) 0) (Some d) ≡ if_below (end_description pair 0) (Some d)
+            by_order : {a b : ℕ} → (a < pair) ⊎ (pair ≤ a) → a ≢ pair → d.description ≡ end_description a b → b < 2 →
+                if_below (end_description (pair + 1) 0) (Some d) ≡ if_below (end_description pair 0) (Some d)
             by_order (inl low) not_this number two =
                 stays_below (end_description (pair + 1) 0) d (omega (arith, number)) ∙ sym (stays_below (end_description pair 0) d (omega (arith, number)))
             by_order {b = b} (inr high) not_this number two =
@@ -205,13 +206,17 @@ module _ (gifts : List Gift) (valid : are_gifts gifts ≡ true) where
                 let at = placed w.pair w.side gifts (record { process = q; number = m }) (all_gifts gifts valid).0 w.last in
                 none_below 16 (λ n. names_end f.objects x.pair side (f.table q n)) (none_below 16 (λ p. any_below 16 (λ n. names_end f.objects x.pair side (f.table p n))) scan q at.0) m at.1
 
-        separate : (e : Option Descriptor) → IfHeld (λ d. SameDescription r (model pair) f d.description) e → IfHeld (IsEarlier pair) e → IsOther x.first (renamed_entry r e) → IsOther x.second (renamed_entry r e) → ((side : ℕ) → names_end f.objects x.pair side (renamed_entry r e) ≡ false) → IfHeld (λ d. Separate r (model pair) f here there d.description) e
+        separate : (e : Option Descriptor) → IfHeld (λ d. SameObject r (model pair) f d.description) e → IfHeld (IsEarlier pair) e →
+            IsOther x.first (renamed_entry r e) → IsOther x.second (renamed_entry r e) →
+            ((side : ℕ) → names_end f.objects x.pair side (renamed_entry r e) ≡ false) →
+            IfHeld (λ d. Separate r (model pair) f here there d.description) e
         separate None twin old first second ends = tt
         separate (Some d) twin old first second ends =
             let number : d.description ≡ end_description old.pair old.side = ap (λ (y : Descriptor). y.description) old.whole in
             let low : old.pair < pair = old.low in
             let two : old.side < 2 = old.two in
-            let own : (first_files (given_in gifts)).objects d.description ≡ At_end old.pair old.side (Initial old.pair) = ap (first_files (given_in gifts)).objects number ∙ object old.pair old.side old.few old.two in
+            let own : (first_files (given_in gifts)).objects d.description ≡ At_end old.pair old.side (Initial old.pair) = ap
+            (first_files (given_in gifts)).objects number ∙ object old.pair old.side old.few old.two in
             record {
               twin = twin;
               here = record {
@@ -249,7 +254,7 @@ module _ (gifts : List Gift) (valid : are_gifts gifts ≡ true) where
         aim : Aims turned here there
         aim = aims r here there (λ is. absurd (omega (arith, is))) x.apart
 
-        twin_first : SameDescription turned (model pair) both_made (end_description pair 0)
+        twin_first : SameObject turned (model pair) both_made (end_description pair 0)
         twin_first = record {
           object =
               ap both_made.objects aim.first ∙ put-other one_made.objects x.second (At_end x.pair 1 (Initial pair)) x.first x.apart ∙ put-same f.objects x.first (At_end x.pair 0 (Initial pair))
@@ -259,7 +264,7 @@ module _ (gifts : List Gift) (valid : are_gifts gifts ≡ true) where
               ∙ sym (state (end_description pair 0));
         }
 
-        twin_second : SameDescription turned (model pair) both_made (end_description pair 1)
+        twin_second : SameObject turned (model pair) both_made (end_description pair 1)
         twin_second = record {
           object =
               ap both_made.objects aim.second ∙ put-same one_made.objects x.second (At_end x.pair 1 (Initial pair))
@@ -268,23 +273,27 @@ module _ (gifts : List Gift) (valid : are_gifts gifts ≡ true) where
         }
 
         -- an end goes to its entry, or nowhere
-        filled_end : (w g : OpenFiles) → SameFiles turned w g → ((q side : ℕ) → w.queue q side ≡ []) → (o : Option Entry) (n k : ℕ) → turned.description n ≡ k → SameDescription turned w g n → SameFiles turned (with_table w (ended w.table o n)) (with_end g k o)
+        filled_end : (w g : OpenFiles) → SameFiles turned w g → ((q side : ℕ) → w.queue q side ≡ []) → (o : Option Entry) (n k : ℕ) →
+            turned.description n ≡ k → SameObject turned w g n → SameFiles turned (with_table w (end_entered w.table o n)) (with_end g k o)
         filled_end w g are empty None n k is twin = are
         filled_end w g are empty (Some e) n k is twin =
-            subst (λ i. SameFiles turned (with_entry w e.process e.number (Some (descriptor_of n all_rights all_commands))) (with_entry g e.process e.number (Some (descriptor_of i all_rights all_commands)))) is
+            subst (λ i. SameFiles turned (with_entry w e.process e.number (Some (descriptor_of n all_rights all_commands)))
+            (with_entry g e.process e.number (Some (descriptor_of i all_rights all_commands)))) is
             (filled_same turned w g are empty e.process e.number (descriptor_of n all_rights all_commands) twin)
 
         abbrev after_first : Table
-        after_first = ended (below pair) (to 0) (end_description pair 0)
+        after_first = end_entered (below pair) (to 0) (end_description pair 0)
 
-        same_next : SameFiles turned (with_table (model pair) (ended after_first (to 1) (end_description pair 1))) (paired f x.first x.second x.pair (Initial pair) (to 0) (to 1))
+        same_next : SameFiles turned (with_table (model pair) (end_entered after_first (to 1) (end_description pair 1))) (paired f x.first x.second x.pair (Initial pair) (to 0) (to 1))
         same_next =
             filled_end (with_table (model pair) after_first) (with_end both_made x.first (to 0))
             (filled_end (model pair) both_made ends_described (no_queue pair) (to 0) (end_description pair 0) x.first aim.first twin_first)
             (no_queue pair) (to 1) (end_description pair 1) x.second aim.second
-            (twin_of turned (model pair) both_made after_first (ended both_made.table (to 0) x.first) (end_description pair 1) twin_second)
+            (twin_of turned (model pair) both_made after_first (end_entered both_made.table (to 0) x.first) (end_description pair 1) twin_second)
 
-        one_end : (side : ℕ) → side < 2 → (o : Option Entry) → to side ≡ o → (t : Table) (q m : ℕ) → ((to side ≡ Some (record { process = q; number = m }) → ⊥) → below (pair + 1) q m ≡ t q m) → below (pair + 1) q m ≡ ended t o (end_description pair side) q m
+        one_end : (side : ℕ) → side < 2 → (o : Option Entry) → to side ≡ o → (t : Table) (q m : ℕ) →
+            ((to side ≡ Some (record { process = q; number = m }) → ⊥) → below (pair + 1) q m ≡ t q m) →
+            below (pair + 1) q m ≡ end_entered t o (end_description pair side) q m
         one_end side two None is t q m rest = rest (λ at. none_some (sym is ∙ at))
         one_end side two (Some e) is t q m rest =
             at_place (λ y. below (pair + 1) q m ≡ y) t e.process e.number (Some (whole_end pair side)) q m
@@ -294,13 +303,14 @@ module _ (gifts : List Gift) (valid : are_gifts gifts ≡ true) where
             let same_place : e ≡ record { process = q; number = m } = cc in
             away (ap (λ (y : Entry). y.process) same_place) (ap (λ (y : Entry). y.number) same_place)))
 
-        table_next : (q m : ℕ) → below (pair + 1) q m ≡ ended after_first (to 1) (end_description pair 1) q m
+        table_next : (q m : ℕ) → below (pair + 1) q m ≡ end_entered after_first (to 1) (end_description pair 1) q m
         table_next q m =
             one_end 1 (omega arith) (to 1) refl after_first q m (λ not_second.
             one_end 0 (omega arith) (to 0) refl (below pair) q m (λ not_first.
             other_entry q m (neither_side not_first not_second)))
           where
-            neither_side : (to 0 ≡ Some (record { process = q; number = m }) → ⊥) → (to 1 ≡ Some (record { process = q; number = m }) → ⊥) → (side : ℕ) → side < 2 → to side ≡ Some (record { process = q; number = m }) → ⊥
+            neither_side : (to 0 ≡ Some (record { process = q; number = m }) → ⊥) → (to 1 ≡ Some (record { process = q; number = m }) → ⊥) →
+                (side : ℕ) → side < 2 → to side ≡ Some (record { process = q; number = m }) → ⊥
             neither_side one other zero two is = one is
             neither_side one other (suc zero) two is = other is
             neither_side one other (suc (suc side)) two is = absurd (omega arith)
@@ -308,7 +318,7 @@ module _ (gifts : List Gift) (valid : are_gifts gifts ≡ true) where
         pub pair_opened : HasPairs gifts (pair + 1) next
         pair_opened =
             then_alike (model (pair + 1)) _ next
-            (differs turned _ _ (retabled turned (with_table (model pair) (ended after_first (to 1) (end_description pair 1))) _ (below (pair + 1)) table_next (no_queue pair) same_next))
+            (differs turned _ _ (retabled turned (with_table (model pair) (end_entered after_first (to 1) (end_description pair 1))) _ (below (pair + 1)) table_next (no_queue pair) same_next))
             x.alike
 
   -- ## Before any, and after all

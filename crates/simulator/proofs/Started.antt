@@ -9,8 +9,8 @@ use Rattle.fd_table.specs.OpenFiles.{OpenFiles}
 use Rattle.file_tree.specs.WellFormed.{IsTree}
 use Rattle.kernel.proofs.Fresh.{lt_or_le}
 use Rattle.kernel.specs.World.{World}
-use Rattle.kernel.specs.Renamings.{DiffersInNumbers, SameDescription, SameFiles, renamed_entry, renamed_messages, renamed_object}
-use Rattle.kernel.specs.WellFormed.{EachMessage, HasNone, IsDescriptor, IsMade, IsObject, IsWellFormed, Numbering}
+use Rattle.kernel.specs.Renamings.{DiffersInNumbers, SameObject, SameFiles, renamed_entry, renamed_messages, renamed_object}
+use Rattle.kernel.specs.WellFormed.{EachMessage, HasNone, IsDescriptor, IsProcessIfMade, IsObject, IsWellFormed, Numbering}
 use Rattle.task.specs.Plans.{Plan, programs_of_plan}
 use Rattle.task.specs.Limits.{is_plan}
 use Rattle.syscalls.specs.Views.{world_with}
@@ -61,7 +61,9 @@ module _ (plan : Plan) (test : is_plan plan ≡ true) (w : World) (d : DiffersIn
     ap good.numbering.class (d.renaming.pair_here pair) ∙ fine.3,
   )
 
-  descriptor : (e : Option Descriptor) → IfHeld (IsDescriptor first.tree good.numbering first.files.objects first.files.states) e → IfHeld (λ x. SameDescription d.renaming first.files w.files x.description) e → IfHeld (IsDescriptor w.tree numbering w.files.objects w.files.states) (renamed_entry d.renaming e)
+  descriptor : (e : Option Descriptor) → IfHeld (IsDescriptor first.tree good.numbering first.files.objects first.files.states) e →
+      IfHeld (λ x. SameObject d.renaming first.files w.files x.description) e →
+      IfHeld (IsDescriptor w.tree numbering w.files.objects w.files.states) (renamed_entry d.renaming e)
   descriptor None fine same = tt
   descriptor (Some x) fine same = record {
     number = below_bound d.renaming.description good.numbering.descriptions x.description fine.number;
@@ -91,8 +93,9 @@ module _ (plan : Plan) (test : is_plan plan ≡ true) (w : World) (d : DiffersIn
       tree = subst IsTree (sym d.tree) good.world.tree;
       some = subst (λ ps. 0 < length ps) (sym d.processes) good.world.some;
       few = subst (λ ps. length ps ≤ 16) (sym d.processes) good.world.few;
-      processes = λ p. subst (λ ps. IsMade (programs_of_plan plan) (slice_get ps p)) (sym d.processes) (good.world.processes p);
-      entries = λ p n. subst (IfHeld (IsDescriptor w.tree numbering w.files.objects w.files.states)) (sym (d.files.table p n)) (descriptor (first.files.table p n) (good.world.entries p n) (d.files.entries p n));
+      processes = λ p. subst (λ ps. IsProcessIfMade (programs_of_plan plan) (slice_get ps p)) (sym d.processes) (good.world.processes p);
+      entries = λ p n. subst (IfHeld (IsDescriptor w.tree numbering w.files.objects w.files.states)) (sym (d.files.table p n))
+          (descriptor (first.files.table p n) (good.world.entries p n) (d.files.entries p n));
       numbers = λ p n far. d.files.table p n ∙ no_entry (first.files.table p n) (good.world.numbers p n far);
       gone = λ p. subst (λ s. HasNone s (w.files.table p)) (ap (λ ps. slice_get ps p) (sym d.processes)) (none_more (slice_get first.processes p) p (good.world.gone p));
       messages = λ pair side. subst (EachMessage (IsDescriptor w.tree numbering w.files.objects w.files.states)) (sym (no_queue pair side)) tt;
@@ -103,7 +106,8 @@ module _ (plan : Plan) (test : is_plan plan ≡ true) (w : World) (d : DiffersIn
   }
 
 -- where all are open as they are given, the world is the model's but for numbers
-pub begun_world : (plan : Plan) (tree : List Node) (f : OpenFiles) (processes : List ProcessState) → Awaits (gifts_from 0 plan.starts) [] f → tree ≡ plan.nodes → processes ≡ map first_process plan.starts → DiffersInNumbers (first_world plan) (world_with tree f processes)
+pub begun_world : (plan : Plan) (tree : List Node) (f : OpenFiles) (processes : List ProcessState) → Awaits (gifts_from 0 plan.starts) [] f →
+    tree ≡ plan.nodes → processes ≡ map first_process plan.starts → DiffersInNumbers (first_world plan) (world_with tree f processes)
 unfolding first_world awaiting first_files
 begun_world plan tree f processes b same_tree same_processes =
     record { renaming = b.renaming; tree = same_tree; processes = same_processes; files = subst (λ given. SameFiles b.renaming (first_files given) f) (all_given plan.starts) b.files }

@@ -24,7 +24,8 @@ use Rattle.simulator.specs.Simulations.{IsRun, WritesFront, WritesTrace}
 use Rattle.simulator.specs.Traces.{line_text, trace_text}
 
 -- a step leads to a well-formed world
-pub steps_good : (programs : Programs) (w next : World) (e : Event) (line : Line) → ArePrograms programs → IsWellFormed programs w → IsEvent e → StepsMachine programs w e line next → IsWellFormed programs next
+pub steps_good : (programs : Programs) (w next : World) (e : Event) (line : Line) → ArePrograms programs → IsWellFormed programs w → IsEvent e →
+    StepsMachine programs w e line next → IsWellFormed programs next
 steps_good programs w next e line valid good byte s =
     (act_alike programs (step programs w e s.choice).world next valid ((next_world programs w e valid good byte).each s.choice s.fresh) s.world_is).well_formed
 
@@ -48,7 +49,8 @@ pub took_nothing : (before : Option (List ℕ)) → Took before before []
 took_nothing None = refl
 took_nothing (Some bytes) = ap Some (sym (append-nil bytes))
 
-pub traced-start : (plan : Plan) (events : List Event) (before : Option (List ℕ)) (w : World) → is_plan plan ≡ true → DiffersInNumbers (first_world plan) w → IsTraced plan events before before w events
+pub traced-start : (plan : Plan) (events : List Event) (before : Option (List ℕ)) (w : World) → is_plan plan ≡ true →
+    DiffersInNumbers (first_world plan) w → IsTraced plan events before before w events
 traced-start plan events before w test differs = record {
   begun = [];
   took = took_nothing before;
@@ -56,16 +58,20 @@ traced-start plan events before w test differs = record {
 }
 
 -- one line more
-trace_more : (plan : Plan) (e : Event) (left : List Event) (acted : Option Acted) (rest : List (Option Acted)) → line_text plan (line_at e acted) ++ trace_text plan left rest ≡ trace_text plan (e ∷ left) (acted ∷ rest)
+trace_more : (plan : Plan) (e : Event) (left : List Event) (acted : Option Acted) (rest : List (Option Acted)) →
+    line_text plan (line_at e acted) ++ trace_text plan left rest ≡ trace_text plan (e ∷ left) (acted ∷ rest)
 trace_more plan e left acted rest = refl
 
-ahead-step : (plan : Plan) (events : List Event) (lines : List (Option Acted)) (begun : List ℕ) (w next : World) (e : Event) (left : List Event) (line : Line) → is_plan plan ≡ true → IsWellFormed (programs_of_plan plan) w → IsEvent e → StepsMachine (programs_of_plan plan) w e line next → IsAhead plan events lines begun w (e ∷ left) → IsAhead plan events lines (begun ++ line_text plan line) next left
+ahead-step : (plan : Plan) (events : List Event) (lines : List (Option Acted)) (begun : List ℕ) (w next : World) (e : Event) (left : List Event)
+    (line : Line) → is_plan plan ≡ true → IsWellFormed (programs_of_plan plan) w → IsEvent e → StepsMachine (programs_of_plan plan) w e line next →
+    IsAhead plan events lines begun w (e ∷ left) → IsAhead plan events lines (begun ++ line_text plan line) next left
 ahead-step plan events lines begun w next e left line test good byte s at = go at.rest at.run at.text
   where
     programs : Programs
     programs = programs_of_plan plan
 
-    go : (rest : List (Option Acted)) → Runs programs at.world (e ∷ left) rest → begun ++ trace_text plan (e ∷ left) rest ≡ trace_text plan events lines → IsAhead plan events lines (begun ++ line_text plan line) next left
+    go : (rest : List (Option Acted)) → Runs programs at.world (e ∷ left) rest →
+        begun ++ trace_text plan (e ∷ left) rest ≡ trace_text plan events lines → IsAhead plan events lines (begun ++ line_text plan line) next left
     go [] run text = absurd run
     go (acted ∷ rest) (choice, fresh, is, run) text =
         let valid = (first_well_formed plan test).0 in
@@ -84,14 +90,17 @@ ahead-step plan events lines begun w next e left line test good byte s at = go a
               ∙ text;
         }
 
-pub traced-step : (plan : Plan) (events : List Event) (before mid after : Option (List ℕ)) (w next : World) (e : Event) (left : List Event) (line : Line) → is_plan plan ≡ true → IsWellFormed (programs_of_plan plan) w → IsEvent e → IsTraced plan events before mid w (e ∷ left) → StepsMachine (programs_of_plan plan) w e line next → Took mid after (line_text plan line) → IsTraced plan events before after next left
+pub traced-step : (plan : Plan) (events : List Event) (before mid after : Option (List ℕ)) (w next : World) (e : Event) (left : List Event)
+    (line : Line) → is_plan plan ≡ true → IsWellFormed (programs_of_plan plan) w → IsEvent e → IsTraced plan events before mid w (e ∷ left) →
+    StepsMachine (programs_of_plan plan) w e line next → Took mid after (line_text plan line) → IsTraced plan events before after next left
 traced-step plan events before mid after w next e left line test good byte so_far s took = record {
   begun = so_far.begun ++ line_text plan line;
   took = took_more before mid after _ _ so_far.took took;
   each = λ lines run. ahead-step plan events lines so_far.begun w next e left line test good byte s (so_far.each lines run);
 }
 
-pub traced-end : (plan : Plan) (events : List Event) (before after : Option (List ℕ)) (w : World) → is_plan plan ≡ true → AreEvents events → IsTraced plan events before after w [] → WritesTrace plan events before after
+pub traced-end : (plan : Plan) (events : List Event) (before after : Option (List ℕ)) (w : World) → is_plan plan ≡ true → AreEvents events →
+    IsTraced plan events before after w [] → WritesTrace plan events before after
 traced-end plan events before after w test bytes so_far =
     let first = first_well_formed plan test in
     let run = run_exists (programs_of_plan plan) (first_world plan) events first.0 first.1 bytes in
@@ -104,13 +113,16 @@ traced-end plan events before after w test bytes so_far =
     }
 
 -- what was taken is a beginning of every run's trace
-pub traced-front : (plan : Plan) (events : List Event) (before after : Option (List ℕ)) (w : World) (left : List Event) → IsTraced plan events before after w left → WritesFront plan events before after
+pub traced-front : (plan : Plan) (events : List Event) (before after : Option (List ℕ)) (w : World) (left : List Event) →
+    IsTraced plan events before after w left → WritesFront plan events before after
 traced-front plan events before after w left so_far lines run =
     let at = so_far.each lines run in
     record { front = so_far.begun; rest = trace_text plan left at.rest; whole = at.text; took = so_far.took }
 
 -- so is what was taken, with a beginning of the next line
-pub traced-line : (plan : Plan) (events : List Event) (before mid after : Option (List ℕ)) (w next : World) (e : Event) (left : List Event) (line : Line) → is_plan plan ≡ true → IsWellFormed (programs_of_plan plan) w → IsEvent e → IsTraced plan events before mid w (e ∷ left) → StepsMachine (programs_of_plan plan) w e line next → TookFront mid after (line_text plan line) → WritesFront plan events before after
+pub traced-line : (plan : Plan) (events : List Event) (before mid after : Option (List ℕ)) (w next : World) (e : Event) (left : List Event)
+    (line : Line) → is_plan plan ≡ true → IsWellFormed (programs_of_plan plan) w → IsEvent e → IsTraced plan events before mid w (e ∷ left) →
+    StepsMachine (programs_of_plan plan) w e line next → TookFront mid after (line_text plan line) → WritesFront plan events before after
 traced-line plan events before mid after w next e left line test good byte so_far s front lines run =
     let at = ahead-step plan events lines so_far.begun w next e left line test good byte s (so_far.each lines run) in
     let whole : so_far.begun ++ (line_text plan line ++ trace_text plan left at.rest) ≡ trace_text plan events lines =

@@ -17,10 +17,10 @@ pub record MachineState : Type 0 where
   pub processes : List ProcessState
   pub spent : Bool
 
-abbrev pub world_of : MachineState → World
-world_of d = world_with d.tree (open_files d.files) d.processes
+abbrev pub machine_world : MachineState → World
+machine_world d = world_with d.tree (open_files d.files) d.processes
 
 -- The task is valid, and the world is well formed until the machine stops.
 pub record IsRunning (d : MachineState) : Type 0 where
   pub valid : is_plan d.plan ≡ true
-  pub good : d.spent ≡ false → IsWellFormed (programs_of_plan d.plan) (world_of d)
+  pub good : d.spent ≡ false → IsWellFormed (programs_of_plan d.plan) (machine_world d)

@@ -50,9 +50,9 @@ events_from n (last ∷ []) = unended n last
 events_from n (line ∷ next ∷ lines) = with_event n (event_of_line line) (events_from (n + 1) (next ∷ lines))
 
 -- The first faulty line is told before the limit.
-abbrev pub limited : Result (List Event) ℕ → Result (List Event) Fault
-limited (Err line) = Err (Faulty line)
-limited (Ok events) = if nat_le (length events) most_events then Ok events else Err Too_many
+abbrev pub within_limit : Result (List Event) ℕ → Result (List Event) Fault
+within_limit (Err line) = Err (Faulty line)
+within_limit (Ok events) = if nat_le (length events) most_events then Ok events else Err Too_many
 
 abbrev pub schedule_of : List ℕ → Result (List Event) Fault
-schedule_of text = limited (events_from 1 (parts line_feed text))
+schedule_of text = within_limit (events_from 1 (parts line_feed text))

@@ -4,7 +4,7 @@ use Rattle.std.specs.List.{list_all, slice_index_or}
 use Rattle.rights.specs.Limits.{most_descriptors, most_processes, most_pairs}
 use Rattle.rights.specs.Maps.{put2}
 use Rattle.rights.specs.Sets.{is_within, all_rights, all_commands}
-use Rattle.file_tree.specs.Places.{is_name}
+use Rattle.file_tree.specs.Places.{is_file_name}
 use Rattle.file_tree.specs.Nodes.{Dir, Node, node}
 use Rattle.file_tree.specs.Refusals.{created, create_fault}
 use Rattle.file_tree.specs.WellFormed.{is_content}
@@ -21,7 +21,7 @@ use Rattle.task.specs.Begins.{end_description, first_entries, first_files}
 -- The node is what `create` makes of that name in that directory, and that is not refused.
 pub record IsMadeIn (made : List Node) (directory : ℕ) (name : List ℕ) (m : Node) : Type 0 where
   pub kind : (node made directory).kind ≡ Dir
-  pub named : is_name name ≡ true
+  pub named : is_file_name name ≡ true
   pub content : is_content m.kind m.content ≡ true
   pub allowed : create_fault made directory name ≡ None
   pub makes : created made directory name m.kind m.content ≡ made ++ m ∷ []
@@ -58,19 +58,19 @@ is_gift g =
     nat_lt g.process most_processes && nat_lt g.given.number most_descriptors && is_opened g.given.object
     && is_within g.given.rights all_rights && is_within g.given.fcntls all_commands
 
-abbrev pub are_apart : Gift → Gift → Bool
-are_apart g h = not ((g.process == h.process) && (g.given.number == h.given.number))
+abbrev pub gifts_differ : Gift → Gift → Bool
+gifts_differ g h = not ((g.process == h.process) && (g.given.number == h.given.number))
 
 abbrev pub are_gifts : List Gift → Bool
-are_gifts gifts = list_all is_gift gifts && all_apart are_apart gifts
+are_gifts gifts = list_all is_gift gifts && all_apart gifts_differ gifts
 
 -- if it is of a node, then of one of so many
-abbrev pub is_among : ℕ → FirstObject → Bool
-is_among nodes (On_node node access) = nat_lt node nodes
-is_among nodes (On_end pair side) = true
+abbrev pub is_below : ℕ → FirstObject → Bool
+is_below nodes (On_node node access) = nat_lt node nodes
+is_below nodes (On_end pair side) = true
 
 abbrev pub are_among : ℕ → List Gift → Bool
-are_among nodes gifts = list_all (λ (g : Gift). is_among nodes g.given.object) gifts
+are_among nodes gifts = list_all (λ (g : Gift). is_below nodes g.given.object) gifts
 
 -- where the last of some is that is of a side of a pair
 abbrev pub entry_of : Gift → Entry
@@ -80,14 +80,14 @@ abbrev pub is_on : ℕ → ℕ → FirstObject → Bool
 is_on pair side (On_node node access) = false
 is_on pair side (On_end own its) = (own == pair) && (its == side)
 
-abbrev pub last_or : Option Entry → Bool → Gift → Option Entry
-last_or (Some e) here g = Some e
-last_or None true g = Some (entry_of g)
-last_or None false g = None
+abbrev pub later_or : Option Entry → Bool → Gift → Option Entry
+later_or (Some e) here g = Some e
+later_or None true g = Some (entry_of g)
+later_or None false g = None
 
-unfoldable pub last_of : ℕ → ℕ → List Gift → Option Entry
-last_of pair side [] = None
-last_of pair side (g ∷ gifts) = last_or (last_of pair side gifts) (is_on pair side g.given.object) g
+unfoldable pub last_gift : ℕ → ℕ → List Gift → Option Entry
+last_gift pair side [] = None
+last_gift pair side (g ∷ gifts) = later_or (last_gift pair side gifts) (is_on pair side g.given.object) g
 
 -- Before its turn an entry is free. But the last one of each side has that end from the start, with all rights: the others
 -- share its description before it is limited itself.
@@ -100,12 +100,12 @@ whole_or_none (Some e) pair side = None
 
 abbrev pub waiting : List Gift → FirstObject → Option Descriptor
 waiting later (On_node node access) = None
-waiting later (On_end pair side) = whole_or_none (last_of pair side later) pair side
+waiting later (On_end pair side) = whole_or_none (last_gift pair side later) pair side
 
 -- it is there, and of that side of that pair
-abbrev pub IsEnd : Option Gift → ℕ → ℕ → Type 0
-IsEnd None pair side = ⊥
-IsEnd (Some g) pair side = g.given.object ≡ On_end pair side
+abbrev pub IsGiftOfEnd : Option Gift → ℕ → ℕ → Type 0
+IsGiftOfEnd None pair side = ⊥
+IsGiftOfEnd (Some g) pair side = g.given.object ≡ On_end pair side
 
 -- a table in which these wait
 unfoldable pub awaiting : (ℕ → ℕ → Option Descriptor) → List Gift → ℕ → ℕ → Option Descriptor

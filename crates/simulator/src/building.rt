@@ -5,7 +5,7 @@ ghost use Rattle.rights.specs.Limits.{most_bytes};
 ghost use Rattle.file_tree.specs.Changes.{filled};
 ghost use Rattle.file_tree.specs.Refusals.{create_fault, created};
 ghost use Rattle.file_tree.specs.Nodes.{Dir, File, node};
-ghost use Rattle.file_tree.specs.Places.{is_name};
+ghost use Rattle.file_tree.specs.Places.{is_file_name};
 ghost use Rattle.file_tree.specs.Views.{is_new, names_of, new_content, new_kind};
 ghost use Rattle.file_tree.specs.WellFormed.{has_directory, is_directory_at};
 ghost use Rattle.task.specs.Limits.{is_tree};
@@ -67,7 +67,7 @@ fn create_in<T: Tree>(
 ) -> Result<NodeId, Memory>
     requires there { directory < length (T.nodes tree.old) }
     requires directory { (node (T.nodes tree.old) directory).kind ≡ Dir }
-    requires name { is_name name.now ≡ true }
+    requires name { is_file_name name.now ≡ true }
     requires target { is_new what ≡ true }
     requires allowed { create_fault (T.nodes tree.old) directory name.now ≡ None }
     ensures number { IfOk result (λ n. n ≡ length (T.nodes tree.old)) }

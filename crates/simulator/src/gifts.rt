@@ -4,7 +4,7 @@ ghost use Rattle.std.specs.Prelude.{◌≡◌, ◌++◌, ◌+◌, ◌≤◌, IfO
 ghost use Rattle.fd_table.specs.Views.{entry_seen, side_seen};
 ghost use Rattle.task.specs.Views.{first_descriptor_of, first_object_of, starts_of};
 ghost use Rattle.simulator.specs.GiftViews.{gift_of, gifts_of};
-ghost use Rattle.simulator.specs.Starts.{gifts_from, gifts_to, is_on, last_of};
+ghost use Rattle.simulator.specs.Starts.{gifts_from, gifts_to, is_on, last_gift};
 
 use fd_table::{Entry, Side};
 use rights::Memory;
@@ -73,9 +73,9 @@ fn is_on(object: FirstObject, pair: u8, side: Side) -> bool
 }
 
 /// Where the last of these is that is of that side of that initial pair.
-#[tactic(auto, unfolding(crate::specs::Starts::last_of))]
+#[tactic(auto, unfolding(crate::specs::Starts::last_gift))]
 pub(crate) fn last_of(gifts: &[Gift], pair: u8, side: Side) -> Option<Entry>
-    ensures { option_map entry_seen result ≡ last_of pair (side_seen side) (gifts_of gifts.now) }
+    ensures { option_map entry_seen result ≡ last_gift pair (side_seen side) (gifts_of gifts.now) }
 {
     match gifts {
         [] => None,

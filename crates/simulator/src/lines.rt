@@ -1,7 +1,7 @@
 //! Lines of a trace.
 
 ghost use Rattle.std.specs.Prelude.{◌≡◌};
-ghost use Rattle.syscalls.specs.Called as called;
+ghost use Rattle.syscalls.specs.CallViews as called;
 ghost use Rattle.simulator.specs.Views.{result_of};
 
 use rights::{Cause, Errno};

@@ -7,7 +7,7 @@ ghost use Rattle.syscalls.specs.Views.{event_of};
 ghost use Rattle.task.specs.Begins.{first_world};
 ghost use Rattle.task.specs.Limits.{is_plan};
 ghost use Rattle.task.specs.Plans.{programs_of_plan};
-ghost use Rattle.simulator.specs.Machines.{world_of};
+ghost use Rattle.simulator.specs.Machines.{machine_world};
 ghost use Rattle.simulator.specs.Steps.{StepsMachine};
 ghost use Rattle.simulator.specs.Views.{line_of};
 
@@ -49,9 +49,9 @@ impl<'a, T: Tree> Machine<'a, T> {
     pub fn start(alloc: Global, task: &'a Task) -> Result<Machine<'a, T>, Stop>
         ensures plan { IfOk result (λ machine. machine.plan ≡ task.now) }
         ensures valid { IfOk result (λ machine. is_plan machine.plan ≡ true) }
-        ensures world { IfOk result (λ machine. DiffersInNumbers (first_world task.now) (world_of machine)) }
+        ensures world { IfOk result (λ machine. DiffersInNumbers (first_world task.now) (machine_world machine)) }
         ensures runs_on { IfOk result (λ machine. machine.spent ≡ false) }
-        ensures well_formed { IfOk result (λ machine. IsWellFormed (programs_of_plan machine.plan) (world_of machine)) }
+        ensures well_formed { IfOk result (λ machine. IsWellFormed (programs_of_plan machine.plan) (machine_world machine)) }
         ensures memory { OnErr result (IsErrOf result Stop.Memory) }
     {
         let world = first_world(alloc, task)?;
@@ -66,8 +66,8 @@ impl<'a, T: Tree> Machine<'a, T> {
     /// One step, and its line. A refused growth is `Memory`, and from then on each step is `Spent`.
     pub fn step(&mut self, event: Event) -> Result<Line, Stop>
         ensures step { IfOk result (λ line.
-            StepsMachine (programs_of_plan self.old.plan) (world_of self.old) (event_of event) (line_of line) (world_of self.new)) }
-        ensures well_formed { OnOk result (IsWellFormed (programs_of_plan self.new.plan) (world_of self.new)) }
+            StepsMachine (programs_of_plan self.old.plan) (machine_world self.old) (event_of event) (line_of line) (machine_world self.new)) }
+        ensures well_formed { OnOk result (IsWellFormed (programs_of_plan self.new.plan) (machine_world self.new)) }
         ensures plan { self.new.plan ≡ self.old.plan }
         ensures spent { IsErrOf result Stop.Spent ↔ (self.old.spent ≡ true) }
         ensures runs_on { OnOk result (self.new.spent ≡ false) }

@@ -13,7 +13,7 @@ ghost use Rattle.task.specs.Limits.{is_plan};
 ghost use Rattle.task.specs.Plans.{programs_of_plan};
 ghost use Rattle.task.specs.Views.{starts_of};
 ghost use Rattle.simulator.specs.GiftViews.{gifts_of};
-ghost use Rattle.simulator.specs.Starts.{AreNumbers, Awaits, HasPairs, IsEnd, are_among, are_gifts, gifts_from};
+ghost use Rattle.simulator.specs.Starts.{AreNumbers, Awaits, HasPairs, IsGiftOfEnd, are_among, are_gifts, gifts_from};
 
 use crate::building::build_tree;
 use crate::gifts::{Gift, last_of, list_gifts};
@@ -59,7 +59,7 @@ fn open_initials(files: &mut Files, gifts: &[Gift]) -> Result<(), Memory>
 fn open_end(files: &mut Files, gifts: &[Gift], at: usize, pair: u8, side: Side)
     requires there { at < length gifts.now }
     requires gifts { are_gifts (gifts_of gifts.now) ≡ true }
-    requires end { IsEnd (slice_get (gifts_of gifts.now) at) pair (side_seen side) }
+    requires end { IsGiftOfEnd (slice_get (gifts_of gifts.now) at) pair (side_seen side) }
     requires begun { Awaits (gifts_of gifts.now) (drop at (gifts_of gifts.now)) (open_files files.old) }
     ensures { Awaits (gifts_of gifts.now) (drop (at + 1) (gifts_of gifts.now)) (open_files files.new) }
 {

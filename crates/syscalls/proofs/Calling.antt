@@ -15,7 +15,8 @@ use Rattle.rights.specs.declared.errors.Cause.{Cause as CauseCode}
 use Rattle.syscalls.specs.declared.outcomes.Success.{Success}
 use Rattle.syscalls.specs.declared.outcomes.Refusal.{Refusal}
 use Rattle.syscalls.specs.declared.outcomes.Refusal.TheVariants as refusal
-use Rattle.prog_asm.specs.Programs.{Syscall, Open, Openat, Read, Write, Sendfd, Recvfd, Lseek, Ftruncate, Fsync, Fstat, Fcntl_getfl, Fcntl_setfl, Fstatat, Stat, Mkdirat, Mkdir, Unlinkat, Unlink, Renameat, Dup, Close, Cap_rights_limit, Cap_fcntls_limit, Cap_enter, Cap_getmode, Socketpair, Fork}
+use Rattle.prog_asm.specs.Programs.{Syscall, Open, Openat, Read, Write, Sendfd, Recvfd, Lseek, Ftruncate, Fsync, Fstat, Fcntl_getfl, Fcntl_setfl, Fstatat, Stat, Mkdirat, Mkdir}
+use Rattle.prog_asm.specs.Programs.{Unlinkat, Unlink, Renameat, Dup, Close, Cap_rights_limit, Cap_fcntls_limit, Cap_enter, Cap_getmode, Socketpair, Fork}
 use Rattle.kernel.specs.World.{World, Choice, IsFresh}
 use Rattle.kernel.specs.Answers.{Event, TreeChange, TableChange, Same_table, Set_entry, Clear_entry, New_file, New_pair, New_process, QueueChange, StateChange, Change, Fails, Waits}
 use Rattle.kernel.specs.Calls.{answer}
@@ -29,10 +30,10 @@ use Rattle.kernel.proofs.Fresh.{fresh_some}
 use Rattle.kernel.proofs.Keeping.{fresh_numbers}
 use Rattle.syscalls.specs.Shows.{Shown, shown}
 use Rattle.syscalls.specs.Views.{world_with}
-use Rattle.syscalls.specs.Meets.{Suits, IsOrdinary, IsPlain, Succeeds, RefusesAlone, Meets, IsIdle, IsReady, IsReadyDescription, IsReadyObject}
+use Rattle.syscalls.specs.AnswerViews.{Suits, IsOrdinary, IsPlain, Succeeds, RefusesAlone, Meets, IsIdle, IsReady, IsReadyDescription, IsReadyObject}
 use Rattle.syscalls.specs.MayCall.{MayCall, is_entering, is_making, is_pairing}
 use Rattle.syscalls.specs.NodeCalls.{is_on_nodes}
-use Rattle.syscalls.specs.Called.{Comes, FailsAs, succeeded_as}
+use Rattle.syscalls.specs.CallViews.{Comes, FailsAs, succeeded_as}
 use Rattle.syscalls.proofs.Keeping.{alike_refl}
 
 -- A fresh choice with which the change leaves the same.
@@ -41,7 +42,10 @@ record Chosen (f : OpenFiles) (p n : ℕ) (change : Change) (g : OpenFiles) : Ty
   fresh : IsFresh f choice
   alike : Alike (files_after f p n choice change) g
 
-chosen : (f : OpenFiles) (p n : ℕ) (tree : TreeChange) (table : TableChange) (queue : QueueChange) (state : StateChange) (enters : Bool) (choice : Choice) (g : OpenFiles) → MayChoose f → (some : Choice) → IsFresh f some → Suits f choice table → IsOrdinary table → Alike (files_after f p n choice (record { tree = tree; table = table; queue = queue; state = state; enters = enters })) g → Chosen f p n (record { tree = tree; table = table; queue = queue; state = state; enters = enters }) g
+chosen : (f : OpenFiles) (p n : ℕ) (tree : TreeChange) (table : TableChange) (queue : QueueChange) (state : StateChange) (enters : Bool)
+    (choice : Choice) (g : OpenFiles) → MayChoose f → (some : Choice) → IsFresh f some → Suits f choice table → IsOrdinary table →
+    Alike (files_after f p n choice (record { tree = tree; table = table; queue = queue; state = state; enters = enters })) g →
+    Chosen f p n (record { tree = tree; table = table; queue = queue; state = state; enters = enters }) g
 unfolding files_after
 chosen f p n tree Same_table queue state enters choice g may some fresh suits ordinary alike = record { choice = some; fresh = fresh; alike = alike }
 chosen f p n tree (Set_entry number d) queue state enters choice g may some fresh suits ordinary alike = record { choice = some; fresh = fresh; alike = alike }
@@ -51,7 +55,9 @@ chosen f p n tree (New_file number node access append rights fcntls) queue state
     record {
       choice = with.0;
       fresh = with.2;
-      alike = subst (λ first. Alike (files_after f p n (record { first = first; second = 0; pair = 0 }) (record { tree = tree; table = New_file number node access append rights fcntls; queue = queue; state = state; enters = enters })) g) (sym with.1) alike;
+      alike = subst (λ first. Alike (files_after f p n (record { first = first; second = 0; pair = 0 })
+          (record { tree = tree; table = New_file number node access append rights fcntls; queue = queue; state = state; enters = enters })) g)
+          (sym with.1) alike;
     }
 chosen f p n tree (New_pair first second class) queue state enters choice g may some fresh suits ordinary alike = absurd ordinary
 chosen f p n tree New_process queue state enters choice g may some fresh suits ordinary alike = absurd ordinary
@@ -78,14 +84,16 @@ given_plain s value change (enters, ordinary) =
     ap (λ registers. record s { registers = registers; point = s.point + 1; mode = s.mode || change.enters }) (plain_registers change.table (slice_set s.registers 0 value) ordinary)
     ∙ ap (λ b. record s { registers = slice_set s.registers 0 value; point = s.point + 1; mode = s.mode || b }) enters
 
-processes_plain : (processes : List ProcessState) (p : ℕ) (s : ProcessState) (value : ℕ) (change : Change) → IsPlain change → processes_after processes p (given s value change) change.table ≡ slice_set processes p (succeeded_as s value false)
+processes_plain : (processes : List ProcessState) (p : ℕ) (s : ProcessState) (value : ℕ) (change : Change) → IsPlain change →
+    processes_after processes p (given s value change) change.table ≡ slice_set processes p (succeeded_as s value false)
 processes_plain processes p s value change plain =
     ap (λ more. slice_set processes p (given s value change) ++ more) (no_children change.table (given s value change) plain.1)
     ∙ append-nil (slice_set processes p (given s value change))
     ∙ ap (slice_set processes p) (given_plain s value change plain)
 
 -- ## The three ways of a call
-module _ (programs : Programs) (t : List Node) (f : OpenFiles) (processes : List ProcessState) (good : IsWellFormed programs (world_with t f processes)) (p : ℕ) (s : ProcessState) (e : Event) (call : Syscall) (otherwise : ℕ) where
+module _ (programs : Programs) (t : List Node) (f : OpenFiles) (processes : List ProcessState)
+    (good : IsWellFormed programs (world_with t f processes)) (p : ℕ) (s : ProcessState) (e : Event) (call : Syscall) (otherwise : ℕ) where
   abbrev pub w : World
   w = world_with t f processes
 
@@ -96,10 +104,12 @@ module _ (programs : Programs) (t : List Node) (f : OpenFiles) (processes : List
   some = fresh_some programs good.numbering w good.world
 
   -- it succeeds
-  pub succeeds : (after : List Node) (left : OpenFiles) (value : ℕ) (shows : List Shown) → Succeeds w p after left value shows (answer w p s e call) → Comes w p s e call otherwise (Value value) shows (world_with after left (slice_set processes p (succeeded_as s value false)))
+  pub succeeds : (after : List Node) (left : OpenFiles) (value : ℕ) (shows : List Shown) → Succeeds w p after left value shows (answer w p s e call) →
+      Comes w p s e call otherwise (Value value) shows (world_with after left (slice_set processes p (succeeded_as s value false)))
   unfolding answered changed
   succeeds after left value shows y =
-      let c = chosen f p (length processes) y.change.tree y.change.table y.change.queue y.change.state y.change.enters y.choice left (fresh_numbers programs w good) some.0 some.1 y.suits y.plain.1 y.files in
+      let c = chosen f p (length processes) y.change.tree y.change.table y.change.queue y.change.state y.change.enters y.choice left
+      (fresh_numbers programs w good) some.0 some.1 y.suits y.plain.1 y.files in
       let v = world_with after left (slice_set processes p (succeeded_as s value false)) in
       record {
         choice = c.choice;
@@ -111,7 +121,8 @@ module _ (programs : Programs) (t : List Node) (f : OpenFiles) (processes : List
       }
 
   -- it fails
-  pub fails : (errno : Errno) (cause : Cause) → answer w p s e call ≡ Fails errno cause → Comes w p s e call otherwise (Failed errno cause) [] (world_with t f (slice_set processes p (failed s errno otherwise)))
+  pub fails : (errno : Errno) (cause : Cause) → answer w p s e call ≡ Fails errno cause →
+      Comes w p s e call otherwise (Failed errno cause) [] (world_with t f (slice_set processes p (failed s errno otherwise)))
   unfolding answered
   fails errno cause is =
       let v = world_with t f (slice_set processes p (failed s errno otherwise)) in
@@ -135,7 +146,9 @@ module _ (programs : Programs) (t : List Node) (f : OpenFiles) (processes : List
   }
 
 -- cap_enter always succeeds
-pub enters : (programs : Programs) (t : List Node) (f : OpenFiles) (processes : List ProcessState) → IsWellFormed programs (world_with t f processes) → (p : ℕ) (s : ProcessState) (e : Event) (otherwise : ℕ) → Comes (world_with t f processes) p s e Cap_enter otherwise (Value 0) [] (world_with t f (slice_set processes p (succeeded_as s 0 true)))
+pub enters : (programs : Programs) (t : List Node) (f : OpenFiles) (processes : List ProcessState) →
+    IsWellFormed programs (world_with t f processes) → (p : ℕ) (s : ProcessState) (e : Event) (otherwise : ℕ) →
+    Comes (world_with t f processes) p s e Cap_enter otherwise (Value 0) [] (world_with t f (slice_set processes p (succeeded_as s 0 true)))
 unfolding answer answered changed files_after
 enters programs t f processes good p s e otherwise =
     let w = world_with t f processes in
@@ -153,7 +166,8 @@ ready_object : (t : List Node) (numbering : Numbering) (d : ℕ) (o : Object) �
 ready_object t numbering d (At_node n access) is = (there_if_opened t n is, is)
 ready_object t numbering d (At_end pair side class) is = tt
 
-ready_entry : (t : List Node) (numbering : Numbering) (f : OpenFiles) (o : Option Descriptor) → IfHeld (IsDescriptor t numbering f.objects f.states) o → (d : Descriptor) → o ≡ Some d → IsReadyDescription t f d.description
+ready_entry : (t : List Node) (numbering : Numbering) (f : OpenFiles) (o : Option Descriptor) →
+    IfHeld (IsDescriptor t numbering f.objects f.states) o → (d : Descriptor) → o ≡ Some d → IsReadyDescription t f d.description
 ready_entry t numbering f None is d there = absurd cc
 ready_entry t numbering f (Some c) is d there =
     let good = subst (IfHeld (IsDescriptor t numbering f.objects f.states)) there is in
@@ -187,12 +201,18 @@ pub has_next : (t : List Node) (f : OpenFiles) (processes : List ProcessState) (
 has_next t f processes p x may read = subst (λ (y : ProcessState). y.point + 1 < 256) (sym (stands processes p may.process x may.made read)) may.next
 
 -- what failed there
-pub failed_at : (processes : List ProcessState) (p : ℕ) (s x : ProcessState) (otherwise : ℕ) (errno : Errno) (cause : Cause) (told : LineResult) (shows : List Shown) (next : ProcessState) → slice_get processes p ≡ Some s → x ≡ get_or processes p x → FailsAs x otherwise errno cause told shows next → FailsAs s otherwise errno cause told shows next
+pub failed_at : (processes : List ProcessState) (p : ℕ) (s x : ProcessState) (otherwise : ℕ) (errno : Errno) (cause : Cause) (told : LineResult)
+    (shows : List Shown) (next : ProcessState) → slice_get processes p ≡ Some s → x ≡ get_or processes p x →
+    FailsAs x otherwise errno cause told shows next → FailsAs s otherwise errno cause told shows next
 failed_at processes p s x otherwise errno cause told shows next made read is = subst (λ y. FailsAs y otherwise errno cause told shows next) (stands processes p s x made read) is
 
 -- what was answered there
-pub meets_at : (t : List Node) (f : OpenFiles) (processes : List ProcessState) (p : ℕ) (s x : ProcessState) (e : Event) (call : Syscall) (after : List Node) (left : OpenFiles) (r : Result Success Refusal) → slice_get processes p ≡ Some s → x ≡ get_or processes p x → Meets (world_with t f processes) p after left r (answer (world_with t f processes) p x e call) → Meets (world_with t f processes) p after left r (answer (world_with t f processes) p s e call)
-meets_at t f processes p s x e call after left r made read is = subst (λ y. Meets (world_with t f processes) p after left r (answer (world_with t f processes) p y e call)) (stands processes p s x made read) is
+pub meets_at : (t : List Node) (f : OpenFiles) (processes : List ProcessState) (p : ℕ) (s x : ProcessState) (e : Event) (call : Syscall)
+    (after : List Node) (left : OpenFiles) (r : Result Success Refusal) → slice_get processes p ≡ Some s → x ≡ get_or processes p x →
+    Meets (world_with t f processes) p after left r (answer (world_with t f processes) p x e call) →
+    Meets (world_with t f processes) p after left r (answer (world_with t f processes) p s e call)
+meets_at t f processes p s x e call after left r made read is = subst
+    (λ y. Meets (world_with t f processes) p after left r (answer (world_with t f processes) p y e call)) (stands processes p s x made read) is
 
 -- ## The same of what the code left
 only_entering : (call : Syscall) → is_entering call ≡ true → call ≡ Cap_enter
@@ -259,7 +279,11 @@ same_world : {t u : List Node} {f h : OpenFiles} {processes others : List Proces
 same_world tree files processes i = world_with (tree i) (files i) (processes i)
 
 -- a failure, where it is told as it has to be
-pub falls : (programs : Programs) (t : List Node) (f : OpenFiles) (processes : List ProcessState) → IsWellFormed programs (world_with t f processes) → (p : ℕ) (s : ProcessState) (e : Event) (call : Syscall) (otherwise : ℕ) (errno : Errno) (cause : Cause) → answer (world_with t f processes) p s e call ≡ Fails errno cause → (told : LineResult) (shows : List Shown) (next : ProcessState) → FailsAs s otherwise errno cause told shows next → Comes (world_with t f processes) p s e call otherwise told shows (world_with t f (slice_set processes p next))
+pub falls : (programs : Programs) (t : List Node) (f : OpenFiles) (processes : List ProcessState) → IsWellFormed programs (world_with t f processes) →
+    (p : ℕ) (s : ProcessState) (e : Event) (call : Syscall) (otherwise : ℕ) (errno : Errno) (cause : Cause) →
+    answer (world_with t f processes) p s e call ≡ Fails errno cause → (told : LineResult) (shows : List Shown) (next : ProcessState) →
+    FailsAs s otherwise errno cause told shows next →
+    Comes (world_with t f processes) p s e call otherwise told shows (world_with t f (slice_set processes p next))
 falls programs t f processes good p s e call otherwise errno cause is told shows next y =
     let w = world_with t f processes in
     subst (λ x. Comes w p s e call otherwise x shows (world_with t f (slice_set processes p next))) (sym y.told)
@@ -268,27 +292,43 @@ falls programs t f processes good p s e call otherwise errno cause is told shows
     (fails programs t f processes good p s e call otherwise errno cause is)))
 
 -- and where nothing was done before
-pub falls_as : (programs : Programs) (t : List Node) (f : OpenFiles) (processes : List ProcessState) → IsWellFormed programs (world_with t f processes) → (p : ℕ) (s : ProcessState) (e : Event) (call : Syscall) (otherwise : ℕ) (after : List Node) (left : OpenFiles) (refused : Refusal) (errno : ErrnoCode) (cause : CauseCode) → refused ≡ refusal.Fails errno cause → RefusesAlone refused (world_with t f processes) after left (answer (world_with t f processes) p s e call) → (told : LineResult) (shows : List Shown) (next : ProcessState) → FailsAs s otherwise (errno_of errno) (cause_of cause) told shows next → Comes (world_with t f processes) p s e call otherwise told shows (world_with after left (slice_set processes p next))
+pub falls_as : (programs : Programs) (t : List Node) (f : OpenFiles) (processes : List ProcessState) →
+    IsWellFormed programs (world_with t f processes) →
+    (p : ℕ) (s : ProcessState) (e : Event) (call : Syscall) (otherwise : ℕ) (after : List Node) (left : OpenFiles) (refused : Refusal)
+    (errno : ErrnoCode) (cause : CauseCode) → refused ≡ refusal.Fails errno cause →
+    RefusesAlone refused (world_with t f processes) after left (answer (world_with t f processes) p s e call) →
+    (told : LineResult) (shows : List Shown) (next : ProcessState) → FailsAs s otherwise (errno_of errno) (cause_of cause) told shows next →
+    Comes (world_with t f processes) p s e call otherwise told shows (world_with after left (slice_set processes p next))
 falls_as programs t f processes good p s e call otherwise after left refused errno cause same alone told shows next y =
     let w = world_with t f processes in
     let (answers, nothing) = subst (λ r. RefusesAlone r w after left (answer w p s e call)) same alone in
     subst (λ (v : World). Comes w p s e call otherwise told shows v) (same_world (sym nothing.tree) (sym nothing.files) refl)
     (falls programs t f processes good p s e call otherwise (errno_of errno) (cause_of cause) answers told shows next y)
 
-module _ (programs : Programs) (t : List Node) (f : OpenFiles) (processes : List ProcessState) (good : IsWellFormed programs (world_with t f processes)) (p : ℕ) (s : ProcessState) (e : Event) (call : Syscall) (otherwise : ℕ) (after : List Node) (left : OpenFiles) (next : ProcessState) (shows : List Shown) where
-  pub succeeds_as : (value : ℕ) → Succeeds (world_with t f processes) p after left value shows (answer (world_with t f processes) p s e call) → next ≡ succeeded_as s value false → Comes (world_with t f processes) p s e call otherwise (Value value) shows (world_with after left (slice_set processes p next))
+module _ (programs : Programs) (t : List Node) (f : OpenFiles) (processes : List ProcessState)
+    (good : IsWellFormed programs (world_with t f processes)) (p : ℕ) (s : ProcessState) (e : Event) (call : Syscall) (otherwise : ℕ)
+    (after : List Node) (left : OpenFiles) (next : ProcessState) (shows : List Shown) where
+  pub succeeds_as : (value : ℕ) → Succeeds (world_with t f processes) p after left value shows (answer (world_with t f processes) p s e call) →
+      next ≡ succeeded_as s value false → Comes (world_with t f processes) p s e call otherwise (Value value) shows
+      (world_with after left (slice_set processes p next))
   succeeds_as value y is =
       subst (λ (v : World). Comes (world_with t f processes) p s e call otherwise (Value value) shows v) (same_world refl refl (ap (slice_set processes p) (sym is)))
       (succeeds programs t f processes good p s e call otherwise after left value shows y)
 
-  pub waits_as : (refused : Refusal) → refused ≡ refusal.Waits → RefusesAlone refused (world_with t f processes) after left (answer (world_with t f processes) p s e call) → shows ≡ [] → Comes (world_with t f processes) p s e call otherwise Waiting shows (world_with after left processes)
+  pub waits_as : (refused : Refusal) → refused ≡ refusal.Waits →
+      RefusesAlone refused (world_with t f processes) after left (answer (world_with t f processes) p s e call) → shows ≡ [] →
+      Comes (world_with t f processes) p s e call otherwise Waiting shows (world_with after left processes)
   waits_as refused same alone none =
       let w = world_with t f processes in
       let (answers, nothing) = subst (λ r. RefusesAlone r w after left (answer w p s e call)) same alone in
       subst (λ (v : World). Comes w p s e call otherwise Waiting shows v) (same_world (sym nothing.tree) (sym nothing.files) refl)
       (subst (λ x. Comes w p s e call otherwise Waiting x w) (sym none) (waits programs t f processes good p s e call otherwise answers))
 
-pub enters_as : (programs : Programs) (t : List Node) (f : OpenFiles) (processes : List ProcessState) → IsWellFormed programs (world_with t f processes) → (p : ℕ) (s : ProcessState) (e : Event) (call : Syscall) (otherwise : ℕ) (next : ProcessState) (shows : List Shown) → is_entering call ≡ true → next ≡ succeeded_as s 0 true → shows ≡ [] → (told : LineResult) → told ≡ Value 0 → Comes (world_with t f processes) p s e call otherwise told shows (world_with t f (slice_set processes p next))
+pub enters_as : (programs : Programs) (t : List Node) (f : OpenFiles) (processes : List ProcessState) →
+    IsWellFormed programs (world_with t f processes) →
+    (p : ℕ) (s : ProcessState) (e : Event) (call : Syscall) (otherwise : ℕ) (next : ProcessState) (shows : List Shown) → is_entering call ≡ true →
+    next ≡ succeeded_as s 0 true → shows ≡ [] → (told : LineResult) → told ≡ Value 0 →
+    Comes (world_with t f processes) p s e call otherwise told shows (world_with t f (slice_set processes p next))
 enters_as programs t f processes good p s e call otherwise next shows entering is none told value =
     let w = world_with t f processes in
     let after = world_with t f (slice_set processes p (succeeded_as s 0 true)) in

@@ -7,7 +7,7 @@ use Rattle.kernel.specs.World.{World}
 use Rattle.kernel.specs.Answers.{Answer}
 use Rattle.syscalls.specs.declared.outcomes.Refusal.{Refusal}
 use Rattle.syscalls.specs.declared.outcomes.Refusal.TheVariants as refusal
-use Rattle.syscalls.specs.Meets.{Refuses, RefusesAlone, Passes, DoesNothing}
+use Rattle.syscalls.specs.AnswerViews.{Refuses, RefusesAlone, Passes, DoesNothing}
 
 -- a refusal with nothing done
 pub refused_alone : (refused : Refusal) (w : World) (t : List Node) (f : OpenFiles) (a : Answer) → Refuses refused a → DoesNothing w t f → RefusesAlone refused w t f a

@@ -19,11 +19,12 @@ use Rattle.kernel.specs.Alike.{AlikeWorlds}
 use Rattle.kernel.proofs.Fresh.{fresh_some}
 use Rattle.syscalls.specs.Shows.{Shown, shown}
 use Rattle.syscalls.specs.Views.{world_with}
-use Rattle.syscalls.specs.Called.{Comes, FailsAs, succeeded_as}
+use Rattle.syscalls.specs.CallViews.{Comes, FailsAs, succeeded_as}
 use Rattle.syscalls.proofs.Tests.{passes, fails, below, not_below}
 use Rattle.syscalls.proofs.Calling as calling
 
-module _ (programs : Programs) (t : List Node) (f : OpenFiles) (processes : List ProcessState) (good : IsWellFormed programs (world_with t f processes)) (p : ℕ) (s : ProcessState) (e : Event) (otherwise : ℕ) where
+module _ (programs : Programs) (t : List Node) (f : OpenFiles) (processes : List ProcessState)
+    (good : IsWellFormed programs (world_with t f processes)) (p : ℕ) (s : ProcessState) (e : Event) (otherwise : ℕ) where
   abbrev pub w : World
   w = world_with t f processes
 
@@ -31,18 +32,22 @@ module _ (programs : Programs) (t : List Node) (f : OpenFiles) (processes : List
   made = length processes
 
   -- too many were made
-  pub full : (n : ℕ) → n ≡ length processes → 16 ≤ n → (told : LineResult) (shows : List Shown) (next : ProcessState) → FailsAs s otherwise EAGAIN Full told shows next → Comes w p s e Fork otherwise told shows (world_with t f (slice_set processes p next))
+  pub full : (n : ℕ) → n ≡ length processes → 16 ≤ n → (told : LineResult) (shows : List Shown) (next : ProcessState) →
+      FailsAs s otherwise EAGAIN Full told shows next → Comes w p s e Fork otherwise told shows (world_with t f (slice_set processes p next))
   unfolding answer
   full n counts many = calling.falls programs t f processes good p s e Fork otherwise EAGAIN Full (fails _ _ _ _ (not_below made 16 (subst (λ m. 16 ≤ m) counts many)))
 
   -- the kernel refuses
-  pub refused : (n : ℕ) → n ≡ length processes → n < 16 → e.refuse ≡ true → (told : LineResult) (shows : List Shown) (next : ProcessState) → FailsAs s otherwise EAGAIN Refused told shows next → Comes w p s e Fork otherwise told shows (world_with t f (slice_set processes p next))
+  pub refused : (n : ℕ) → n ≡ length processes → n < 16 → e.refuse ≡ true → (told : LineResult) (shows : List Shown) (next : ProcessState) →
+      FailsAs s otherwise EAGAIN Refused told shows next → Comes w p s e Fork otherwise told shows (world_with t f (slice_set processes p next))
   unfolding answer
   refused n counts few is = calling.falls programs t f processes good p s e Fork otherwise EAGAIN Refused
       (passes _ _ _ _ (below made 16 (subst (λ m. m < 16) counts few)) ∙ fails _ _ _ _ (ap not is))
 
   -- a child is made
-  pub forks : (left : OpenFiles) → made < 16 → e.refuse ≡ false → Alike (with_row f made (f.table p)) left → Comes w p s e Fork otherwise (Value made) [] (world_with t left (push (slice_set processes p (succeeded_as s made false)) (forked (succeeded_as s made false))))
+  pub forks : (left : OpenFiles) → made < 16 → e.refuse ≡ false → Alike (with_row f made (f.table p)) left →
+      Comes w p s e Fork otherwise (Value made) []
+      (world_with t left (push (slice_set processes p (succeeded_as s made false)) (forked (succeeded_as s made false))))
   unfolding answer answered changed files_after
   forks left few is alike =
       let some = fresh_some programs good.numbering w good.world in
@@ -58,7 +63,9 @@ module _ (programs : Programs) (t : List Node) (f : OpenFiles) (processes : List
 
   -- the same of what the code left, where it counts so many processes
   module _ (n : ℕ) (counts : n ≡ length processes) (shows : List Shown) (empty : shows ≡ []) where
-    pub forks_as : (left : OpenFiles) → n < 16 → e.refuse ≡ false → Alike (with_row f n (f.table p)) left → (parent child : ProcessState) → parent ≡ succeeded_as s n false → child ≡ forked parent → (after : List ProcessState) → after ≡ push (slice_set processes p parent) child → Comes w p s e Fork otherwise (Value n) shows (world_with t left after)
+    pub forks_as : (left : OpenFiles) → n < 16 → e.refuse ≡ false → Alike (with_row f n (f.table p)) left → (parent child : ProcessState) →
+        parent ≡ succeeded_as s n false → child ≡ forked parent → (after : List ProcessState) → after ≡ push (slice_set processes p parent) child →
+        Comes w p s e Fork otherwise (Value n) shows (world_with t left after)
     forks_as left few refuses alike parent child goes copies after holds =
         let told : ℕ → List Shown → List ProcessState → Type 0 = λ m x v. Comes w p s e Fork otherwise (Value m) x (world_with t left v) in
         let reached : push (slice_set processes p (succeeded_as s n false)) (forked (succeeded_as s n false)) ≡ after =

@@ -3,7 +3,7 @@ use Rattle.std.proofs.Common.{◌≡◌, ◌≢◌, ◌⊎◌, inl, inr, ℕ, Bo
 use Rattle.std.specs.Prelude.{◌||◌, ◌&&◌, not, Option, Some, None}
 use Rattle.file_tree.specs.Nodes.{Node, node, has_below, child_of}
 use Rattle.file_tree.specs.Places.{at_name, begins, same_place}
-use Rattle.file_tree.specs.Refusals.{Fault, Exists, NotEmpty, Full, IntoItself, Gone, is_root, remove_fault, rename_fault}
+use Rattle.file_tree.specs.Refusals.{ChangeFault, Exists, NotEmpty, Full, IntoItself, Gone, is_root, remove_fault, rename_fault}
 use Rattle.file_tree.specs.WellFormed.{IsTree}
 use Rattle.file_tree.specs.declared.faults.TreeFault.{TreeFault}
 use Rattle.file_tree.specs.declared.faults.TreeFault.TheVariants as fault
@@ -12,7 +12,7 @@ use Rattle.file_tree.proofs.BelowLaws.{free_empty}
 use Rattle.syscalls.proofs.Renaming.{free_place}
 
 -- nothing is refused
-pub untold : (o : Option Fault) (e : TreeFault) → o ≡ None → TellsTreeFault o e → e ≡ fault.Memory
+pub untold : (o : Option ChangeFault) (e : TreeFault) → o ≡ None → TellsTreeFault o e → e ≡ fault.Memory
 untold o fault.Exists none tells =
     let no : None ≡ Some Exists = sym none ∙ tells (λ same. absurd cc) in
     absurd cc
@@ -73,7 +73,7 @@ only_into true fault.Gone other tells =
 only_into true fault.Memory other tells = refl
 
 -- the tests of a renaming
-abbrev renames : Bool → Bool → Bool → Bool → Option Fault
+abbrev renames : Bool → Bool → Bool → Bool → Option ChangeFault
 renames gone own into full = cond gone (Some Gone) (cond own None (cond into (Some IntoItself) (cond full (Some NotEmpty) None)))
 
 both : (a b : Bool) → a ≡ true → b ≡ true → not (a && b) ≡ false
@@ -93,14 +93,17 @@ to_other false false full e apart other tells = only_full full e other tells
 to_other false true full e apart other tells = absurd cc
 
 -- into a free name, and over another node
-pub into_free : (t : List Node) (n d : ℕ) (name : List ℕ) (e : TreeFault) → IsTree t → (node t n).linked ≡ true → (node t d).linked ≡ true → child_of t d name ≡ None → e ≢ fault.IntoItself → TellsTreeFault (rename_fault t n d name) e → e ≡ fault.Memory
+pub into_free : (t : List Node) (n d : ℕ) (name : List ℕ) (e : TreeFault) → IsTree t → (node t n).linked ≡ true → (node t d).linked ≡ true →
+    child_of t d name ≡ None → e ≢ fault.IntoItself → TellsTreeFault (rename_fault t n d name) e → e ≡ fault.Memory
 unfolding rename_fault
 into_free t n d name e tree linked held free other tells =
     let to = at_name (node t d).place name in
     to_empty (same_place to (node t n).place) (begins (node t n).place to) (has_below t to) e (free_empty t tree to (free_place t d name held free)) other
     (subst (λ b. TellsTreeFault (renames b (same_place to (node t n).place) (begins (node t n).place to) (has_below t to)) e) (both (node t n).linked (node t d).linked linked held) tells)
 
-pub over_node : (t : List Node) (n d : ℕ) (name : List ℕ) (e : TreeFault) → (node t n).linked ≡ true → (node t d).linked ≡ true → begins (node t n).place (at_name (node t d).place name) ≡ false → e ≢ fault.NotEmpty → TellsTreeFault (rename_fault t n d name) e → e ≡ fault.Memory
+pub over_node : (t : List Node) (n d : ℕ) (name : List ℕ) (e : TreeFault) → (node t n).linked ≡ true → (node t d).linked ≡ true →
+    begins (node t n).place (at_name (node t d).place name) ≡ false → e ≢ fault.NotEmpty → TellsTreeFault (rename_fault t n d name) e →
+    e ≡ fault.Memory
 unfolding rename_fault
 over_node t n d name e linked held apart other tells =
     let to = at_name (node t d).place name in

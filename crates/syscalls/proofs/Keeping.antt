@@ -13,7 +13,7 @@ use Rattle.kernel.specs.World.{World, Choice}
 use Rattle.kernel.specs.Answers.{Effect, TreeChange, TableChange, QueueChange, New_file, Make, Set_state, Answer, Gives, same, Set_entry}
 use Rattle.kernel.specs.Changes.{tree_after, files_after}
 use Rattle.syscalls.specs.Shows.{Shown, shown}
-use Rattle.syscalls.specs.Meets.{Succeeds, Suits, IsOrdinary, IsIdle}
+use Rattle.syscalls.specs.AnswerViews.{Succeeds, Suits, IsOrdinary, IsIdle}
 
 same_description : (f : OpenFiles) (o : Option Descriptor) → SameDescription f f o
 same_description f None = tt
@@ -37,7 +37,9 @@ pub any_choice : Choice
 any_choice = record { first = 0; second = 0; pair = 0 }
 
 -- a change of the tree alone
-pub tree_succeeds : (w : World) (p : ℕ) (t : List Node) (value : ℕ) (shows : List Shown) (a : Answer) (change : TreeChange) (effects : List Effect) → IsIdle w.files → a ≡ Gives value (record same { tree = change }) effects → map shown effects ≡ shows → t ≡ tree_after w.tree change → Succeeds w p t w.files value shows a
+pub tree_succeeds : (w : World) (p : ℕ) (t : List Node) (value : ℕ) (shows : List Shown) (a : Answer) (change : TreeChange) (effects : List Effect) →
+    IsIdle w.files → a ≡ Gives value (record same { tree = change }) effects → map shown effects ≡ shows → t ≡ tree_after w.tree change →
+    Succeeds w p t w.files value shows a
 unfolding files_after
 tree_succeeds w p t value shows a change effects idle is prints tree = record {
   change = record same { tree = change };
@@ -63,7 +65,9 @@ free_creates t d name linked absent room =
     rw linked (rw (sym (child_by_place t d name linked) ∙ absent) (rw (below (length t) 1024 room) refl))
 
 -- a change of a description's state alone
-pub state_succeeds : (w : World) (p : ℕ) (f : OpenFiles) (value : ℕ) (shows : List Shown) (a : Answer) (n : ℕ) (state : State) (effects : List Effect) → a ≡ Gives value (record same { state = Set_state n state }) effects → map shown effects ≡ shows → Alike (with_state w.files n state) f → Succeeds w p w.tree f value shows a
+pub state_succeeds : (w : World) (p : ℕ) (f : OpenFiles) (value : ℕ) (shows : List Shown) (a : Answer) (n : ℕ) (state : State)
+    (effects : List Effect) → a ≡ Gives value (record same { state = Set_state n state }) effects → map shown effects ≡ shows →
+    Alike (with_state w.files n state) f → Succeeds w p w.tree f value shows a
 unfolding files_after
 state_succeeds w p f value shows a n state effects is prints files = record {
   change = record same { state = Set_state n state };
@@ -78,7 +82,8 @@ state_succeeds w p f value shows a n state effects is prints files = record {
 }
 
 -- no change
-pub same_succeeds : (w : World) (p : ℕ) (value : ℕ) (shows : List Shown) (a : Answer) (effects : List Effect) → IsIdle w.files → a ≡ Gives value same effects → map shown effects ≡ shows → Succeeds w p w.tree w.files value shows a
+pub same_succeeds : (w : World) (p : ℕ) (value : ℕ) (shows : List Shown) (a : Answer) (effects : List Effect) → IsIdle w.files →
+    a ≡ Gives value same effects → map shown effects ≡ shows → Succeeds w p w.tree w.files value shows a
 unfolding files_after
 same_succeeds w p value shows a effects idle is prints = record {
   change = same;
@@ -93,7 +98,9 @@ same_succeeds w p value shows a effects idle is prints = record {
 }
 
 -- a change of the tree and of a description's state
-pub write_succeeds : (w : World) (p : ℕ) (t : List Node) (f : OpenFiles) (value : ℕ) (shows : List Shown) (a : Answer) (change : TreeChange) (n : ℕ) (state : State) (effects : List Effect) → a ≡ Gives value (record same { tree = change; state = Set_state n state }) effects → map shown effects ≡ shows → t ≡ tree_after w.tree change → Alike (with_state w.files n state) f → Succeeds w p t f value shows a
+pub write_succeeds : (w : World) (p : ℕ) (t : List Node) (f : OpenFiles) (value : ℕ) (shows : List Shown) (a : Answer) (change : TreeChange) (n : ℕ)
+    (state : State) (effects : List Effect) → a ≡ Gives value (record same { tree = change; state = Set_state n state }) effects →
+    map shown effects ≡ shows → t ≡ tree_after w.tree change → Alike (with_state w.files n state) f → Succeeds w p t f value shows a
 unfolding files_after
 write_succeeds w p t f value shows a change n state effects is prints tree files = record {
   change = record same { tree = change; state = Set_state n state };
@@ -108,7 +115,10 @@ write_succeeds w p t f value shows a change n state effects is prints tree files
 }
 
 -- a change of the table alone, of entries that there are
-pub entry_succeeds : (w : World) (p : ℕ) (f : OpenFiles) (value : ℕ) (shows : List Shown) (a : Answer) (change : TableChange) (effects : List Effect) → Suits w.files any_choice change → IsOrdinary change → a ≡ Gives value (record same { table = change }) effects → map shown effects ≡ shows → Alike (files_after w.files p (length w.processes) any_choice (record same { table = change })) f → Succeeds w p w.tree f value shows a
+pub entry_succeeds : (w : World) (p : ℕ) (f : OpenFiles) (value : ℕ) (shows : List Shown) (a : Answer) (change : TableChange)
+    (effects : List Effect) → Suits w.files any_choice change → IsOrdinary change → a ≡ Gives value (record same { table = change }) effects →
+    map shown effects ≡ shows → Alike (files_after w.files p (length w.processes) any_choice (record same { table = change })) f →
+    Succeeds w p w.tree f value shows a
 entry_succeeds w p f value shows a change effects suits ordinary is prints files = record {
   change = record same { table = change };
   effects = effects;
@@ -122,7 +132,10 @@ entry_succeeds w p f value shows a change effects suits ordinary is prints files
 }
 
 -- a file or directory that is opened, with a change of the tree or without
-pub open_succeeds : (w : World) (p : ℕ) (t : List Node) (f : OpenFiles) (value : ℕ) (shows : List Shown) (a : Answer) (change : TreeChange) (number n : ℕ) (access : Access) (append : Bool) (rights fcntls : ℕ) (effects : List Effect) → a ≡ Gives value (record same { tree = change; table = New_file number n access append rights fcntls }) effects → map shown effects ≡ shows → t ≡ tree_after w.tree change → Opens w.files f p number n access append rights fcntls → Succeeds w p t f value shows a
+pub open_succeeds : (w : World) (p : ℕ) (t : List Node) (f : OpenFiles) (value : ℕ) (shows : List Shown) (a : Answer) (change : TreeChange)
+    (number n : ℕ) (access : Access) (append : Bool) (rights fcntls : ℕ) (effects : List Effect) →
+    a ≡ Gives value (record same { tree = change; table = New_file number n access append rights fcntls }) effects → map shown effects ≡ shows →
+    t ≡ tree_after w.tree change → Opens w.files f p number n access append rights fcntls → Succeeds w p t f value shows a
 unfolding files_after
 open_succeeds w p t f value shows a change number n access append rights fcntls effects is prints tree opens = record {
   change = record same { tree = change; table = New_file number n access append rights fcntls };
@@ -137,7 +150,9 @@ open_succeeds w p t f value shows a change number n access append rights fcntls 
 }
 
 -- a change of a queue alone, which takes a message
-pub queue_succeeds : (w : World) (p : ℕ) (f : OpenFiles) (value : ℕ) (shows : List Shown) (a : Answer) (change : QueueChange) (effects : List Effect) → a ≡ Gives value (record same { queue = change }) effects → map shown effects ≡ shows → Alike (files_after w.files p (length w.processes) any_choice (record same { queue = change })) f → Succeeds w p w.tree f value shows a
+pub queue_succeeds : (w : World) (p : ℕ) (f : OpenFiles) (value : ℕ) (shows : List Shown) (a : Answer) (change : QueueChange)
+    (effects : List Effect) → a ≡ Gives value (record same { queue = change }) effects → map shown effects ≡ shows →
+    Alike (files_after w.files p (length w.processes) any_choice (record same { queue = change })) f → Succeeds w p w.tree f value shows a
 queue_succeeds w p f value shows a change effects is prints files = record {
   change = record same { queue = change };
   effects = effects;
@@ -151,7 +166,10 @@ queue_succeeds w p f value shows a change effects is prints files = record {
 }
 
 -- a message that is taken with its descriptor
-pub take_succeeds : (w : World) (p : ℕ) (f : OpenFiles) (value : ℕ) (shows : List Shown) (a : Answer) (queue : QueueChange) (number : ℕ) (d : Descriptor) → a ≡ Gives value (record same { queue = queue; table = Set_entry number d }) [] → [] ≡ shows → Alike (files_after w.files p (length w.processes) any_choice (record same { queue = queue; table = Set_entry number d })) f → Succeeds w p w.tree f value shows a
+pub take_succeeds : (w : World) (p : ℕ) (f : OpenFiles) (value : ℕ) (shows : List Shown) (a : Answer) (queue : QueueChange) (number : ℕ)
+    (d : Descriptor) → a ≡ Gives value (record same { queue = queue; table = Set_entry number d }) [] → [] ≡ shows →
+    Alike (files_after w.files p (length w.processes) any_choice (record same { queue = queue; table = Set_entry number d })) f →
+    Succeeds w p w.tree f value shows a
 take_succeeds w p f value shows a queue number d is prints files = record {
   change = record same { queue = queue; table = Set_entry number d };
   effects = [];

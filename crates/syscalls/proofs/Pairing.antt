@@ -4,7 +4,7 @@ use Rattle.std.specs.Prelude.{Option, Some, None}
 use Rattle.rights.specs.Errors.{EMFILE, ENFILE, Full, Refused}
 use Rattle.process.specs.State.{ProcessState}
 use Rattle.file_tree.specs.Nodes.{Node}
-use Rattle.fd_table.specs.Descriptions.{Class, Made_at}
+use Rattle.fd_table.specs.Descriptions.{PairClass, Made_at}
 use Rattle.fd_table.specs.OpenFiles.{OpenFiles, lowest_free, lowest_from}
 use Rattle.fd_table.specs.Filled.{Entry, IsFreeAt, Pairs}
 use Rattle.prog_asm.specs.Programs.{Socketpair}
@@ -17,12 +17,13 @@ use Rattle.kernel.specs.WellFormed.{IsWellFormed}
 use Rattle.kernel.specs.Alike.{AlikeWorlds}
 use Rattle.syscalls.specs.Shows.{Shown, shown}
 use Rattle.syscalls.specs.Views.{world_with}
-use Rattle.syscalls.specs.Called.{Comes, FailsAs, paired_as}
+use Rattle.syscalls.specs.CallViews.{Comes, FailsAs, paired_as}
 use Rattle.syscalls.proofs.Numbers.{lowest_is_free}
 use Rattle.syscalls.proofs.Tests.{passes, fails}
 use Rattle.syscalls.proofs.Calling as calling
 
-module _ (programs : Programs) (t : List Node) (f : OpenFiles) (processes : List ProcessState) (good : IsWellFormed programs (world_with t f processes)) (p : ℕ) (s : ProcessState) (e : Event) (otherwise : ℕ) where
+module _ (programs : Programs) (t : List Node) (f : OpenFiles) (processes : List ProcessState)
+    (good : IsWellFormed programs (world_with t f processes)) (p : ℕ) (s : ProcessState) (e : Event) (otherwise : ℕ) where
   abbrev pub w : World
   w = world_with t f processes
 
@@ -41,20 +42,28 @@ module _ (programs : Programs) (t : List Node) (f : OpenFiles) (processes : List
   with_second first second one two = with_first first one ∙ ap (λ o. at_number o (λ second. unrefused w p s e ENFILE (made first second))) two
 
   -- no number is free, or one alone
-  pub no_first : lowest_free (f.table p) ≡ None → (told : LineResult) (shows : List Shown) (next : ProcessState) → FailsAs s otherwise EMFILE Full told shows next → Comes w p s e Socketpair otherwise told shows (world_with t f (slice_set processes p next))
+  pub no_first : lowest_free (f.table p) ≡ None → (told : LineResult) (shows : List Shown) (next : ProcessState) →
+      FailsAs s otherwise EMFILE Full told shows next → Comes w p s e Socketpair otherwise told shows (world_with t f (slice_set processes p next))
   unfolding answer
   no_first is = calling.falls programs t f processes good p s e Socketpair otherwise EMFILE Full (ap (pair_at w p s e) is)
 
-  pub no_second : (first : ℕ) → lowest_free (f.table p) ≡ Some first → second_from first ≡ None → (told : LineResult) (shows : List Shown) (next : ProcessState) → FailsAs s otherwise EMFILE Full told shows next → Comes w p s e Socketpair otherwise told shows (world_with t f (slice_set processes p next))
+  pub no_second : (first : ℕ) → lowest_free (f.table p) ≡ Some first → second_from first ≡ None →
+      (told : LineResult) (shows : List Shown) (next : ProcessState) → FailsAs s otherwise EMFILE Full told shows next →
+      Comes w p s e Socketpair otherwise told shows (world_with t f (slice_set processes p next))
   unfolding at_number
-  no_second first one two = calling.falls programs t f processes good p s e Socketpair otherwise EMFILE Full (with_first first one ∙ ap (λ o. at_number o (λ second. unrefused w p s e ENFILE (made first second))) two)
+  no_second first one two = calling.falls programs t f processes good p s e Socketpair otherwise EMFILE Full
+      (with_first first one ∙ ap (λ o. at_number o (λ second. unrefused w p s e ENFILE (made first second))) two)
 
   -- the kernel refuses
-  pub refused : (first second : ℕ) → lowest_free (f.table p) ≡ Some first → second_from first ≡ Some second → e.refuse ≡ true → (told : LineResult) (shows : List Shown) (next : ProcessState) → FailsAs s otherwise ENFILE Refused told shows next → Comes w p s e Socketpair otherwise told shows (world_with t f (slice_set processes p next))
+  pub refused : (first second : ℕ) → lowest_free (f.table p) ≡ Some first → second_from first ≡ Some second → e.refuse ≡ true →
+      (told : LineResult) (shows : List Shown) (next : ProcessState) → FailsAs s otherwise ENFILE Refused told shows next →
+      Comes w p s e Socketpair otherwise told shows (world_with t f (slice_set processes p next))
   refused first second one two is = calling.falls programs t f processes good p s e Socketpair otherwise ENFILE Refused (with_second first second one two ∙ fails _ _ _ _ (ap not is))
 
   -- a pair is made
-  pub pairs : (first second : ℕ) (left : OpenFiles) → lowest_free (f.table p) ≡ Some first → second_from first ≡ Some second → e.refuse ≡ false → Pairs f left (Made_at s.program s.point) (Some (record { process = p; number = first })) (Some (record { process = p; number = second })) → Comes w p s e Socketpair otherwise (Value first) [] (world_with t left (slice_set processes p (paired_as s first second)))
+  pub pairs : (first second : ℕ) (left : OpenFiles) → lowest_free (f.table p) ≡ Some first → second_from first ≡ Some second → e.refuse ≡ false →
+      Pairs f left (Made_at s.program s.point) (Some (record { process = p; number = first })) (Some (record { process = p; number = second })) →
+      Comes w p s e Socketpair otherwise (Value first) [] (world_with t left (slice_set processes p (paired_as s first second)))
   unfolding answered changed files_after
   pairs first second left one two is y =
       let choice : Choice = record { first = y.first; second = y.second; pair = y.pair } in
@@ -68,11 +77,20 @@ module _ (programs : Programs) (t : List Node) (f : OpenFiles) (processes : List
         outcome = ap (λ a. (answered w p s choice otherwise a).outcome) (sym gives);
         prints = ap (λ a. map shown (answered w p s choice otherwise a).effects) (sym gives);
         world = subst (λ a. AlikeWorlds (answered w p s choice otherwise a).world v) (sym gives)
-            (record { tree = refl; processes = sym (append-nil (slice_set processes p (given s first (record same { table = New_pair first second (Made_at s.program s.point) }))) ∙ ap (slice_set processes p) stays); files = y.alike });
+            (record {
+              tree = refl;
+              processes = sym (append-nil
+                  (slice_set processes p (given s first (record same { table = New_pair first second (Made_at s.program s.point) })))
+                  ∙ ap (slice_set processes p) stays);
+              files = y.alike;
+            });
       }
 
   -- the same of what the code left
-  pub pairs_as : (first second : ℕ) (left : OpenFiles) (shows : List Shown) (stands : ProcessState) → lowest_free (f.table p) ≡ Some first → second_from first ≡ Some second → e.refuse ≡ false → (class : Class) → class ≡ Made_at s.program s.point → Pairs f left class (Some (record { process = p; number = first })) (Some (record { process = p; number = second })) → shows ≡ [] → stands ≡ paired_as s first second → Comes w p s e Socketpair otherwise (Value first) shows (world_with t left (slice_set processes p stands))
+  pub pairs_as : (first second : ℕ) (left : OpenFiles) (shows : List Shown) (stands : ProcessState) → lowest_free (f.table p) ≡ Some first →
+      second_from first ≡ Some second → e.refuse ≡ false → (class : PairClass) → class ≡ Made_at s.program s.point →
+      Pairs f left class (Some (record { process = p; number = first })) (Some (record { process = p; number = second })) → shows ≡ [] →
+      stands ≡ paired_as s first second → Comes w p s e Socketpair otherwise (Value first) shows (world_with t left (slice_set processes p stands))
   pairs_as first second left shows stands one two is class made_there y empty stood =
       subst (λ x. Comes w p s e Socketpair otherwise (Value first) shows (world_with t left (slice_set processes p x))) (sym stood)
       (subst (λ x. Comes w p s e Socketpair otherwise (Value first) x (world_with t left (slice_set processes p (paired_as s first second)))) (sym empty)

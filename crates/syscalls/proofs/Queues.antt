@@ -4,7 +4,7 @@ use Rattle.std.specs.Prelude.{Option, Some, None, is_some, nat_lt, length, if◌
 use Rattle.process.specs.State.{ProcessState}
 use Rattle.fd_table.specs.Descriptions.{Descriptor, Message, other_side}
 use Rattle.fd_table.specs.OpenFiles.{is_open}
-use Rattle.fd_table.specs.Filled.{Front, SendRefusal, Closed, Full, front_of, front_passed, send_refusal}
+use Rattle.fd_table.specs.Filled.{Front, SendRefusal, Closed, Full, front_shown, front_passed, send_refusal}
 use Rattle.kernel.specs.World.{World}
 use Rattle.kernel.specs.Answers.{Event, Fails, Gives, Pop, Push, Set_entry, same, gives, unless}
 use Rattle.kernel.specs.Calls.{read_end, sent_end, receive_end, received, blocked}
@@ -14,11 +14,15 @@ use Rattle.fd_table.specs.declared.faults.SendFault.TheVariants as fault
 use Rattle.fd_table.specs.Views.{TellsSendFault}
 use Rattle.syscalls.proofs.Tests.{passes, fails}
 
-pub read_none : (w : World) (p : ℕ) (s : ProcessState) (e : Event) (d : ℕ) (pair side : ℕ) (messages : List Message) → None ≡ front_of messages → read_end w p s e d pair side messages ≡ (if is_open w.files pair (other_side side) then blocked w p s e (w.files.states d).nonblock else gives 256)
+pub read_none : (w : World) (p : ℕ) (s : ProcessState) (e : Event) (d : ℕ) (pair side : ℕ) (messages : List Message) → None ≡ front_shown messages →
+    read_end w p s e d pair side messages ≡ (if is_open w.files pair (other_side side) then blocked w p s e
+    (w.files.states d).nonblock else gives 256)
 read_none w p s e d pair side [] is = refl
 read_none w p s e d pair side (m ∷ messages) is = absurd cc
 
-pub read_some : (w : World) (p : ℕ) (s : ProcessState) (e : Event) (d : ℕ) (pair side : ℕ) (messages : List Message) (front : Front) → Some front ≡ front_of messages → read_end w p s e d pair side messages ≡ Gives front.byte (record same { queue = Pop pair (other_side side) }) []
+pub read_some : (w : World) (p : ℕ) (s : ProcessState) (e : Event) (d : ℕ) (pair side : ℕ) (messages : List Message) (front : Front) →
+    Some front ≡ front_shown messages → read_end w p s e d pair side messages ≡ Gives front.byte
+    (record same { queue = Pop pair (other_side side) }) []
 read_some w p s e d pair side [] front is = absurd cc
 read_some w p s e d pair side (m ∷ messages) front is =
     let byte : m.byte ≡ front.byte = ap (λ (f : Front). f.byte) (sym (some_same is)) in
@@ -65,11 +69,13 @@ told_full o e tells is = subst (TellsSendFault o) is tells (λ same. absurd cc)
 
 -- ## Receiving a descriptor
 module _ (w : World) (p : ℕ) (s : ProcessState) (e : Event) (d : ℕ) (pair side number : ℕ) where
-  pub receives_none : (messages : List Message) → None ≡ front_of messages → receive_end w p s e d pair side number messages ≡ unless (is_open w.files pair (other_side side)) EINVAL Refused (blocked w p s e (w.files.states d).nonblock)
+  pub receives_none : (messages : List Message) → None ≡ front_shown messages →
+      receive_end w p s e d pair side number messages ≡ unless (is_open w.files pair (other_side side)) EINVAL Refused
+      (blocked w p s e (w.files.states d).nonblock)
   receives_none [] is = refl
   receives_none (m ∷ messages) is = absurd cc
 
-  pub receives_plain : (messages : List Message) (front : Front) → Some front ≡ front_of messages → front.carries ≡ false → receive_end w p s e d pair side number messages ≡ Fails EINVAL Refused
+  pub receives_plain : (messages : List Message) (front : Front) → Some front ≡ front_shown messages → front.carries ≡ false → receive_end w p s e d pair side number messages ≡ Fails EINVAL Refused
   receives_plain [] front is plain = absurd cc
   receives_plain (m ∷ messages) front is plain = at m.passed (ap (λ (f : Front). f.carries) (front_same is) ∙ plain)
     where
@@ -86,7 +92,7 @@ module _ (w : World) (p : ℕ) (s : ProcessState) (e : Event) (d : ℕ) (pair si
     pub front : front_passed messages ≡ Some passed
     pub is : receive_end w p s e d pair side number messages ≡ Gives number (record same { queue = Pop pair (other_side side); table = Set_entry number passed }) []
 
-  pub receives : (messages : List Message) (front : Front) → Some front ≡ front_of messages → front.carries ≡ true → Arrives messages
+  pub receives : (messages : List Message) (front : Front) → Some front ≡ front_shown messages → front.carries ≡ true → Arrives messages
   receives [] front is carries = absurd cc
   receives (m ∷ messages) front is carries = at m.passed refl (ap (λ (f : Front). f.carries) (front_same is) ∙ carries)
     where

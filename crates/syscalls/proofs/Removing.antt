@@ -5,7 +5,7 @@ use Rattle.rights.specs.Errors.{ENOTEMPTY, ENOTDIR, EPERM}
 use Rattle.rights.specs.Errors as causes
 use Rattle.file_tree.specs.Places.{at_name}
 use Rattle.file_tree.specs.Nodes.{Node, node, is_dir, has_below}
-use Rattle.file_tree.specs.Refusals.{Fault, NotEmpty, Gone, remove_fault, is_root}
+use Rattle.file_tree.specs.Refusals.{ChangeFault, NotEmpty, Gone, remove_fault, is_root}
 use Rattle.file_tree.specs.WellFormed.{IsTree}
 use Rattle.file_tree.specs.declared.faults.TreeFault.{TreeFault}
 use Rattle.file_tree.specs.declared.faults.TreeFault.TheVariants as fault
@@ -17,7 +17,7 @@ use Rattle.lookup.specs.Promises.{HasName}
 use Rattle.process.specs.State.{ProcessState}
 use Rattle.kernel.specs.World.{World}
 use Rattle.kernel.specs.Answers.{Event, Answer, Fails, unless}
-use Rattle.kernel.specs.Calls.{unlinked_as}
+use Rattle.kernel.specs.Calls.{unlinks_as}
 use Rattle.syscalls.proofs.Tests.{passes, fails}
 
 -- whether a node may be removed as what it is, a directory or not, before it is asked whether it is empty
@@ -30,7 +30,9 @@ abbrev pub rest_of : Bool → Bool → Answer → Answer
 rest_of true full rest = unless (not full) ENOTEMPTY causes.Path rest
 rest_of false full rest = rest
 
-pub unlinked_is : (w : World) (p : ℕ) (s : ProcessState) (e : Event) (directory : Bool) (n : ℕ) (rest : Answer) → unlinked_as w p s e directory n rest ≡ removed_as (is_dir (node w.tree n).kind) directory (rest_of directory (has_below w.tree (node w.tree n).place) rest)
+pub unlinked_is : (w : World) (p : ℕ) (s : ProcessState) (e : Event) (directory : Bool) (n : ℕ) (rest : Answer) →
+    unlinks_as w p s e directory n rest ≡ removed_as (is_dir (node w.tree n).kind) directory
+    (rest_of directory (has_below w.tree (node w.tree n).place) rest)
 unlinked_is w p s e true n rest = refl
 unlinked_is w p s e false n rest = refl
 
@@ -38,7 +40,8 @@ fits : (is_directory directory : Bool) (rest : Answer) → is_directory ≡ dire
 fits is_directory true rest is = passes _ _ _ _ is
 fits is_directory false rest is = passes _ _ _ _ (ap not is)
 
-pub removes : (w : World) (p : ℕ) (s : ProcessState) (e : Event) (directory : Bool) (n : ℕ) (rest : Answer) → is_dir (node w.tree n).kind ≡ directory → remove_fault w.tree n ≡ None → unlinked_as w p s e directory n rest ≡ rest
+pub removes : (w : World) (p : ℕ) (s : ProcessState) (e : Event) (directory : Bool) (n : ℕ) (rest : Answer) →
+    is_dir (node w.tree n).kind ≡ directory → remove_fault w.tree n ≡ None → unlinks_as w p s e directory n rest ≡ rest
 removes w p s e directory n rest is allowed =
     unlinked_is w p s e directory n rest ∙ fits _ directory _ is ∙ at directory
   where
@@ -61,7 +64,9 @@ pub is_full : (t : List Node) (n : ℕ) (name : List ℕ) → (node t n).linked 
 unfolding remove_fault
 is_full t n name linked named is = full (node t n).linked _ _ t linked (under_name t n name named) is
 
-pub refuses_full : (w : World) (p : ℕ) (s : ProcessState) (e : Event) (directory : Bool) (n : ℕ) (name : List ℕ) (rest : Answer) → IsTree w.tree → (node w.tree n).linked ≡ true → HasName w.tree n name → is_dir (node w.tree n).kind ≡ directory → remove_fault w.tree n ≡ Some NotEmpty → unlinked_as w p s e directory n rest ≡ Fails ENOTEMPTY causes.Path
+pub refuses_full : (w : World) (p : ℕ) (s : ProcessState) (e : Event) (directory : Bool) (n : ℕ) (name : List ℕ) (rest : Answer) → IsTree w.tree →
+    (node w.tree n).linked ≡ true → HasName w.tree n name → is_dir (node w.tree n).kind ≡ directory → remove_fault w.tree n ≡ Some NotEmpty →
+    unlinks_as w p s e directory n rest ≡ Fails ENOTEMPTY causes.Path
 refuses_full w p s e directory n name rest tree linked named is refused =
     unlinked_is w p s e directory n rest ∙ fits _ directory _ is ∙ at directory is
   where
@@ -74,5 +79,5 @@ refuses_full w p s e directory n name rest tree linked named is refused =
         let no : false ≡ true = sym (file_empty w.tree tree n linked is) ∙ below in
         absurd cc
 
-pub told_full : (o : Option Fault) (e : TreeFault) → TellsTreeFault o e → e ≡ fault.NotEmpty → o ≡ Some NotEmpty
+pub told_full : (o : Option ChangeFault) (e : TreeFault) → TellsTreeFault o e → e ≡ fault.NotEmpty → o ≡ Some NotEmpty
 told_full o e tells is = subst (TellsTreeFault o) is tells (λ same. absurd cc)

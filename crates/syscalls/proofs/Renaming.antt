@@ -5,10 +5,10 @@ use Rattle.std.specs.Cmp.Derive.{both_true}
 use Rattle.std.proofs.Math.Seq.{drop-length}
 use Rattle.std.specs.List.{list_all}
 use Rattle.file_tree.proofs.PlaceTexts.{names_of_place}
-use Rattle.file_tree.specs.Places.{same_place, begins, at_name, is_name}
+use Rattle.file_tree.specs.Places.{same_place, begins, at_name, is_file_name}
 use Rattle.file_tree.specs.Nodes.{Node, node, node_at, child_of, parent_of, stands_at, has_below, is_dir}
 use Rattle.file_tree.specs.Changes.{renamed, moved, replaced_at}
-use Rattle.file_tree.specs.Refusals.{Fault, Gone, IntoItself, NotEmpty, rename_fault}
+use Rattle.file_tree.specs.Refusals.{ChangeFault, Gone, IntoItself, NotEmpty, rename_fault}
 use Rattle.file_tree.specs.WellFormed.{IsTree}
 use Rattle.file_tree.specs.declared.faults.TreeFault.{TreeFault}
 use Rattle.file_tree.specs.declared.faults.TreeFault.TheVariants as fault
@@ -70,14 +70,16 @@ module _ (q : List (List ℕ)) (m : Node) where
       ∙ ap (λ rest. q ++ rest) (drop-length m.place)
       ∙ append-nil q
 
-pub renamed_place : (t : List Node) (n d : ℕ) (name : List ℕ) → (node t n).linked ≡ true → same_place (at_name (node t d).place name) (node t n).place ≡ false → (node (renamed t n (at_name (node t d).place name)) n).place ≡ at_name (node t d).place name
+pub renamed_place : (t : List Node) (n d : ℕ) (name : List ℕ) → (node t n).linked ≡ true →
+    same_place (at_name (node t d).place name) (node t n).place ≡ false →
+    (node (renamed t n (at_name (node t d).place name)) n).place ≡ at_name (node t d).place name
 renamed_place t n d name linked other =
     ap (λ (m : Node). m.place) (renamed_node t n d name n other) ∙ moved_place (at_name (node t d).place name) (node t n) linked other
 
-pub told_into : (o : Option Fault) (e : TreeFault) → TellsTreeFault o e → e ≡ fault.IntoItself → o ≡ Some IntoItself
+pub told_into : (o : Option ChangeFault) (e : TreeFault) → TellsTreeFault o e → e ≡ fault.IntoItself → o ≡ Some IntoItself
 told_into o e tells is = subst (TellsTreeFault o) is tells (λ same. absurd cc)
 
-pub told_full : (o : Option Fault) (e : TreeFault) → TellsTreeFault o e → e ≡ fault.NotEmpty → o ≡ Some NotEmpty
+pub told_full : (o : Option ChangeFault) (e : TreeFault) → TellsTreeFault o e → e ≡ fault.NotEmpty → o ≡ Some NotEmpty
 told_full o e tells is = subst (TellsTreeFault o) is tells (λ same. absurd cc)
 
 -- ## Over another node
@@ -93,7 +95,11 @@ fits_other false false is = refl
 fits_other false true is = absurd cc
 
 -- what is left to ask then
-pub over_rest : (w : World) (p : ℕ) (s : ProcessState) (e : Event) (n m : ℕ) → begins (node w.tree n).place (node w.tree m).place ≡ false → is_dir (node w.tree n).kind ≡ is_dir (node w.tree m).kind → renamed_over w p s e n m ≡ unless (not (has_below w.tree (node w.tree m).place)) ENOTEMPTY causes.Path (Gives 0 (moves w p s e n (node w.tree m).place) (record { operation = Removes; place = (node w.tree m).place } ∷ record { operation = Removes; place = (node w.tree n).place } ∷ record { operation = Creates; place = (node w.tree m).place } ∷ []))
+pub over_rest : (w : World) (p : ℕ) (s : ProcessState) (e : Event) (n m : ℕ) → begins (node w.tree n).place (node w.tree m).place ≡ false →
+    is_dir (node w.tree n).kind ≡ is_dir (node w.tree m).kind →
+    renamed_over w p s e n m ≡ unless (not (has_below w.tree (node w.tree m).place)) ENOTEMPTY causes.Path
+    (Gives 0 (moves w p s e n (node w.tree m).place) (record { operation = Removes; place = (node w.tree m).place }
+    ∷ record { operation = Removes; place = (node w.tree n).place } ∷ record { operation = Creates; place = (node w.tree m).place } ∷ []))
 over_rest w p s e n m apart kinds =
     passes _ _ _ _ (ap not apart) ∙ passes _ _ _ _ (fits_directory _ _ kinds) ∙ passes _ _ _ _ (fits_other _ _ kinds)
 
@@ -126,17 +132,17 @@ named_place t m d name named parent =
     some_same is = cc
 
 -- the last name of a node's place is a name
-last_of_all : (p : List (List ℕ)) (name : List ℕ) → list_all is_name (p ++ name ∷ []) ≡ true → is_name name ≡ true
-last_of_all [] name is = last (is_name name) is
+last_of_all : (p : List (List ℕ)) (name : List ℕ) → list_all is_file_name (p ++ name ∷ []) ≡ true → is_file_name name ≡ true
+last_of_all [] name is = last (is_file_name name) is
   where
     last : (b : Bool) → (b && true) ≡ true → b ≡ true
     last true is = refl
     last false is = absurd cc
-last_of_all (x ∷ p) name is = last_of_all p name (rest (is_name x) _ is)
+last_of_all (x ∷ p) name is = last_of_all p name (rest (is_file_name x) _ is)
   where
     rest : (a b : Bool) → (a && b) ≡ true → b ≡ true
     rest true b is = is
     rest false b is = absurd cc
 
-pub name_of_node : (t : List Node) (n : ℕ) (name : List ℕ) → IsTree t → n < length t → HasName t n name → is_name name ≡ true
-name_of_node t n name tree there named = last_of_all (node t named.parent).place name (ap (list_all is_name) (sym named.place) ∙ names_of_place t n (tree.limits n there))
+pub name_of_node : (t : List Node) (n : ℕ) (name : List ℕ) → IsTree t → n < length t → HasName t n name → is_file_name name ≡ true
+name_of_node t n name tree there named = last_of_all (node t named.parent).place name (ap (list_all is_file_name) (sym named.place) ∙ names_of_place t n (tree.limits n there))

@@ -10,9 +10,10 @@ use Rattle.kernel.specs.Answers.{Answer, at_object}
 use Rattle.syscalls.specs.declared.descriptors.OpenNode.{OpenNode}
 use Rattle.syscalls.specs.declared.descriptors.Target.{Target}
 use Rattle.syscalls.specs.declared.descriptors.Target.TheVariants as target
-use Rattle.syscalls.specs.Meets.{IsReadyObject, IsTarget, IsTargetThere}
+use Rattle.syscalls.specs.AnswerViews.{IsReadyObject, IsTarget, IsTargetThere}
 
-at_node_there : (o : Object) (found : OpenNode) → IsTarget (target.Node found) o → (on_node : ℕ → Access → Answer) (on_end : ℕ → ℕ → Answer) → at_object o on_node on_end ≡ on_node found.node (access_seen found.access)
+at_node_there : (o : Object) (found : OpenNode) → IsTarget (target.Node found) o → (on_node : ℕ → Access → Answer) (on_end : ℕ → ℕ → Answer) →
+    at_object o on_node on_end ≡ on_node found.node (access_seen found.access)
 unfolding at_object
 at_node_there (At_node n access) found (number, is) on_node on_end = ap (λ m. on_node m access) number ∙ ap (on_node found.node) is
 at_node_there (At_end pair side class) found is on_node on_end = absurd is
@@ -22,10 +23,12 @@ unfolding at_object
 at_end_there (At_node n access) end is on_node on_end = absurd is
 at_end_there (At_end pair side class) end (number, is) on_node on_end = ap (λ m. on_end m side) number ∙ ap (on_end end.pair) is
 
-pub at_node : (o : Object) (code : Target) (found : OpenNode) → IsTarget code o → code ≡ target.Node found → (on_node : ℕ → Access → Answer) (on_end : ℕ → ℕ → Answer) → at_object o on_node on_end ≡ on_node found.node (access_seen found.access)
+pub at_node : (o : Object) (code : Target) (found : OpenNode) → IsTarget code o → code ≡ target.Node found →
+    (on_node : ℕ → Access → Answer) (on_end : ℕ → ℕ → Answer) → at_object o on_node on_end ≡ on_node found.node (access_seen found.access)
 at_node o code found is same = at_node_there o found (subst (λ x. IsTarget x o) same is)
 
-pub at_end : (o : Object) (code : Target) (end : End) → IsTarget code o → code ≡ target.End end → (on_node : ℕ → Access → Answer) (on_end : ℕ → ℕ → Answer) → at_object o on_node on_end ≡ on_end end.pair (side_seen end.side)
+pub at_end : (o : Object) (code : Target) (end : End) → IsTarget code o → code ≡ target.End end →
+    (on_node : ℕ → Access → Answer) (on_end : ℕ → ℕ → Answer) → at_object o on_node on_end ≡ on_end end.pair (side_seen end.side)
 at_end o code end is same = at_end_there o end (subst (λ x. IsTarget x o) same is)
 
 -- a description that is named, and is of an end

@@ -1,6 +1,6 @@
+pub mod AnswerViews
+pub mod CallViews
+pub mod MayCall
+pub mod NodeCalls
 pub mod Shows
 pub mod Views
-pub mod Meets
-pub mod NodeCalls
-pub mod Called
-pub mod MayCall

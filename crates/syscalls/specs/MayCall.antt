@@ -8,7 +8,7 @@ use Rattle.kernel.specs.Answers.{Event}
 use Rattle.kernel.specs.Steps.{LineResult, Programs}
 use Rattle.kernel.specs.WellFormed.{IsWellFormed}
 use Rattle.syscalls.specs.Shows.{Shown}
-use Rattle.syscalls.specs.Called.{Comes}
+use Rattle.syscalls.specs.CallViews.{Comes}
 
 abbrev pub is_entering : Syscall → Bool
 is_entering Cap_enter = true

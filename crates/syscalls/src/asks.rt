@@ -10,7 +10,7 @@ ghost use Rattle.prog_asm.specs.Views.{operand_of};
 ghost use Rattle.kernel.specs.Answers as answers;
 ghost use Rattle.kernel.specs.Calls as model;
 ghost use Rattle.file_tree.specs.Nodes.{Node};
-ghost use Rattle.syscalls.specs.Meets.{Calls, Does, HasNumbers, IsIdle, IsReady, Passes, need, number_seen};
+ghost use Rattle.syscalls.specs.AnswerViews.{Calls, Does, HasNumbers, IsIdle, IsReady, Passes, need, number_seen};
 
 use crate::descriptors::{Caller, Target, reach, through, value_of};
 use crate::directories::stat;

@@ -3,7 +3,7 @@
 ghost use Rattle.std.specs.Prelude.{◌≡◌, true};
 ghost use Rattle.fd_table.specs.Kept.{open_files};
 ghost use Rattle.prog_asm.specs.Views.{syscall_of};
-ghost use Rattle.syscalls.specs.Meets.{Calls, IsReady};
+ghost use Rattle.syscalls.specs.AnswerViews.{Calls, IsReady};
 ghost use Rattle.syscalls.specs.NodeCalls.{is_on_nodes};
 
 use crate::asks::{get_flags, set_status, stat_descriptor, sync};

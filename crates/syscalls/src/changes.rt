@@ -2,7 +2,7 @@
 
 ghost use Rattle.std.specs.Prelude.{◌≡◌, ◌<◌, ◌∷◌, [], None, IfErr, IfOk, IsTrue, length};
 ghost use Rattle.rights.specs.Operations as operations;
-ghost use Rattle.file_tree.specs.Places.{at_name, is_name};
+ghost use Rattle.file_tree.specs.Places.{at_name, is_file_name};
 ghost use Rattle.file_tree.specs.Nodes.{Dir, node};
 ghost use Rattle.file_tree.specs.Refusals.{create_fault};
 ghost use Rattle.file_tree.specs.Views.{is_new, new_content, new_kind};
@@ -33,7 +33,7 @@ pub(crate) fn create_node<T: Tree>(
 ) -> Result<Made, Refusal>
     requires there { dir < length (T.nodes tree.old) }
     requires directory { (node (T.nodes tree.old) dir).kind ≡ Dir }
-    requires name { IsTrue (is_name name.now) }
+    requires name { IsTrue (is_file_name name.now) }
     requires what { IsTrue (is_new what) }
     requires empty { new_content what ≡ [] }
     requires allowed { create_fault (T.nodes tree.old) dir name.now ≡ None }

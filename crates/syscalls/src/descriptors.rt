@@ -11,7 +11,7 @@ ghost use Rattle.fd_table.specs.Views.{object_seen};
 ghost use Rattle.prog_asm.specs.Views.{operand_of};
 ghost use Rattle.kernel.specs.Answers as answers;
 ghost use Rattle.kernel.specs.Calls.{at_file, in_directory};
-ghost use Rattle.syscalls.specs.Meets.{HasNumbers, IsReached, IsReady, IsReadyDescription, IsTarget, Passes, PassesIn, held_seen, need, node_seen, number_seen, opened_seen, reached_seen};
+ghost use Rattle.syscalls.specs.AnswerViews.{HasNumbers, IsReached, IsReady, IsReadyDescription, IsTarget, Passes, PassesIn, held_seen, need, node_seen, number_seen, opened_seen, reached_seen};
 
 use crate::directories::is_directory;
 use crate::outcomes::Refusal;

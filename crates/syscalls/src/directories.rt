@@ -7,9 +7,9 @@ ghost use Rattle.file_tree.specs.WellFormed.{IsTree};
 ghost use Rattle.lookup.specs.Looks.{find_of};
 ghost use Rattle.lookup.specs.Answers as lookups;
 ghost use Rattle.lookup.specs.Views.{way_of};
-ghost use Rattle.kernel.specs.Calls.{kind_number, looked, looked_at, made_directory, unlinked};
+ghost use Rattle.kernel.specs.Calls.{kind_number, stats, stats_at, made_directory, unlinks};
 ghost use Rattle.prog_asm.specs.Programs.{is_path};
-ghost use Rattle.syscalls.specs.Meets.{OnTree};
+ghost use Rattle.syscalls.specs.AnswerViews.{OnTree};
 
 use crate::changes::create_node;
 use crate::outcomes::{Refusal, Success, effects_at};
@@ -34,7 +34,7 @@ fn number_of(kind: Kind) -> u32
 /// What a node is. (fstat(2))
 pub(crate) fn stat<T: Tree>(alloc: Global, tree: &T, n: NodeId) -> Result<Success, Refusal>
     requires { n < length (T.nodes tree.now) }
-    ensures { (refuse : Bool) → OnTree (T.nodes tree.now) (T.nodes tree.now) refuse result (λ w p s e. looked w p s e n) }
+    ensures { (refuse : Bool) → OnTree (T.nodes tree.now) (T.nodes tree.now) refuse result (λ w p s e. stats w p s e n) }
 {
     let value = number_of(tree.kind(n));
     let effects = effects_at(alloc, tree, Op::Look, n)?;
@@ -52,7 +52,7 @@ pub(crate) fn stat_at<T: Tree>(
     requires there { start < length (T.nodes tree.now) }
     requires opened { is_link (node (T.nodes tree.now) start).kind ≡ false }
     ensures { (refuse : Bool) → OnTree (T.nodes tree.now) (T.nodes tree.now) refuse result (λ w p s e.
-        looked_at w p s e (find_of (T.nodes tree.now) start path.now (way_of way) lookups.Follow)) }
+        stats_at w p s e (find_of (T.nodes tree.now) start path.now (way_of way) lookups.Follow)) }
 {
     match look_up(alloc, tree, start, path, way, Last::Follow)? {
         Found::Free(_) => Err(Refusal::Fails(Errno::ENOENT, Cause::Path)),
@@ -116,7 +116,7 @@ pub(crate) fn remove<T: Tree>(
     requires there { start < length (T.nodes tree.old) }
     requires opened { is_link (node (T.nodes tree.old) start).kind ≡ false }
     ensures { (refuse : Bool) → OnTree (T.nodes tree.old) (T.nodes tree.new) refuse result (λ w p s e.
-        unlinked w p s e directory (find_of (T.nodes tree.old) start path.now (way_of way) lookups.Keep)) }
+        unlinks w p s e directory (find_of (T.nodes tree.old) start path.now (way_of way) lookups.Keep)) }
 {
     let n = match look_up(alloc, tree, start, path, way, Last::Keep)? {
         Found::Free(_) => return Err(Refusal::Fails(Errno::ENOENT, Cause::Path)),

@@ -2,7 +2,7 @@
 
 ghost use Rattle.std.specs.Prelude.{◌≡◌, ◌<◌, IfOk};
 ghost use Rattle.prog_asm.specs.Programs as programs;
-ghost use Rattle.syscalls.specs.Called.{result_of};
+ghost use Rattle.syscalls.specs.CallViews.{result_of};
 ghost use Rattle.syscalls.specs.MayCall.{CallComes, MayCall};
 ghost use Rattle.syscalls.specs.Views.{effects_of, event_of, world_of};
 

@@ -6,7 +6,7 @@ ghost use Rattle.fd_table.specs.Descriptions.{bit_of};
 ghost use Rattle.fd_table.specs.OpenFiles.{OpenFiles};
 ghost use Rattle.prog_asm.specs.Programs as programs;
 ghost use Rattle.syscalls.specs.declared.descriptors.Caller.{Caller as CallerSeen};
-ghost use Rattle.syscalls.specs.Meets.{Calls, IsIdle};
+ghost use Rattle.syscalls.specs.AnswerViews.{Calls, IsIdle};
 
 use crate::descriptors::Caller;
 use crate::outcomes::Success;

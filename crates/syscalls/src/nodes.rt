@@ -12,7 +12,7 @@ ghost use Rattle.rights.specs.Needs.{First, needs_of};
 ghost use Rattle.file_tree.specs.Nodes.{Node};
 ghost use Rattle.fd_table.specs.Filled.{IsNamed};
 ghost use Rattle.kernel.specs.Answers as answers;
-ghost use Rattle.syscalls.specs.Meets.{Calls, HasNumbers, IsReady, IsReadyDescription, Passes, Refuses, beneath_seen};
+ghost use Rattle.syscalls.specs.AnswerViews.{Calls, HasNumbers, IsReady, IsReadyDescription, Passes, Refuses, beneath_seen};
 
 use crate::descriptors::{
     Caller, directory_of, directory_through, held, need_of, second_need, through_rights,
@@ -197,7 +197,8 @@ fn opening_beneath(
     flags: OpenFlags,
 ) -> Result<Beneath, Refusal>
     requires { HasNumbers (open_files files.now) caller.now.number }
-    ensures passes { Passes beneath_seen (answers.through (needs_of calls.Openat flags First false) ((open_files files.now).table caller.now.number (answers.value_of caller.now.process.now (operand_of operand)))) result }
+    ensures passes { Passes beneath_seen (answers.through (needs_of calls.Openat flags First false)
+        ((open_files files.now).table caller.now.number (answers.value_of caller.now.process.now (operand_of operand)))) result }
     ensures flags { IfOk result (λ b. b.how.flags ≡ flags) }
     ensures named { IfOk result (λ b. IsNamed (open_files files.now) b.description) }
     ensures ready { (t : List Node) → IsReady t (open_files files.now) caller.now.number → IfOk result (λ b. IsReadyDescription t (open_files files.now) b.description) }
@@ -264,7 +265,8 @@ pub(crate) fn rename_beneath<T: Tree>(
 ) -> Result<Success, Refusal>
     requires ready { IsReady (T.nodes tree.old) (open_files files.now) caller.now.number }
     requires text { is_path new_path.now ≡ true }
-    ensures { Calls (T.nodes tree.old) (open_files files.now) caller.now (T.nodes tree.new) (open_files files.now) result (programs.Renameat (operand_of operand) path.now (operand_of target) new_path.now) }
+    ensures { Calls (T.nodes tree.old) (open_files files.now) caller.now (T.nodes tree.new) (open_files files.now) result
+        (programs.Renameat (operand_of operand) path.now (operand_of target) new_path.now) }
 {
     let source = match held(files, caller, operand) {
         Err(refused) => return Err(refused),

@@ -4,7 +4,7 @@ ghost use Rattle.std.specs.Prelude.{◌≡◌, ◌<◌, ◌||◌, Bool, IfOk, If
 ghost use Rattle.rights.specs.Errors.{ENFILE, Refused};
 ghost use Rattle.file_tree.specs.Nodes.{Dir, File, is_link};
 ghost use Rattle.file_tree.specs.Nodes as nodes;
-ghost use Rattle.file_tree.specs.Places.{at_name, is_name};
+ghost use Rattle.file_tree.specs.Places.{at_name, is_file_name};
 ghost use Rattle.fd_table.specs.Filled.{IsFreeAt};
 ghost use Rattle.fd_table.specs.Kept.{open_files};
 ghost use Rattle.fd_table.specs.OpenFiles as open_state;
@@ -13,7 +13,7 @@ ghost use Rattle.kernel.specs.Calls as model;
 ghost use Rattle.lookup.specs.Looks.{find_of};
 ghost use Rattle.lookup.specs.Views.{way_of};
 ghost use Rattle.prog_asm.specs.Programs.{is_path};
-ghost use Rattle.syscalls.specs.Meets.{Does, Passes, number_seen};
+ghost use Rattle.syscalls.specs.AnswerViews.{Does, Passes, number_seen};
 ghost use Rattle.kernel.specs.Changes.{tree_after};
 ghost use Rattle.syscalls.specs.Shows.{shown};
 ghost use Rattle.syscalls.specs.Views.{effects_of};
@@ -159,7 +159,7 @@ fn open_new<T: Tree>(
     requires directory { (nodes.node (T.nodes tree.old) dir).kind ≡ Dir }
     requires linked { (nodes.node (T.nodes tree.old) dir).linked ≡ true }
     requires absent { nodes.child_of (T.nodes tree.old) dir name.now ≡ None }
-    requires name { is_name name.now ≡ true }
+    requires name { is_file_name name.now ≡ true }
     ensures { Does (T.nodes tree.old) (open_files files.old) caller.now (T.nodes tree.new) (open_files files.new) result
         (λ w e. model.opened_new w caller.now.number caller.now.process.now e how.now.flags how.now.rights.0 how.now.fcntls.0 (at_name (nodes.node (T.nodes tree.old) dir).place name.now)) }
 {

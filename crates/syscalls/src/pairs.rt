@@ -4,7 +4,7 @@ ghost use Rattle.std.specs.Prelude.{◌≡◌, ◌+◌, ◌<◌, IfOk};
 ghost use Rattle.fd_table.specs.Descriptions.{Made_at};
 ghost use Rattle.fd_table.specs.Views.{class_seen};
 ghost use Rattle.prog_asm.specs.Programs as programs;
-ghost use Rattle.syscalls.specs.Called.{paired_as, result_of};
+ghost use Rattle.syscalls.specs.CallViews.{paired_as, result_of};
 ghost use Rattle.syscalls.specs.MayCall.{CallComes, MayCall};
 ghost use Rattle.syscalls.specs.Views.{effects_of, event_of, world_of};
 

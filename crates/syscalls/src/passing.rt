@@ -10,7 +10,7 @@ ghost use Rattle.prog_asm.specs.Programs as programs;
 ghost use Rattle.prog_asm.specs.Views.{operand_of};
 ghost use Rattle.kernel.specs.Answers as answers;
 ghost use Rattle.kernel.specs.Calls as model;
-ghost use Rattle.syscalls.specs.Meets.{Calls, Does, HasNumbers, need};
+ghost use Rattle.syscalls.specs.AnswerViews.{Calls, Does, HasNumbers, need};
 
 use crate::descriptors::{Caller, Target, byte_of, held, need_of, target_of, through};
 use crate::outcomes::{Refusal, Success};

@@ -3,11 +3,11 @@
 ghost use Rattle.std.specs.Prelude.{◌≡◌, ◌<◌, Err, IfOk, IfSome, false, length};
 ghost use Rattle.file_tree.specs.Nodes.{is_link, node};
 ghost use Rattle.lookup.specs.Looks.{find_of, start_place};
-ghost use Rattle.lookup.specs.Promises.{IsBeneath, IsFollowed, IsFreeName, IsThere, IsUnderName, MayBeMade};
+ghost use Rattle.lookup.specs.Promises.{IsBeneath, IsFollowed, IsFreeName, IsFindingThere, IsUnderName, MayBeMade};
 ghost use Rattle.lookup.specs.Answers as lookups;
 ghost use Rattle.lookup.specs.Views as views;
 ghost use Rattle.lookup.specs.Views.{fault_of, found_of, last_of, way_of};
-ghost use Rattle.syscalls.specs.Meets.{Finds};
+ghost use Rattle.syscalls.specs.AnswerViews.{Finds};
 
 use crate::outcomes::Refusal;
 use file_tree::{NodeId, Tree};
@@ -18,7 +18,7 @@ use std::alloc::Global;
 /// What a fault of a lookup is refused as. An escape is no missing right, though its error is the same. (open(2),
 /// capsicum(4))
 fn refusal_of(fault: PathFault) -> Refusal
-    ensures { (found : lookups.Answer) → IfSome (views.not_found (fault_of fault)) (λ answer. answer ≡ found) → Finds found (Err result) }
+    ensures { (found : lookups.Finding) → IfSome (views.not_found (fault_of fault)) (λ answer. answer ≡ found) → Finds found (Err result) }
 {
     match fault {
         PathFault::Escape => Refusal::Fails(Errno::ENOTCAPABLE, Cause::Escape),
@@ -43,7 +43,7 @@ pub(crate) fn look_up<T: Tree>(
     requires there { start < length (T.nodes tree.now) }
     requires opened { is_link (node (T.nodes tree.now) start).kind ≡ false }
     ensures finds { Finds (find_of (T.nodes tree.now) start path.now (way_of way) (last_of last)) result }
-    ensures there { IfOk result (λ found. IsThere (T.nodes tree.now) (found_of found)) }
+    ensures there { IfOk result (λ found. IsFindingThere (T.nodes tree.now) (found_of found)) }
     ensures beneath { IfOk result (λ found. IsBeneath (T.nodes tree.now) (start_place (T.nodes tree.now) start (way_of way)) (found_of found)) }
     ensures named { last ≡ Last.Keep → IfOk result (λ found. IsUnderName (T.nodes tree.now) path.now (found_of found)) }
     ensures free { last ≡ Last.Keep → IfOk result (λ found. IsFreeName (T.nodes tree.now) path.now (found_of found)) }

@@ -16,7 +16,7 @@ ghost use Rattle.prog_asm.specs.Views.{operand_of};
 ghost use Rattle.kernel.specs.Answers as answers;
 ghost use Rattle.kernel.specs.Calls as model;
 ghost use Rattle.syscalls.specs.declared.descriptors.Caller.{Caller as CallerSeen};
-ghost use Rattle.syscalls.specs.Meets.{Calls, Does, IsIdle, IsReady, IsReadyDescription};
+ghost use Rattle.syscalls.specs.AnswerViews.{Calls, Does, IsIdle, IsReady, IsReadyDescription};
 
 use crate::descriptors::{Caller, Target, file_through, reach, value_of};
 use crate::directories::is_directory;

@@ -3,7 +3,7 @@
 ghost use Rattle.std.specs.Prelude.{◌≡◌, ◌<◌, ◌≢◌, ◌∷◌, [], Bool, IfErr, IfOk, None, true, false, length};
 ghost use Rattle.file_tree.specs.Nodes.{Dir, is_link};
 ghost use Rattle.file_tree.specs.Nodes as nodes;
-ghost use Rattle.file_tree.specs.Places.{at_name, begins, is_name};
+ghost use Rattle.file_tree.specs.Places.{at_name, begins, is_file_name};
 ghost use Rattle.file_tree.specs.WellFormed.{IsTree};
 ghost use Rattle.fd_table.specs.Descriptions.{Descriptor};
 ghost use Rattle.lookup.specs.Answers as lookups;
@@ -11,7 +11,7 @@ ghost use Rattle.lookup.specs.Looks.{find_of};
 ghost use Rattle.lookup.specs.Promises.{HasName};
 ghost use Rattle.prog_asm.specs.Programs.{Syscall, is_path};
 ghost use Rattle.kernel.specs.Calls as model;
-ghost use Rattle.syscalls.specs.Meets.{MayReplace, OnTree};
+ghost use Rattle.syscalls.specs.AnswerViews.{MayReplace, OnTree};
 ghost use Rattle.syscalls.specs.Views.{effect_of, effects_of};
 
 use crate::directories::is_directory;
@@ -63,7 +63,7 @@ pub(crate) fn rename_free<T: Tree>(
     requires dir_there { dir < length (T.nodes tree.old) }
     requires dir_linked { (nodes.node (T.nodes tree.old) dir).linked ≡ true }
     requires directory { (nodes.node (T.nodes tree.old) dir).kind ≡ Dir }
-    requires name { is_name name.now ≡ true }
+    requires name { is_file_name name.now ≡ true }
     requires free { nodes.child_of (T.nodes tree.old) dir name.now ≡ None }
     ensures { (refuse : Bool) → OnTree (T.nodes tree.old) (T.nodes tree.new) refuse result (λ w p s e.
         model.renamed_free w p s e n (at_name (nodes.node (T.nodes tree.old) dir).place name.now)) }
@@ -112,7 +112,7 @@ pub(crate) fn rename_over<T: Tree>(
     requires over_linked { (nodes.node (T.nodes tree.old) over).linked ≡ true }
     requires named { HasName (T.nodes tree.old) over name.now }
     requires other { over ≢ n }
-    requires name { is_name name.now ≡ true }
+    requires name { is_file_name name.now ≡ true }
     ensures { (refuse : Bool) → OnTree (T.nodes tree.old) (T.nodes tree.new) refuse result (λ w p s e.
         model.renamed_over w p s e n over) }
 {

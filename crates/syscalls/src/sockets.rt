@@ -9,7 +9,7 @@ ghost use Rattle.fd_table.specs.Views.{descriptor_seen, side_seen};
 ghost use Rattle.rights.specs.Errors.{EAGAIN, Refused};
 ghost use Rattle.kernel.specs.Answers as answers;
 ghost use Rattle.kernel.specs.Calls as model;
-ghost use Rattle.syscalls.specs.Meets.{Does, IsIdle, Refuses};
+ghost use Rattle.syscalls.specs.AnswerViews.{Does, IsIdle, Refuses};
 
 use crate::descriptors::Caller;
 use crate::outcomes::{Refusal, Success};

@@ -8,7 +8,7 @@ ghost use Rattle.fd_table.specs.OpenFiles as open_state;
 ghost use Rattle.prog_asm.specs.Programs as programs;
 ghost use Rattle.prog_asm.specs.Views.{operand_of};
 ghost use Rattle.kernel.specs.Answers as answers;
-ghost use Rattle.syscalls.specs.Meets.{Calls, HasNumbers, IsIdle, Passes, number_seen};
+ghost use Rattle.syscalls.specs.AnswerViews.{Calls, HasNumbers, IsIdle, Passes, number_seen};
 
 use crate::descriptors::{Caller, held};
 use crate::outcomes::{Refusal, Success};

@@ -5,7 +5,7 @@ ghost use Rattle.rights.specs.Views.{cause_of, errno_of};
 ghost use Rattle.prog_asm.specs.Programs as programs;
 ghost use Rattle.prog_asm.specs.Views.{instruction_of, syscall_of};
 ghost use Rattle.kernel.specs.Steps as steps;
-ghost use Rattle.syscalls.specs.Called.{FailsAs, result_of, succeeded_as};
+ghost use Rattle.syscalls.specs.CallViews.{FailsAs, result_of, succeeded_as};
 ghost use Rattle.syscalls.specs.MayCall.{CallComes, IsCall, MayCall, is_entering, is_making, is_pairing};
 ghost use Rattle.syscalls.specs.Views.{effects_of, event_of, world_of};
 

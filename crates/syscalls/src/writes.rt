@@ -12,7 +12,7 @@ ghost use Rattle.prog_asm.specs.Programs as programs;
 ghost use Rattle.prog_asm.specs.Views.{operand_of};
 ghost use Rattle.kernel.specs.Answers as answers;
 ghost use Rattle.kernel.specs.Calls as model;
-ghost use Rattle.syscalls.specs.Meets.{Calls, Does, IsReady, OnTree};
+ghost use Rattle.syscalls.specs.AnswerViews.{Calls, Does, IsReady, OnTree};
 
 use crate::descriptors::{Caller, Target, byte_of, file_through, reach, value_of};
 use crate::directories::is_directory;

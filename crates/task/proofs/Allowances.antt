@@ -97,7 +97,8 @@ found (g ∷ grants) operation place test =
     ]
 
 -- a grant that is there is tried
-tried : (grants : List Grant) (operation : Operation) (place : List (List ℕ)) (number : ℕ) (g : Grant) → slice_get grants number ≡ Some g → allows g operation place ≡ true → is_allowed grants operation place ≡ true
+tried : (grants : List Grant) (operation : Operation) (place : List (List ℕ)) (number : ℕ) (g : Grant) → slice_get grants number ≡ Some g →
+    allows g operation place ≡ true → is_allowed grants operation place ≡ true
 tried [] operation place number g there test = absurd cc
 tried (h ∷ grants) operation place zero g there test =
     any_first _ (is_allowed grants operation place) (let same : h ≡ g = cc in ap (λ x. allows x operation place) same ∙ test)

@@ -17,7 +17,8 @@ first_processes (s ∷ starts) zero = refl
 first_processes (s ∷ starts) (suc p) = first_processes starts p
 
 -- ## Which descriptions are shared
-same_number : (tree : List Node) (p n : ℕ) (x : FirstObject) (q m : ℕ) (y : FirstObject) → n < 16 → m < 16 → is_object tree x ≡ true → is_object tree y ≡ true → description_of p n x ≡ description_of q m y → IsShared p n x q m y
+same_number : (tree : List Node) (p n : ℕ) (x : FirstObject) (q m : ℕ) (y : FirstObject) → n < 16 → m < 16 → is_object tree x ≡ true →
+    is_object tree y ≡ true → description_of p n x ≡ description_of q m y → IsShared p n x q m y
 same_number tree p n (On_node node access) q m (On_node other its) few small test also same = (omega (arith, same), omega (arith, same))
 same_number tree p n (On_node node access) q m (On_end pair side) few small test also same =
     let below = a_side tree pair side also in
@@ -41,7 +42,8 @@ back p n (On_end pair side) q m (On_node node access) is = absurd is
 back p n (On_end pair side) q m (On_end other its) is = let one : pair ≡ other = is.0 in let two : side ≡ its = is.1 in omega arith
 
 -- the entry of what is given
-number_of : (starts : List Start) (p n : ℕ) (given : FirstDescriptor) (d : Descriptor) → given_to (slice_get starts p) n ≡ Some given → first_entries (given_by starts) p n ≡ Some d → d.description ≡ description_of p given.number given.object
+number_of : (starts : List Start) (p n : ℕ) (given : FirstDescriptor) (d : Descriptor) → given_to (slice_get starts p) n ≡ Some given →
+    first_entries (given_by starts) p n ≡ Some d → d.description ≡ description_of p given.number given.object
 number_of starts p n given d is entry =
     let both : Some (first_entry p given) ≡ Some d = sym (ap (option_map (first_entry p)) is) ∙ entry in
     let same : first_entry p given ≡ d = cc in
@@ -74,7 +76,9 @@ first_is_first plan good =
           state = refl;
         }
 
-    shares : (p n q m : ℕ) (given other : FirstDescriptor) (d e : Descriptor) → IsAt plan.nodes plan.starts p n given → IsAt plan.nodes plan.starts q m other → d.description ≡ description_of p given.number given.object → e.description ≡ description_of q other.number other.object → (d.description ≡ e.description) ↔ IsShared p n given.object q m other.object
+    shares : (p n q m : ℕ) (given other : FirstDescriptor) (d e : Descriptor) → IsAt plan.nodes plan.starts p n given →
+        IsAt plan.nodes plan.starts q m other → d.description ≡ description_of p given.number given.object →
+        e.description ≡ description_of q other.number other.object → (d.description ≡ e.description) ↔ IsShared p n given.object q m other.object
     shares p n q m given other d e left right one two =
         let few : given.number < 16 = left.tested.number in
         let small : other.number < 16 = right.tested.number in

@@ -3,7 +3,7 @@ use Rattle.std.proofs.Common.{◌≡◌, ℕ, List, [], ◌∷◌, codes, refl, 
 use Rattle.std.specs.Prelude.{true, false}
 use Rattle.std.proofs.Math.Decide.{ℕ_discrete}
 use Rattle.rights.specs.Operations.{Operation, Create, Write}
-use Rattle.file_tree.specs.Places.{is_name, path_components}
+use Rattle.file_tree.specs.Places.{is_file_name, path_components}
 use Rattle.file_tree.specs.Nodes.{node_at}
 use Rattle.file_tree.specs.Changes.{filled}
 use Rattle.file_tree.specs.WellFormed.{is_within_limits}
@@ -16,7 +16,7 @@ use Rattle.kernel.specs.Answers.{Event, unless, held, at_object, at_number}
 use Rattle.kernel.specs.Calls.{looks, looks_twice, answer}
 use Rattle.kernel.specs.Changes.{files_after, changed}
 use Rattle.kernel.specs.Steps.{answered, jumped, executed, stepped_at, stepped_by, stepped, step}
-use Rattle.kernel.specs.Gainful.{two_processes, setting, event_of}
+use Rattle.kernel.specs.Gainful.{two_processes, setting, event_by}
 use Rattle.kernel.proofs.Gainful.{nothing_comes_from_elsewhere}
 use Rattle.kernel.proofs.Keeping.{next_world}
 use Rattle.task.specs.Begins.{first_files, first_world}
@@ -36,7 +36,9 @@ abbrev after_one : Plan → Choice → World
 after_one plan c = (step (programs_of_plan plan) (first_world plan) event c).world
 
 -- A valid task whose second step isn't safe, whatever numbers are chosen, isn't sandboxed.
-second_step : (plan : Plan) → is_plan plan ≡ true → ((c d : Choice) → IsSafe (programs_of_plan plan) plan.grants (after_one plan c) event (step (programs_of_plan plan) (after_one plan c) event d) → ⊥) → IsSandboxed plan → ⊥
+second_step : (plan : Plan) → is_plan plan ≡ true →
+    ((c d : Choice) → IsSafe (programs_of_plan plan) plan.grants (after_one plan c) event (step (programs_of_plan plan) (after_one plan c) event d) →
+    ⊥) → IsSandboxed plan → ⊥
 second_step plan valid unsafe sandboxed =
     let programs = programs_of_plan plan in
     let formed = first_well_formed plan valid in
@@ -53,22 +55,24 @@ forbidden : (grants : List Grant) (operation : Operation) (place : List (List �
 forbidden grants operation place is allowed = let tested : is_allowed grants operation place ≡ true = (allowed_is_tested grants operation place).1 allowed in absurd cc
 
 missing_right : IsSandboxed reading_plan → ⊥
-unfolding is_within_limits is_name ℕ_discrete unless held at_object answer files_after changed answered jumped executed stepped_at stepped_by stepped step first_world first_files
+unfolding is_within_limits is_file_name ℕ_discrete unless held at_object answer files_after changed answered jumped executed stepped_at stepped_by stepped step first_world first_files
 missing_right = second_step reading_plan refl (λ c d safe. safe.unrefused)
 
 capability_mode : IsSandboxed opening_plan → ⊥
-unfolding is_within_limits is_name ℕ_discrete unless held at_object answer files_after changed answered jumped executed stepped_at stepped_by stepped step first_world first_files
+unfolding is_within_limits is_file_name ℕ_discrete unless held at_object answer files_after changed answered jumped executed stepped_at stepped_by stepped step first_world first_files
 capability_mode = second_step opening_plan refl (λ c d safe. safe.unrefused)
 
 unlisted_operation : IsSandboxed writing_plan → ⊥
-unfolding is_within_limits is_name ℕ_discrete filled unless held at_object answer files_after changed answered jumped executed stepped_at stepped_by stepped step first_world first_files
+unfolding is_within_limits is_file_name ℕ_discrete filled unless held at_object answer files_after changed answered jumped executed stepped_at stepped_by stepped step first_world first_files
 unlisted_operation = second_step writing_plan refl (λ c d safe. forbidden writing_plan.grants Write (codes "work" ∷ codes "in" ∷ []) refl (safe.allowed refl).0)
 
 second_effect : IsSandboxed moving_plan → ⊥
-unfolding is_within_limits is_name ℕ_discrete find_of looks looks_twice lookup_fault path_fault path_components last_component looked by_places node_at unless held at_object at_number answer files_after changed answered jumped executed stepped_at stepped_by stepped step first_world first_files
+unfolding is_within_limits is_file_name ℕ_discrete find_of looks looks_twice lookup_fault path_fault path_components last_component looked by_places
+    node_at unless held at_object at_number answer files_after changed answered jumped executed stepped_at stepped_by stepped step first_world
+    first_files
 second_effect = second_step moving_plan refl (λ c d safe. forbidden moving_plan.grants Create (codes "work" ∷ codes "new" ∷ []) refl (safe.allowed refl).1.0)
 
-gained_descriptor : IsSafe setting [] two_processes (event_of 1) gaining → ⊥
+gained_descriptor : IsSafe setting [] two_processes (event_by 1) gaining → ⊥
 gained_descriptor safe = nothing_comes_from_elsewhere.no_call_at_no_call safe.gains
 
 pub some_are_not_sandboxed : SomeAreNotSandboxed

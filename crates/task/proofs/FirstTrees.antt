@@ -1,10 +1,11 @@
 -- Nodes that can be made one after another are a tree.
-use Rattle.std.proofs.Common.{◌≡◌, ℕ, ◌+◌, ◌-◌, ◌<◌, ◌≤◌, true, false, List, [], ◌∷◌, ◌++◌, refl, arith, length, drop, sym, ◌∙◌, ap, subst, append_assoc, length-append, length-drop, take-append-drop, append-nil}
+use Rattle.std.proofs.Common.{◌≡◌, ℕ, ◌+◌, ◌-◌, ◌<◌, ◌≤◌, true, false, List, [], ◌∷◌, ◌++◌, refl, arith, length, drop, sym, ◌∙◌, ap, subst, append_assoc, length-append}
+use Rattle.std.proofs.Common.{length-drop, take-append-drop, append-nil}
 use Rattle.std.specs.Prelude.{◌&&◌, not, nat_lt, nat_eq, Option, Some, None}
 use Rattle.std.specs.List.{list_all, list_any}
 use Rattle.std.proofs.lemmas.Bool.{both_ways, eqb-true, ltb-true, lt-ltb}
 use Rattle.rights.proofs.Tests.{both_left, both_right, not_true}
-use Rattle.file_tree.specs.Places.{is_name, above, at_name}
+use Rattle.file_tree.specs.Places.{is_file_name, above, at_name}
 use Rattle.file_tree.specs.Nodes.{Kind, File, Dir, Link, Node, node, node_at, is_dir, stands_at}
 use Rattle.rights.specs.Limits.{most_nodes}
 use Rattle.file_tree.specs.Refusals.{new_tree, created, create_fault}
@@ -94,13 +95,13 @@ made_after made m tree room test =
     let own = placed m.place (not_the_root made m.place tree facts.free) in
     let d = facts.holder.number in
     let there : at_name (node made d).place own.name ≡ m.place = ap (λ p. at_name p own.name) facts.holder.place ∙ own.whole in
-    let rest : list_all is_name (drop (length m.place - 1) m.place) ≡ true = all_after is_name (length m.place - 1) m.place limits.names in
-    let last : list_all is_name (own.name ∷ []) ≡ true = ap (list_all is_name) (sym own.last) ∙ rest in
+    let rest : list_all is_file_name (drop (length m.place - 1) m.place) ≡ true = all_after is_file_name (length m.place - 1) m.place limits.names in
+    let last : list_all is_file_name (own.name ∷ []) ≡ true = ap (list_all is_file_name) (sym own.last) ∙ rest in
     record {
       directory = d;
       name = own.name;
       kind = facts.holder.kind;
-      named = both_left _ (list_all is_name []) last;
+      named = both_left _ (list_all is_file_name []) last;
       content = limits.content;
       allowed = no_fault made d own.name facts.holder.linked (ap (node_at made) there ∙ free_place made m.place facts.free) room;
       makes = same_node made m d own.name facts.linked there;
@@ -122,7 +123,8 @@ all_followed made (m ∷ nodes) tree room test =
     (all_followed (made ++ m ∷ []) nodes first more (both_right (can_follow made m) _ test))
 
 -- each of the nodes is made after those before it
-each_made : (made nodes : List Node) → IsTree made → length made + length nodes ≤ most_nodes → are_made made nodes ≡ true → (front rest : List Node) (m : Node) → nodes ≡ front ++ m ∷ rest → IsMadeAfter (made ++ front) m
+each_made : (made nodes : List Node) → IsTree made → length made + length nodes ≤ most_nodes → are_made made nodes ≡ true →
+    (front rest : List Node) (m : Node) → nodes ≡ front ++ m ∷ rest → IsMadeAfter (made ++ front) m
 each_made made [] tree room test [] rest m is = absurd cc
 each_made made [] tree room test (x ∷ front) rest m is = absurd cc
 each_made made (n ∷ nodes) tree room test [] rest m is =

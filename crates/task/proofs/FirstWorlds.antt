@@ -9,9 +9,9 @@ use Rattle.texts.specs.Names.{is_name}
 use Rattle.prog_asm.specs.Programs.{Instruction, is_program, is_instruction, ends_well}
 use Rattle.fd_table.specs.Descriptions.{Descriptor}
 use Rattle.rights.specs.Limits.{most_processes, most_programs}
-use Rattle.kernel.specs.WellFormed.{IsCode, IsPoint, IsMade, HasNone, FitsRegister, IsWorld}
+use Rattle.kernel.specs.WellFormed.{IsCode, IsPoint, IsProcessIfMade, HasNone, FitsRegister, IsWorld}
 use Rattle.task.specs.Plans.{NamedProgram, Start, Plan, code_in, programs_of_plan}
-use Rattle.task.specs.Limits.{are_grants, is_named, are_named_apart, all_apart, are_programs, are_descriptors, is_start, are_starts, is_tree, is_plan}
+use Rattle.task.specs.Limits.{are_grants, is_program_named, are_named_apart, all_apart, are_programs, are_descriptors, is_start, are_starts, is_tree, is_plan}
 use Rattle.task.specs.Begins.{first_files, first_process, first_world}
 use Rattle.task.specs.Laws.{FirstWorldsAreWellFormed}
 use Rattle.task.proofs.FirstTrees.{tested_tree}
@@ -46,12 +46,12 @@ whole_code : (code : List Instruction) → is_program code ≡ true → IsCode c
 whole_code [] good = tt
 whole_code (i ∷ code) good = good
 
-valid_code : (programs : List NamedProgram) (n : ℕ) → list_all is_named programs ≡ true → IsCode (code_in (slice_get programs n))
+valid_code : (programs : List NamedProgram) (n : ℕ) → list_all is_program_named programs ≡ true → IsCode (code_in (slice_get programs n))
 valid_code [] n good = tt
-valid_code (p ∷ programs) zero good = whole_code p.code (both_right (is_name p.name) _ (both_left _ (list_all is_named programs) good))
-valid_code (p ∷ programs) (suc n) good = valid_code programs n (both_right (is_named p) _ good)
+valid_code (p ∷ programs) zero good = whole_code p.code (both_right (is_name p.name) _ (both_left _ (list_all is_program_named programs) good))
+valid_code (p ∷ programs) (suc n) good = valid_code programs n (both_right (is_program_named p) _ good)
 
-pub named_programs : (programs : List NamedProgram) → are_programs programs ≡ true → list_all is_named programs ≡ true
+pub named_programs : (programs : List NamedProgram) → are_programs programs ≡ true → list_all is_program_named programs ≡ true
 named_programs programs good =
     both_right (nat_le (length programs) most_programs) _ (both_left _ (all_apart are_named_apart programs) good)
 
@@ -62,10 +62,10 @@ has_point code good = go code (both_right (nat_le (length code) 256 && list_all 
     go [] ends = absurd cc
     go (i ∷ code) ends = tt
 
-starts_at_point : (programs : List NamedProgram) (n : ℕ) → list_all is_named programs ≡ true → n < length programs → IsPoint (slice_get (code_in (slice_get programs n)) 0)
+starts_at_point : (programs : List NamedProgram) (n : ℕ) → list_all is_program_named programs ≡ true → n < length programs → IsPoint (slice_get (code_in (slice_get programs n)) 0)
 starts_at_point [] n good below = absurd (omega arith)
-starts_at_point (p ∷ programs) zero good below = has_point p.code (both_right (is_name p.name) _ (both_left _ (list_all is_named programs) good))
-starts_at_point (p ∷ programs) (suc n) good below = starts_at_point programs n (both_right (is_named p) _ good) (omega arith)
+starts_at_point (p ∷ programs) zero good below = has_point p.code (both_right (is_name p.name) _ (both_left _ (list_all is_program_named programs) good))
+starts_at_point (p ∷ programs) (suc n) good below = starts_at_point programs n (both_right (is_program_named p) _ good) (omega arith)
 
 -- first processes
 zeros : (n r : ℕ) → FitsRegister (slice_get (replicate n 0) r)
@@ -76,7 +76,9 @@ zeros (suc n) zero = lit
     lit = omega arith
 zeros (suc n) (suc r) = zeros n r
 
-first_made : (plan : Plan) → list_all is_named plan.programs ≡ true → (starts : List Start) → list_all (is_start plan.nodes (length plan.programs)) starts ≡ true → (p : ℕ) → IsMade (programs_of_plan plan) (slice_get (map first_process starts) p)
+first_made : (plan : Plan) → list_all is_program_named plan.programs ≡ true → (starts : List Start) →
+    list_all (is_start plan.nodes (length plan.programs)) starts ≡ true → (p : ℕ) →
+    IsProcessIfMade (programs_of_plan plan) (slice_get (map first_process starts) p)
 first_made plan valid [] good p = tt
 first_made plan valid (s ∷ starts) good zero =
     let start : is_start plan.nodes (length plan.programs) s ≡ true = both_left _ (list_all (is_start plan.nodes (length plan.programs)) starts) good in

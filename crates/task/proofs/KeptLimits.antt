@@ -16,7 +16,8 @@ use Rattle.texts.specs.Names.{is_name, is_name_byte}
 use Rattle.fd_table.specs.Descriptions.{Access}
 use Rattle.task.specs.Plans.{Grant, NamedProgram, FirstObject, On_node, On_end, FirstDescriptor, Start, Plan, code_in}
 use Rattle.rights.specs.Limits.{most_grants, most_programs}
-use Rattle.task.specs.Limits.{can_follow, are_made, is_tree, is_grant, are_apart, are_grants, is_named, are_named_apart, are_programs, all_apart, is_object, is_descriptor, are_numbered_apart, are_descriptors, is_start, is_plan}
+use Rattle.task.specs.Limits.{can_follow, are_made, is_tree, is_grant, are_grants_apart, are_grants, is_program_named, are_named_apart, are_programs, all_apart, is_object}
+use Rattle.task.specs.Limits.{is_descriptor, are_numbered_apart, are_descriptors, is_start, is_plan}
 use Rattle.task.specs.Policies.{grant_named}
 use Rattle.task.specs.KeptLimits.{IsLetter, IsNameByte, IsShortName, CanBeOpened, IsThere, IsUsable, KeepsGrants, KeepsPrograms, KeepsStarts, PlansKeepLimits, TreesAreMadeInOrder}
 use Rattle.task.proofs.FirstTrees.{tested_tree, made_in_order}
@@ -30,7 +31,9 @@ all_at test (y ∷ xs) all zero x is = let same : y ≡ x = cc in ap test (sym s
 all_at test (y ∷ xs) all (suc i) x is = all_at test xs (both_right (test y) _ all) i x is
 
 -- two of a list whose elements are apart are one, or apart
-apart_at : {A : Type 0} (apart : A → A → Bool) (P : A → A → Type 0) → ((x y : A) → apart x y ≡ true → P x y) → ((x y : A) → apart x y ≡ true → P y x) → (xs : List A) → all_apart apart xs ≡ true → (i j : ℕ) (x y : A) → slice_get xs i ≡ Some x → slice_get xs j ≡ Some y → (i ≡ j) ⊎ P x y
+apart_at : {A : Type 0} (apart : A → A → Bool) (P : A → A → Type 0) → ((x y : A) → apart x y ≡ true → P x y) →
+    ((x y : A) → apart x y ≡ true → P y x) → (xs : List A) → all_apart apart xs ≡ true → (i j : ℕ) (x y : A) → slice_get xs i ≡ Some x →
+    slice_get xs j ≡ Some y → (i ≡ j) ⊎ P x y
 apart_at apart P there back [] all i j x y at_x at_y = absurd cc
 apart_at apart P there back (z ∷ xs) all zero zero x y at_x at_y = inl refl
 apart_at apart P there back (z ∷ xs) all zero (suc j) x y at_x at_y =
@@ -98,7 +101,7 @@ record Apart (g h : Grant) : Type 0 where
   names : g.name ≢ h.name
   places : (place : List (List ℕ)) → begins g.path place ≡ true → begins h.path place ≡ true → ⊥
 
-grants_apart : (g h : Grant) → are_apart g h ≡ true → Apart g h
+grants_apart : (g h : Grant) → are_grants_apart g h ≡ true → Apart g h
 grants_apart g h test =
     let two = both_left _ (not (begins h.path g.path)) test in
     record {
@@ -122,17 +125,17 @@ named_here : (g : Grant) (grants : List Grant) → grant_named (g ∷ grants) g.
 unfolding grant_named
 named_here g grants = let same : bytes_eq g.name g.name ≡ true = (bytes_eq-Decides g.name g.name).1 refl in rw same refl
 
-finds : (grants : List Grant) → all_apart are_apart grants ≡ true → (i : ℕ) (g : Grant) → slice_get grants i ≡ Some g → grant_named grants g.name ≡ Some g
+finds : (grants : List Grant) → all_apart are_grants_apart grants ≡ true → (i : ℕ) (g : Grant) → slice_get grants i ≡ Some g → grant_named grants g.name ≡ Some g
 finds [] apart i g is = absurd cc
 finds (h ∷ grants) apart zero g is = let same : h ≡ g = cc in subst (λ (x : Grant). grant_named (h ∷ grants) x.name ≡ Some x) same (named_here h grants)
 finds (h ∷ grants) apart (suc i) g is =
-    let other = grants_apart h g (all_at (are_apart h) grants (both_left _ (all_apart are_apart grants) apart) i g is) in
+    let other = grants_apart h g (all_at (are_grants_apart h) grants (both_left _ (all_apart are_grants_apart grants) apart) i g is) in
     named_first h g grants g.name (false_from_ne_true _ (λ same. other.names ((bytes_eq-Decides h.name g.name).0 same)))
-    (finds grants (both_right (list_all (are_apart h) grants) _ apart) i g is)
+    (finds grants (both_right (list_all (are_grants_apart h) grants) _ apart) i g is)
 
 keeps_grants : (plan : Plan) → are_grants plan.nodes plan.grants ≡ true → KeepsGrants plan
 keeps_grants plan test =
-    let two = both_left _ (all_apart are_apart plan.grants) test in
+    let two = both_left _ (all_apart are_grants_apart plan.grants) test in
     let all = both_right (nat_le (length plan.grants) most_grants) _ two in
     let apart = both_right (nat_le (length plan.grants) most_grants && list_all (is_grant plan.nodes) plan.grants) _ test in
     let at = λ (i : ℕ) (g : Grant) (is : slice_get plan.grants i ≡ Some g). all_at (is_grant plan.nodes) plan.grants all i g is in
@@ -141,10 +144,10 @@ keeps_grants plan test =
       named = λ i g is. short_name g.name (both_left _ (has_directory plan.nodes g.path) (at i g is));
       directory = λ i g is. both_right (is_name g.name) _ (at i g is);
       names = λ i j g h at_g at_h same.
-          one_of (apart_at are_apart Apart grants_apart (λ g h test. turned g h (grants_apart g h test)) plan.grants apart i j g h at_g at_h) (λ other. other.names same);
+          one_of (apart_at are_grants_apart Apart grants_apart (λ g h test. turned g h (grants_apart g h test)) plan.grants apart i j g h at_g at_h) (λ other. other.names same);
       found = finds plan.grants apart;
       places = λ i j g h place at_g at_h one another.
-          one_of (apart_at are_apart Apart grants_apart (λ g h test. turned g h (grants_apart g h test)) plan.grants apart i j g h at_g at_h) (λ other. other.places place one another);
+          one_of (apart_at are_grants_apart Apart grants_apart (λ g h test. turned g h (grants_apart g h test)) plan.grants apart i j g h at_g at_h) (λ other. other.places place one another);
     }
 
 -- programs
@@ -155,15 +158,16 @@ keeps_programs : (plan : Plan) → are_programs plan.programs ≡ true → Keeps
 keeps_programs plan test =
     let two = both_left _ (all_apart are_named_apart plan.programs) test in
     let all = both_right (nat_le (length plan.programs) most_programs) _ two in
-    let apart = both_right (nat_le (length plan.programs) most_programs && list_all is_named plan.programs) _ test in
+    let apart = both_right (nat_le (length plan.programs) most_programs && list_all is_program_named plan.programs) _ test in
     record {
-      few = leb-true _ _ (both_left _ (list_all is_named plan.programs) two);
-      named = λ i p is. short_name p.name (both_left _ (is_program p.code) (all_at is_named plan.programs all i p is));
+      few = leb-true _ _ (both_left _ (list_all is_program_named plan.programs) two);
+      named = λ i p is. short_name p.name (both_left _ (is_program p.code) (all_at is_program_named plan.programs all i p is));
       code = λ i p is. ap code_in is;
-      valid = λ i p is. both_right (is_name p.name) _ (all_at is_named plan.programs all i p is);
+      valid = λ i p is. both_right (is_name p.name) _ (all_at is_program_named plan.programs all i p is);
       names = λ i j p q at_p at_q same.
           one_of
-          (apart_at are_named_apart OtherNames (λ p q test. other_names p.name q.name (not_true _ test)) (λ p q test is. other_names p.name q.name (not_true _ test) (sym is)) plan.programs apart i j p q at_p at_q)
+          (apart_at are_named_apart OtherNames (λ p q test. other_names p.name q.name (not_true _ test))
+          (λ p q test is. other_names p.name q.name (not_true _ test) (sym is)) plan.programs apart i j p q at_p at_q)
           (λ other. other same);
     }
 
@@ -220,7 +224,8 @@ keeps_starts plan good =
           usable plan.nodes d (all_at (is_descriptor plan.nodes) s.descriptors (both_left _ (all_apart are_numbered_apart s.descriptors) (descriptors p s at_s)) i d at_d);
       numbers = λ p i j s d e at_s at_d at_e same.
           one_of
-          (apart_at are_numbered_apart OtherNumbers other_numbers (λ d e test is. other_numbers d e test (sym is)) s.descriptors (both_right (list_all (is_descriptor plan.nodes) s.descriptors) _ (descriptors p s at_s)) i j d e at_d at_e)
+          (apart_at are_numbered_apart OtherNumbers other_numbers (λ d e test is. other_numbers d e test (sym is)) s.descriptors
+          (both_right (list_all (is_descriptor plan.nodes) s.descriptors) _ (descriptors p s at_s)) i j d e at_d at_e)
           (λ other. other same);
     }
 

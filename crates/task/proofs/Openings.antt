@@ -64,7 +64,8 @@ in_list tree (e ∷ descriptors) n d test is =
     by_number (inr other) more =
         let next : with_number n (e ∷ descriptors) ≡ with_number n descriptors = rw other.0 refl in more (sym next ∙ is)
 
-pub given_at : (tree : List Node) (programs : ℕ) (starts : List Start) (p n : ℕ) (d : FirstDescriptor) → list_all (is_start tree programs) starts ≡ true → given_to (slice_get starts p) n ≡ Some d → IsAt tree starts p n d
+pub given_at : (tree : List Node) (programs : ℕ) (starts : List Start) (p n : ℕ) (d : FirstDescriptor) →
+    list_all (is_start tree programs) starts ≡ true → given_to (slice_get starts p) n ≡ Some d → IsAt tree starts p n d
 given_at tree programs [] p n d test is = absurd cc
 given_at tree programs (s ∷ starts) zero n d test is =
     let start = both_right (nat_lt s.program programs) _ (both_left _ (list_all (is_start tree programs) starts) test) in
@@ -89,7 +90,8 @@ at_end given pair side few two =
     (λ i. if low i then first_object (On_end (end_description pair side / 2) (end_description pair side % 2)) else node_object given (end_description pair side - 64))
     ∙ (λ i. first_object (On_end (digits_div pair two i) (digits_mod pair two i)))
 
-pub object_is : (tree : List Node) (starts : List Start) (p n : ℕ) (d : FirstDescriptor) → IsAt tree starts p n d → given_to (slice_get starts p) n ≡ Some d → object_of (given_by starts) (description_of p n d.object) ≡ first_object d.object
+pub object_is : (tree : List Node) (starts : List Start) (p n : ℕ) (d : FirstDescriptor) → IsAt tree starts p n d →
+    given_to (slice_get starts p) n ≡ Some d → object_of (given_by starts) (description_of p n d.object) ≡ first_object d.object
 object_is tree starts p n d at is = go d.object refl at.tested.object
   where
     go : (x : FirstObject) → d.object ≡ x → is_object tree x ≡ true → object_of (given_by starts) (description_of p n x) ≡ first_object x
@@ -107,7 +109,8 @@ numbering_of starts = record { descriptions = node_description (length starts) 0
 abbrev pub Good : List Node → List Start → Descriptor → Type 0
 Good tree starts = IsDescriptor tree (numbering_of starts) (object_of (given_by starts)) (λ n. new_state false)
 
-well_placed : (tree : List Node) (starts : List Start) (p n : ℕ) (x : FirstObject) → p < length starts → n < 16 → is_object tree x ≡ true → (description_of p n x < node_description (length starts) 0) × IsObject tree (numbering_of starts) (description_of p n x) (first_object x)
+well_placed : (tree : List Node) (starts : List Start) (p n : ℕ) (x : FirstObject) → p < length starts → n < 16 → is_object tree x ≡ true →
+    (description_of p n x < node_description (length starts) 0) × IsObject tree (numbering_of starts) (description_of p n x) (first_object x)
 well_placed tree starts p n (On_node m access) made few test = (omega arith, not_a_link tree m access test)
 well_placed tree starts p n (On_end pair side) made few test =
     let side_of = a_side tree pair side test in

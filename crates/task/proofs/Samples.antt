@@ -3,7 +3,7 @@ use Rattle.std.proofs.Common.{◌≡◌, ℕ, true, false, [], ◌∷◌, codes,
 use Rattle.std.specs.Prelude.{Bool, Some}
 use Rattle.rights.specs.Sets.{all_rights, all_commands, read_right}
 use Rattle.rights.specs.Operations.{Look, Read, Write, Create}
-use Rattle.file_tree.specs.Places.{is_name, is_target}
+use Rattle.file_tree.specs.Places.{is_file_name, is_target}
 use Rattle.file_tree.specs.Refusals.{created}
 use Rattle.file_tree.specs.WellFormed.{is_within_limits}
 use Rattle.prog_asm.specs.Programs.{Halt}
@@ -41,7 +41,7 @@ sample =
     ∷ [])
 
 is_valid : is_plan sample ≡ true
-unfolding base created is_within_limits is_name is_target
+unfolding base created is_within_limits is_file_name is_target
 is_valid = refl
 
 pub plan_exists : PlanExists
@@ -69,7 +69,8 @@ a_node : (first_world sample).files.table 0 15 ≡ Some (descriptor_of 79 all_ri
 unfolding first_world first_files
 a_node = refl
 
-both_of_a_class : ((first_world sample).files.objects 8 ≡ At_end 4 0 (Initial 4)) × ((first_world sample).files.objects 9 ≡ At_end 4 1 (Initial 4)) × ((first_world sample).files.objects 79 ≡ At_node 2 (record { readable = true; writable = true }))
+both_of_a_class : ((first_world sample).files.objects 8 ≡ At_end 4 0 (Initial 4)) × ((first_world sample).files.objects 9 ≡ At_end 4 1 (Initial 4))
+    × ((first_world sample).files.objects 79 ≡ At_node 2 (record { readable = true; writable = true }))
 unfolding first_world first_files
 both_of_a_class = (refl, refl, refl)
 

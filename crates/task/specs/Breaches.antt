@@ -6,7 +6,7 @@ use Rattle.rights.specs.Sets.{all_rights, all_commands, seek_right}
 use Rattle.file_tree.specs.Nodes.{Node, File, Dir}
 use Rattle.prog_asm.specs.Programs.{Syscall, Halt, Invoke, Cap_enter, Open, Read, Write, Renameat, Number}
 use Rattle.kernel.specs.Steps.{Done, Stepped}
-use Rattle.kernel.specs.Gainful.{wide, two_processes, with_at, setting, event_of}
+use Rattle.kernel.specs.Gainful.{wide, two_processes, with_at, setting, event_by}
 use Rattle.task.specs.Plans.{On_node, Plan}
 use Rattle.task.specs.Sandboxed.{IsSafe, IsSandboxed}
 
@@ -67,4 +67,4 @@ pub record SomeAreNotSandboxed : Type 0 where
   pub capability_mode : IsSandboxed opening_plan → ⊥
   pub unlisted_operation : IsSandboxed writing_plan → ⊥
   pub second_effect : IsSandboxed moving_plan → ⊥
-  pub gained_descriptor : IsSafe setting [] two_processes (event_of 1) gaining → ⊥
+  pub gained_descriptor : IsSafe setting [] two_processes (event_by 1) gaining → ⊥

@@ -3,7 +3,7 @@ use Rattle.std.specs.Prelude.{◌≡◌, ◌≢◌, ◌⊎◌, ◌<◌, ◌≤�
 use Rattle.std.specs.List.{slice_get}
 use Rattle.rights.specs.Sets.{is_within, all_rights, all_commands}
 use Rattle.rights.specs.Limits.{most_word, most_descriptors, most_processes, most_pairs}
-use Rattle.file_tree.specs.Places.{begins, is_name}
+use Rattle.file_tree.specs.Places.{begins, is_file_name}
 use Rattle.file_tree.specs.Nodes.{Dir, Link, Node, node}
 use Rattle.file_tree.specs.Refusals.{created, create_fault}
 use Rattle.file_tree.specs.WellFormed.{IsTree, has_directory, is_content}
@@ -89,7 +89,7 @@ pub record IsMadeAfter (made : List Node) (m : Node) : Type 0 where
   pub directory : ℕ
   pub name : List ℕ
   pub kind : (node made directory).kind ≡ Dir
-  pub named : is_name name ≡ true
+  pub named : is_file_name name ≡ true
   pub content : is_content m.kind m.content ≡ true
   pub allowed : create_fault made directory name ≡ None
   pub makes : created made directory name m.kind m.content ≡ made ++ m ∷ []

@@ -38,21 +38,21 @@ is_tree (root ∷ nodes) = is_root_node root && nat_lt (length nodes) most_nodes
 abbrev pub is_grant : List Node → Grant → Bool
 is_grant tree g = is_name g.name && has_directory tree g.path
 
-abbrev pub are_apart : Grant → Grant → Bool
-are_apart g h = not (bytes_eq g.name h.name) && not (begins g.path h.path) && not (begins h.path g.path)
+abbrev pub are_grants_apart : Grant → Grant → Bool
+are_grants_apart g h = not (bytes_eq g.name h.name) && not (begins g.path h.path) && not (begins h.path g.path)
 
 abbrev pub are_grants : List Node → List Grant → Bool
-are_grants tree grants = nat_le (length grants) most_grants && list_all (is_grant tree) grants && all_apart are_apart grants
+are_grants tree grants = nat_le (length grants) most_grants && list_all (is_grant tree) grants && all_apart are_grants_apart grants
 
 -- Each program is valid, and has a name of its own.
-abbrev pub is_named : NamedProgram → Bool
-is_named p = is_name p.name && is_program p.code
+abbrev pub is_program_named : NamedProgram → Bool
+is_program_named p = is_name p.name && is_program p.code
 
 abbrev pub are_named_apart : NamedProgram → NamedProgram → Bool
 are_named_apart p q = not (bytes_eq p.name q.name)
 
 abbrev pub are_programs : List NamedProgram → Bool
-are_programs programs = nat_le (length programs) most_programs && list_all is_named programs && all_apart are_named_apart programs
+are_programs programs = nat_le (length programs) most_programs && list_all is_program_named programs && all_apart are_named_apart programs
 
 -- A first descriptor is of an end of an initial pair; or of a file or directory, and is for reading or writing; a directory is
 -- not written.

@@ -2,6 +2,7 @@
 -- capsicum(4) and rights(4))
 use Rattle.std.specs.Prelude.{ℕ, Bool, List, [], Option, Some, None}
 use Rattle.std.specs.List.{slice_get}
+use Rattle.rights.specs.Values.{Name, Place, NodeNumber, DescriptorNumber, PairNumber, SideNumber, RightSet, CommandSet}
 use Rattle.rights.specs.Operations.{Operation}
 use Rattle.file_tree.specs.Nodes.{Node}
 use Rattle.prog_asm.specs.Programs.{Instruction}
@@ -9,26 +10,26 @@ use Rattle.fd_table.specs.Descriptions.{Access}
 
 -- A grant allows operations at a directory's place and at everything beneath it.
 pub record Grant : Type 0 where
-  pub name : List ℕ
-  pub path : List (List ℕ)
+  pub name : Name
+  pub path : Place
   pub operations : List Operation
 
 pub record NamedProgram : Type 0 where
-  pub name : List ℕ
+  pub name : Name
   pub code : List Instruction
 
 -- What a first descriptor is of: a node of the task, by the node's number, that it is for reading or writing; or an end of a
 -- socket pair that the task starts with, by the pair's number and the side, 0 (a) or 1 (b). (open(2), socketpair(2))
 pub data FirstObject : Type 0 where
-  On_node : (node : ℕ) (access : Access) → FirstObject
-  On_end : (pair side : ℕ) → FirstObject
+  On_node : (node : NodeNumber) (access : Access) → FirstObject
+  On_end : (pair : PairNumber) (side : SideNumber) → FirstObject
 
 -- A descriptor that a process starts with. Its rights and fcntl commands are sets. (rights(4), cap_fcntls_limit(2))
 pub record FirstDescriptor : Type 0 where
-  pub number : ℕ
+  pub number : DescriptorNumber
   pub object : FirstObject
-  pub rights : ℕ
-  pub fcntls : ℕ
+  pub rights : RightSet
+  pub fcntls : CommandSet
 
 -- a first process: its program, by number, whether it starts in capability mode, and its descriptors
 pub record Start : Type 0 where
@@ -55,9 +56,9 @@ abbrev pub programs_of_plan : Plan → ℕ → List Instruction
 programs_of_plan plan n = code_in (slice_get plan.programs n)
 
 -- the name of a program by its number; no bytes where a task has none
-abbrev pub name_in : Option NamedProgram → List ℕ
+abbrev pub name_in : Option NamedProgram → Name
 name_in None = []
 name_in (Some p) = p.name
 
-abbrev pub program_name : Plan → ℕ → List ℕ
+abbrev pub program_name : Plan → ℕ → Name
 program_name plan n = name_in (slice_get plan.programs n)

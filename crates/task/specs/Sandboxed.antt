@@ -2,6 +2,7 @@
 -- cap_fcntls_limit(2))
 use Rattle.std.specs.Prelude.{◌≡◌, ◌++◌, ℕ, true, List, [], ◌∷◌, Option, Some, None, IfSome}
 use Rattle.std.specs.List.{slice_get, Contains}
+use Rattle.rights.specs.Values.{Place}
 use Rattle.rights.specs.Errors.{Cause, CapMode, MissingRight}
 use Rattle.rights.specs.Operations.{Operation}
 use Rattle.process.specs.State.{ProcessState}
@@ -14,10 +15,10 @@ use Rattle.task.specs.Plans.{Grant, Plan, programs_of_plan}
 use Rattle.task.specs.Begins.{first_world}
 
 -- An operation at a place is allowed if a grant lists it whose path the place goes on from, name by name.
-pub record Allowed (grants : List Grant) (operation : Operation) (place : List (List ℕ)) : Type 0 where
+pub record Allowed (grants : List Grant) (operation : Operation) (place : Place) : Type 0 where
   pub number : ℕ
   pub grant : Grant
-  pub rest : List (List ℕ)
+  pub rest : Place
   pub there : slice_get grants number ≡ Some grant
   pub beneath : place ≡ grant.path ++ rest
   pub listed : Contains grant.operations operation

@@ -58,7 +58,14 @@ impl Task {
         }
     }
 
-    /// The nodes of the tree in the order of making, the root first. Who asks for them learns that the plan is valid.
+    /// Notes that the plan is valid, as each task's is, for a proof that goes on from there. It does nothing.
+    pub fn note_valid(&self)
+        ensures { is_plan self.now ≡ true }
+    {
+        let _nodes = &self.nodes;
+    }
+
+    /// The nodes of the tree in the order of making, the root first.
     pub fn nodes(&self) -> &[TaskNode]
         ensures nodes { nodes_of result.now ≡ self.now.nodes }
         ensures valid { is_plan self.now ≡ true }
@@ -73,7 +80,7 @@ impl Task {
         &self.grants
     }
 
-    /// The programs, by their place in the task. Who asks for them learns that the plan is valid.
+    /// The programs, by their place in the task.
     pub fn programs(&self) -> &[NamedProgram]
         ensures programs { programs_of result.now ≡ self.now.programs }
         ensures valid { is_plan self.now ≡ true }

@@ -13,7 +13,7 @@ use Rattle.std.proofs.lemmas.Map.Text.{is_eq-slice_cmp}
 use Rattle.rights.proofs.Words.{same_bytes}
 use Rattle.rights.proofs.Tests.{both_left, both_right}
 use Rattle.file_tree.specs.Places.{begins}
-use Rattle.task_reader.specs.Apart.{granted_places, none_begins_so}
+use Rattle.task_reader.specs.ApartViews.{granted_places, none_begins_so}
 use Rattle.std.specs.Cmp.{IsTotalOrder, IsStrictWeakOrder}
 use Rattle.std.specs.Cmp.Lexicographic.{slice_cmp}
 use Rattle.std.proofs.lemmas.Bool.{cases_Bool, eqb-true}

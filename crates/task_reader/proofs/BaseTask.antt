@@ -1,12 +1,19 @@
 -- The document of the base task.
-use Rattle.std.proofs.Common.{◌≡◌, ℕ, List, [], ◌∷◌, codes, refl, Some}
+use Rattle.std.proofs.Common.{◌≡◌, ℕ, List, [], ◌∷◌, ◌++◌, codes, refl, Some}
 use Rattle.std.specs.Prelude.{pos}
 use Rattle.toml.specs.Data.{Data, string, integer, array, table, Items, no_items, item, Members, no_members, member}
 use Rattle.toml.specs.Parse.{parse_document}
 use Rattle.toml.proofs.OnLiterals.{toml_on_literals}
 
 abbrev pub base_text : List ℕ
-base_text = codes "node = [\n {path=\"/work\", kind=\"dir\"},\n {path=\"/work/in\", kind=\"file\", content=\"AB\"},\n {path=\"/work/out\", kind=\"dir\"},\n {path=\"/work/same\", kind=\"link\", target=\"out/../in\"},\n {path=\"/work/up\", kind=\"link\", target=\"../etc/passwd\"},\n {path=\"/work/abs\", kind=\"link\", target=\"/etc/passwd\"},\n {path=\"/workshop\", kind=\"dir\"},\n {path=\"/workshop/x\", kind=\"file\", content=\"w\"},\n {path=\"/log\", kind=\"dir\"},\n {path=\"/etc\", kind=\"dir\"},\n {path=\"/etc/passwd\", kind=\"file\", content=\"x\"}]\ngrant = [\n {name=\"work\", path=\"/work\", ops=[\"look\",\"read\"]},\n {name=\"log\", path=\"/log\", ops=[\"create\",\"write\",\"remove\"]}]\nprocess = [{program=\"main\", fd=[\n {number=0, path=\"/work\"}, {number=1, path=\"/log\"}]}]\n[[program]]\nname = \"main\"\ncode = '''\nhalt\n'''\n"
+base_text = codes "node = [\n {path=\"/work\", kind=\"dir\"},\n {path=\"/work/in\", kind=\"file\", content=\"AB\"},\n" ++
+    codes " {path=\"/work/out\", kind=\"dir\"},\n {path=\"/work/same\", kind=\"link\", target=\"out/../in\"},\n" ++
+    codes " {path=\"/work/up\", kind=\"link\", target=\"../etc/passwd\"},\n {path=\"/work/abs\", kind=\"link\", target=\"/etc/passwd\"},\n" ++
+    codes " {path=\"/workshop\", kind=\"dir\"},\n {path=\"/workshop/x\", kind=\"file\", content=\"w\"},\n {path=\"/log\", kind=\"dir\"},\n" ++
+    codes " {path=\"/etc\", kind=\"dir\"},\n {path=\"/etc/passwd\", kind=\"file\", content=\"x\"}]\ngrant = [\n" ++
+    codes " {name=\"work\", path=\"/work\", ops=[\"look\",\"read\"]},\n" ++
+    codes " {name=\"log\", path=\"/log\", ops=[\"create\",\"write\",\"remove\"]}]\nprocess = [{program=\"main\", fd=[\n" ++
+    codes " {number=0, path=\"/work\"}, {number=1, path=\"/log\"}]}]\n[[program]]\nname = \"main\"\ncode = '''\nhalt\n'''\n"
 
 abbrev pub directory : List ℕ → Data
 directory path = table (member (codes "kind") (string (codes "dir")) (member (codes "path") (string path) no_members))
@@ -61,7 +68,9 @@ base_program = program (codes "main") (codes "halt\n")
 
 abbrev pub document : List Data → List Data → List Data → List Data → Members
 document nodes grants processes programs =
-    member (codes "grant") (array (list grants)) (member (codes "node") (array (list nodes)) (member (codes "process") (array (list processes)) (member (codes "program") (array (list programs)) no_members)))
+    member (codes "grant") (array (list grants))
+    (member (codes "node") (array (list nodes))
+    (member (codes "process") (array (list processes)) (member (codes "program") (array (list programs)) no_members)))
 
 abbrev pub base_document : Members
 base_document = document base_nodes base_grants (base_process ∷ []) (base_program ∷ [])

@@ -11,7 +11,8 @@ pub some_from : {X : Type 0} (m : Mistake) (x : Option X) (y : X) → or_mistake
 some_from m None y is = absurd cc
 some_from m (Some x) y is = cc
 
-pub behind : {A : Type 0} (so_far : List A) (x : A) (rest : Option (List A)) → option_map (λ rest. so_far ++ rest) (option_map (λ rest. x ∷ rest) rest) ≡ option_map (λ rest. (so_far ++ x ∷ []) ++ rest) rest
+pub behind : {A : Type 0} (so_far : List A) (x : A) (rest : Option (List A)) →
+    option_map (λ rest. so_far ++ rest) (option_map (λ rest. x ∷ rest) rest) ≡ option_map (λ rest. (so_far ++ x ∷ []) ++ rest) rest
 behind so_far x None = refl
 behind so_far x (Some rest) = ap Some (sym (append_assoc so_far (x ∷ []) rest))
 

@@ -3,13 +3,14 @@ use Rattle.std.proofs.Common.{◌≡◌, List, [], ◌∷◌, ℕ, Option, Some,
 use Rattle.rights.specs.Sets.{all_rights, all_commands, right_names, command_names}
 use Rattle.toml.specs.Data.{Members, get_member}
 use Rattle.task_reader.specs.Documents.{only_keys, read_or}
-use Rattle.task_reader.specs.Written.{access_in, descriptor_in, descriptor_with, object_in, path_in, path_keys, path_with, reading, set_in, WrittenObject, WrittenNode, WrittenGrant, WrittenProgram, WrittenStart, task_with, written_nodes, written_grants, written_programs, written_starts, written_task}
+use Rattle.task_reader.specs.Written.{access_in, descriptor_in, descriptor_with, object_written, path_written, path_keys, path_with, reading, set_in, WrittenObject, WrittenNode}
+use Rattle.task_reader.specs.Written.{WrittenGrant, WrittenProgram, WrittenStart, task_with, written_nodes, written_grants, written_programs, written_starts, written_task}
 use Rattle.std.specs.Prelude.{option_and_then}
 use Rattle.prog_asm.specs.Assembly.{Fault}
 use Rattle.task_reader.specs.declared.faults.TaskFault.{TaskFault}
 use Rattle.task_reader.specs.declared.faults.TaskFault.TheVariants as code
 use Rattle.task_reader.specs.Reading.{Mistake, Wrong_field, or_mistake}
-use Rattle.task_reader.specs.Faults.{FaultIs, IsProgramFault, text_fault}
+use Rattle.task_reader.specs.FaultViews.{FaultIs, IsProgramFault, text_fault}
 
 none_from : {X : Type 0} (m : Mistake) (x : Option X) → or_mistake m x ≡ Err m → x ≡ None
 none_from m None is = refl
@@ -19,7 +20,8 @@ no_other : {X : Type 0} {Y : Type 0} (m n : Mistake) (x : Option X) (y : Option 
 no_other m n None y differs is = absurd (differs cc)
 no_other m n (Some x) y differs is = absurd cc
 
-no_program : {X : Type 0} {Y : Type 0} (name : List ℕ) (w : Option Fault) (x : Option X) (y : Option Y) → IsProgramFault name w (or_mistake Wrong_field x) → IsProgramFault name w (or_mistake Wrong_field y)
+no_program : {X : Type 0} {Y : Type 0} (name : List ℕ) (w : Option Fault) (x : Option X) (y : Option Y) →
+    IsProgramFault name w (or_mistake Wrong_field x) → IsProgramFault name w (or_mistake Wrong_field y)
 no_program name None x y is = is
 no_program name (Some w) x y is = no_other Wrong_field _ x y (λ same. absurd cc) is
 
@@ -57,10 +59,10 @@ none_if : {A : Type 0} (b : Bool) (x : Option A) → x ≡ None → cond b x Non
 none_if true x none = none
 none_if false x none = refl
 
-pub without-flags : (ms : Members) → read_or reading access_in (get_member (codes "flags") ms) ≡ None → path_in ms ≡ None
+pub without-flags : (ms : Members) → read_or reading access_in (get_member (codes "flags") ms) ≡ None → path_written ms ≡ None
 without-flags ms none = none_if (only_keys path_keys ms) _ (rw none (no_access _))
 
-pub without-object : (ms : Members) → object_in ms ≡ None → descriptor_in ms ≡ None
+pub without-object : (ms : Members) → object_written ms ≡ None → descriptor_in ms ≡ None
 without-object ms none = rw none (no_object _ _ _)
 
 pub without-rights : (ms : Members) → read_or all_rights (set_in right_names) (get_member (codes "rights") ms) ≡ None → descriptor_in ms ≡ None

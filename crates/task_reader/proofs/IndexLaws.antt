@@ -1,5 +1,6 @@
 -- An index stays one as nodes are added, and the path of the directory above.
-use Rattle.std.proofs.Common.{◌≡◌, ◌≢◌, ◌<◌, ◌≤◌, ◌-◌, ◌+◌, inl, inr, ℕ, suc, List, [], ◌∷◌, ◌++◌, Option, Some, None, option_map, Bool, true, false, cond, length, take, refl, ap, sym, subst, ◌∙◌, append_assoc, append-nil, arith}
+use Rattle.std.proofs.Common.{◌≡◌, ◌≢◌, ◌<◌, ◌≤◌, ◌-◌, ◌+◌, inl, inr, ℕ, suc, List, [], ◌∷◌, ◌++◌, Option, Some, None, option_map, Bool, true, false, cond, length, take, refl, ap}
+use Rattle.std.proofs.Common.{sym, subst, ◌∙◌, append_assoc, append-nil, arith}
 use Rattle.std.specs.Prelude.{◌==◌, ◌&&◌, ◌||◌, not, is_some, option_and_then, if◌then◌else◌}
 use Rattle.std.specs.Borrow.{Bor}
 use Rattle.std.specs.List.{list_all, list_any}
@@ -20,7 +21,7 @@ use Rattle.file_tree.specs.WellFormed.{is_directory_at, has_directory}
 use Rattle.file_tree.proofs.PlaceLaws.{above_at_name, other_place}
 use Rattle.file_tree.proofs.NodeLaws.{linked_there, node_at_found, node_at_none, stands_is, stands_from, any_at}
 use Rattle.texts.specs.Parts.{parts}
-use Rattle.task_reader.specs.Indexes.{number_in, is_directory, IsIndex, IsPath}
+use Rattle.task_reader.specs.IndexViews.{number_in, is_directory, IsIndex, IsPath}
 use Rattle.task_reader.specs.Paths.{is_path_name, path_names, names_behind, place_of}
 use Rattle.task_reader.specs.Reading.{can_grant, can_stand, granted_place, node_behind, node_made, node_placed, number_of_path}
 use Rattle.task_reader.specs.Written.{WrittenNode}

@@ -20,11 +20,14 @@ numbers descriptors = map (λ (d : FirstDescriptor). d.number) descriptors
 
 numbers-below : (tree : List Node) (written : List WrittenDescriptor) (xs : List FirstDescriptor) → descriptors_placed tree written ≡ Some xs
     → (q : ℕ) → list_any (λ n. q == n) (numbers xs) ≡ true → q < most_descriptors
-numbers-below tree [] xs is q found = let none : [] ≡ xs = some-equal [] xs is in let nothing : list_any (λ n. q == n) (numbers xs) ≡ false = ap (λ xs. list_any (λ n. q == n) (numbers xs)) (sym none) in absurd cc
+numbers-below tree [] xs is q found = let none : [] ≡ xs = some-equal [] xs is in let nothing : list_any (λ n. q == n) (numbers xs) ≡ false = ap
+    (λ xs. list_any (λ n. q == n) (numbers xs)) (sym none) in absurd cc
 numbers-below tree (d ∷ written) xs is q found =
     let p = and_then-some (λ x. option_map (λ rest. x ∷ rest) (descriptors_placed tree written)) (descriptor_placed tree d) xs is in
     let rest = map-some (λ rest. p.0 ∷ rest) (descriptors_placed tree written) xs p.2 in
-    let here : p.0.number < most_descriptors = ltb-true p.0.number most_descriptors (below most_descriptors d.number p.0.number (on-object d (number_below most_descriptors d.number) (object_placed tree d.object) p.0 p.1).number_is) in
+    let here : p.0.number < most_descriptors = ltb-true p.0.number most_descriptors
+    (below most_descriptors d.number p.0.number
+    (on-object d (number_below most_descriptors d.number) (object_placed tree d.object) p.0 p.1).number_is) in
     let among : ((q == p.0.number) || list_any (λ n. q == n) (numbers rest.0)) ≡ true = ap (λ xs. list_any (λ n. q == n) (numbers xs)) rest.2 ∙ found in
     elim (cases_Bool (q == p.0.number)) [
       | inl same ↦ let is_it : q ≡ p.0.number = eqb-true q p.0.number same in omega arith
@@ -34,7 +37,11 @@ numbers-below tree (d ∷ written) xs is q found =
 distinct : (xs : List FirstDescriptor) → all_apart are_numbered_apart xs ≡ true → IsDistinct (λ m n. m == n) (numbers xs)
 unfolding IsDistinct
 distinct [] apart = tt
-distinct (x ∷ xs) apart = (others xs (both_left (list_all (are_numbered_apart x) xs) (all_apart are_numbered_apart xs) apart), distinct xs (both_right (list_all (are_numbered_apart x) xs) (all_apart are_numbered_apart xs) apart))
+distinct (x ∷ xs) apart = (
+  others xs (both_left (list_all (are_numbered_apart x) xs) (all_apart are_numbered_apart xs) apart),
+  distinct xs
+      (both_right (list_all (are_numbered_apart x) xs) (all_apart are_numbered_apart xs) apart),
+)
   where
     unequal : (b : Bool) → not b ≡ true → b ≡ false
     unequal true is = absurd cc
@@ -42,7 +49,11 @@ distinct (x ∷ xs) apart = (others xs (both_left (list_all (are_numbered_apart 
 
     others : (ys : List FirstDescriptor) → list_all (are_numbered_apart x) ys ≡ true → AllByRecursion (λ n. (x.number == n) ≡ false) (numbers ys)
     others [] all = tt
-    others (y ∷ ys) all = (unequal (x.number == y.number) (both_left (are_numbered_apart x y) (list_all (are_numbered_apart x) ys) all), others ys (both_right (are_numbered_apart x y) (list_all (are_numbered_apart x) ys) all))
+    others (y ∷ ys) all = (
+      unequal (x.number == y.number) (both_left (are_numbered_apart x y) (list_all (are_numbered_apart x) ys) all),
+      others ys
+          (both_right (are_numbered_apart x y) (list_all (are_numbered_apart x) ys) all),
+    )
 
 -- A process has no more descriptors than there are numbers.
 pub apart-few : (tree : List Node) (written : List WrittenDescriptor) (xs : List FirstDescriptor) → descriptors_placed tree written ≡ Some xs

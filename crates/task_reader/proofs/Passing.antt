@@ -6,14 +6,14 @@ use Rattle.prog_asm.specs.declared.faults.AsmFault.{AsmFault}
 use Rattle.prog_asm.specs.declared.faults.AsmFault.TheVariants as asm
 use Rattle.prog_asm.specs.Programs.{Instruction}
 use Rattle.prog_asm.specs.Assembly.{Fault}
-use Rattle.prog_asm.specs.Faults as texts
+use Rattle.prog_asm.specs.FaultViews as texts
 use Rattle.task_reader.specs.declared.faults.TaskFault.{TaskFault}
 use Rattle.task_reader.specs.declared.faults.TaskFault.TheVariants as code
 use Rattle.task_reader.specs.declared.written.WrittenProgram.{WrittenProgram as ProgramCode}
 use Rattle.task.specs.Plans.{NamedProgram}
 use Rattle.task_reader.specs.WrittenViews.{program_seen, programs_seen}
 use Rattle.task_reader.specs.Reading.{Mistake, Not_toml, Wrong_field, Wrong_node, Wrong_grant, Wrong_descriptor, Wrong_program, Past_limit, ◌>>=◌, assembled, all_assembled, program_from}
-use Rattle.task_reader.specs.Faults.{FaultIs, IsProgramFault, text_fault}
+use Rattle.task_reader.specs.FaultViews.{FaultIs, IsProgramFault, text_fault}
 
 program-passes : {A : Type 0} {B : Type 0} (name : List ℕ) (why : Option Fault) (r : Result A Mistake) (f : A → Result B Mistake) → IsProgramFault name why r → IsProgramFault name why (r >>= f)
 program-passes name None r f is = is
@@ -48,7 +48,8 @@ one-more : (so_far : List NamedProgram) (p : NamedProgram) (rest : Result (List 
 one-more so_far p (Ok rest) = ap Ok (sym (append_assoc so_far (p ∷ []) rest))
 one-more so_far p (Err mistake) = refl
 
-left-more : (written : List ProgramCode) (i : ℕ) (d : ProgramCode) → i < length written → all_assembled (programs_seen (drop i written)) ≡ all_assembled (program_seen (get_or written i d) ∷ programs_seen (drop (i + 1) written))
+left-more : (written : List ProgramCode) (i : ℕ) (d : ProgramCode) → i < length written →
+    all_assembled (programs_seen (drop i written)) ≡ all_assembled (program_seen (get_or written i d) ∷ programs_seen (drop (i + 1) written))
 left-more written i d within = ap (λ ps. all_assembled (programs_seen ps)) (drop_more written i d within)
 
 pub assembled-more :

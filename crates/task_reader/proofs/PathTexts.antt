@@ -4,7 +4,7 @@ use Rattle.std.specs.Prelude.{◌==◌, ◌&&◌, ◌||◌, not, nat_eq, nat_le}
 use Rattle.std.specs.List.{list_all}
 use Rattle.std.proofs.lemmas.Bool.{eqb-true}
 use Rattle.rights.proofs.Tests.{both_left, both_right}
-use Rattle.file_tree.specs.Places.{is_name_byte, is_dots, names_text, place_text}
+use Rattle.file_tree.specs.Places.{is_file_name_byte, is_dots, names_text, place_text}
 use Rattle.texts.specs.Parts.{parts, parts_from}
 use Rattle.task_reader.specs.Paths.{is_path_name, names_behind, path_names, place_of}
 use Rattle.task_reader.proofs.WrittenLaws.{some-equal, if-some, map-some}
@@ -55,20 +55,22 @@ slash-or true true back is = absurd cc
 slash-or true false back is = absurd cc
 slash-or false quote back is = refl
 
-no-slash : (b : ℕ) → is_name_byte b ≡ true → (b == 47) ≡ false
+no-slash : (b : ℕ) → is_file_name_byte b ≡ true → (b == 47) ≡ false
 no-slash b is = slash-or (b == 47) (nat_eq b 34) (nat_eq b 92) (both_right (nat_le 33 b && nat_le b 126) (not (nat_eq b 34 || nat_eq b 47 || nat_eq b 92)) is)
 
-parted : (name begun : List ℕ) (place : List (List ℕ)) → list_all is_name_byte name ≡ true → list_all is_path_name place ≡ true
+parted : (name begun : List ℕ) (place : List (List ℕ)) → list_all is_file_name_byte name ≡ true → list_all is_path_name place ≡ true
     → parts_from 47 (name ++ names_text place) begun ≡ (begun ++ name) ∷ place
 parted [] begun [] bytes names = ap (λ n. n ∷ []) (sym (append-nil begun))
 parted [] begun (next ∷ place) bytes names =
-    let next_bytes = both_right (not (nat_eq (length next) 0)) (list_all is_name_byte next) (both_left (not (nat_eq (length next) 0) && list_all is_name_byte next) (not (is_dots next)) (both_left (is_path_name next) (list_all is_path_name place) names)) in
+    let next_bytes = both_right (not (nat_eq (length next) 0)) (list_all is_file_name_byte next)
+    (both_left (not (nat_eq (length next) 0) && list_all is_file_name_byte next) (not (is_dots next))
+    (both_left (is_path_name next) (list_all is_path_name place) names)) in
     ap (λ rest. begun ∷ rest) (parted next [] place next_bytes (both_right (is_path_name next) (list_all is_path_name place) names))
     ∙ ap (λ n. n ∷ next ∷ place) (sym (append-nil begun))
 parted (b ∷ name) begun place bytes names =
-    let here = no-slash b (both_left (is_name_byte b) (list_all is_name_byte name) bytes) in
+    let here = no-slash b (both_left (is_file_name_byte b) (list_all is_file_name_byte name) bytes) in
     ap (λ h. cond h (begun ∷ parts_from 47 (name ++ names_text place) []) (parts_from 47 (name ++ names_text place) (begun ++ b ∷ []))) here
-    ∙ parted name (begun ++ b ∷ []) place (both_right (is_name_byte b) (list_all is_name_byte name) bytes) names
+    ∙ parted name (begun ++ b ∷ []) place (both_right (is_file_name_byte b) (list_all is_file_name_byte name) bytes) names
     ∙ ap (λ n. n ∷ place) (append_assoc begun (b ∷ []) name)
 
 each-name : (place : List (List ℕ)) → list_all is_path_name place ≡ true → path_names place ≡ Some place
@@ -86,7 +88,7 @@ unfolding place_of
 text-path [] names = refl
 text-path (name ∷ place) names =
     let first = both_left (is_path_name name) (list_all is_path_name place) names in
-    let formed = both_left (not (nat_eq (length name) 0) && list_all is_name_byte name) (not (is_dots name)) first in
-    behind-some name (names_text place) (both_left (not (nat_eq (length name) 0)) (list_all is_name_byte name) formed)
-    ∙ ap path_names (parted name [] place (both_right (not (nat_eq (length name) 0)) (list_all is_name_byte name) formed) (both_right (is_path_name name) (list_all is_path_name place) names))
+    let formed = both_left (not (nat_eq (length name) 0) && list_all is_file_name_byte name) (not (is_dots name)) first in
+    behind-some name (names_text place) (both_left (not (nat_eq (length name) 0)) (list_all is_file_name_byte name) formed)
+    ∙ ap path_names (parted name [] place (both_right (not (nat_eq (length name) 0)) (list_all is_file_name_byte name) formed) (both_right (is_path_name name) (list_all is_path_name place) names))
     ∙ each-name (name ∷ place) names

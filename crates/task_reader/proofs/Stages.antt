@@ -11,9 +11,10 @@ use Rattle.task.specs.Plans.{Grant, NamedProgram, FirstObject, On_node, On_end, 
 use Rattle.task.specs.KeptLimits.{IsThere}
 use Rattle.task.specs.Limits.{is_plan}
 use Rattle.task_reader.specs.Written.{WrittenTask}
-use Rattle.task_reader.specs.Reading.{Mistake, Wrong_node, Wrong_grant, Wrong_descriptor, Past_limit, ◌>>=◌, or_mistake, tree_of, policy_of, starts_placed, all_assembled, keeps_limits, within_limits, plan_of}
-use Rattle.task_reader.specs.Faults.{FaultIs}
-use Rattle.task_reader.specs.Placed.{has_near, is_near, is_small}
+use Rattle.task_reader.specs.Reading.{Mistake, Wrong_node, Wrong_grant, Wrong_descriptor, Past_limit, ◌>>=◌, or_mistake, tree_of, policy_of, starts_placed, all_assembled}
+use Rattle.task_reader.specs.Reading.{keeps_limits, within_limits, plan_of}
+use Rattle.task_reader.specs.FaultViews.{FaultIs}
+use Rattle.task_reader.specs.PlacedViews.{has_near, is_near, is_small}
 use Rattle.task_reader.proofs.Passing.{fault-passes}
 use Rattle.task.proofs.KeptLimits.{plans_keep_limits}
 

@@ -1,5 +1,6 @@
 -- A plan that is read is valid.
-use Rattle.std.proofs.Common.{◌≡◌, ℕ, suc, ◌<◌, ◌≤◌, List, [], ◌∷◌, ◌++◌, Option, Some, None, Result, Ok, Err, option_map, Bool, true, false, cond, length, map, take, refl, ap, sym, subst, ◌∙◌, arith, append_assoc, append-nil, ℤ, pos, negsuc}
+use Rattle.std.proofs.Common.{◌≡◌, ℕ, suc, ◌<◌, ◌≤◌, List, [], ◌∷◌, ◌++◌, Option, Some, None, Result, Ok, Err, option_map, Bool, true, false, cond, length, map, take, refl, ap}
+use Rattle.std.proofs.Common.{sym, subst, ◌∙◌, arith, append_assoc, append-nil, ℤ, pos, negsuc}
 use Rattle.std.specs.Prelude.{◌&&◌, ◌||◌, not, nat_le, nat_lt, if◌then◌else◌}
 use Rattle.std.specs.List.{list_all, list_any}
 use Rattle.std.specs.Str.{bytes_eq}
@@ -19,12 +20,17 @@ use Rattle.prog_asm.proofs.GoodPrograms.{assembly-good}
 use Rattle.toml.specs.Data.{Members}
 use Rattle.task.specs.Plans.{Grant, NamedProgram, FirstObject, On_node, On_end, FirstDescriptor, Start, Plan}
 use Rattle.texts.specs.Names.{is_name}
-use Rattle.task.specs.Limits.{all_apart, can_follow, are_made, is_tree, is_grant, are_apart, are_grants, is_named, are_named_apart, are_programs, is_object, is_descriptor, are_numbered_apart, are_descriptors, is_start, are_starts, is_plan}
-use Rattle.task_reader.specs.Apart.{first_assembled}
+use Rattle.task.specs.Limits.{all_apart, can_follow, are_made, is_tree, is_grant, are_grants_apart, are_grants, is_program_named, are_named_apart, are_programs, is_object}
+use Rattle.task.specs.Limits.{is_descriptor, are_numbered_apart, are_descriptors, is_start, are_starts, is_plan}
+use Rattle.task_reader.specs.ApartViews.{first_assembled}
 use Rattle.task_reader.specs.Documents.{is_among, are_once}
 use Rattle.task_reader.specs.Paths.{place_of}
-use Rattle.task_reader.specs.Written.{WrittenNode, WrittenGrant, WrittenProgram, WrittenObject, By_path, By_pair, WrittenDescriptor, WrittenStart, WrittenTask, names_of_grants, names_of_programs, written_task}
-use Rattle.task_reader.specs.Reading.{Mistake, Wrong_field, Wrong_node, Wrong_grant, Wrong_descriptor, ◌>>=◌, or_mistake, can_stand, node_placed, node_behind, node_made, tree_from, tree_of, can_grant, grant_at, grant_placed, granted_place, grants_placed, are_disjoint, disjoint, policy_of, number_below, can_open, number_of_path, opened, object_placed, descriptor_at, descriptor_placed, descriptors_placed, numbered_apart, table_of, start_from, start_placed, starts_placed, program_from, assembled, all_assembled, is_short, keeps_limits, plan_of, plan_in}
+use Rattle.task_reader.specs.Written.{WrittenNode, WrittenGrant, WrittenProgram, WrittenObject, By_path, By_pair, WrittenDescriptor, WrittenStart, WrittenTask, names_of_grants}
+use Rattle.task_reader.specs.Written.{names_of_programs, written_task}
+use Rattle.task_reader.specs.Reading.{Mistake, Wrong_field, Wrong_node, Wrong_grant, Wrong_descriptor, ◌>>=◌, or_mistake, can_stand, node_placed, node_behind, node_made, tree_from}
+use Rattle.task_reader.specs.Reading.{tree_of, can_grant, grant_at, grant_placed, granted_place, grants_placed, are_disjoint, disjoint, policy_of, number_below, can_open}
+use Rattle.task_reader.specs.Reading.{number_of_path, opened_object, object_placed, descriptor_at, descriptor_placed, descriptors_placed, numbered_apart, table_of, start_from}
+use Rattle.task_reader.specs.Reading.{start_placed, starts_placed, program_from, assembled, all_assembled, is_short, keeps_limits, plan_of, plan_in}
 use Rattle.task_reader.proofs.WrittenLaws.{some-equal, and_then-some, map-some, if-some, is_named_grant, is_named_program, has_side, is_bounded, is_given, IsWritten, task-written}
 
 ok-equal : {A : Type 0} (x y : A) → or_mistake Wrong_field (Some x) ≡ Ok y → x ≡ y
@@ -121,7 +127,7 @@ granted tree (g ∷ written) grants is =
     } in
     subst (Granted tree (g ∷ written)) q.2 whole
 
-apart-from : (g : Grant) (others : List Grant) → is_among g.name (names others) ≡ false → list_all (are_disjoint g) others ≡ true → list_all (are_apart g) others ≡ true
+apart-from : (g : Grant) (others : List Grant) → is_among g.name (names others) ≡ false → list_all (are_disjoint g) others ≡ true → list_all (are_grants_apart g) others ≡ true
 apart-from g [] other disjoint = refl
 apart-from g (h ∷ others) other disjoint =
     let differ = none-either (bytes_eq g.name h.name) (is_among g.name (names others)) other in
@@ -135,7 +141,7 @@ not-true : (b : Bool) → not b ≡ true → b ≡ false
 not-true true is = absurd cc
 not-true false is = refl
 
-all-apart : (grants : List Grant) → are_once (names grants) ≡ true → all_apart are_disjoint grants ≡ true → all_apart are_apart grants ≡ true
+all-apart : (grants : List Grant) → are_once (names grants) ≡ true → all_apart are_disjoint grants ≡ true → all_apart are_grants_apart grants ≡ true
 all-apart [] once disjoint = refl
 all-apart (g ∷ grants) once disjoint =
     let other = not-true (is_among g.name (names grants)) (both_left (not (is_among g.name (names grants))) (are_once (names grants)) once) in
@@ -145,7 +151,9 @@ all-apart (g ∷ grants) once disjoint =
 few-named : {A : Type 0} {B : Type 0} (f : A → List ℕ) (g : B → List ℕ) (xs : List A) (ys : List B) → map f xs ≡ map g ys → length xs ≡ length ys
 few-named f g xs ys same = sym (length-map xs f) ∙ ap length same ∙ length-map ys g
 
-grants-valid : (tree : List Node) (written : List WrittenGrant) (grants : List Grant) → list_all is_named_grant written ≡ true → are_once (names_of_grants written) ≡ true → policy_of tree written ≡ Some grants → nat_le (length written) most_grants ≡ true → are_grants tree grants ≡ true
+grants-valid : (tree : List Node) (written : List WrittenGrant) (grants : List Grant) → list_all is_named_grant written ≡ true →
+    are_once (names_of_grants written) ≡ true → policy_of tree written ≡ Some grants → nat_le (length written) most_grants ≡ true →
+    are_grants tree grants ≡ true
 grants-valid tree written grants words once is few =
     let p = and_then-some disjoint (grants_placed tree written) grants is in
     let q = if-some (all_apart are_disjoint p.0) (Some p.0) grants p.2 in
@@ -169,7 +177,7 @@ program_names programs = map (λ (p : NamedProgram). p.name) programs
 
 record Assembled (written : List WrittenProgram) (programs : List NamedProgram) : Type 0 where
   named : program_names programs ≡ names_of_programs written
-  are : list_all is_named_program written ≡ true → list_all is_named programs ≡ true
+  are : list_all is_named_program written ≡ true → list_all is_program_named programs ≡ true
 
 all-assembled : (written : List WrittenProgram) (programs : List NamedProgram) → all_assembled written ≡ Ok programs → Assembled written programs
 all-assembled [] programs is = subst (Assembled []) (ok-equal [] programs is) (record { named = refl; are = λ all. refl })
@@ -201,7 +209,9 @@ all-named-apart (p ∷ programs) once =
 programs-count : (written : List WrittenProgram) (programs : List NamedProgram) → all_assembled written ≡ Ok programs → length programs ≡ length written
 programs-count written programs is = few-named (λ (p : NamedProgram). p.name) (λ (p : WrittenProgram). p.name) programs written (all-assembled written programs is).named
 
-programs-valid : (written : List WrittenProgram) (programs : List NamedProgram) → list_all is_named_program written ≡ true → are_once (names_of_programs written) ≡ true → all_assembled written ≡ Ok programs → nat_le (length written) most_programs ≡ true → are_programs programs ≡ true
+programs-valid : (written : List WrittenProgram) (programs : List NamedProgram) → list_all is_named_program written ≡ true →
+    are_once (names_of_programs written) ≡ true → all_assembled written ≡ Ok programs → nat_le (length written) most_programs ≡ true →
+    are_programs programs ≡ true
 programs-valid written programs words once is few =
     let all = all-assembled written programs is in
     both_true (both_true (subst (λ n. nat_le n most_programs ≡ true) (sym (programs-count written programs is)) few) (all.are words))
@@ -217,7 +227,7 @@ below bound (negsuc k) n is = absurd cc
 object-valid : (tree : List Node) (o : WrittenObject) (x : FirstObject) → has_side o ≡ true → object_placed tree o ≡ Some x → is_object tree x ≡ true
 unfolding can_open
 object-valid tree (By_path path access) x sided is =
-    let p = and_then-some (opened tree access) (number_of_path tree path) x is in
+    let p = and_then-some (opened_object tree access) (number_of_path tree path) x is in
     let q = if-some (can_open tree p.0 access) (Some (On_node p.0 access)) x p.2 in
     subst (λ y. is_object tree y ≡ true) (some-equal (On_node p.0 access) x q.1) q.0
 object-valid tree (By_pair pair side) x sided is =
@@ -250,7 +260,8 @@ descriptor-valid tree d x bounded is =
     (subst (λ r. is_within r all_rights ≡ true) on.rights_are (both_right side rights first)))
     (subst (λ f. is_within f all_commands ≡ true) on.fcntls_are (both_right (side && rights) fcntls bounded))
 
-descriptors-valid : (tree : List Node) (written : List WrittenDescriptor) (xs : List FirstDescriptor) → list_all is_bounded written ≡ true → descriptors_placed tree written ≡ Some xs → list_all (is_descriptor tree) xs ≡ true
+descriptors-valid : (tree : List Node) (written : List WrittenDescriptor) (xs : List FirstDescriptor) → list_all is_bounded written ≡ true →
+    descriptors_placed tree written ≡ Some xs → list_all (is_descriptor tree) xs ≡ true
 descriptors-valid tree [] xs bounded is = subst (λ ys. list_all (is_descriptor tree) ys ≡ true) (some-equal [] xs is) refl
 descriptors-valid tree (d ∷ written) xs bounded is =
     let p = and_then-some (λ x. option_map (λ rest. x ∷ rest) (descriptors_placed tree written)) (descriptor_placed tree d) xs is in
@@ -290,7 +301,9 @@ started tree programs (s ∷ written) starts is =
     } in
     subst (Started tree programs (s ∷ written)) q.2 whole
 
-starts-valid : (tree : List Node) (programs : ℕ) (written : List WrittenStart) (starts : List Start) → nat_le 1 (length written) ≡ true → list_all (is_given programs) written ≡ true → starts_placed tree written ≡ Some starts → nat_le (length written) most_processes ≡ true → are_starts tree programs starts ≡ true
+starts-valid : (tree : List Node) (programs : ℕ) (written : List WrittenStart) (starts : List Start) → nat_le 1 (length written) ≡ true →
+    list_all (is_given programs) written ≡ true → starts_placed tree written ≡ Some starts → nat_le (length written) most_processes ≡ true →
+    are_starts tree programs starts ≡ true
 starts-valid tree programs written starts some given is few =
     let all = started tree programs written starts is in
     both_true

@@ -12,10 +12,14 @@ use Rattle.rights.proofs.Subsets.{is_within-or}
 use Rattle.rights.proofs.Tests.{both_left, both_right}
 use Rattle.fd_table.specs.Descriptions.{Access}
 use Rattle.texts.specs.Names.{is_name}
-use Rattle.prog_asm.specs.Fields.{named}
+use Rattle.prog_asm.specs.Fields.{set_of_word}
 use Rattle.toml.specs.Data.{Data, Items, no_items, item, Members, get_member, as_table}
 use Rattle.task_reader.specs.Documents.{are_once, each_item, words_in, read_or, only_keys, text_at, integer_at, items_at}
-use Rattle.task_reader.specs.Written.{WrittenNode, WrittenGrant, WrittenProgram, WrittenObject, By_path, By_pair, WrittenDescriptor, WrittenStart, WrittenTask, grant_in, grant_with, grants_once, descriptor_in, descriptor_with, listed_starts, name_at, names_of_grants, names_of_programs, object_by, pair_keys, pair_with, path_keys, path_with, place_among, place_from, program_in, program_with, programs_once, set_from, set_in, set_named, side_at, side_named, some_start, start_in, start_with, task_with, word_if, written_descriptor, written_grant, written_program, written_programs, written_start, written_starts, written_task}
+use Rattle.task_reader.specs.Written.{WrittenNode, WrittenGrant, WrittenProgram, WrittenObject, By_path, By_pair, WrittenDescriptor, WrittenStart, WrittenTask, grant_in}
+use Rattle.task_reader.specs.Written.{grant_with, grants_once, descriptor_in, descriptor_with, listed_starts, name_at, names_of_grants, names_of_programs, object_by, pair_keys}
+use Rattle.task_reader.specs.Written.{pair_with, path_keys, path_with, place_among, place_from, program_in, program_with, programs_once, set_from, set_in, set_named, side_at}
+use Rattle.task_reader.specs.Written.{side_named, some_start, start_in, start_with, task_with, word_if, written_descriptor, written_grant, written_program, written_programs}
+use Rattle.task_reader.specs.Written.{written_start, written_starts, written_task}
 
 pub some-equal : {A : Type 0} (x y : A) → Some x ≡ Some y → x ≡ y
 some-equal x y is = cc
@@ -33,7 +37,8 @@ if-some true o y is = (refl, is)
 if-some false o y is = absurd cc
 
 -- What holds of each item that is read holds of the list.
-pub each-passes : {A : Type 0} (read : Data → Option A) (test : A → Bool) → ((d : Data) (x : A) → read d ≡ Some x → test x ≡ true) → (items : Items) (xs : List A) → each_item read items ≡ Some xs → list_all test xs ≡ true
+pub each-passes : {A : Type 0} (read : Data → Option A) (test : A → Bool) → ((d : Data) (x : A) → read d ≡ Some x → test x ≡ true) →
+    (items : Items) (xs : List A) → each_item read items ≡ Some xs → list_all test xs ≡ true
 each-passes read test passes no_items xs is = let none : [] ≡ xs = cc in subst (λ ys. list_all test ys ≡ true) none refl
 each-passes read test passes (item d ds) xs is =
     let p = and_then-some (λ x. option_map (λ rest. x ∷ rest) (each_item read ds)) (read d) xs is in
@@ -83,23 +88,26 @@ program-named d x is =
 abbrev holds_row : ℕ → (List ℕ × ℕ) → Bool
 holds_row all row = is_within row.1 all
 
-named-first : (all : ℕ) (row : List ℕ × ℕ) (other : Option ℕ) (set : ℕ) (b : Bool) → is_within row.1 all ≡ true → (other ≡ Some set → is_within set all ≡ true) → cond b (Some row.1) other ≡ Some set → is_within set all ≡ true
+named-first : (all : ℕ) (row : List ℕ × ℕ) (other : Option ℕ) (set : ℕ) (b : Bool) → is_within row.1 all ≡ true →
+    (other ≡ Some set → is_within set all ≡ true) → cond b (Some row.1) other ≡ Some set → is_within set all ≡ true
 named-first all row other set true first behind is = subst (λ s. is_within s all ≡ true) (some-equal row.1 set is) first
 named-first all row other set false first behind is = behind is
 
-named-within : (all : ℕ) (rows : List (List ℕ × ℕ)) (word : List ℕ) (set : ℕ) → list_all (holds_row all) rows ≡ true → named rows word ≡ Some set → is_within set all ≡ true
+named-within : (all : ℕ) (rows : List (List ℕ × ℕ)) (word : List ℕ) (set : ℕ) → list_all (holds_row all) rows ≡ true → set_of_word rows word ≡ Some set → is_within set all ≡ true
 named-within all [] word set rows is = absurd cc
 named-within all (row ∷ rest) word set rows is =
-    named-first all row (named rest word) set (bytes_eq word row.0) (both_left (holds_row all row) (list_all (holds_row all) rest) rows)
+    named-first all row (set_of_word rest word) set (bytes_eq word row.0) (both_left (holds_row all row) (list_all (holds_row all) rest) rows)
     (named-within all rest word set (both_right (holds_row all row) (list_all (holds_row all) rest) rows)) is
 
-set-within : (all : ℕ) (rows : List (List ℕ × ℕ)) (words : List (List ℕ)) (so_far set : ℕ) → list_all (holds_row all) rows ≡ true → is_within so_far all ≡ true → set_from rows so_far words ≡ Some set → is_within set all ≡ true
+set-within : (all : ℕ) (rows : List (List ℕ × ℕ)) (words : List (List ℕ)) (so_far set : ℕ) → list_all (holds_row all) rows ≡ true →
+    is_within so_far all ≡ true → set_from rows so_far words ≡ Some set → is_within set all ≡ true
 set-within all rows [] so_far set held so is = let same : so_far ≡ set = cc in subst (λ s. is_within s all ≡ true) same so
 set-within all rows (word ∷ words) so_far set held so is =
-    let p = and_then-some (λ more. set_from rows (bit_or so_far more) words) (named rows word) set is in
+    let p = and_then-some (λ more. set_from rows (bit_or so_far more) words) (set_of_word rows word) set is in
     set-within all rows words (bit_or so_far p.0) set held (is_within-or so_far p.0 all so (named-within all rows word p.0 held p.1)) p.2
 
-read-within : (all : ℕ) (rows : List (List ℕ × ℕ)) (d : Option Data) (set : ℕ) → list_all (holds_row all) rows ≡ true → is_within all all ≡ true → is_within 0 all ≡ true → read_or all (set_in rows) d ≡ Some set → is_within set all ≡ true
+read-within : (all : ℕ) (rows : List (List ℕ × ℕ)) (d : Option Data) (set : ℕ) → list_all (holds_row all) rows ≡ true → is_within all all ≡ true →
+    is_within 0 all ≡ true → read_or all (set_in rows) d ≡ Some set → is_within set all ≡ true
 read-within all rows None set held whole none is = let same : all ≡ set = cc in subst (λ s. is_within s all ≡ true) same whole
 read-within all rows (Some d) set held whole none is =
     let p = and_then-some (set_named rows) (words_in d) set is in
@@ -142,7 +150,8 @@ record Given (d : WrittenDescriptor) (object : Option WrittenObject) (rights fcn
   rights_are : rights ≡ Some d.rights
   fcntls_are : fcntls ≡ Some d.fcntls
 
-descriptor-parts : (number : Option ℤ) (object : Option WrittenObject) (rights fcntls : Option ℕ) (d : WrittenDescriptor) → descriptor_with number object rights fcntls ≡ Some d → Given d object rights fcntls
+descriptor-parts : (number : Option ℤ) (object : Option WrittenObject) (rights fcntls : Option ℕ) (d : WrittenDescriptor) →
+    descriptor_with number object rights fcntls ≡ Some d → Given d object rights fcntls
 descriptor-parts None object rights fcntls d is = absurd cc
 descriptor-parts (Some n) None rights fcntls d is = absurd cc
 descriptor-parts (Some n) (Some o) None fcntls d is = absurd cc
@@ -168,7 +177,8 @@ descriptor-bounded d x is =
 abbrev pub is_given : ℕ → WrittenStart → Bool
 is_given programs s = nat_lt s.program programs && list_all is_bounded s.descriptors
 
-place-first : (k : ℕ) (names : List (List ℕ)) (name : List ℕ) (other : Option ℕ) (n : ℕ) (b : Bool) → (other ≡ Some n → n < k + 1 + length names) → cond b (Some k) other ≡ Some n → n < k + length (name ∷ names)
+place-first : (k : ℕ) (names : List (List ℕ)) (name : List ℕ) (other : Option ℕ) (n : ℕ) (b : Bool) → (other ≡ Some n → n < k + 1 + length names) →
+    cond b (Some k) other ≡ Some n → n < k + length (name ∷ names)
 place-first k names name other n true behind is = let same : k ≡ n = some-equal k n is in omega arith
 place-first k names name other n false behind is = let below : n < k + 1 + length names = behind is in omega arith
 
@@ -218,7 +228,9 @@ record Whole (task : WrittenTask) (grants : Option (List WrittenGrant)) (program
   programs_are : programs ≡ Some task.programs
   starts_are : starts ≡ Some task.starts
 
-task-parts : (nodes : Option (List WrittenNode)) (grants : Option (List WrittenGrant)) (programs : Option (List WrittenProgram)) (starts : Option (List WrittenStart)) (task : WrittenTask) → task_with nodes grants programs starts ≡ Some task → Whole task grants programs starts
+task-parts : (nodes : Option (List WrittenNode)) (grants : Option (List WrittenGrant)) (programs : Option (List WrittenProgram))
+    (starts : Option (List WrittenStart)) (task : WrittenTask) → task_with nodes grants programs starts ≡ Some task →
+    Whole task grants programs starts
 task-parts None grants programs starts task is = absurd cc
 task-parts (Some n) None programs starts task is = absurd cc
 task-parts (Some n) (Some g) None starts task is = absurd cc

@@ -1,10 +1,10 @@
+pub mod ApartViews
 pub mod Documents
-pub mod Written
-pub mod Paths
-pub mod Reading
-pub mod Apart
-pub mod Indexes
+pub mod FaultViews
+pub mod IndexViews
 pub mod Laws
+pub mod Paths
+pub mod PlacedViews
+pub mod Reading
+pub mod Written
 pub mod WrittenViews
-pub mod Placed
-pub mod Faults

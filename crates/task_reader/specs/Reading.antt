@@ -1,5 +1,6 @@
 -- The task that a TOML document stands for, or the least of what is wrong with it. (own)
-use Rattle.std.specs.Prelude.{ℕ, ℤ, pos, negsuc, Bool, true, ◌&&◌, ◌||◌, not, nat_le, nat_lt, List, [], ◌∷◌, ◌++◌, length, Option, Some, None, option_map, option_and_then, Result, Ok, Err, if◌then◌else◌}
+use Rattle.std.specs.Prelude.{ℕ, ℤ, pos, negsuc, Bool, true, ◌&&◌, ◌||◌, not, nat_le, nat_lt, List, [], ◌∷◌, ◌++◌, length, Option, Some, None, option_map, option_and_then, Result}
+use Rattle.std.specs.Prelude.{Ok, Err, if◌then◌else◌}
 use Rattle.std.specs.List.{list_all, list_any}
 use Rattle.file_tree.specs.Places.{begins, above}
 use Rattle.file_tree.specs.Nodes.{Node, node, node_at, is_dir, is_link, stands_at}
@@ -101,11 +102,11 @@ can_open tree n access = can_access (node tree n) access
 abbrev pub number_of_path : List Node → List ℕ → Option ℕ
 number_of_path tree path = option_and_then (node_at tree) (place_of path)
 
-abbrev pub opened : List Node → Access → ℕ → Option FirstObject
-opened tree access n = if can_open tree n access then Some (On_node n access) else None
+abbrev pub opened_object : List Node → Access → ℕ → Option FirstObject
+opened_object tree access n = if can_open tree n access then Some (On_node n access) else None
 
 abbrev pub path_placed : List Node → List ℕ → Access → Option FirstObject
-path_placed tree path access = option_and_then (opened tree access) (number_of_path tree path)
+path_placed tree path access = option_and_then (opened_object tree access) (number_of_path tree path)
 
 abbrev pub pair_placed : ℤ → ℕ → Option FirstObject
 pair_placed pair side = option_map (λ n. On_end n side) (number_below most_pairs pair)

@@ -8,7 +8,7 @@ use Rattle.rights.specs.OperationLists.{operation_name}
 use Rattle.file_tree.specs.Nodes.{Kind, File, Dir, Link}
 use Rattle.fd_table.specs.Descriptions.{Access}
 use Rattle.texts.specs.Names.{is_name}
-use Rattle.prog_asm.specs.Fields.{named}
+use Rattle.prog_asm.specs.Fields.{set_of_word}
 use Rattle.toml.specs.Data.{Data, Members, get_member, as_str, as_table}
 use Rattle.task_reader.specs.Documents.{is_among, are_once, only_keys, text_at, integer_at, items_at, each_item, words_in, read_or}
 
@@ -157,7 +157,7 @@ access_in d = option_and_then access_named (words_in d)
 -- A list of rights or commands stands for the union of what its words name. (rights(4), cap_fcntls_limit(2))
 abbrev pub set_from : List (List ℕ × ℕ) → ℕ → List (List ℕ) → Option ℕ
 set_from names set [] = Some set
-set_from names set (word ∷ words) = option_and_then (λ more. set_from names (bit_or set more) words) (named names word)
+set_from names set (word ∷ words) = option_and_then (λ more. set_from names (bit_or set more) words) (set_of_word names word)
 
 abbrev pub set_named : List (List ℕ × ℕ) → List (List ℕ) → Option ℕ
 set_named names words = set_from names 0 words
@@ -193,18 +193,18 @@ path_keys = codes "number" ∷ codes "path" ∷ codes "flags" ∷ codes "rights"
 abbrev pub pair_in : Members → Option WrittenObject
 pair_in ms = if only_keys pair_keys ms then pair_with (integer_at (codes "pair") ms) (side_at ms) else None
 
-abbrev pub path_in : Members → Option WrittenObject
-path_in ms =
+abbrev pub path_written : Members → Option WrittenObject
+path_written ms =
     if only_keys path_keys ms
     then path_with (text_at (codes "path") ms) (read_or reading access_in (get_member (codes "flags") ms))
     else None
 
 abbrev pub object_by : Option Data → Members → Option WrittenObject
-object_by None ms = path_in ms
+object_by None ms = path_written ms
 object_by (Some pair) ms = pair_in ms
 
-abbrev pub object_in : Members → Option WrittenObject
-object_in ms = object_by (get_member (codes "pair") ms) ms
+abbrev pub object_written : Members → Option WrittenObject
+object_written ms = object_by (get_member (codes "pair") ms) ms
 
 -- A descriptor has a number. All rights and commands are its own where no list says which.
 abbrev pub descriptor_with : Option ℤ → Option WrittenObject → Option ℕ → Option ℕ → Option WrittenDescriptor
@@ -214,7 +214,7 @@ descriptor_with _ _ _ _ = None
 
 abbrev pub descriptor_in : Members → Option WrittenDescriptor
 descriptor_in ms =
-    descriptor_with (integer_at (codes "number") ms) (object_in ms)
+    descriptor_with (integer_at (codes "number") ms) (object_written ms)
     (read_or all_rights (set_in right_names) (get_member (codes "rights") ms))
     (read_or all_commands (set_in command_names) (get_member (codes "fcntls") ms))
 
@@ -228,8 +228,8 @@ mode_named word =
     else if bytes_eq word (codes "cap") then Some true
     else None
 
-abbrev pub mode_in : Data → Option Bool
-mode_in d = option_and_then mode_named (as_str d)
+abbrev pub mode_written : Data → Option Bool
+mode_written d = option_and_then mode_named (as_str d)
 
 -- a name's place among these
 abbrev pub place_from : ℕ → List (List ℕ) → List ℕ → Option ℕ
@@ -254,7 +254,7 @@ abbrev pub start_in : List (List ℕ) → Members → Option WrittenStart
 start_in names ms =
     if only_keys (codes "program" ∷ codes "mode" ∷ codes "fd" ∷ []) ms
     then start_with (option_and_then (place_among names) (text_at (codes "program") ms))
-    (read_or false mode_in (get_member (codes "mode") ms))
+    (read_or false mode_written (get_member (codes "mode") ms))
     (option_and_then (each_item written_descriptor) (items_at (codes "fd") ms))
     else None
 

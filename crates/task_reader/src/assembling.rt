@@ -1,8 +1,8 @@
 //! The programs of a task, assembled.
 
 ghost use Rattle.std.specs.Prelude.{◌≡◌};
-ghost use Rattle.task_reader.specs.Apart.{first_assembled};
-ghost use Rattle.task_reader.specs.Faults.{ReadsTask};
+ghost use Rattle.task_reader.specs.ApartViews.{first_assembled};
+ghost use Rattle.task_reader.specs.FaultViews.{ReadsTask};
 ghost use Rattle.task_reader.specs.Reading.{assembled};
 ghost use Rattle.task.specs.Views.{program_of, programs_of};
 ghost use Rattle.task_reader.specs.WrittenViews.{program_seen, programs_seen};

@@ -5,9 +5,9 @@ ghost use Rattle.rights.specs.Sets.{all_commands, all_rights, command_names, rig
 ghost use Rattle.fd_table.specs.Views.{access_seen, side_seen};
 ghost use Rattle.toml.specs.View.{table_view, view};
 ghost use Rattle.task_reader.specs.Documents.{read_or};
-ghost use Rattle.task_reader.specs.Faults.{ReadsTask};
+ghost use Rattle.task_reader.specs.FaultViews.{ReadsTask};
 ghost use Rattle.task_reader.specs.Reading.{Wrong_field, or_mistake};
-ghost use Rattle.task_reader.specs.Written.{access_in, descriptor_in, object_in, pair_in, path_in, reading, set_in, side_at, written_descriptor};
+ghost use Rattle.task_reader.specs.Written.{access_in, descriptor_in, object_written, pair_in, path_written, reading, set_in, side_at, written_descriptor};
 ghost use Rattle.task_reader.specs.WrittenViews.{descriptor_seen, object_seen};
 
 use crate::documents::{has_only, integer_at, read_words, text_at, value_at};
@@ -97,7 +97,7 @@ fn pair(table: &Table) -> Option<WrittenObject<'_>>
 
 /// The node at a path, and what it is opened for.
 fn path(alloc: Global, table: &Table) -> Result<WrittenObject<'_>, TaskFault>
-    ensures { ReadsTask object_seen result (or_mistake Wrong_field (path_in (table_view table.now))) }
+    ensures { ReadsTask object_seen result (or_mistake Wrong_field (path_written (table_view table.now))) }
 {
     if !has_only(table, &["number", "path", "flags", "rights", "fcntls"]) {
         return Err(TaskFault::Field);
@@ -113,7 +113,7 @@ fn path(alloc: Global, table: &Table) -> Result<WrittenObject<'_>, TaskFault>
 
 /// What a descriptor is of: an end, if its table has a pair, and else a node.
 fn object(alloc: Global, table: &Table) -> Result<WrittenObject<'_>, TaskFault>
-    ensures { ReadsTask object_seen result (or_mistake Wrong_field (object_in (table_view table.now))) }
+    ensures { ReadsTask object_seen result (or_mistake Wrong_field (object_written (table_view table.now))) }
 {
     match value_at(table, "pair") {
         Some(_) => pair(table).ok_or(TaskFault::Field),

@@ -4,7 +4,7 @@ ghost use Rattle.std.specs.Prelude.{◌≡◌, IfErr, IfOk, map, option_map};
 ghost use Rattle.toml.specs.Data.{as_str, get_member};
 ghost use Rattle.toml.specs.View.{array_view, items_view, table_view, view};
 ghost use Rattle.task_reader.specs.Documents.{document_of, each_item, integer_at, is_among, items_at, once, only_keys, text_at, words_in};
-ghost use Rattle.task_reader.specs.Faults.{ReadsTask};
+ghost use Rattle.task_reader.specs.FaultViews.{ReadsTask};
 ghost use Rattle.task_reader.specs.Reading.{Not_toml, Wrong_field, or_mistake};
 ghost use Rattle.task_reader.specs.declared.faults.TaskFault.TheVariants as fault;
 

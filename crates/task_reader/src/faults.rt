@@ -1,7 +1,7 @@
 //! Why some bytes are no task.
 
 ghost use Rattle.std.specs.Prelude.{◌≡◌};
-ghost use Rattle.task_reader.specs.Faults.{fault_name, fault_number};
+ghost use Rattle.task_reader.specs.FaultViews.{fault_name, fault_number};
 ghost use Rattle.task_reader.specs.declared.faults.TaskFault.TheVariants as fault;
 
 use prog_asm::AsmFault;

@@ -4,7 +4,7 @@ ghost use Rattle.std.specs.Prelude.{◌≡◌, map, option_and_then, option_map}
 ghost use Rattle.rights.specs.Views.{operation_of};
 ghost use Rattle.toml.specs.Data.{as_table};
 ghost use Rattle.toml.specs.View.{table_view, view};
-ghost use Rattle.task_reader.specs.Faults.{ReadsTask};
+ghost use Rattle.task_reader.specs.FaultViews.{ReadsTask};
 ghost use Rattle.task_reader.specs.Reading.{Wrong_field, or_mistake};
 ghost use Rattle.task_reader.specs.Written.{directory_in, file_in, grant_in, link_in, name_at, node_in, operations_in, program_in, written_grant, written_node, written_program};
 ghost use Rattle.task_reader.specs.WrittenViews.{grant_seen, node_seen, program_seen};

@@ -7,7 +7,7 @@ ghost use Rattle.file_tree.specs.Refusals.{new_tree};
 ghost use Rattle.file_tree.specs.Views.{names_of};
 ghost use Rattle.file_tree.specs.WellFormed.{has_directory};
 ghost use Rattle.task.specs.Views.{node_of, nodes_of};
-ghost use Rattle.task_reader.specs.Indexes.{IsIndex, IsPath};
+ghost use Rattle.task_reader.specs.IndexViews.{IsIndex, IsPath};
 ghost use Rattle.task_reader.specs.Reading.{can_stand, node_made, number_of_path};
 ghost use Rattle.task_reader.specs.WrittenViews.{node_seen};
 ghost use Rattle.task_reader.specs.declared.faults.TaskFault.TheVariants as fault;

@@ -2,7 +2,7 @@
 
 ghost use Rattle.std.specs.Prelude.{◌≡◌, true};
 ghost use Rattle.std.specs.List.{list_all};
-ghost use Rattle.file_tree.specs.Places.{is_name};
+ghost use Rattle.file_tree.specs.Places.{is_file_name};
 ghost use Rattle.file_tree.specs.Views.{kind_of, names_of};
 ghost use Rattle.file_tree.specs.WellFormed.{is_byte, is_content, is_within_limits};
 ghost use Rattle.task_reader.specs.Reading.{is_short, keeps_limits};
@@ -16,7 +16,7 @@ use task::TaskNode;
 
 /// Whether each name is one of a node's.
 fn are_names(place: &[Vec<u8>]) -> bool
-    ensures { result ≡ list_all is_name (names_of place.now) }
+    ensures { result ≡ list_all is_file_name (names_of place.now) }
 {
     for name in place {
         if !is_valid_name(name) {

@@ -3,7 +3,7 @@
 ghost use Rattle.std.specs.Prelude.{◌≡◌, IfOk, option_map};
 ghost use Rattle.std.specs.List.{list_all};
 ghost use Rattle.texts.specs.Parts.{parts};
-ghost use Rattle.file_tree.specs.Places.{is_dots, is_name_byte};
+ghost use Rattle.file_tree.specs.Places.{is_dots, is_file_name_byte};
 ghost use Rattle.file_tree.specs.Views.{names_of};
 ghost use Rattle.task_reader.specs.Paths.{is_path_name, names_behind, path_names, place_of};
 
@@ -12,14 +12,14 @@ use texts::first_part;
 
 /// Whether a byte may stand in a node's name.
 fn may_stand_in_name(byte: u8) -> bool
-    ensures { result ≡ is_name_byte byte }
+    ensures { result ≡ is_file_name_byte byte }
 {
     byte >= 33 && byte <= 126 && !(byte == b'"' || byte == b'/' || byte == b'\\')
 }
 
 /// Whether each byte may stand in a node's name.
 fn has_name_bytes(name: &[u8]) -> bool
-    ensures { result ≡ list_all is_name_byte name.now }
+    ensures { result ≡ list_all is_file_name_byte name.now }
 {
     for byte in name {
         if !may_stand_in_name(*byte) {

@@ -2,13 +2,13 @@
 
 ghost use Rattle.std.specs.Prelude.{◌≡◌, IfErr, IfOk, map, option_map};
 ghost use Rattle.file_tree.specs.Views.{names_of};
-ghost use Rattle.task_reader.specs.Faults.{Checks, ReadsTask};
-ghost use Rattle.task_reader.specs.Indexes.{IsIndex, IsPath};
+ghost use Rattle.task_reader.specs.FaultViews.{Checks, ReadsTask};
+ghost use Rattle.task_reader.specs.IndexViews.{IsIndex, IsPath};
 ghost use Rattle.task.specs.Limits.{all_apart};
 ghost use Rattle.task_reader.specs.Reading.{Wrong_grant, are_separate, can_grant, grant_placed, granted_place, grants_placed, or_mistake, policy_of};
 ghost use Rattle.task.specs.Views.{grant_of, grants_of, nodes_of};
 ghost use Rattle.task_reader.specs.WrittenViews.{grant_seen, grants_seen};
-ghost use Rattle.task_reader.specs.Apart.{granted_places, none_begins_so};
+ghost use Rattle.task_reader.specs.ApartViews.{granted_places, none_begins_so};
 ghost use Rattle.task_reader.specs.declared.faults.TaskFault.TheVariants as fault;
 
 use crate::faults::TaskFault;

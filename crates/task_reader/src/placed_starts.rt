@@ -3,11 +3,12 @@
 ghost use Rattle.std.specs.Prelude.{◌≡◌, ◌<◌, IfOk, IfSome, length, map, option_map};
 ghost use Rattle.std.specs.List.{list_all};
 ghost use Rattle.fd_table.specs.Views.{access_seen, side_seen};
-ghost use Rattle.task_reader.specs.Faults.{ReadsTask};
-ghost use Rattle.task_reader.specs.Indexes.{IsIndex};
+ghost use Rattle.task_reader.specs.FaultViews.{ReadsTask};
+ghost use Rattle.task_reader.specs.IndexViews.{IsIndex};
 ghost use Rattle.task.specs.Limits.{all_apart, are_numbered_apart};
-ghost use Rattle.task_reader.specs.Placed.{placed_descriptor, placed_object, placed_start, placed_starts};
-ghost use Rattle.task_reader.specs.Reading.{Wrong_descriptor, can_access, can_open, descriptor_placed, descriptors_placed, number_below, number_of_path, object_placed, or_mistake, pair_placed, path_placed, start_placed, starts_placed, table_of};
+ghost use Rattle.task_reader.specs.PlacedViews.{placed_descriptor, placed_object, placed_start, placed_starts};
+ghost use Rattle.task_reader.specs.Reading.{Wrong_descriptor, can_access, can_open, descriptor_placed, descriptors_placed, number_below, number_of_path, object_placed, or_mistake};
+ghost use Rattle.task_reader.specs.Reading.{pair_placed, path_placed, start_placed, starts_placed, table_of};
 ghost use Rattle.task.specs.Views.{node_of, nodes_of};
 ghost use Rattle.task_reader.specs.WrittenViews.{descriptor_seen, object_seen, start_seen, starts_seen};
 

@@ -4,9 +4,11 @@ ghost use Rattle.std.specs.Prelude.{◌≡◌, false, IfOk, map, option_and_then
 ghost use Rattle.toml.specs.Data.{get_member};
 ghost use Rattle.toml.specs.View.{items_view, table_view, view};
 ghost use Rattle.task_reader.specs.Documents.{each_item, read_or};
-ghost use Rattle.task_reader.specs.Faults.{ReadsTask};
+ghost use Rattle.task_reader.specs.FaultViews.{ReadsTask};
 ghost use Rattle.task_reader.specs.Reading.{Wrong_field, or_mistake};
-ghost use Rattle.task_reader.specs.Written.{descriptors_in, listed_starts, mode_in, names_of_grants, names_of_programs, program_place, start_in, written_descriptor, written_grant, written_grants, written_node, written_nodes, written_program, written_programs, written_start, written_starts, written_task};
+ghost use Rattle.task_reader.specs.Written.{descriptors_in, listed_starts, mode_written, names_of_grants, names_of_programs, program_place, start_in, written_descriptor};
+ghost use Rattle.task_reader.specs.Written.{written_grant, written_grants, written_node, written_nodes, written_program, written_programs, written_start, written_starts};
+ghost use Rattle.task_reader.specs.Written.{written_task};
 ghost use Rattle.task_reader.specs.WrittenViews.{descriptor_seen, grant_seen, grants_seen, node_seen, nodes_seen, program_seen, programs_seen, start_seen, starts_seen, task_seen};
 
 use crate::descriptors::written_descriptor;
@@ -149,7 +151,7 @@ fn read_programs<'a>(alloc: Global, table: &'a Table) -> Result<NamedPrograms<'a
 
 /// Whether a process starts in capability mode: not where nothing says it. (cap_enter(2))
 fn read_mode(value: Option<&Value>) -> Option<bool>
-    ensures { result ≡ read_or false mode_in (option_map (λ v. view v.now) value.entry) }
+    ensures { result ≡ read_or false mode_written (option_map (λ v. view v.now) value.entry) }
 {
     match value {
         Some(value) => match value.as_str() {

@@ -3,8 +3,8 @@
 ghost use Rattle.std.specs.Prelude.{◌≡◌, ◌^◌, ◌<◌, true, IfOk, map};
 ghost use Rattle.std.specs.List.{list_all};
 ghost use Rattle.toml.specs.Data.{Members};
-ghost use Rattle.task_reader.specs.Faults.{ReadsTask};
-ghost use Rattle.task_reader.specs.Placed.{has_near, is_near, is_small, placed_descriptor, placed_object, placed_start, placed_starts};
+ghost use Rattle.task_reader.specs.FaultViews.{ReadsTask};
+ghost use Rattle.task_reader.specs.PlacedViews.{has_near, is_near, is_small, placed_descriptor, placed_object, placed_start, placed_starts};
 ghost use Rattle.task_reader.specs.Reading.{plan_of, task_of};
 ghost use Rattle.task.specs.Views.{first_descriptor_of, first_object_of, start_of, starts_of};
 ghost use Rattle.task_reader.specs.Written.{written_task};

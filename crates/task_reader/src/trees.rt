@@ -1,8 +1,8 @@
 //! The tree that a task's nodes make.
 
 ghost use Rattle.std.specs.Prelude.{◌≡◌, IfOk, option_map};
-ghost use Rattle.task_reader.specs.Faults.{ReadsTask};
-ghost use Rattle.task_reader.specs.Indexes.{IsIndex};
+ghost use Rattle.task_reader.specs.FaultViews.{ReadsTask};
+ghost use Rattle.task_reader.specs.IndexViews.{IsIndex};
 ghost use Rattle.task_reader.specs.Reading.{Wrong_node, node_made, or_mistake, tree_of};
 ghost use Rattle.task.specs.Views.{node_of, nodes_of};
 ghost use Rattle.task_reader.specs.WrittenViews.{node_seen, nodes_seen};

@@ -5,8 +5,8 @@ ghost use Rattle.std.specs.List.{list_all};
 ghost use Rattle.rights.specs.Sets.{command_names, right_names};
 ghost use Rattle.rights.specs.Views.{operation_of};
 ghost use Rattle.fd_table.specs.Views.{access_seen, side_seen};
-ghost use Rattle.prog_asm.specs.Fields.{named};
-ghost use Rattle.task_reader.specs.Faults.{ReadsTask};
+ghost use Rattle.prog_asm.specs.Fields.{set_of_word};
+ghost use Rattle.task_reader.specs.FaultViews.{ReadsTask};
 ghost use Rattle.task_reader.specs.Reading.{Wrong_field, or_mistake};
 ghost use Rattle.task_reader.specs.Written.{access_named, is_flag, mode_named, operation_named, operations_named, place_among, set_named, side_named};
 
@@ -100,7 +100,7 @@ pub(crate) fn side(word: &str) -> Option<Side>
 /// The member of this name.
 fn named<F: Flags + Copy>(rows: &[Flag<F>], word: &str) -> Option<F>
     ensures { option_map F.set_of result
-        ≡ named (map (λ row. (row.name.now, F.set_of row.value)) rows.now) word.now }
+        ≡ set_of_word (map (λ row. (row.name.now, F.set_of row.value)) rows.now) word.now }
 {
     for row in rows {
         if word == row.name {

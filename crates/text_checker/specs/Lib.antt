@@ -1,1 +1,1 @@
-pub mod Checks
+pub mod CheckViews

@@ -6,7 +6,7 @@ ghost use Rattle.checker.specs.Verdicts.{Yes};
 ghost use Rattle.task.specs.Plans.{Plan};
 ghost use Rattle.task.specs.Sandboxed.{IsSandboxed};
 ghost use Rattle.task_reader.specs.Reading.{task_of};
-ghost use Rattle.text_checker.specs.Checks.{ChecksTexts, ReadsTexts, SaysYes};
+ghost use Rattle.text_checker.specs.CheckViews.{ChecksTexts, ReadsTexts, SaysYes};
 
 use certificate::Cert;
 use certificate_text::{CertFault, read_cert};

@@ -27,7 +27,8 @@ few-parts : (text begun : List ℕ) → length (parts_from 10 text begun) ≤ le
 few-parts [] begun = omega arith
 few-parts (b ∷ text) begun = go (b == 10) (few-parts text []) (few-parts text (begun ++ b ∷ []))
   where
-    go : (ends : Bool) → length (parts_from 10 text []) ≤ length text + 1 → length (parts_from 10 text (begun ++ b ∷ [])) ≤ length text + 1 → length (cond ends (begun ∷ parts_from 10 text []) (parts_from 10 text (begun ++ b ∷ []))) ≤ length (b ∷ text) + 1
+    go : (ends : Bool) → length (parts_from 10 text []) ≤ length text + 1 → length (parts_from 10 text (begun ++ b ∷ [])) ≤ length text + 1 →
+        length (cond ends (begun ∷ parts_from 10 text []) (parts_from 10 text (begun ++ b ∷ []))) ≤ length (b ∷ text) + 1
     go true here there = omega (arith, here)
     go false here there = omega (arith, there)
 

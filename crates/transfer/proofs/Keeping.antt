@@ -5,7 +5,7 @@ use Rattle.std.specs.List.{list_all, flat_map}
 use Rattle.certificate.specs.Bounds.{Bound}
 use Rattle.certificate.proofs.JoinTwice.{bound-self, bound-twice}
 use Rattle.rules.specs.Outcomes.{Outcome}
-use Rattle.rules.specs.Carrying.{joined, joined_with, joined_at}
+use Rattle.rules.specs.Carrying.{joined_bound, joined_with, joined_at}
 use Rattle.transfer.specs.Kept.{kept_with, kept_all}
 
 pub kept_all-append : (joins : Option ℕ) (before : Option Bound) (xs ys : List Outcome)
@@ -14,7 +14,7 @@ kept_all-append joins before [] ys = refl
 kept_all-append joins before (o ∷ xs) ys = kept_all-append joins (kept_with joins before o) xs ys
 
 -- ## Repeated outcomes
-joined-twice : (before : Option Bound) (b : Bound) → joined (joined before b) b ≡ joined before b
+joined-twice : (before : Option Bound) (b : Bound) → joined_bound (joined_bound before b) b ≡ joined_bound before b
 joined-twice None b = ap Some (bound-self b)
 joined-twice (Some a) b = ap Some (bound-twice a b)
 
@@ -23,12 +23,12 @@ kept-twice : (joins : Option ℕ) (before : Option Bound) (o : Outcome)
 kept-twice None before o = refl
 kept-twice (Some point) before o = go (o.point == point)
   where
-    go : (there : Bool) → (if there then joined (if there then joined before o.bound else before) o.bound else (if there then joined before o.bound else before))
-        ≡ (if there then joined before o.bound else before)
+    go : (there : Bool) → (if there then joined_bound (if there then joined_bound before o.bound else before) o.bound else (if there then joined_bound before o.bound else before))
+        ≡ (if there then joined_bound before o.bound else before)
     go true = joined-twice before o.bound
     go false = refl
 
--- outcomes that change nothing once they are joined
+-- outcomes that change nothing once they are joined_bound
 abbrev pub Settles : Option ℕ → List Outcome → Type 0
 Settles joins outs = (before : Option Bound) → kept_all joins (kept_all joins before outs) outs ≡ kept_all joins before outs
 
@@ -54,7 +54,7 @@ module _ {A : Type 0} (joins : Option ℕ) (same : List Outcome) (settles : Sett
       kept_all-append joins before same rest ∙ later (kept_all joins before same) ∙ again before none
   step false none rest before later = later before
 
-  -- where each element that is so has the same outcomes, they are joined once, if any is
+  -- where each element that is so has the same outcomes, they are joined_bound once, if any is
   kept_once : (xs : List A) (before : Option Bound)
       → kept_all joins before (repeated xs) ≡ (if none_is xs then before else kept_all joins before same)
   kept_once [] before = refl

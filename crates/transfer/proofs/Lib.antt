@@ -1,4 +1,4 @@
-pub mod UseRows
+pub mod UseTests
 pub mod Named
 pub mod Repeated
 pub mod Keeping

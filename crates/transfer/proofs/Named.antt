@@ -6,7 +6,7 @@ use Rattle.rights.specs.Limits.{most_grants}
 use Rattle.rights.proofs.Tests.{both_left, both_right}
 use Rattle.file_tree.specs.Nodes.{Node}
 use Rattle.task.specs.Plans.{Grant, Plan}
-use Rattle.task.specs.Limits.{is_tree, is_grant, are_apart, all_apart, are_grants, are_programs, are_starts, is_plan}
+use Rattle.task.specs.Limits.{is_tree, is_grant, are_grants_apart, all_apart, are_grants, are_programs, are_starts, is_plan}
 use Rattle.transfer.specs.Tested.{has_name}
 
 both : (a b : Bool) → a ≡ true → b ≡ true → (a && b) ≡ true
@@ -29,4 +29,4 @@ grants_named plan valid =
     (both_left (tree && grants && are_programs plan.programs) (are_starts plan.nodes (length plan.programs) plan.starts) valid)) in
     let few = nat_le (length plan.grants) most_grants in
     let each = list_all (is_grant plan.nodes) plan.grants in
-    each_named plan.nodes plan.grants (both_right few each (both_left (few && each) (all_apart are_apart plan.grants) are))
+    each_named plan.nodes plan.grants (both_right few each (both_left (few && each) (all_apart are_grants_apart plan.grants) are))

@@ -1,9 +1,8 @@
-pub mod Calls
-pub mod Given
+pub mod CallViews
+pub mod GivenViews
 pub mod Kept
 pub mod Limits
-pub mod Needs
 pub mod OutcomeViews
-pub mod Sites
+pub mod SiteViews
 pub mod Tested
 pub mod Views

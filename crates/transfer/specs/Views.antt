@@ -5,8 +5,8 @@ use Rattle.rights.specs.Views.{operation_of}
 use Rattle.rights.specs.declared.operations.Op.{Op as OpCode}
 use Rattle.prog_asm.specs.Views.{operand_of}
 use Rattle.rules.specs.Demands.{Demands}
-use Rattle.transfer.specs.Needs.{Need, Passed, Sent, Received, Through, Needs}
-use Rattle.transfer.specs.Needs as needs
+use Rattle.rules.specs.Needs.{Need, Passed, Sent, Received, Through, Needs}
+use Rattle.rules.specs.Needs as needs
 use Rattle.transfer.specs.declared.slots.FreeNumbers.{FreeNumbers}
 use Rattle.transfer.specs.declared.slots.FreeNumbers.TheVariants as free
 use Rattle.transfer.specs.declared.slots.Takes.{Takes}

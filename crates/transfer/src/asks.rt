@@ -6,8 +6,7 @@ ghost use Rattle.certificate.specs.Bounds.{Bound as BoundSeen, held_in};
 ghost use Rattle.certificate.specs.Views.{bound_of, held_of, interval_of, slot_of};
 ghost use Rattle.prog_asm.specs.Views.{operand_of, syscall_of};
 ghost use Rattle.rules.specs.Slots.{OpenSlot, slots_from, slots_in};
-ghost use Rattle.rules.specs.Uses.{Use, uses};
-ghost use Rattle.transfer.specs.Needs.{named_slots, use_of, uses_of, uses_through};
+ghost use Rattle.rules.specs.Uses.{Use, named_slots, use_of, uses, uses_of, uses_through};
 ghost use Rattle.transfer.specs.Tested.{slot_at};
 ghost use Rattle.transfer.specs.Views.{need_of, needs_in, through_of};
 

@@ -8,7 +8,7 @@ ghost use Rattle.certificate.specs.Views.{bound_of, held_of, interval_of, mode_o
 ghost use Rattle.prog_asm.specs.Programs.{Cap_enter, Cap_fcntls_limit, Cap_rights_limit, Fork, Socketpair};
 ghost use Rattle.prog_asm.specs.Views.{operand_of, syscall_of};
 ghost use Rattle.rules.specs.Outcomes.{from_to, is_formed, is_surely_on, mode_interval};
-ghost use Rattle.transfer.specs.Calls.{call_at, end_at, paired};
+ghost use Rattle.transfer.specs.CallViews.{call_at, end_at, pair_made};
 ghost use Rattle.transfer.specs.Kept.{kept_all};
 ghost use Rattle.transfer.specs.Limits.{has_known_limit};
 
@@ -67,7 +67,7 @@ fn end_at(site: &Site<'_>, side: Side) -> Held
 
 /// The bound with both ends of a new pair, and the second number in register 1.
 fn paired(site: &Site<'_>, first: u8, second: u8) -> Bound
-    ensures { bound_of result ≡ paired site.now first second }
+    ensures { bound_of result ≡ pair_made site.now first second }
 {
     site.bound
         .with_slot(first, Slot::Open(end_at(site, Side::A)))

@@ -3,7 +3,7 @@
 ghost use Rattle.std.specs.Prelude.{◌≡◌, Some, true, option_map};
 ghost use Rattle.certificate.specs.Views.{bound_of};
 ghost use Rattle.prog_asm.specs.Views.{instruction_of};
-ghost use Rattle.transfer.specs.Calls.{carried_at};
+ghost use Rattle.transfer.specs.CallViews.{carried_at};
 ghost use Rattle.transfer.specs.Limits.{leaves_known};
 
 use crate::instructions::{failure, successes_pass};

@@ -5,9 +5,9 @@ ghost use Rattle.std.specs.Prelude.{◌≡◌, not, true};
 ghost use Rattle.std.specs.List.{flat_map, list_all};
 ghost use Rattle.certificate.specs.Views.{bound_of, interval_of, target_of};
 ghost use Rattle.prog_asm.specs.Views.{operand_of};
-ghost use Rattle.rules.specs.Outcomes.{goes_on};
+ghost use Rattle.rules.specs.Outcomes.{leads_on};
 ghost use Rattle.rules.specs.Slots.{slots_in};
-ghost use Rattle.transfer.specs.Given.{both_given, given_at, may_be, stays};
+ghost use Rattle.transfer.specs.GivenViews.{both_given, given_at, may_be, stays};
 ghost use Rattle.transfer.specs.Kept.{kept_all};
 
 use crate::asks::{SlotTest, all_slots_pass};

@@ -5,7 +5,7 @@ ghost use Rattle.std.specs.List.{list_all};
 ghost use Rattle.certificate.specs.Views.{bound_of, interval_of};
 ghost use Rattle.prog_asm.specs.Views.{instruction_of};
 ghost use Rattle.rules.specs.Outcomes.{equal_outcomes, error_interval, error_outcomes, less_outcomes, outcomes_in};
-ghost use Rattle.transfer.specs.Calls.{successes_at};
+ghost use Rattle.transfer.specs.CallViews.{successes_at};
 ghost use Rattle.transfer.specs.Kept.{kept_all};
 ghost use Rattle.transfer.specs.Limits.{leaves_known};
 ghost use Rattle.transfer.specs.OutcomeViews.{outcomes_of};

@@ -9,8 +9,8 @@ ghost use Rattle.rules.specs.Outcomes.{Outcome as OutcomeSeen, outcome_to};
 ghost use Rattle.rules.specs.Intervals.{only};
 ghost use Rattle.rules.specs.Slots.{slots_from, slots_in};
 ghost use Rattle.transfer.specs.Kept.{kept_all, kept_with};
-ghost use Rattle.transfer.specs.OutcomeViews.{changed, outcome_of};
-ghost use Rattle.transfer.specs.Sites.{acted, limited, received_at, taken_at};
+ghost use Rattle.transfer.specs.OutcomeViews.{bound_changed, outcome_of};
+ghost use Rattle.transfer.specs.SiteViews.{acted, left_by_limit, received_at, taken_at};
 ghost use Rattle.transfer.specs.Tested.{slot_at};
 
 use crate::channels::{channel_at, other};
@@ -83,11 +83,11 @@ pub(crate) fn next_passes<T: OutcomeTest>(
     test: &mut T,
 ) -> bool
     ensures value { result ≡ list_all (T.passes test.old)
-        (outcome_to (site.now.point + 1) (changed (bound_of bound.now) change)) }
+        (outcome_to (site.now.point + 1) (bound_changed (bound_of bound.now) change)) }
     ensures same { T.passes test.new ≡ T.passes test.old }
     ensures same_point { T.joins test.new ≡ T.joins test.old }
     ensures kept { result ≡ true → T.kept test.new ≡ kept_all (T.joins test.old) (T.kept test.old)
-        (outcome_to (site.now.point + 1) (changed (bound_of bound.now) change)) }
+        (outcome_to (site.now.point + 1) (bound_changed (bound_of bound.now) change)) }
 {
     let point = site.point as usize + 1;
     test.asks(&Outcome {
@@ -159,7 +159,7 @@ fn received_passes<T: OutcomeTest>(site: &Site<'_>, target: &Target, test: &mut 
 
 /// The same held, with what a limit leaves.
 fn limited(held: &Held, limit: Limit) -> Held
-    ensures { held_of result ≡ limited (held_of held.now) limit }
+    ensures { held_of result ≡ left_by_limit (held_of held.now) limit }
 {
     match limit {
         Limit::Rights(left) => Held::new(held.target(), left, held.fcntls()),

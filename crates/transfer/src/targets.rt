@@ -66,7 +66,7 @@ fn target_among(grants: &[Grant], path: &[u8]) -> Target
 pub(crate) fn target_of_path(task: &Task, path: &[u8]) -> Target
     ensures { target_of result ≡ target_of_path task.now.grants path.now }
 {
-    let _nodes = task.nodes();
+    task.note_valid();
     target_among(task.grants(), path)
 }
 

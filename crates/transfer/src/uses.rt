@@ -5,8 +5,7 @@ ghost use Rattle.rights.specs.Operations.{Remove};
 ghost use Rattle.rights.specs.Views.{operation_of};
 ghost use Rattle.prog_asm.specs.Views.{operand_of, syscall_of};
 ghost use Rattle.rights.specs.Opens.{open_request};
-ghost use Rattle.rules.specs.Uses.{open_operations, operation_if};
-ghost use Rattle.transfer.specs.Needs.{Received, Sent, first_rights, flags_in, moving_to, needs, none, nothing, one};
+ghost use Rattle.rules.specs.Needs.{Received, Sent, first_rights, flags_in, moving_to, needs, through_none, no_need, through_one, open_operations, operation_if};
 ghost use Rattle.transfer.specs.Views.{need_of, needs_in, operation_list, through_of};
 
 use prog_asm::{Operand, Syscall};
@@ -61,7 +60,7 @@ pub struct Needs {
 impl Need {
     /// The slot is named, and nothing else is asked of it.
     fn nothing() -> Need
-        ensures { need_of result ≡ nothing }
+        ensures { need_of result ≡ no_need }
     {
         Need {
             rights: Rights::empty(),
@@ -107,7 +106,7 @@ fn first_rights(call: &Syscall) -> Rights
 
 /// A call through one operand.
 fn one(operand: Operand, need: Need) -> Needs
-    ensures { needs_in result ≡ one (operand_of operand) (need_of need) }
+    ensures { needs_in result ≡ through_one (operand_of operand) (need_of need) }
 {
     Needs {
         first: Some(Through { operand, need }),
@@ -117,7 +116,7 @@ fn one(operand: Operand, need: Need) -> Needs
 
 /// A call through none.
 fn none() -> Needs
-    ensures { needs_in result ≡ none }
+    ensures { needs_in result ≡ through_none }
 {
     Needs {
         first: None,
@@ -134,7 +133,7 @@ fn operation_if(asked: bool, operation: Op) -> Option<Op>
 
 /// A need of these rights.
 fn needing(rights: Rights) -> Need
-    ensures { need_of result ≡ record nothing { rights = rights.0 } }
+    ensures { need_of result ≡ record no_need { rights = rights.0 } }
 {
     Need {
         rights,
@@ -144,7 +143,7 @@ fn needing(rights: Rights) -> Need
 
 /// A need of a call that works on what the descriptor is of, by an operation if it is one of the policy's.
 fn working(rights: Rights, operation: Option<Op>) -> Need
-    ensures { need_of result ≡ record nothing { rights = rights.0; works = true; operations = operation_list operation } }
+    ensures { need_of result ≡ record no_need { rights = rights.0; works = true; operations = operation_list operation } }
 {
     Need {
         works: true,
@@ -155,7 +154,7 @@ fn working(rights: Rights, operation: Option<Op>) -> Need
 
 /// A need of a call that makes or removes a name there.
 fn naming(rights: Rights, operation: Op) -> Need
-    ensures { need_of result ≡ record nothing {
+    ensures { need_of result ≡ record no_need {
       rights = rights.0;
       works = true;
       operations = operation_of operation ∷ [];
@@ -170,7 +169,7 @@ fn naming(rights: Rights, operation: Op) -> Need
 
 /// The need of an open through a directory.
 fn opening(rights: Rights, flags: OpenFlags) -> Need
-    ensures { need_of result ≡ record nothing {
+    ensures { need_of result ≡ record no_need {
       rights = rights.0;
       works = true;
       operations = open_operations flags;
@@ -202,7 +201,7 @@ fn moving_to() -> Need
 
 /// The need of a send of a slot of this operand.
 fn sending(rights: Rights, sent: Operand) -> Need
-    ensures { need_of result ≡ record nothing { rights = rights.0; works = true; passed = Sent (operand_of sent) } }
+    ensures { need_of result ≡ record no_need { rights = rights.0; works = true; passed = Sent (operand_of sent) } }
 {
     Need {
         passed: Passed::Sent(sent),
@@ -212,7 +211,7 @@ fn sending(rights: Rights, sent: Operand) -> Need
 
 /// The need of a receive.
 fn receiving(rights: Rights) -> Need
-    ensures { need_of result ≡ record nothing { rights = rights.0; works = true; passed = Received } }
+    ensures { need_of result ≡ record no_need { rights = rights.0; works = true; passed = Received } }
 {
     Need {
         passed: Passed::Received,
@@ -222,7 +221,7 @@ fn receiving(rights: Rights) -> Need
 
 /// The need of a call that goes by an fcntl command. (cap_fcntls_limit(2))
 fn commanding(rights: Rights, commands: Fcntls) -> Need
-    ensures { need_of result ≡ record nothing { rights = rights.0; commands = commands.0 } }
+    ensures { need_of result ≡ record no_need { rights = rights.0; commands = commands.0 } }
 {
     Need {
         commands,
@@ -232,7 +231,7 @@ fn commanding(rights: Rights, commands: Fcntls) -> Need
 
 /// The need of a limit that keeps these. (cap_rights_limit(2), cap_fcntls_limit(2))
 fn keeping(kept_rights: Rights, kept_commands: Fcntls) -> Need
-    ensures { need_of result ≡ record nothing { kept_rights = kept_rights.0; kept_commands = kept_commands.0 } }
+    ensures { need_of result ≡ record no_need { kept_rights = kept_rights.0; kept_commands = kept_commands.0 } }
 {
     Need {
         kept_rights,
@@ -243,7 +242,7 @@ fn keeping(kept_rights: Rights, kept_commands: Fcntls) -> Need
 
 /// The need of a move of its first descriptor: names go to slots of the second.
 fn moving_from(rights: Rights, target: Operand) -> Need
-    ensures { need_of result ≡ record nothing {
+    ensures { need_of result ≡ record no_need {
       rights = rights.0;
       works = true;
       operations = Remove ∷ [];
@@ -262,7 +261,7 @@ fn moving(rights: Rights, descriptor: &Operand, target: &Operand) -> Needs
     ensures first { option_map through_of result.first
         ≡ Some (record {
           operand = operand_of descriptor.now;
-          need = record nothing {
+          need = record no_need {
             rights = rights.0;
             works = true;
             operations = Remove ∷ [];
@@ -287,7 +286,6 @@ fn moving(rights: Rights, descriptor: &Operand, target: &Operand) -> Needs
 
 /// What a call needs of the slots that it may go through; a descriptor that is sent isn't gone through. (own; after
 /// capsicum(4), rights(4), cap_rights_limit(2) and cap_fcntls_limit(2))
-#[tactic(auto, unfolding(crate::specs::Needs::needs))]
 pub fn needed(call: &Syscall) -> Needs
     ensures { needs_in result ≡ needs (syscall_of call.now) }
 {

@@ -5,7 +5,7 @@ use Rattle.std.specs.List.{list_any}
 use Rattle.clap.proofs.OnLiterals.{clap_on_literals}
 use Rattle.clap.specs.Words.{takes, is_simple, subcommand_of}
 use Rattle.words.specs.Commands.{program, parsed_order}
-use Rattle.words.specs.Orders.{Order, Example, Run, Check, Report, Search, Expand, line_of, is_dashed}
+use Rattle.words.specs.Orders.{Order, Example, Run, Check, Report, Search, Expand, order_words, is_dashed}
 
 pub program_is_simple : is_simple program ≡ true
 unfolding clap_on_literals
@@ -116,7 +116,7 @@ give_expand (a ∷ r) (b ∷ s) none =
     simp (d, e)
 
 -- A line none of whose words begins with `-` is taken.
-pub takes_line : (order : Order) → list_any is_dashed (line_of order) ≡ false → takes program (line_of order) ≡ true
+pub takes_line : (order : Order) → list_any is_dashed (order_words order) ≡ false → takes program (order_words order) ≡ true
 unfolding clap_on_literals
 takes_line Example none = refl
 takes_line (Run task schedule) none = take_run task schedule none
@@ -126,7 +126,7 @@ takes_line (Search task) none = take_search task none
 takes_line (Expand task cert) none = take_expand task cert none
 
 -- And it gives the order.
-pub gives_line : (order : Order) → list_any is_dashed (line_of order) ≡ false → parsed_order (subcommand_of program (line_of order)) ≡ Some order
+pub gives_line : (order : Order) → list_any is_dashed (order_words order) ≡ false → parsed_order (subcommand_of program (order_words order)) ≡ Some order
 unfolding clap_on_literals
 gives_line Example none = refl
 gives_line (Run task schedule) none = give_run task schedule none

@@ -6,11 +6,11 @@ use Rattle.clap.specs.Words.{App, Row, Text, is_simple, takes, subcommand_of}
 use Rattle.words.specs.declared.faults.WordsFault.{WordsFault}
 use Rattle.words.specs.declared.faults.WordsFault.TheVariants.{Words, Memory}
 use Rattle.words.specs.Commands.{program, parsed_order}
-use Rattle.words.specs.Orders.{Order, AsksFor, line_of, is_dashed}
+use Rattle.words.specs.Orders.{Order, AsksFor, order_words, is_dashed}
 use Rattle.words.specs.OrderViews.{ReadsWords}
 use Rattle.words.proofs.Lines.{program_is_simple, takes_line, gives_line}
 
-undashed : (words : List (List ℕ)) (order : Order) → AsksFor words order → list_any is_dashed (line_of order) ≡ false
+undashed : (words : List (List ℕ)) (order : Order) → AsksFor words order → list_any is_dashed (order_words order) ≡ false
 undashed words order asked = sym (ap (list_any is_dashed) asked.line) ∙ asked.undashed
 
 pub taken : (words : List (List ℕ)) (order : Order) → AsksFor words order → takes program words ≡ true
@@ -27,14 +27,16 @@ failed Memory words when = tt
 failed Words words when = λ order asked. let e : Words ≡ Memory = when (taken words order asked) in absurd (cc)
 
 -- What the parse of a right line found is its order.
-pub found : {X : Type 0} (app : App) (words : List (List ℕ)) (rows : Option (Text × List Row)) → app ≡ program → (is_simple app ≡ true → X × (rows ≡ subcommand_of app words)) → (order : Order) → AsksFor words order → parsed_order rows ≡ Some order
+pub found : {X : Type 0} (app : App) (words : List (List ℕ)) (rows : Option (Text × List Row)) → app ≡ program →
+    (is_simple app ≡ true → X × (rows ≡ subcommand_of app words)) → (order : Order) → AsksFor words order → parsed_order rows ≡ Some order
 found app words rows is parsed order asked =
     ap parsed_order ((parsed (ap is_simple is ∙ program_is_simple)).1 ∙ ap (λ (a : App). subcommand_of a words) is)
     ∙ given words order asked
 
 -- And the words are the line of what was found.
-pub line_found : (words : List (List ℕ)) (rows : Option (Text × List Row)) (order other : Order) → Some order ≡ parsed_order rows → parsed_order rows ≡ Some other → AsksFor words other → words ≡ line_of order
-line_found words rows order other is found asked = let same : other ≡ order = cc in asked.line ∙ ap line_of same
+pub line_found : (words : List (List ℕ)) (rows : Option (Text × List Row)) (order other : Order) → Some order ≡ parsed_order rows →
+    parsed_order rows ≡ Some other → AsksFor words other → words ≡ order_words order
+line_found words rows order other is found asked = let same : other ≡ order = cc in asked.line ∙ ap order_words same
 
 -- So something is found.
 pub none_found : (rows : Option (Text × List Row)) (order : Order) → None ≡ parsed_order rows → parsed_order rows ≡ Some order → ⊥

@@ -13,13 +13,13 @@ pub data Order : Type 0 where
   Expand : (task certificate : List ℕ) → Order
 
 -- the words that ask for it: none; `run TASK SCHEDULE`; `check TASK CERT`; `report TASK CERT`; `search TASK`; `expand TASK CERT`
-abbrev pub line_of : Order → List (List ℕ)
-line_of Example = []
-line_of (Run task schedule) = codes "run" ∷ task ∷ schedule ∷ []
-line_of (Check task certificate) = codes "check" ∷ task ∷ certificate ∷ []
-line_of (Report task certificate) = codes "report" ∷ task ∷ certificate ∷ []
-line_of (Search task) = codes "search" ∷ task ∷ []
-line_of (Expand task certificate) = codes "expand" ∷ task ∷ certificate ∷ []
+abbrev pub order_words : Order → List (List ℕ)
+order_words Example = []
+order_words (Run task schedule) = codes "run" ∷ task ∷ schedule ∷ []
+order_words (Check task certificate) = codes "check" ∷ task ∷ certificate ∷ []
+order_words (Report task certificate) = codes "report" ∷ task ∷ certificate ∷ []
+order_words (Search task) = codes "search" ∷ task ∷ []
+order_words (Expand task certificate) = codes "expand" ∷ task ∷ certificate ∷ []
 
 abbrev pub hyphen : ℕ
 hyphen = 45
@@ -31,5 +31,5 @@ is_dashed (b ∷ word) = b == hyphen
 
 -- The words ask for it, and none begins with `-`.
 pub record AsksFor (words : List (List ℕ)) (order : Order) : Type 0 where
-  pub line : words ≡ line_of order
+  pub line : words ≡ order_words order
   pub undashed : list_any is_dashed words ≡ false

@@ -1,7 +1,7 @@
 //! What the program can be asked to do.
 
 ghost use Rattle.std.specs.Prelude.{◌≡◌, ◌↔◌, ◌∷◌, [], IsTrue, map, string_bytes};
-ghost use Rattle.words.specs.Orders.{line_of};
+ghost use Rattle.words.specs.Orders.{order_words};
 ghost use Rattle.words.specs.OrderViews.{order_of};
 
 /// What the program is asked to do. It borrows the names from the words.
@@ -23,7 +23,7 @@ pub enum Order<'a> {
 
 /// Whether two words are the line of this order.
 fn is_search(command: &str, first: &str, order: Order<'_>) -> bool
-    ensures { IsTrue result ↔ (command.now ∷ first.now ∷ [] ≡ line_of (order_of order.entry)) }
+    ensures { IsTrue result ↔ (command.now ∷ first.now ∷ [] ≡ order_words (order_of order.entry)) }
 {
     match order {
         Order::Search { task } => command == "search" && first == task,
@@ -37,7 +37,7 @@ fn is_search(command: &str, first: &str, order: Order<'_>) -> bool
 
 /// Whether three words are the line of this order.
 fn is_command(command: &str, first: &str, second: &str, order: Order<'_>) -> bool
-    ensures { IsTrue result ↔ (command.now ∷ first.now ∷ second.now ∷ [] ≡ line_of (order_of order.entry)) }
+    ensures { IsTrue result ↔ (command.now ∷ first.now ∷ second.now ∷ [] ≡ order_words (order_of order.entry)) }
 {
     match order {
         Order::Example | Order::Search { .. } => false,
@@ -50,7 +50,7 @@ fn is_command(command: &str, first: &str, second: &str, order: Order<'_>) -> boo
 
 /// Whether the words are the line of this order.
 pub(crate) fn is_line_of(words: &[String], order: Order<'_>) -> bool
-    ensures { IsTrue result ↔ (map string_bytes words.now ≡ line_of (order_of order.entry)) }
+    ensures { IsTrue result ↔ (map string_bytes words.now ≡ order_words (order_of order.entry)) }
 {
     match words {
         [] => matches!(order, Order::Example),

@@ -1,6 +1,6 @@
 use Rattle.std.proofs.Common.{subst}
 use Rattle.certificate_text.specs.WordViews.{word_text}
-use Rattle.certificate_text.specs.Writings.{Writes}
+use Rattle.certificate_text.specs.WritingViews.{Writes}
 use Rattle.certificate_text.proofs.WordsJoined.{joined-first}
 use Rattle.certificate_text.proofs.Written.{passed_on, written-both, written-front}
 use Rattle.certificate_text.proofs.writing.+write_words.Goals as goal

@@ -2,7 +2,7 @@ use Rattle.std.proofs.Common.{ℕ, List, ap, sym, ◌∙◌, ◌++◌}
 use Rattle.certificate.specs.Bounds.{PointBound, ChannelBound}
 use Rattle.certificate.specs.Views.{channels_of, points_of}
 use Rattle.certificate_text.specs.Pieces.{block_text, channel_text, in_order}
-use Rattle.certificate_text.specs.Texts.{ended, first_line, last_line}
+use Rattle.certificate_text.specs.Texts.{ended_line, first_line, end_line}
 use Rattle.certificate_text.proofs.OneSpelling.{text-back, text-read}
 use Rattle.certificate_text.proofs.Pieces.{whole-text}
 use Rattle.certificate_text.proofs.Written.{passed_on, written-as, written-both, written-front}
@@ -10,12 +10,12 @@ use Rattle.certificate_text.proofs.writing.write_cert.Goals as goal
 
 -- what stands behind the first line
 abbrev behind : List PointBound → List ChannelBound → List ℕ
-behind points channels = in_order (λ n. block_text) 0 points ++ (in_order (λ n. channel_text) 0 channels ++ ended last_line)
+behind points channels = in_order (λ n. block_text) 0 points ++ (in_order (λ n. channel_text) 0 channels ++ ended_line end_line)
 
 pub returns-in_err-write_bytes-clause-written : goal.returns-in_err-write_bytes-clause-written
 returns-in_err-write_bytes-clause-written g c =
     let cert = c.args.cert.now in
-    let first = c.version_line.ensures ∙ ap (λ version. ended (first_line version)) c.version.ensures in
+    let first = c.version_line.ensures ∙ ap (λ version. ended_line (first_line version)) c.version.ensures in
     written-as _ _ _ _ _ _ _
     (ap (λ line. line ++ behind cert.points cert.channels) first ∙ whole-text cert)
     (written-front _ _ _ _ _ _ c.in_err-write_bytes.field-0.0 _ (passed_on _ _ c.from_residual.ensures) c.in_err-write_bytes.ensures)
@@ -30,11 +30,11 @@ pub returns-clause-written : goal.returns-clause-written
 returns-clause-written g c =
     let cert = c.args.cert.now in
     let channels = channels_of c.channels-channels.result.now in
-    let first = c.version_line.ensures ∙ ap (λ version. ended (first_line version)) c.version.ensures in
+    let first = c.version_line.ensures ∙ ap (λ version. ended_line (first_line version)) c.version.ensures in
     written-as _ _ _ _ _ _ _
     (ap (λ line. line ++ behind (points_of c.points-points.result.now) channels) first
-    ∙ ap (λ points. ended (first_line cert.version) ++ behind points channels) c.points-points.ensures.points
-    ∙ ap (λ channels. ended (first_line cert.version) ++ behind cert.points channels) c.channels-channels.ensures.channels
+    ∙ ap (λ points. ended_line (first_line cert.version) ++ behind points channels) c.points-points.ensures.points
+    ∙ ap (λ channels. ended_line (first_line cert.version) ++ behind cert.points channels) c.channels-channels.ensures.channels
     ∙ whole-text cert)
     (written-both _ _ _ _ _ _ _ _ _ _ c.in_ok-write_bytes.ensures c.write_body.ensures)
 

@@ -20,5 +20,5 @@ returns-in-Some c =
     let asked : c.asks.result ≡ test (outcome_of c.in-Some.outcome) =
     rw (← c.of.ensures.cert, ← c.of.ensures.name, ← c.of.ensures.next, ← c.of.ensures.held) c.asks.ensures.value in
     asked ∙ alone (test (outcome_of c.in-Some.outcome)) ∙ ap (list_all test) one
-    ∙ errors_there s.task.now s.cert.now c.programs-programs.ensures.valid c.points-points.ensures.valid (name_of s.name.now) s.point
+    ∙ errors_there s.task.now s.cert.now c.note_valid.ensures c.note_made.ensures (name_of s.name.now) s.point
     (instruction_of c.args.instruction.now) (option_map bound_of c.args.carried.now) c.requires.stands c.requires.carries (bound_of s.bound.now)

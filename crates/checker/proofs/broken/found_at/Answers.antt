@@ -11,7 +11,7 @@ use Rattle.checker.proofs.broken.found_at.Goals.{else-point-eq0-via-then-point-e
 pub broken_with-requires-clause-stands : goal.broken_with-requires-clause-stands
 broken_with-requires-clause-stands c =
     stands c.args.task.now c.args.program c.args.point (name_of c.args.name.now) (instruction_of c.in_ok-instruction.instruction.now)
-    c.programs-programs.ensures.valid c.requires.name (sym c.in_ok-instruction.ensures.there)
+    c.note_valid.ensures c.requires.name (sym c.in_ok-instruction.ensures.there)
 
 pub broken_with-requires-clause-known : goal.broken_with-requires-clause-known
 broken_with-requires-clause-known c = c.in_ok-instruction.ensures.known
@@ -23,7 +23,7 @@ returns-in-Some c =
     let cert = c.args.cert.now in
     c.broken_with.ensures
     ∙ sym (found_is plan cert c.args.program c.args.point (name_of c.args.name.now) (option_map bound_of c.args.carried.now)
-    c.programs-programs.ensures.valid c.points-points.ensures.valid c.requires.name c.requires.carried
+    c.note_valid.ensures c.note_made.ensures c.requires.name c.requires.carried
     (instruction_of c.in_ok-instruction.instruction.now) (Some (bound_of c.in-Some.bound)) (sym c.in_ok-instruction.ensures.there) c.in-Some.ensures)
 
 pub returns-then-is_started : goal.returns-then-is_started
@@ -32,7 +32,7 @@ returns-then-is_started c =
     let plan = c.args.task.now in
     let found =
     found_is plan c.args.cert.now c.args.program c.args.point (name_of c.args.name.now) (option_map bound_of c.args.carried.now)
-    c.programs-programs.ensures.valid c.points-points.ensures.valid c.requires.name c.requires.carried
+    c.note_valid.ensures c.note_made.ensures c.requires.name c.requires.carried
     (instruction_of c.in_ok-instruction.instruction.now) None (sym c.in_ok-instruction.ensures.there) c.in-None.ensures in
     sym (found ∙ unbounded plan c.args.program c.args.point c.if-point-eq0.true (sym c.if-is_started.ensures))
 
@@ -42,7 +42,7 @@ returns-else-point-eq0 c =
     let plan = c.args.task.now in
     let found =
     found_is plan c.args.cert.now c.args.program c.args.point (name_of c.args.name.now) (option_map bound_of c.args.carried.now)
-    c.programs-programs.ensures.valid c.points-points.ensures.valid c.requires.name c.requires.carried
+    c.note_valid.ensures c.note_made.ensures c.requires.name c.requires.carried
     (instruction_of c.in_ok-instruction.instruction.now) None (sym c.in_ok-instruction.ensures.there) c.in-None.ensures in
     let kept : least_broken (tests_without plan c.args.program c.args.point) ≡ None = elim c.else-point-eq0.branch [
       | else-point-eq0-via-then-point-eq0+else-is_started w ↦ kept_unstarted plan c.args.program c.args.point (sym w.if-is_started.ensures)

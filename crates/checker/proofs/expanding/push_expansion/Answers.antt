@@ -1,5 +1,6 @@
 use Rattle.std.proofs.Common.{map, sym, ◌∙◌, ap, subst}
-use Rattle.certificate.specs.Growths.{Grows, grown, then_grown}
+use Rattle.certificate.specs.Growths.{grown, then_grown}
+use Rattle.certificate.specs.GrowthViews.{Grows}
 use Rattle.certificate.specs.Lines.{Bounds_channel}
 use Rattle.checker.proofs.Along.{failed_first, lines_grown, passed_on}
 use Rattle.checker.proofs.expanding.push_expansion.Goals as goal

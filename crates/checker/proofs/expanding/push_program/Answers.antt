@@ -1,6 +1,7 @@
 use Rattle.std.proofs.Common.{sym, ◌∙◌, ap, subst}
 use Rattle.std.specs.Prelude.{Err, option_map}
-use Rattle.certificate.specs.Growths.{Grows, grown_by}
+use Rattle.certificate.specs.Growths.{grown_by}
+use Rattle.certificate.specs.GrowthViews.{Grows}
 use Rattle.certificate.specs.Views.{bound_of, name_of}
 use Rattle.rules.specs.Expansions.{with_bound}
 use Rattle.checker.proofs.Along.{along_end, along_failed, along_next, passed_on}

@@ -1,7 +1,8 @@
 use Rattle.std.proofs.Common.{◌-◌, length, take, drop, sym, ◌∙◌, ap, subst}
 use Rattle.std.specs.Prelude.{None}
 use Rattle.std.specs.List.{flat_map}
-use Rattle.certificate.specs.Growths.{Grows, grown_by}
+use Rattle.certificate.specs.Growths.{grown_by}
+use Rattle.certificate.specs.GrowthViews.{Grows}
 use Rattle.certificate.specs.Views.{points_of}
 use Rattle.rules.specs.Expansions.{points_along, programs_behind, programs_given}
 use Rattle.checker.proofs.Along.{first_given}

@@ -20,7 +20,7 @@ loop-point-init c = (λ k below. absurd (omega arith), refl)
 
 pub carried_past-next-requires-clause-named : goal.carried_past-next-requires-clause-named
 carried_past-next-requires-clause-named c =
-    named_code c.args.task.now c.args.program (name_of c.in_ok-name.field-0) (code_of c.args.code.now) c.programs-programs.ensures.valid
+    named_code c.args.task.now c.args.program (name_of c.in_ok-name.field-0) (code_of c.args.code.now) c.note_valid.ensures
     c.in_ok-name.ensures.some c.requires.program c.requires.code
 
 pub found_at-requires-clause-next : goal.found_at-requires-clause-next

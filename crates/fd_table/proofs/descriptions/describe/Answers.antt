@@ -1,5 +1,5 @@
 use Rattle.std.proofs.Common.{refl}
-use Rattle.fd_table.specs.Stored.{held_kept}
+use Rattle.fd_table.specs.StoredViews.{held_kept}
 use Rattle.fd_table.proofs.SlabLaws.{none_map, slots_update}
 use Rattle.fd_table.proofs.descriptions.describe.Goals as goal
 

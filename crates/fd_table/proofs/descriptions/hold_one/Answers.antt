@@ -1,6 +1,6 @@
 use Rattle.std.proofs.Common.{refl}
 use Rattle.fd_table.specs.Changes.{raised}
-use Rattle.fd_table.specs.Stored.{held_kept}
+use Rattle.fd_table.specs.StoredViews.{held_kept}
 use Rattle.fd_table.proofs.SlabLaws.{slots_set}
 use Rattle.fd_table.proofs.descriptions.hold_one.Goals as goal
 

@@ -2,7 +2,7 @@ use Rattle.std.proofs.Common.{sym, ap, ◌∙◌, ◌-◌, None, Some}
 use Rattle.std.specs.Prelude.{cond}
 use Rattle.std.proofs.lemmas.Bool.{lt-ltb, le-ltb}
 use Rattle.fd_table.specs.Changes.{lowered}
-use Rattle.fd_table.specs.Stored.{held_kept}
+use Rattle.fd_table.specs.StoredViews.{held_kept}
 use Rattle.fd_table.proofs.SlabLaws.{slots_set, slots_update, some_map}
 use Rattle.fd_table.proofs.descriptions.release_one.Goals as goal
 

@@ -1,6 +1,6 @@
 use Rattle.std.proofs.Common.{refl}
 use Rattle.fd_table.specs.Changes.{described_as}
-use Rattle.fd_table.specs.Stored.{description_kept, held_kept}
+use Rattle.fd_table.specs.StoredViews.{description_kept, held_kept}
 use Rattle.fd_table.proofs.SlabLaws.{slots_set}
 use Rattle.fd_table.proofs.descriptions.set_description.Goals as goal
 

@@ -1,5 +1,5 @@
 use Rattle.std.proofs.Common.{ap, Some}
-use Rattle.fd_table.specs.Stored.{pair_kept}
+use Rattle.fd_table.specs.StoredViews.{pair_kept}
 use Rattle.fd_table.proofs.SlabLaws.{slots_update}
 use Rattle.fd_table.proofs.pairs.make_pair.Goals as goal
 

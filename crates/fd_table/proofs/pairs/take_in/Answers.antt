@@ -1,7 +1,7 @@
 use Rattle.std.proofs.Common.{ap, sym, Some}
 use Rattle.fd_table.specs.Views.{side_seen}
 use Rattle.fd_table.specs.Changes.{with_less}
-use Rattle.fd_table.specs.Stored.{pair_kept}
+use Rattle.fd_table.specs.StoredViews.{pair_kept}
 use Rattle.fd_table.proofs.SlabLaws.{slots_set}
 use Rattle.fd_table.proofs.pairs.take_in.Goals as goal
 

@@ -1,6 +1,6 @@
 use Rattle.std.proofs.Common.{◌∙◌, ap}
 use Rattle.link_tree.specs.Links.{stood}
-use Rattle.link_tree.specs.LinkEntries.{links_of, stand_of}
+use Rattle.link_tree.specs.LinkViews.{links_of, stand_of}
 use Rattle.file_tree.proofs.VectorLaws.{in_items}
 use Rattle.link_tree.proofs.LinkEntryChanges.{entry_stood}
 use Rattle.link_tree.proofs.changes.replace_stand.Goals as goal

@@ -1,7 +1,7 @@
 use Rattle.std.proofs.Common.{ap}
 use Rattle.file_tree.specs.Nodes.{node}
 use Rattle.link_tree.specs.Links.{linked_nodes}
-use Rattle.link_tree.specs.LinkEntries.{links_of, stand_of}
+use Rattle.link_tree.specs.LinkViews.{links_of, stand_of}
 use Rattle.link_tree.proofs.LinkEntryLaws.{entry_held}
 use Rattle.file_tree.proofs.PlaceTexts.{told_at}
 use Rattle.link_tree.proofs.climbs.+append_linked_names.Goals as goal

@@ -1,7 +1,7 @@
 use Rattle.file_tree.specs.Nodes.{node}
 use Rattle.file_tree.specs.Places.{path_components}
 use Rattle.link_tree.specs.Links.{linked_nodes}
-use Rattle.link_tree.specs.LinkEntries.{links_of}
+use Rattle.link_tree.specs.LinkViews.{links_of}
 use Rattle.link_tree.proofs.PathMatches.{decided, all_or_some}
 use Rattle.link_tree.proofs.climbs.linked_begins.Goals as goal
 
@@ -10,5 +10,6 @@ returns-in-Decided c = decided (path_components c.args.path.now) (node (linked_n
 
 pub returns-in-Left : goal.returns-in-Left
 returns-in-Left c =
-    all_or_some c.first_name.result c.is_none.result (λ p. p.0.now) (λ p. path_components p.1.now) (path_components c.args.path.now) (node (linked_nodes (links_of c.args.entries.now)) c.args.n).place (path_components c.in-Left.rest.now)
+    all_or_some c.first_name.result c.is_none.result (λ p. p.0.now) (λ p. path_components p.1.now) (path_components c.args.path.now)
+    (node (linked_nodes (links_of c.args.entries.now)) c.args.n).place (path_components c.in-Left.rest.now)
     c.is_none.ensures c.first_name.ensures c.in-Left.ensures

@@ -1,6 +1,6 @@
 use Rattle.std.proofs.Common.{◌≡◌, length, arith, sym, ◌∙◌, ap}
-use Rattle.link_tree.specs.Links.{In, linked_nodes, link}
-use Rattle.link_tree.specs.LinkEntries.{links_of}
+use Rattle.link_tree.specs.Links.{In, linked_nodes, tree_entry}
+use Rattle.link_tree.specs.LinkViews.{links_of}
 use Rattle.file_tree.proofs.NodeLaws.{linked_there}
 use Rattle.link_tree.proofs.LinkReads.{held}
 use Rattle.link_tree.proofs.LinkEntryLaws.{count_links, count_nodes}
@@ -9,7 +9,7 @@ use Rattle.link_tree.proofs.removes.take_out.Goals as goal
 
 pub unfile-requires : goal.unfile-requires
 unfile-requires c =
-    let before : (link (links_of c.args.entries.now.items) c.args.n).stand ≡ In c.in-In.parent c.in-In.name.items = sym c.in-In.ensures.before in
+    let before : (tree_entry (links_of c.args.entries.now.items) c.args.n).stand ≡ In c.in-In.parent c.in-In.name.items = sym c.in-In.ensures.before in
     let h = held (linked_nodes (links_of c.args.entries.now.items)) (links_of c.args.entries.now.items) c.args.n c.in-In.parent c.in-In.name.items c.requires.linked.fits before in
     omega (
       arith,

@@ -3,8 +3,8 @@ use Rattle.file_tree.specs.Places.{at_name}
 use Rattle.file_tree.specs.Nodes.{node}
 use Rattle.file_tree.specs.Changes.{renamed}
 use Rattle.file_tree.specs.Refusals.{rename_fault}
-use Rattle.link_tree.specs.Links.{linked_nodes, IsLinked, Relinked}
-use Rattle.link_tree.specs.LinkEntries.{links_of}
+use Rattle.link_tree.specs.Links.{linked_nodes, IsLinkedTree, Relinked}
+use Rattle.link_tree.specs.LinkViews.{links_of}
 use Rattle.link_tree.proofs.LinkEntryLaws.{count_links}
 use Rattle.link_tree.proofs.LinkRenames.{Tested, refused_above, refused_blocked, rename_allowed, way_length, way_holder, renamed_linked}
 use Rattle.link_tree.proofs.renames.rename_in.Goals as goal
@@ -41,7 +41,9 @@ relink-requires-clause-holder c = λ e old is.
 -- the tree once the node is linked anew
 record After (c : After-relink) : Type 0 where
   allowed : rename_fault (linked_nodes (links_of c.args.entries.now.items)) c.args.n c.args.dir c.args.name.now ≡ None
-  tree : IsLinked (links_of c.relink.new.entries.items) × (linked_nodes (links_of c.relink.new.entries.items) ≡ renamed (linked_nodes (links_of c.args.entries.now.items)) c.args.n (at_name (node (linked_nodes (links_of c.args.entries.now.items)) c.args.dir).place c.args.name.now))
+  tree : IsLinkedTree (links_of c.relink.new.entries.items)
+      × (linked_nodes (links_of c.relink.new.entries.items) ≡ renamed (linked_nodes (links_of c.args.entries.now.items)) c.args.n
+      (at_name (node (linked_nodes (links_of c.args.entries.now.items)) c.args.dir).place c.args.name.now))
 
 after : (c : After-relink) → After c
 after c =
@@ -50,7 +52,9 @@ after c =
     let relinked : Relinked (links_of c.make_way.new.entries.items) (links_of c.relink.new.entries.items) c.args.n c.args.dir c.args.name.now = rw c.in_ok-own.ensures.items at c.relink.ensures in
     record {
       allowed = allowed;
-      tree = renamed_linked (links_of c.args.entries.now.items) (links_of c.make_way.new.entries.items) c.args.n c.args.dir c.args.name.now c.requires.linked tested allowed c.in_ok-make_way.ensures.ok (links_of c.relink.new.entries.items) c.requires.directory c.requires.name relinked;
+      tree = renamed_linked (links_of c.args.entries.now.items)
+          (links_of c.make_way.new.entries.items) c.args.n c.args.dir c.args.name.now c.requires.linked tested allowed c.in_ok-make_way.ensures.ok
+          (links_of c.relink.new.entries.items) c.requires.directory c.requires.name relinked;
     }
 
 pub returns-clause-ok : goal.returns-clause-ok

@@ -14,23 +14,30 @@ returns-in_err-walk-clause-exact g c =
 pub loop-walk-init : goal.loop-walk-init
 loop-walk-init g c = record {
   in_tree = c.in_ok-walk.ensures.in_tree;
-  rest = begun_rest (g.T.Tree.nodes c.args.tree.now) c.args.start c.args.path.now c.args.way c.args.last c.in_ok-walk.walk c.in_ok-walk.ensures.allowed c.in_ok-walk.ensures.begun c.in_ok-walk.ensures.rules;
+  rest = begun_rest (g.T.Tree.nodes c.args.tree.now) c.args.start c.args.path.now c.args.way c.args.last c.in_ok-walk.walk
+      c.in_ok-walk.ensures.allowed c.in_ok-walk.ensures.begun c.in_ok-walk.ensures.rules;
 }
 
 pub returns-in_err-step-clause-exact : goal.returns-in_err-step-clause-exact
 returns-in_err-step-clause-exact g c =
     let p = err_from_is_err_and c.from_residual-in_err-step.result c.from_residual-in_err-step.ensures.1 in
-    rw (p.1, p.2) (ends_lost (g.T.Tree.nodes c.args.tree.now) c.loop-walk.walk (fault_of c.in_err-step.field-0.0) (walk_of (g.T.Tree.nodes c.args.tree.now) c.args.start c.args.path.now (way_of c.args.way) (last_of c.args.last)) c.in_err-step.ensures.steps c.loop-walk.invariant.rest)
+    rw (p.1, p.2) (ends_lost (g.T.Tree.nodes c.args.tree.now) c.loop-walk.walk (fault_of c.in_err-step.field-0.0)
+    (walk_of (g.T.Tree.nodes c.args.tree.now) c.args.start c.args.path.now (way_of c.args.way)
+    (last_of c.args.last)) c.in_err-step.ensures.steps c.loop-walk.invariant.rest)
 
 pub returns-in-Done-clause-exact : goal.returns-in-Done-clause-exact
 returns-in-Done-clause-exact g c =
     let done : next (rules_of (g.T.Tree.nodes c.args.tree.now) c.loop-walk.walk) (stand_of c.loop-walk.walk) ≡ Ends (found_of c.in-Done.found) = rw c.in-Done.is at c.in_ok-step.ensures.steps in
-    ends_with (g.T.Tree.nodes c.args.tree.now) c.loop-walk.walk c.in-Done.found (walk_of (g.T.Tree.nodes c.args.tree.now) c.args.start c.args.path.now (way_of c.args.way) (last_of c.args.last)) done c.loop-walk.invariant.rest
+    ends_with (g.T.Tree.nodes c.args.tree.now) c.loop-walk.walk c.in-Done.found
+    (walk_of (g.T.Tree.nodes c.args.tree.now) c.args.start c.args.path.now (way_of c.args.way)
+    (last_of c.args.last)) done c.loop-walk.invariant.rest
 
 pub loop-walk-preserved : goal.loop-walk-preserved
 loop-walk-preserved g c =
     let more : next (rules_of (g.T.Tree.nodes c.args.tree.now) c.loop-walk.walk) (stand_of c.loop-walk.walk) ≡ Goes (stand_of c.step.new.self) = rw c.in-More.is at c.in_ok-step.ensures.steps in
     record {
       in_tree = c.in_ok-step.ensures.in_tree;
-      rest = goes_on (g.T.Tree.nodes c.args.tree.now) c.loop-walk.walk c.step.new.self (walk_of (g.T.Tree.nodes c.args.tree.now) c.args.start c.args.path.now (way_of c.args.way) (last_of c.args.last)) c.in_ok-step.ensures.rules more c.loop-walk.invariant.rest;
+      rest = goes_on (g.T.Tree.nodes c.args.tree.now) c.loop-walk.walk c.step.new.self
+          (walk_of (g.T.Tree.nodes c.args.tree.now) c.args.start c.args.path.now (way_of c.args.way)
+          (last_of c.args.last)) c.in_ok-step.ensures.rules more c.loop-walk.invariant.rest;
     }

@@ -1,6 +1,6 @@
 use Rattle.std.proofs.Common.{◌≡◌}
 use Rattle.lookup.specs.Looks.{walk_of}
-use Rattle.lookup.specs.Views.{IsInTree, last_of, rules_of, stand_of, way_of, work}
+use Rattle.lookup.specs.Views.{IsInTree, last_of, rules_of, stand_of, way_of, work_left}
 use Rattle.lookup.proofs.StepLaws.{rest_of}
 use Rattle.lookup.proofs.lookups.walked.Given as goal
 
@@ -12,4 +12,4 @@ invariant-loop-walk g l = record {
 }
 
 abbrev pub decreases-loop-walk : goal.decreases-loop-walk
-decreases-loop-walk g l = work l.walk
+decreases-loop-walk g l = work_left l.walk

@@ -1,7 +1,7 @@
 use Rattle.std.proofs.Common.{◌≡◌, ◌++◌, drop, map}
 use Rattle.file_tree.specs.Changes.{moved, replaced_at}
 use Rattle.file_tree.specs.Views.{names_of}
-use Rattle.place_tree.specs.PlaceEntries.{nodes_of}
+use Rattle.place_tree.specs.EntryViews.{nodes_of}
 use Rattle.place_tree.proofs.changes.moved_entries.Given as goal
 
 -- what is made and what is left are all

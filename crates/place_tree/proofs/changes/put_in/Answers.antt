@@ -7,7 +7,9 @@ use Rattle.place_tree.proofs.changes.put_in.Goals as goal
 
 pub returns-in_err-put-clause-err : goal.returns-in_err-put-clause-err
 returns-in_err-put-clause-err c =
-    on_err _ (entry_kept c.args.entries.now.items c.args.n c.index_mut.result.now _ (in_items c.args.entries.now c.args.n c.requires) c.index_mut.ensures.value (same_content c.index_mut.result.now c.put.new.content c.in_err-put.ensures.err))
+    on_err _ (entry_kept c.args.entries.now.items c.args.n c.index_mut.result.now _
+    (in_items c.args.entries.now c.args.n c.requires) c.index_mut.ensures.value
+    (same_content c.index_mut.result.now c.put.new.content c.in_err-put.ensures.err))
 
 pub returns-clause-ok : goal.returns-clause-ok
 returns-clause-ok c =

@@ -7,7 +7,9 @@ use Rattle.place_tree.proofs.changes.truncate_in.Goals as goal
 
 pub returns-in_err-resize-clause-err : goal.returns-in_err-resize-clause-err
 returns-in_err-resize-clause-err c =
-    on_err _ (entry_kept c.args.entries.now.items c.args.n c.index_mut.result.now _ (in_items c.args.entries.now c.args.n c.requires) c.index_mut.ensures.value (same_content c.index_mut.result.now c.resize.new.self c.in_err-resize.ensures.items))
+    on_err _ (entry_kept c.args.entries.now.items c.args.n c.index_mut.result.now _
+    (in_items c.args.entries.now c.args.n c.requires) c.index_mut.ensures.value
+    (same_content c.index_mut.result.now c.resize.new.self c.in_err-resize.ensures.items))
 
 pub returns-clause-ok : goal.returns-clause-ok
 returns-clause-ok c =

@@ -2,7 +2,7 @@ use Rattle.std.proofs.Common.{◌≡◌, drop}
 use Rattle.file_tree.specs.Places.{at_name}
 use Rattle.file_tree.specs.Nodes.{node_from}
 use Rattle.file_tree.specs.Views.{names_of}
-use Rattle.place_tree.specs.PlaceEntries.{nodes_of}
+use Rattle.place_tree.specs.EntryViews.{nodes_of}
 use Rattle.place_tree.proofs.entries.find_child.Given as goal
 
 -- what is left decides it

@@ -1,7 +1,7 @@
 use Rattle.std.proofs.Common.{◌≡◌, drop}
 use Rattle.file_tree.specs.Nodes.{node_from}
 use Rattle.file_tree.specs.Views.{names_of}
-use Rattle.place_tree.specs.PlaceEntries.{nodes_of}
+use Rattle.place_tree.specs.EntryViews.{nodes_of}
 use Rattle.place_tree.proofs.entries.find_place.Given as goal
 
 -- what is left decides it

@@ -1,9 +1,9 @@
 use Rattle.std.proofs.Common.{◌≡◌, [], ap, sym, ◌∙◌, subst}
 use Rattle.std.specs.Prelude.{Ok}
 use Rattle.std.proofs.lemmas.Result.{err_from_is_err_and}
-use Rattle.prog_asm.specs.Lines.{lines_of}
+use Rattle.prog_asm.specs.Lines.{text_lines}
 use Rattle.prog_asm.specs.Assembly.{assembly_of, lines_behind}
-use Rattle.prog_asm.specs.Faults.{FaultIs}
+use Rattle.prog_asm.specs.FaultViews.{FaultIs}
 use Rattle.prog_asm.specs.Views.{code_of}
 use Rattle.prog_asm.proofs.GoodPrograms.{assembly-fault, assembly-good, assembly-lines, draft-few}
 use Rattle.prog_asm.proofs.assembler.assemble.Goals as goal
@@ -12,7 +12,7 @@ pub returns-in_err-draft : goal.returns-in_err-draft
 returns-in_err-draft c =
     let p = err_from_is_err_and c.from_residual.result c.from_residual.ensures.1 in
     let error = c.in_err-draft.field-0.0 in
-    let told : FaultIs error (lines_behind [] (lines_of c.args.text.now)) = subst (λ text. FaultIs error (lines_behind [] (lines_of text))) c.as_bytes.ensures.value c.in_err-draft.ensures in
+    let told : FaultIs error (lines_behind [] (text_lines c.args.text.now)) = subst (λ text. FaultIs error (lines_behind [] (text_lines text))) c.as_bytes.ensures.value c.in_err-draft.ensures in
     rw (p.1, p.2) (assembly-fault c.args.text.now error told)
 
 pub finish-requires : goal.finish-requires

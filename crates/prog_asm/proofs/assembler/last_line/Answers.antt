@@ -1,5 +1,5 @@
 use Rattle.std.proofs.Common.{◌≡◌, ◌-◌, length, get_or, ap, sym, ◌∙◌}
-use Rattle.prog_asm.specs.Drafts.{step_from}
+use Rattle.prog_asm.specs.DraftViews.{step_from}
 use Rattle.prog_asm.proofs.Lasts.{last_line-last}
 use Rattle.prog_asm.proofs.assembler.last_line.Goals as goal
 

@@ -3,7 +3,8 @@ use Rattle.std.specs.Prelude.{true, false, not, ◌&&◌}
 use Rattle.std.proofs.lemmas.List.{map-append}
 use Rattle.prog_asm.proofs.WordsRead.{WordsSoFar, word-ends, no-word-ends, word-goes-on}
 use Rattle.prog_asm.proofs.lines.words.Goals as goal
-use Rattle.prog_asm.proofs.lines.words.Goals.{then-not-quoted+then-is_blank, then-start-at+in_ok-push, else-start-at, else-not-quoted, else-not-quoted-via-then-not-quoted+else-is_blank, else-not-quoted-via-else-not-quoted}
+use Rattle.prog_asm.proofs.lines.words.Goals.{then-not-quoted+then-is_blank, then-start-at+in_ok-push, else-start-at, else-not-quoted}
+use Rattle.prog_asm.proofs.lines.words.Goals.{else-not-quoted-via-then-not-quoted+else-is_blank, else-not-quoted-via-else-not-quoted}
 
 not_blank : (quoted blank : Bool) → blank ≡ false → (not quoted && blank) ≡ false
 not_blank true blank h = refl
@@ -12,7 +13,8 @@ not_blank false blank h = h
 quoted_byte : (quoted blank : Bool) → quoted ≡ true → (not quoted && blank) ≡ false
 quoted_byte quoted blank h = ap (λ q. not q && blank) h
 
-same_so_far : (line : List ℕ) (words words' : List (List ℕ)) (quoted quoted' : Bool) (start start' at : ℕ) → words ≡ words' → quoted ≡ quoted' → start ≡ start' → WordsSoFar line words' quoted' start' at → WordsSoFar line words quoted start at
+same_so_far : (line : List ℕ) (words words' : List (List ℕ)) (quoted quoted' : Bool) (start start' at : ℕ) → words ≡ words' → quoted ≡ quoted' →
+    start ≡ start' → WordsSoFar line words' quoted' start' at → WordsSoFar line words quoted start at
 same_so_far line words words' quoted quoted' start start' at w q s so_far = rw (w, q, s) so_far
 
 pub loop-at-preserved : goal.loop-at-preserved

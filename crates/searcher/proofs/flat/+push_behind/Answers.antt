@@ -1,7 +1,8 @@
 use Rattle.std.proofs.Common.{◌-◌, length, take, drop, ap, sym, ◌∙◌, subst}
 use Rattle.std.specs.Option.{option_map}
 use Rattle.task.specs.Views.{start_of, starts_of}
-use Rattle.certificate.specs.Growths.{Grows, grown_by}
+use Rattle.certificate.specs.Growths.{grown_by}
+use Rattle.certificate.specs.GrowthViews.{Grows}
 use Rattle.searcher.specs.Flat.{next_behind, points_behind}
 use Rattle.searcher.proofs.Behind.{next_grown}
 use Rattle.searcher.proofs.flat.+push_behind.Goals as goal

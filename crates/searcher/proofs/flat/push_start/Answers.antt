@@ -6,4 +6,4 @@ use Rattle.searcher.proofs.flat.push_start.Goals as goal
 
 pub new-name-requires : goal.new-name-requires
 new-name-requires c =
-    ap is_name c.program_name.ensures ∙ start_named c.args.task.now (start_of c.args.start.now) c.programs-programs.ensures.valid c.requires
+    ap is_name c.program_name.ensures ∙ start_named c.args.task.now (start_of c.args.start.now) c.note_valid.ensures c.requires

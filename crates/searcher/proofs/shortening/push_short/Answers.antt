@@ -1,7 +1,8 @@
 use Rattle.std.proofs.Common.{◌≡◌, List, map, sym, ◌∙◌, ap, subst}
 use Rattle.std.specs.List.{filter}
 use Rattle.certificate.specs.Bounds.{PointBound, Certificate}
-use Rattle.certificate.specs.Growths.{Grows, grown, grown_by, then_grown}
+use Rattle.certificate.specs.Growths.{grown, grown_by, then_grown}
+use Rattle.certificate.specs.GrowthViews.{Grows}
 use Rattle.certificate.specs.Lines.{Bounds_channel, lines_of}
 use Rattle.checker.proofs.Along.{failed_first, passed_on}
 use Rattle.task.specs.Plans.{Plan}

@@ -3,7 +3,7 @@ use Rattle.std.specs.Fmt.{decimal}
 use Rattle.std.proofs.lemmas.Result.{IfOk-weaker}
 use Rattle.task_reader.specs.declared.faults.TaskFault.{TaskFault}
 use Rattle.task_reader.specs.declared.faults.TaskFault.TheVariants.{NotToml, Field, Node, Grant, Descriptor, Limit}
-use Rattle.task_reader.specs.Faults.{fault_name, fault_number}
+use Rattle.task_reader.specs.FaultViews.{fault_name, fault_number}
 use Rattle.service.specs.Faults.{fault_words}
 use Rattle.service.specs.FaultViews.{task_fault}
 use Rattle.service.proofs.faults.words_of_task.Goals as goal

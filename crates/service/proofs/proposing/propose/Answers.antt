@@ -1,9 +1,9 @@
 use Rattle.std.proofs.Common.{ap, codes, inl, inr, refl, subst, true}
 use Rattle.std.specs.Prelude.{◌≡◌, List, ℕ, Option, Some, Ok, Err, IfSome}
-use Rattle.certificate.specs.Bounds.{Certificate}
+use Rattle.certificate.specs.Bounds.{Two, Certificate}
 use Rattle.certificate_text.specs.Readings.{certificate_of_text}
 use Rattle.certificate_text.specs.Texts.{certificate_text}
-use Rattle.certificate_text.specs.Writings.{Writes}
+use Rattle.certificate_text.specs.WritingViews.{Writes}
 use Rattle.checker.specs.Verdicts.{IsAccepted}
 use Rattle.rights.specs.Output.{Took, TookFront}
 use Rattle.rights.specs.declared.stops.Stop.{Stop}
@@ -16,14 +16,20 @@ use Rattle.service.specs.Searched.{Proposes}
 use Rattle.service.proofs.proposing.propose.Goals as goal
 
 -- a certificate that is found, and written
-proposes :
-    (plan : Plan) (bounds : Certificate) (found : Option Certificate) (before after : Option (List ℕ)) → is_plan plan ≡ true
-    → found ≡ Some bounds → IfSome found (λ cert. IsAccepted plan cert)
-    → certificate_of_text (certificate_text bounds) ≡ Ok bounds → Took before after (certificate_text bounds)
-    → Proposes plan before after
-proposes plan bounds found before after valid is accepted back took =
+proposes : (plan : Plan) (bounds : Certificate) (found : Option Certificate) (before after : Option (List ℕ)) → is_plan plan ≡ true →
+    found ≡ Some bounds → IfSome found (λ cert. IsAccepted plan cert) → IfSome found (λ cert. cert.version ≡ Two) → certificate_of_text (certificate_text bounds) ≡ Ok bounds →
+    Took before after (certificate_text bounds) → Proposes plan before after
+proposes plan bounds found before after valid is accepted two back took =
     let accepts : IsAccepted plan bounds = subst (λ found. IfSome found (λ cert. IsAccepted plan cert)) is accepted in
-    record { bounds = bounds; accepted = accepts; sandboxed = sound plan (expansion plan bounds) valid accepts; reads_back = back; writes = took }
+    record {
+      bounds = bounds;
+      version = subst (λ found. IfSome found (λ cert. cert.version ≡ Two)) is two;
+      accepted = accepts;
+      sandboxed = sound plan
+          (expansion plan bounds) valid accepts;
+      reads_back = back;
+      writes = took;
+    }
 
 -- what a writer that failed has taken
 front-taken : (stop : Stop) (before after : Option (List ℕ)) (faults failed : ℕ) (text : List ℕ) → Writes (Err stop) before after faults failed text → TookFront before after text
@@ -35,7 +41,7 @@ pub returns-in_ok-write_cert-in-Some-clause-proposed : goal.returns-in_ok-write_
 returns-in_ok-write_cert-in-Some-clause-proposed g c =
     inl (
       refl,
-      proposes c.args.task.now c.in-Some.cert _ _ _ c.programs-programs.ensures.valid c.in-Some.is c.in_ok-cert.ensures.accepted
+      proposes c.args.task.now c.in-Some.cert _ _ _ c.note_valid.ensures c.in-Some.is c.in_ok-cert.ensures.accepted c.in_ok-cert.ensures.version
           c.write_cert.ensures.reads_back c.in_ok-write_cert-in-Some.ensures.written.0,
     )
 
@@ -46,7 +52,7 @@ returns-in_err-write_cert-in-Some-clause-begun g c stop = record {
   whole =
       inl (
         refl,
-        proposes c.args.task.now c.in-Some.cert _ _ _ c.programs-programs.ensures.valid c.in-Some.is c.in_ok-cert.ensures.accepted c.write_cert.ensures.reads_back refl,
+        proposes c.args.task.now c.in-Some.cert _ _ _ c.note_valid.ensures c.in-Some.is c.in_ok-cert.ensures.accepted c.in_ok-cert.ensures.version c.write_cert.ensures.reads_back refl,
       );
   begun = front-taken c.in_err-write_cert-in-Some.field-0.0 _ _ _ _ _ c.in_err-write_cert-in-Some.ensures.written;
 }

@@ -20,7 +20,9 @@ directory_at-requires g c =
     let facts : Parts (λ name. name.items) c.as_slice.result.now c.name-item.result = parts (λ name. name.items) c.as_slice.result.now c.name-item.result c.in-len1-up.len_at_least c.name-item.is in
     let place = ap (λ s. above (names_of s)) c.as_slice.ensures.value ∙ ap (λ (m : Node). above m.place) (sym same) in
     (λ i. has_directory (sym (take-map node_of c.args.made c.args.nodes.now) i) ((facts.front ∙ place) i))
-    ∙ has_holder (take c.args.made nodes) (node nodes c.args.made) (can_at nodes c.args.made c.requires.valid c.requires.some (subst (λ n. c.args.made < n) (sym (length-map c.args.nodes.now node_of)) c.requires.within))
+    ∙ has_holder (take c.args.made nodes) (node nodes c.args.made)
+    (can_at nodes c.args.made c.requires.valid c.requires.some
+    (subst (λ n. c.args.made < n) (sym (length-map c.args.nodes.now node_of)) c.requires.within))
 
 pub build_node-requires-clause-made : goal.build_node-requires-clause-made
 build_node-requires-clause-made g c =
@@ -39,7 +41,10 @@ build_node-requires-clause-made g c =
     let named : at_name (above m.place) c.deref.result.now ≡ m.place =
     (λ i. at_name (above (sym place i)) (c.deref.ensures.value i)) ∙ facts.whole ∙ place
     in
-    let number : c.directory_at.result < length c.args.numbers.now = (let below : c.directory_at.result < length (take c.args.made c.args.nodes.now) = c.directory_at.ensures.below in let slice : length (take c.args.made c.args.nodes.now) ≡ c.args.made = length-take-le c.args.made c.args.nodes.now (let w : c.args.made < length c.args.nodes.now = c.requires.within in omega arith) in omega (arith, c.requires.count)) in
+    let number : c.directory_at.result < length c.args.numbers.now =
+    (let below : c.directory_at.result < length (take c.args.made c.args.nodes.now) = c.directory_at.ensures.below in let slice : length
+    (take c.args.made c.args.nodes.now) ≡ c.args.made = length-take-le c.args.made c.args.nodes.now
+    (let w : c.args.made < length c.args.nodes.now = c.requires.within in omega arith) in omega (arith, c.requires.count)) in
     let directory : c.index-numbers-directory_at.result ≡ c.directory_at.result =
     c.index-numbers-directory_at.is ∙ any_default c.args.numbers.now c.directory_at.result c.index-numbers-directory_at.result 0 number ∙ c.requires.numbers c.directory_at.result number
     in

@@ -10,7 +10,9 @@ pub loop-at-init : goal.loop-at-init
 loop-at-init g c = filled_own (g.T.Tree.nodes c.args.tree.now) c.args.file _ c.requires.empty
 
 pub put_byte-requires-clause-there : goal.put_byte-requires-clause-there
-put_byte-requires-clause-there g c = subst (λ n. c.args.file < n) (sym (ap length c.loop-at.invariant ∙ filled_length (g.T.Tree.nodes c.args.tree.now) c.args.file (take c.loop-at.at c.args.content.now))) c.requires.there
+put_byte-requires-clause-there g c = subst (λ n. c.args.file < n)
+    (sym (ap length c.loop-at.invariant ∙ filled_length (g.T.Tree.nodes c.args.tree.now) c.args.file (take c.loop-at.at c.args.content.now)))
+    c.requires.there
 
 pub put_byte-requires-clause-file : goal.put_byte-requires-clause-file
 put_byte-requires-clause-file g c =

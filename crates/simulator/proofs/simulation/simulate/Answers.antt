@@ -11,7 +11,7 @@ use Rattle.kernel.proofs.Gains.{never_gains}
 use Rattle.task.specs.Begins.{first_world}
 use Rattle.task.specs.Limits.{is_plan}
 use Rattle.task.specs.Plans.{Plan, programs_of_plan}
-use Rattle.simulator.specs.Machines.{world_of}
+use Rattle.simulator.specs.Machines.{machine_world}
 use Rattle.simulator.specs.Lines.{Line}
 use Rattle.simulator.specs.Steps.{StepsMachine}
 use Rattle.simulator.specs.Views.{line_of}
@@ -29,9 +29,9 @@ loop-event-init g c =
       steady = refl;
       plan = same;
       valid = test;
-      well_formed = subst (λ (p : Plan). IsWellFormed (programs_of_plan p) (world_of c.in_ok-machine.machine)) same c.in_ok-machine.ensures.well_formed;
+      well_formed = subst (λ (p : Plan). IsWellFormed (programs_of_plan p) (machine_world c.in_ok-machine.machine)) same c.in_ok-machine.ensures.well_formed;
       bytes = tt;
-      traced = traced-start plan (map event_of c.args.events.now) (g.W.Out.taken c.args.out.now) (world_of c.in_ok-machine.machine) test c.in_ok-machine.ensures.world;
+      traced = traced-start plan (map event_of c.args.events.now) (g.W.Out.taken c.args.out.now) (machine_world c.in_ok-machine.machine) test c.in_ok-machine.ensures.world;
     }
 
 pub returns-in_err-machine-clause-gains : goal.returns-in_err-machine-clause-gains
@@ -57,8 +57,8 @@ returns-in_err-write_line-clause-err g c =
     let e : Event = event_of (slice_index_or c.args.events.now c.loop-event.event-index none) in
     let left : List Event = map event_of (drop (c.loop-event.event-index + 1) c.args.events.now) in
     let line : Line = line_of c.in_ok-line.line in
-    let w = world_of c.loop-event.machine in
-    let next = world_of c.step.new.self in
+    let w = machine_world c.loop-event.machine in
+    let next = machine_world c.step.new.self in
     let so_far = subst (IsTraced plan (map event_of c.args.events.now) (g.W.Out.taken c.args.out.now) (g.W.Out.taken c.loop-event.out) w)
     (map-drop event_of c.args.events.now c.loop-event.event-index none c.loop-event-test.true) inv.traced
     in
@@ -74,8 +74,8 @@ loop-event-preserved g c =
     let e : Event = event_of (slice_index_or c.args.events.now c.loop-event.event-index none) in
     let left : List Event = map event_of (drop (c.loop-event.event-index + 1) c.args.events.now) in
     let line : Line = line_of c.in_ok-line.line in
-    let w = world_of c.loop-event.machine in
-    let next = world_of c.step.new.self in
+    let w = machine_world c.loop-event.machine in
+    let next = machine_world c.step.new.self in
     let so_far = subst (IsTraced plan (map event_of c.args.events.now) (g.W.Out.taken c.args.out.now) (g.W.Out.taken c.loop-event.out) w)
     (map-drop event_of c.args.events.now c.loop-event.event-index none c.loop-event-test.true) inv.traced
     in
@@ -99,6 +99,9 @@ pub returns-clause-ok : goal.returns-clause-ok
 returns-clause-ok g c =
     let plan : Plan = c.args.task.now in
     let all : drop c.loop-event.event-index c.args.events.now ≡ [] = drop-end c.args.events.now c.loop-event.event-index c.loop-event-test.false in
-    traced-end plan (map event_of c.args.events.now) _ _ (world_of c.loop-event.machine) c.loop-event.invariant.valid
-    (subst AreEvents (take_all c.loop-event.event-index (map event_of c.args.events.now) (subst (λ n. n ≤ c.loop-event.event-index) (sym (length-map c.args.events.now event_of)) c.loop-event-test.false)) c.loop-event.invariant.bytes)
-    (subst (λ events. IsTraced plan (map event_of c.args.events.now) (g.W.Out.taken c.args.out.now) (g.W.Out.taken c.loop-event.out) (world_of c.loop-event.machine) (map event_of events)) all c.loop-event.invariant.traced)
+    traced-end plan (map event_of c.args.events.now) _ _ (machine_world c.loop-event.machine) c.loop-event.invariant.valid
+    (subst AreEvents (take_all c.loop-event.event-index (map event_of c.args.events.now)
+    (subst (λ n. n ≤ c.loop-event.event-index) (sym (length-map c.args.events.now event_of)) c.loop-event-test.false))
+    c.loop-event.invariant.bytes)
+    (subst (λ events. IsTraced plan (map event_of c.args.events.now) (g.W.Out.taken c.args.out.now) (g.W.Out.taken c.loop-event.out)
+    (machine_world c.loop-event.machine) (map event_of events)) all c.loop-event.invariant.traced)

@@ -24,7 +24,9 @@ open_all-requires-clause-among g c =
     subst (λ n. are_among n (gifts_from 0 (starts_of c.starts.result.now)) ≡ true) (sym count)
     (subst (λ starts. are_among (length plan.nodes) (gifts_from 0 starts) ≡ true) (sym c.starts.ensures) (plan_among plan c.nodes.ensures.valid))
 
-same : (g : _) (c : goal.After-drop-built-2 g) → DiffersInNumbers (first_world c.args.task.now) (world_with (g.T.Tree.nodes c.in_ok-built.built.tree) (open_files c.in_ok-files.files) c.in_ok-processes.processes.items)
+same : (g : _) (c : goal.After-drop-built-2 g) →
+    DiffersInNumbers (first_world c.args.task.now)
+    (world_with (g.T.Tree.nodes c.in_ok-built.built.tree) (open_files c.in_ok-files.files) c.in_ok-processes.processes.items)
 same g c =
     begun_world c.args.task.now (g.T.Tree.nodes c.in_ok-built.built.tree) (open_files c.in_ok-files.files) c.in_ok-processes.processes.items
     (subst (λ starts. Awaits (gifts_from 0 starts) [] (open_files c.in_ok-files.files)) c.starts.ensures c.in_ok-files.ensures)

@@ -15,6 +15,7 @@ all_dropped (x ∷ xs) (suc k) far = all_dropped xs k (omega arith)
 pub returns : goal.returns
 returns c =
     let same : gifts_of c.in_ok-gifts.gifts.items ≡ gifts_from 0 (starts_of c.args.starts.now) = c.in_ok-gifts.ensures in
-    let none : drop c.loop-at.at (gifts_of c.in_ok-gifts.gifts.items) ≡ [] = all_dropped _ c.loop-at.at (let count = length-map c.in_ok-gifts.gifts.items gift_of in omega (arith, count, c.len-at-end.ensures, c.loop-at-test.false)) in
+    let none : drop c.loop-at.at (gifts_of c.in_ok-gifts.gifts.items) ≡ [] = all_dropped _ c.loop-at.at
+    (let count = length-map c.in_ok-gifts.gifts.items gift_of in omega (arith, count, c.len-at-end.ensures, c.loop-at-test.false)) in
     subst (λ gifts. Awaits gifts [] (open_files c.loop-at.files)) same
     (subst (λ rest. Awaits (gifts_of c.in_ok-gifts.gifts.items) rest (open_files c.loop-at.files)) none c.loop-at.invariant)

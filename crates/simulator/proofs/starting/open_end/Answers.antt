@@ -20,22 +20,42 @@ none = record {
 
 pub share-requires-clause-there : goal.share-requires-clause-there
 share-requires-clause-there c =
-    share_there c.args.gifts.now c.args.at none c.requires.there c.requires.gifts c.args.pair (side_seen c.args.side) c.requires.end (open_files c.args.files.now) c.requires.begun c.last_of.result c.last_of.ensures c.in-Some.entry c.in-Some.is
+    share_there c.args.gifts.now c.args.at none c.requires.there c.requires.gifts c.args.pair (side_seen c.args.side) c.requires.end
+    (open_files c.args.files.now) c.requires.begun c.last_of.result c.last_of.ensures c.in-Some.entry c.in-Some.is
 
 pub share-requires-clause-free : goal.share-requires-clause-free
 share-requires-clause-free c =
-    share_free c.args.gifts.now c.args.at none c.requires.there c.requires.gifts c.args.pair (side_seen c.args.side) c.requires.end (open_files c.args.files.now) c.requires.begun c.last_of.result c.last_of.ensures c.in-Some.entry c.in-Some.is
+    share_free c.args.gifts.now c.args.at none c.requires.there c.requires.gifts c.args.pair (side_seen c.args.side) c.requires.end
+    (open_files c.args.files.now) c.requires.begun c.last_of.result c.last_of.ensures c.in-Some.entry c.in-Some.is
 
 pub limit-requires : goal.limit-requires
 limit-requires c =
-    ready_may c.args.gifts.now c.args.at none c.requires.there c.requires.gifts c.args.pair (side_seen c.args.side) c.requires.end (open_files c.args.files.now) c.requires.begun c.last_of.result c.last_of.ensures (open_files c.match-last_of.files) (elim c.match-last_of.branch [
-      | in-Some w ↦ subst (λ f. IsReady c.args.gifts.now c.args.at none c.requires.there c.requires.gifts c.args.pair (side_seen c.args.side) c.requires.end (open_files c.args.files.now) c.requires.begun c.last_of.result c.last_of.ensures (open_files f)) (sym w.files-is) (ready_by c.args.gifts.now c.args.at none c.requires.there c.requires.gifts c.args.pair (side_seen c.args.side) c.requires.end (open_files c.args.files.now) c.requires.begun c.last_of.result c.last_of.ensures w.in-Some.entry w.in-Some.is (open_files w.share.new.self) w.share.ensures)
-      | in_default w ↦ subst (λ f. IsReady c.args.gifts.now c.args.at none c.requires.there c.requires.gifts c.args.pair (side_seen c.args.side) c.requires.end (open_files c.args.files.now) c.requires.begun c.last_of.result c.last_of.ensures (open_files f)) (sym w.files-is) (ready_alone c.args.gifts.now c.args.at none c.requires.there c.requires.gifts c.args.pair (side_seen c.args.side) c.requires.end (open_files c.args.files.now) c.requires.begun c.last_of.result c.last_of.ensures w.in_default.is)
+    ready_may c.args.gifts.now c.args.at none c.requires.there c.requires.gifts c.args.pair (side_seen c.args.side) c.requires.end
+    (open_files c.args.files.now) c.requires.begun c.last_of.result c.last_of.ensures (open_files c.match-last_of.files)
+    (elim c.match-last_of.branch [
+      | in-Some w ↦ subst (λ f. IsReady c.args.gifts.now c.args.at none c.requires.there c.requires.gifts c.args.pair
+          (side_seen c.args.side) c.requires.end (open_files c.args.files.now) c.requires.begun c.last_of.result c.last_of.ensures (open_files f))
+          (sym w.files-is) (ready_by c.args.gifts.now c.args.at none c.requires.there c.requires.gifts c.args.pair
+          (side_seen c.args.side) c.requires.end (open_files c.args.files.now) c.requires.begun c.last_of.result c.last_of.ensures w.in-Some.entry
+          w.in-Some.is (open_files w.share.new.self) w.share.ensures)
+      | in_default w ↦ subst (λ f. IsReady c.args.gifts.now c.args.at none c.requires.there c.requires.gifts c.args.pair
+          (side_seen c.args.side) c.requires.end (open_files c.args.files.now) c.requires.begun c.last_of.result c.last_of.ensures (open_files f))
+          (sym w.files-is) (ready_alone c.args.gifts.now c.args.at none c.requires.there c.requires.gifts c.args.pair
+          (side_seen c.args.side) c.requires.end (open_files c.args.files.now) c.requires.begun c.last_of.result c.last_of.ensures w.in_default.is)
     ])
 
 pub returns : goal.returns
 returns c =
-    ready_opened c.args.gifts.now c.args.at none c.requires.there c.requires.gifts c.args.pair (side_seen c.args.side) c.requires.end (open_files c.args.files.now) c.requires.begun c.last_of.result c.last_of.ensures (open_files c.match-last_of.files) (elim c.match-last_of.branch [
-      | in-Some w ↦ subst (λ f. IsReady c.args.gifts.now c.args.at none c.requires.there c.requires.gifts c.args.pair (side_seen c.args.side) c.requires.end (open_files c.args.files.now) c.requires.begun c.last_of.result c.last_of.ensures (open_files f)) (sym w.files-is) (ready_by c.args.gifts.now c.args.at none c.requires.there c.requires.gifts c.args.pair (side_seen c.args.side) c.requires.end (open_files c.args.files.now) c.requires.begun c.last_of.result c.last_of.ensures w.in-Some.entry w.in-Some.is (open_files w.share.new.self) w.share.ensures)
-      | in_default w ↦ subst (λ f. IsReady c.args.gifts.now c.args.at none c.requires.there c.requires.gifts c.args.pair (side_seen c.args.side) c.requires.end (open_files c.args.files.now) c.requires.begun c.last_of.result c.last_of.ensures (open_files f)) (sym w.files-is) (ready_alone c.args.gifts.now c.args.at none c.requires.there c.requires.gifts c.args.pair (side_seen c.args.side) c.requires.end (open_files c.args.files.now) c.requires.begun c.last_of.result c.last_of.ensures w.in_default.is)
+    ready_opened c.args.gifts.now c.args.at none c.requires.there c.requires.gifts c.args.pair (side_seen c.args.side) c.requires.end
+    (open_files c.args.files.now) c.requires.begun c.last_of.result c.last_of.ensures (open_files c.match-last_of.files)
+    (elim c.match-last_of.branch [
+      | in-Some w ↦ subst (λ f. IsReady c.args.gifts.now c.args.at none c.requires.there c.requires.gifts c.args.pair
+          (side_seen c.args.side) c.requires.end (open_files c.args.files.now) c.requires.begun c.last_of.result c.last_of.ensures (open_files f))
+          (sym w.files-is) (ready_by c.args.gifts.now c.args.at none c.requires.there c.requires.gifts c.args.pair
+          (side_seen c.args.side) c.requires.end (open_files c.args.files.now) c.requires.begun c.last_of.result c.last_of.ensures w.in-Some.entry
+          w.in-Some.is (open_files w.share.new.self) w.share.ensures)
+      | in_default w ↦ subst (λ f. IsReady c.args.gifts.now c.args.at none c.requires.there c.requires.gifts c.args.pair
+          (side_seen c.args.side) c.requires.end (open_files c.args.files.now) c.requires.begun c.last_of.result c.last_of.ensures (open_files f))
+          (sym w.files-is) (ready_alone c.args.gifts.now c.args.at none c.requires.there c.requires.gifts c.args.pair
+          (side_seen c.args.side) c.requires.end (open_files c.args.files.now) c.requires.begun c.last_of.result c.last_of.ensures w.in_default.is)
     ]) (open_files c.limit.new.self) c.limit.ensures

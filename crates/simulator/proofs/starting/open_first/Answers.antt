@@ -21,7 +21,8 @@ none = record {
 
 pub open_node-requires-clause-there : goal.open_node-requires-clause-there
 open_node-requires-clause-there c =
-    is_there c.args.gifts.now c.args.at none c.requires.there c.requires.gifts c.in-Node.node (access_seen c.in-Node.access) (ap first_object_of c.in-Node.is) (length c.args.numbers.now) c.requires.among
+    is_there c.args.gifts.now c.args.at none c.requires.there c.requires.gifts c.in-Node.node (access_seen c.in-Node.access)
+    (ap first_object_of c.in-Node.is) (length c.args.numbers.now) c.requires.among
 
 pub open_node-requires-clause-used : goal.open_node-requires-clause-used
 open_node-requires-clause-used c =
@@ -29,9 +30,11 @@ open_node-requires-clause-used c =
 
 pub open_node-requires-clause-free : goal.open_node-requires-clause-free
 open_node-requires-clause-free c =
-    is_free c.args.gifts.now c.args.at none c.requires.there c.requires.gifts c.in-Node.node (access_seen c.in-Node.access) (ap first_object_of c.in-Node.is) (open_files c.args.files.now) c.requires.begun
+    is_free c.args.gifts.now c.args.at none c.requires.there c.requires.gifts c.in-Node.node (access_seen c.in-Node.access)
+    (ap first_object_of c.in-Node.is) (open_files c.args.files.now) c.requires.begun
 
 pub returns-in-Node : goal.returns-in-Node
 returns-in-Node c =
     on_ok_so c.open_node.result c.open_node.ensures
-    (awaits_opened c.args.gifts.now c.args.at none c.requires.there c.requires.gifts c.in-Node.node (access_seen c.in-Node.access) (ap first_object_of c.in-Node.is) (open_files c.args.files.now) c.requires.begun (open_files c.open_node.new.files))
+    (awaits_opened c.args.gifts.now c.args.at none c.requires.there c.requires.gifts c.in-Node.node (access_seen c.in-Node.access)
+    (ap first_object_of c.in-Node.is) (open_files c.args.files.now) c.requires.begun (open_files c.open_node.new.files))

@@ -7,7 +7,7 @@ use Rattle.fd_table.specs.Views.{entry_seen}
 use Rattle.fd_table.specs.Kept.{open_files}
 use Rattle.fd_table.proofs.QueueLaws.{on_ok_so}
 use Rattle.simulator.specs.GiftViews.{gifts_of}
-use Rattle.simulator.specs.Starts.{last_of}
+use Rattle.simulator.specs.Starts.{last_gift}
 use Rattle.simulator.proofs.Paired.{apart_ends, free_at, not_listed, pair_opened}
 use Rattle.simulator.proofs.starting.open_initial.Goals as goal
 use Rattle.simulator.proofs.starting.open_initial.Goals.{else-is_none-via-then-is_none+else-is_none-2, else-is_none-via-else-is_none}
@@ -34,7 +34,7 @@ is_nowhere (Some e) is = absurd cc
 pub open_pair-requires-clause-apart : goal.open_pair-requires-clause-apart
 open_pair-requires-clause-apart c =
     subst (λ b. AreApart (option_map entry_seen c.last_of-a.result) b) (sym c.last_of-b.ensures)
-    (subst (λ a. AreApart a (last_of c.args.pair 1 (gifts_of c.args.gifts.now))) (sym c.last_of-a.ensures)
+    (subst (λ a. AreApart a (last_gift c.args.pair 1 (gifts_of c.args.gifts.now))) (sym c.last_of-a.ensures)
     (apart_ends (gifts_of c.args.gifts.now) c.requires.gifts c.args.pair c.requires.few (open_files c.args.files.now) c.requires.begun
     (λ none_a none_b.
     elim c.else-is_none.branch [
@@ -51,5 +51,5 @@ pub returns : goal.returns
 returns c =
     on_ok_so c.open_pair.result c.open_pair.ensures.ok
     (λ x. pair_opened (gifts_of c.args.gifts.now) c.requires.gifts c.args.pair c.requires.few (open_files c.args.files.now) c.requires.begun (open_files c.open_pair.new.self)
-    (subst (λ b. Pairs (open_files c.args.files.now) (open_files c.open_pair.new.self) (Initial c.args.pair) (last_of c.args.pair 0 (gifts_of c.args.gifts.now)) b) c.last_of-b.ensures
+    (subst (λ b. Pairs (open_files c.args.files.now) (open_files c.open_pair.new.self) (Initial c.args.pair) (last_gift c.args.pair 0 (gifts_of c.args.gifts.now)) b) c.last_of-b.ensures
     (subst (λ a. Pairs (open_files c.args.files.now) (open_files c.open_pair.new.self) (Initial c.args.pair) a (option_map entry_seen c.last_of-b.result)) c.last_of-a.ensures x)))

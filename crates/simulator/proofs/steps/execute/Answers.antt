@@ -6,7 +6,7 @@ use Rattle.process.specs.State.{ProcessState}
 use Rattle.kernel.specs.Alike.{AlikeWorlds}
 use Rattle.kernel.specs.Steps.{halted}
 use Rattle.prog_asm.specs.Views.{instruction_of}
-use Rattle.syscalls.specs.Called.{result_of as outcome_of}
+use Rattle.syscalls.specs.CallViews.{result_of as outcome_of}
 use Rattle.syscalls.specs.MayCall.{CallComes, MayCall}
 use Rattle.syscalls.specs.Views.{effects_of, event_of, world_of, world_with}
 use Rattle.simulator.specs.Steps.{acted_on}
@@ -20,7 +20,8 @@ act-requires g c = needs_next (world_of g.T.Tree.nodes c.args.world.now) c.args.
 pub halt-requires-clause-made : goal.halt-requires-clause-made
 halt-requires-clause-made g c =
     subst (λ (ps : List ProcessState). c.args.event.process < length ps)
-    (sym (ends_unchanged (world_of g.T.Tree.nodes c.args.world.now) c.args.event.process c.index_mut.result.now c.act.new.process c.args.input c.index_mut.ensures.value (instruction_of c.args.instruction.now) c.requires.stands c.in-Ends.ensures.action c.in-Ends.ensures.process))
+    (sym (ends_unchanged (world_of g.T.Tree.nodes c.args.world.now) c.args.event.process c.index_mut.result.now c.act.new.process c.args.input
+    c.index_mut.ensures.value (instruction_of c.args.instruction.now) c.requires.stands c.in-Ends.ensures.action c.in-Ends.ensures.process))
     (made_within (world_of g.T.Tree.nodes c.args.world.now) c.args.event.process (instruction_of c.args.instruction.now) c.requires.stands)
 
 pub halt-requires-clause-few : goal.halt-requires-clause-few
@@ -29,27 +30,38 @@ halt-requires-clause-few g c = made_few (world_of g.T.Tree.nodes c.args.world.no
 pub call-requires-clause-may : goal.call-requires-clause-may
 call-requires-clause-may g c =
     subst (λ (ps : List ProcessState). MayCall (world_with (g.T.Tree.nodes c.args.world.now.tree) (open_files c.args.world.now.files) ps) c.args.event.process)
-    (sym (calls_unchanged (world_of g.T.Tree.nodes c.args.world.now) c.args.event.process c.index_mut.result.now c.act.new.process c.args.input c.index_mut.ensures.value (instruction_of c.args.instruction.now) c.requires.stands c.in-Calls.ensures.action c.in-Calls.ensures.process))
+    (sym (calls_unchanged (world_of g.T.Tree.nodes c.args.world.now) c.args.event.process c.index_mut.result.now c.act.new.process c.args.input
+    c.index_mut.ensures.value (instruction_of c.args.instruction.now) c.requires.stands c.in-Calls.ensures.action c.in-Calls.ensures.process))
     (may_call (world_of g.T.Tree.nodes c.args.world.now) c.args.event.process (instruction_of c.args.instruction.now) c.requires.stands c.in-Calls.ensures.action)
 
 pub returns-in-Moves : goal.returns-in-Moves
 returns-in-Moves g c =
     executes_moved (world_of g.T.Tree.nodes c.args.world.now) (event_of c.args.event) c.index_mut.result.now c.act.new.process (instruction_of c.args.instruction.now)
     (result_of c.without_effects.result.outcome) (effects_of c.without_effects.result.effects.items) c.requires.stands c.index_mut.ensures.value c.in-Moves.ensures.action
-    (c.in-Moves.ensures.process ∙ ap (λ n. acted_on c.index_mut.result.now n (instruction_of c.args.instruction.now)) c.requires.byte) c.without_effects.ensures.outcome c.without_effects.ensures.effects
+    (c.in-Moves.ensures.process ∙ ap (λ n. acted_on c.index_mut.result.now n (instruction_of c.args.instruction.now)) c.requires.byte)
+    c.without_effects.ensures.outcome c.without_effects.ensures.effects
 
 pub returns-in-Ends : goal.returns-in-Ends
 returns-in-Ends g c =
     executes_ended (world_of g.T.Tree.nodes c.args.world.now) (event_of c.args.event) (instruction_of c.args.instruction.now)
     (result_of c.halt.result.outcome) (effects_of c.halt.result.effects.items) _ c.requires.stands c.in-Ends.ensures.action c.halt.ensures.outcome c.halt.ensures.effects
-    (subst (λ (ps : List ProcessState). (s : ProcessState) → slice_get ps c.args.event.process ≡ Some s → AlikeWorlds (halted (world_with (g.T.Tree.nodes c.args.world.now.tree) (open_files c.args.world.now.files) ps) c.args.event.process s) (world_of g.T.Tree.nodes c.halt.new.world))
-    (ends_unchanged (world_of g.T.Tree.nodes c.args.world.now) c.args.event.process c.index_mut.result.now c.act.new.process c.args.input c.index_mut.ensures.value (instruction_of c.args.instruction.now) c.requires.stands c.in-Ends.ensures.action c.in-Ends.ensures.process) c.halt.ensures.world)
+    (subst (λ (ps : List ProcessState). (s : ProcessState) → slice_get ps c.args.event.process ≡ Some s →
+    AlikeWorlds (halted (world_with (g.T.Tree.nodes c.args.world.now.tree) (open_files c.args.world.now.files) ps) c.args.event.process s)
+    (world_of g.T.Tree.nodes c.halt.new.world))
+    (ends_unchanged (world_of g.T.Tree.nodes c.args.world.now) c.args.event.process c.index_mut.result.now c.act.new.process c.args.input
+    c.index_mut.ensures.value (instruction_of c.args.instruction.now) c.requires.stands c.in-Ends.ensures.action c.in-Ends.ensures.process)
+    c.halt.ensures.world)
 
 pub returns-in_ok-outcome-in-Calls : goal.returns-in_ok-outcome-in-Calls
 returns-in_ok-outcome-in-Calls g c =
     let v = world_of g.T.Tree.nodes c.call.new.world in
     let shows = effects_of c.in_ok-outcome-in-Calls.effects.items in
-    let unchanged = calls_unchanged (world_of g.T.Tree.nodes c.args.world.now) c.args.event.process c.index_mut.result.now c.act.new.process c.args.input c.index_mut.ensures.value (instruction_of c.args.instruction.now) c.requires.stands c.in-Calls.ensures.action c.in-Calls.ensures.process in
+    let unchanged = calls_unchanged (world_of g.T.Tree.nodes c.args.world.now) c.args.event.process c.index_mut.result.now c.act.new.process
+    c.args.input c.index_mut.ensures.value (instruction_of c.args.instruction.now) c.requires.stands c.in-Calls.ensures.action
+    c.in-Calls.ensures.process in
     executes_called (world_of g.T.Tree.nodes c.args.world.now) (event_of c.args.event) (instruction_of c.args.instruction.now) (result_of c.result_of_call.result) shows v c.requires.stands
-    (subst (λ told. CallComes (world_of g.T.Tree.nodes c.args.world.now) c.args.event.process (event_of c.args.event) (instruction_of c.args.instruction.now) told shows v) (sym c.result_of_call.ensures)
-    (subst (λ (ps : List ProcessState). CallComes (world_with (g.T.Tree.nodes c.args.world.now.tree) (open_files c.args.world.now.files) ps) c.args.event.process (event_of c.args.event) (instruction_of c.args.instruction.now) (outcome_of c.in_ok-outcome-in-Calls.outcome) shows v) unchanged c.in_ok-outcome-in-Calls.ensures))
+    (subst (λ told. CallComes (world_of g.T.Tree.nodes c.args.world.now) c.args.event.process (event_of c.args.event)
+    (instruction_of c.args.instruction.now) told shows v) (sym c.result_of_call.ensures)
+    (subst (λ (ps : List ProcessState). CallComes
+    (world_with (g.T.Tree.nodes c.args.world.now.tree) (open_files c.args.world.now.files) ps) c.args.event.process (event_of c.args.event)
+    (instruction_of c.args.instruction.now) (outcome_of c.in_ok-outcome-in-Calls.outcome) shows v) unchanged c.in_ok-outcome-in-Calls.ensures))

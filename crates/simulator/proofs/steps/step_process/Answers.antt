@@ -13,7 +13,9 @@ pub returns-then-not-process : goal.returns-then-not-process
 returns-then-not-process g c =
     does_ended (programs_of_plan c.args.task.now) (world_of g.T.Tree.nodes c.args.world.now) (event_of c.args.event) c.index-process.result.now
     (result_of c.without_effects.result.outcome) (effects_of c.without_effects.result.effects.items) c.requires.good
-    (sym (ap (λ (t : ProcessState). t.alive) c.process.view_is) ∙ c.if-not-process.true) (made_at c.args.world.now.processes.items c.args.event.process c.index-process.result.now c.requires.made c.index-process.ensures) c.without_effects.ensures.outcome c.without_effects.ensures.effects
+    (sym (ap (λ (t : ProcessState). t.alive) c.process.view_is) ∙ c.if-not-process.true)
+    (made_at c.args.world.now.processes.items c.args.event.process c.index-process.result.now c.requires.made c.index-process.ensures)
+    c.without_effects.ensures.outcome c.without_effects.ensures.effects
 
 pub returns-in-None : goal.returns-in-None
 returns-in-None g c =
@@ -22,7 +24,8 @@ returns-in-None g c =
     (sym (ap (λ (t : ProcessState). t.alive) c.process.view_is) ∙ c.if-not-process.false)
     (sym (ap (λ (t : ProcessState). slice_get (programs_of_plan c.args.task.now t.program) t.point) c.process.view_is)
     ∙ ap (λ (ps : List NamedProgram). slice_get (code_in (slice_get ps c.process.inside.program)) c.process.inside.point) (sym c.programs.ensures.programs) ∙ sym c.in-None.ensures)
-    (made_at c.args.world.now.processes.items c.args.event.process c.index-process.result.now c.requires.made c.index-process.ensures) c.without_effects-in-None.ensures.outcome c.without_effects-in-None.ensures.effects
+    (made_at c.args.world.now.processes.items c.args.event.process c.index-process.result.now c.requires.made c.index-process.ensures)
+    c.without_effects-in-None.ensures.outcome c.without_effects-in-None.ensures.effects
 
 pub execute-requires-clause-stands : goal.execute-requires-clause-stands
 execute-requires-clause-stands g c = record {
@@ -38,8 +41,10 @@ execute-requires-clause-stands g c = record {
 
 pub returns-in-Some : goal.returns-in-Some
 returns-in-Some g c =
-    if_ok_so c.execute.result _ _ (λ done. does_executed (programs_of_plan c.args.task.now) (world_of g.T.Tree.nodes c.args.world.now) (event_of c.args.event) c.index-process.result.now (instruction_of c.in-Some.instruction.now)
-    (result_of done.outcome) (effects_of done.effects.items) (world_of g.T.Tree.nodes c.execute.new.world) (made_at c.args.world.now.processes.items c.args.event.process c.index-process.result.now c.requires.made c.index-process.ensures)
+    if_ok_so c.execute.result _ _ (λ done. does_executed (programs_of_plan c.args.task.now) (world_of g.T.Tree.nodes c.args.world.now)
+    (event_of c.args.event) c.index-process.result.now (instruction_of c.in-Some.instruction.now)
+    (result_of done.outcome) (effects_of done.effects.items) (world_of g.T.Tree.nodes c.execute.new.world)
+    (made_at c.args.world.now.processes.items c.args.event.process c.index-process.result.now c.requires.made c.index-process.ensures)
     (sym (ap (λ (t : ProcessState). t.alive) c.process.view_is) ∙ c.if-not-process.false)
     (sym (ap (λ (t : ProcessState). slice_get (programs_of_plan c.args.task.now t.program) t.point) c.process.view_is)
     ∙ ap (λ (ps : List NamedProgram). slice_get (code_in (slice_get ps c.process.inside.program)) c.process.inside.point) (sym c.programs.ensures.programs) ∙ sym c.in-Some.ensures)) c.execute.ensures

@@ -21,6 +21,7 @@ returns-clause-step g c =
     steps_done (programs_of_plan c.args.task.now) (world_of g.T.Tree.nodes c.args.world.now) (event_of c.args.event) c.process.inside.program c.process.inside.point
     (result_of c.in_ok-done.done.outcome) (effects_of c.in_ok-done.done.effects.items) _
     (λ s made.
-    let same = c.process.view_is ∙ stands c.args.world.now.processes.items c.args.event.process s c.in-Some.process.now made (c.in-Some.ensures.lookup.1 ∙ ap (λ (ps : List ProcessState). get_or ps c.args.event.process c.in-Some.process.now) c.deref.ensures.value) in
+    let same = c.process.view_is ∙ stands c.args.world.now.processes.items c.args.event.process s c.in-Some.process.now made
+    (c.in-Some.ensures.lookup.1 ∙ ap (λ (ps : List ProcessState). get_or ps c.args.event.process c.in-Some.process.now) c.deref.ensures.value) in
     (ap (λ (x : ProcessState). x.program) same, ap (λ (x : ProcessState). x.point) same))
     c.in_ok-done.ensures

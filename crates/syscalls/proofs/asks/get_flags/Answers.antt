@@ -11,11 +11,14 @@ use Rattle.syscalls.proofs.asks.get_flags.Goals as goal
 pub returns-in-Err : goal.returns-in-Err
 unfolding answer
 returns-in-Err c = λ t processes e same.
-    refused_alone c.in-Err.refused (world_with t (open_files c.args.files.now) processes) _ _ _ (c.in-Err.ensures.passes (λ n. Gives (status_number ((open_files c.args.files.now).states n)) unchanged [])) (record { tree = refl; files = refl })
+    refused_alone c.in-Err.refused (world_with t (open_files c.args.files.now) processes) _ _ _
+    (c.in-Err.ensures.passes (λ n. Gives (status_number ((open_files c.args.files.now).states n)) unchanged []))
+    (record { tree = refl; files = refl })
 
 pub returns : goal.returns
 unfolding answer
 returns c = λ t processes e same.
     same_succeeds (world_with t (open_files c.args.files.now) processes) _ _ _ _ [] c.requires.idle
-    (c.in-Ok.ensures.passes (λ n. Gives (status_number ((open_files c.args.files.now).states n)) unchanged []) ∙ ap (λ v. Gives v unchanged []) (sym (c.number.ensures ∙ ap status_number c.what.ensures.state)))
+    (c.in-Ok.ensures.passes (λ n. Gives (status_number ((open_files c.args.files.now).states n)) unchanged [])
+    ∙ ap (λ v. Gives v unchanged []) (sym (c.number.ensures ∙ ap status_number c.what.ensures.state)))
     (sym (ap effects_of c.new.ensures.items))

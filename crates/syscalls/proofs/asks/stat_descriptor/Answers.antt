@@ -2,7 +2,7 @@ use Rattle.std.proofs.Common.{◌∙◌, sym, subst, refl, ap, []}
 use Rattle.fd_table.specs.Kept.{open_files}
 use Rattle.kernel.specs.Calls.{answer}
 use Rattle.syscalls.specs.Views.{world_with, effects_of}
-use Rattle.syscalls.specs.Meets.{Meets}
+use Rattle.syscalls.specs.AnswerViews.{Meets}
 use Rattle.syscalls.proofs.Finding.{refused_alone}
 use Rattle.syscalls.proofs.Targets.{at_node, at_end}
 use Rattle.syscalls.proofs.Keeping.{same_succeeds}
@@ -26,4 +26,5 @@ returns-in-Node g c = λ processes e same.
 pub returns-in-End : goal.returns-in-End
 unfolding answer
 returns-in-End g c = λ processes e same.
-    same_succeeds (world_with (g.T.Tree.nodes c.args.tree.now) (open_files c.args.files.now) processes) _ _ _ _ [] c.requires.idle (c.in-Ok.ensures.passes _ ∙ at_end _ _ c.in-End.field-0 c.in-Ok.ensures.target c.in-End.is _ _) (sym (ap effects_of c.new.ensures.items))
+    same_succeeds (world_with (g.T.Tree.nodes c.args.tree.now) (open_files c.args.files.now) processes) _ _ _ _ [] c.requires.idle
+    (c.in-Ok.ensures.passes _ ∙ at_end _ _ c.in-End.field-0 c.in-Ok.ensures.target c.in-End.is _ _) (sym (ap effects_of c.new.ensures.items))

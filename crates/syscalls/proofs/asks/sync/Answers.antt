@@ -20,4 +20,5 @@ returns-in-End g c = λ processes e same.
 pub returns-in-Node : goal.returns-in-Node
 unfolding answer
 returns-in-Node g c = λ processes e same.
-    same_succeeds (world_with (g.T.Tree.nodes c.args.tree.now) (open_files c.args.files.now) processes) _ _ _ _ [] c.requires.idle (c.in-Ok.ensures.passes _ ∙ at_node _ _ c.in-Node.field-0 c.in-Ok.ensures.target c.in-Node.is _ _) (sym (ap effects_of c.new.ensures.items))
+    same_succeeds (world_with (g.T.Tree.nodes c.args.tree.now) (open_files c.args.files.now) processes) _ _ _ _ [] c.requires.idle
+    (c.in-Ok.ensures.passes _ ∙ at_node _ _ c.in-Node.field-0 c.in-Ok.ensures.target c.in-Node.is _ _) (sym (ap effects_of c.new.ensures.items))

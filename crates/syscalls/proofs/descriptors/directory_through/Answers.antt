@@ -1,5 +1,5 @@
 use Rattle.syscalls.proofs.Finding.{passes_on}
-use Rattle.syscalls.specs.Meets.{number_seen}
+use Rattle.syscalls.specs.AnswerViews.{number_seen}
 use Rattle.syscalls.proofs.descriptors.directory_through.Goals as goal
 
 pub returns-clause-passes : goal.returns-clause-passes

@@ -1,5 +1,5 @@
 use Rattle.std.proofs.Common.{sym, subst, ◌∙◌}
-use Rattle.syscalls.specs.Meets.{Refuses, held_seen}
+use Rattle.syscalls.specs.AnswerViews.{Refuses, held_seen}
 use Rattle.syscalls.proofs.descriptors.file_through.Goals as goal
 
 pub returns-in-Err-clause-passes : goal.returns-in-Err-clause-passes

@@ -1,6 +1,6 @@
 use Rattle.std.proofs.Common.{refl, sym}
 use Rattle.fd_table.specs.Filled.{by_entry}
-use Rattle.syscalls.specs.Meets.{held_seen}
+use Rattle.syscalls.specs.AnswerViews.{held_seen}
 use Rattle.syscalls.proofs.descriptors.held.Goals as goal
 
 pub returns-in-Some-clause-ready : goal.returns-in-Some-clause-ready

@@ -3,7 +3,7 @@ use Rattle.std.specs.Prelude.{not}
 use Rattle.rights.specs.Operations as operations
 use Rattle.file_tree.specs.Nodes.{Dir, node}
 use Rattle.file_tree.specs.Places.{at_name}
-use Rattle.lookup.specs.Promises.{IsThere, IsFreeName}
+use Rattle.lookup.specs.Promises.{IsFindingThere, IsFreeName}
 use Rattle.lookup.specs.Paths.{last_component}
 use Rattle.lookup.specs.Views.{found_of}
 use Rattle.kernel.specs.Answers.{Make}
@@ -17,7 +17,7 @@ use Rattle.syscalls.proofs.directories.make_directory.Goals as goal
 pub create_node-requires-clause-allowed : goal.create_node-requires-clause-allowed
 create_node-requires-clause-allowed g c =
     let t = g.T.Tree.nodes c.args.tree.now in
-    let there = subst (λ x. IsThere t (found_of x)) c.in-Free.is c.in_ok-look_up.ensures.there in
+    let there = subst (λ x. IsFindingThere t (found_of x)) c.in-Free.is c.in_ok-look_up.ensures.there in
     let free = subst (λ x. IsFreeName t c.args.path.now (found_of x)) c.in-Free.is (c.in_ok-look_up.ensures.free refl) in
     rw c.last_name.ensures (free_creates t c.in-Free.dir (last_component c.args.path.now) there.linked free.absent (omega arith))
 

@@ -1,5 +1,5 @@
 use Rattle.std.proofs.Common.{refl, ap, sym, subst, ◌∙◌}
-use Rattle.lookup.specs.Promises.{IsThere, IsUnderName}
+use Rattle.lookup.specs.Promises.{IsFindingThere, IsUnderName}
 use Rattle.lookup.specs.Views.{found_of}
 use Rattle.kernel.specs.Answers.{Remove}
 use Rattle.syscalls.specs.Views.{world_with}
@@ -13,19 +13,26 @@ pub returns-in-Ok : goal.returns-in-Ok
 returns-in-Ok g c = λ refuse f processes p s e same idle.
     let w = world_with (g.T.Tree.nodes c.args.tree.now) f processes in
     rw (← ap found_of (sym c.in-Node.is) ∙ c.in_ok-look_up.ensures.finds)
-    (tree_succeeds w p _ 0 _ _ (Remove c.in-Node.n) _ idle (removes w p s e c.args.directory c.in-Node.n _ (sym c.is_directory-is_directory.ensures ∙ same_from _ _ c.if-directory-is_directory.false) c.in-Ok.ensures.allowed) (sym c.in_ok-effects.ensures.effects) c.in-Ok.ensures.ok)
+    (tree_succeeds w p _ 0 _ _ (Remove c.in-Node.n) _ idle
+    (removes w p s e c.args.directory c.in-Node.n _
+    (sym c.is_directory-is_directory.ensures ∙ same_from _ _ c.if-directory-is_directory.false) c.in-Ok.ensures.allowed)
+    (sym c.in_ok-effects.ensures.effects) c.in-Ok.ensures.ok)
 
 pub returns-in-NotEmpty : goal.returns-in-NotEmpty
 returns-in-NotEmpty g c = λ refuse f processes p s e same idle.
     let t = g.T.Tree.nodes c.args.tree.now in
     let w = world_with t f processes in
-    let there = subst (λ x. IsThere t (found_of x)) c.in-Node.is c.in_ok-look_up.ensures.there in
+    let there = subst (λ x. IsFindingThere t (found_of x)) c.in-Node.is c.in_ok-look_up.ensures.there in
     let named = subst (λ x. IsUnderName t c.args.path.now (found_of x)) c.in-Node.is (c.in_ok-look_up.ensures.named refl) in
-    rw (← ap found_of (sym c.in-Node.is) ∙ c.in_ok-look_up.ensures.finds)
-    (refuses_full w p s e c.args.directory c.in-Node.n _ _ c.requires.tree there.linked named (sym c.is_directory-is_directory.ensures ∙ same_from _ _ c.if-directory-is_directory.false) (told_full _ _ c.in-Err.ensures.refused c.in-NotEmpty.is), record { tree = c.in-Err.ensures.err; files = refl })
+    rw (← ap found_of (sym c.in-Node.is) ∙ c.in_ok-look_up.ensures.finds) (
+      refuses_full w p s e c.args.directory c.in-Node.n _ _ c.requires.tree there.linked named
+          (sym c.is_directory-is_directory.ensures ∙ same_from _ _ c.if-directory-is_directory.false)
+          (told_full _ _ c.in-Err.ensures.refused c.in-NotEmpty.is),
+      record { tree = c.in-Err.ensures.err; files = refl },
+    )
 
 pub unreachable-requires : goal.unreachable-requires
 unreachable-requires g c =
-    let there = subst (λ x. IsThere (g.T.Tree.nodes c.args.tree.now) (found_of x)) c.in-Node.is c.in_ok-look_up.ensures.there in
+    let there = subst (λ x. IsFindingThere (g.T.Tree.nodes c.args.tree.now) (found_of x)) c.in-Node.is c.in_ok-look_up.ensures.there in
     let other = but_full c.in-Err.fault c.in-Exists.is in
     other.1 (removal (g.T.Tree.nodes c.args.tree.now) c.in-Node.n c.in-Err.fault there.linked other.0 c.in-Err.ensures.refused)

@@ -4,7 +4,7 @@ use Rattle.fd_table.specs.Kept.{open_files}
 use Rattle.lookup.specs.Answers.{Global, Keep}
 use Rattle.lookup.specs.Looks.{find_of}
 use Rattle.kernel.specs.Calls.{answer, looks, looks_twice, made_directory}
-use Rattle.syscalls.specs.Meets.{Meets}
+use Rattle.syscalls.specs.AnswerViews.{Meets}
 use Rattle.syscalls.specs.Views.{world_with}
 use Rattle.syscalls.proofs.Finding.{refused_alone}
 use Rattle.syscalls.proofs.Tests.{passes}
@@ -24,4 +24,6 @@ returns-in-Ok g c = λ processes e same.
     let p = c.args.caller.now.number in
     let s = c.args.caller.now.process.now in
     subst (Meets w p (g.T.Tree.nodes c.make_directory.new.tree) f c.make_directory.result) (sym (passes _ _ _ _ (ap not c.in-Ok.ensures.ok)))
-    (subst (λ n. Meets w p (g.T.Tree.nodes c.make_directory.new.tree) f c.make_directory.result (made_directory w p s e c.args.path.now (find_of t n c.args.path.now Global Keep))) c.root-root.ensures.first (c.make_directory.ensures f processes p s e same c.requires.ready.idle))
+    (subst (λ n. Meets w p (g.T.Tree.nodes c.make_directory.new.tree) f c.make_directory.result
+    (made_directory w p s e c.args.path.now (find_of t n c.args.path.now Global Keep))) c.root-root.ensures.first
+    (c.make_directory.ensures f processes p s e same c.requires.ready.idle))

@@ -5,7 +5,7 @@ use Rattle.fd_table.specs.Kept.{open_files}
 use Rattle.lookup.specs.Answers.{Global}
 use Rattle.lookup.specs.Looks.{find_of}
 use Rattle.kernel.specs.Calls.{answer, looks, looks_twice, opened, last_if}
-use Rattle.syscalls.specs.Meets.{Meets}
+use Rattle.syscalls.specs.AnswerViews.{Meets}
 use Rattle.syscalls.specs.Views.{world_with}
 use Rattle.syscalls.proofs.Finding.{refused_alone}
 use Rattle.syscalls.proofs.Tests.{passes}

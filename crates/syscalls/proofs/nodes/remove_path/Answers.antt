@@ -3,8 +3,8 @@ use Rattle.std.specs.Prelude.{not}
 use Rattle.fd_table.specs.Kept.{open_files}
 use Rattle.lookup.specs.Answers.{Global, Keep}
 use Rattle.lookup.specs.Looks.{find_of}
-use Rattle.kernel.specs.Calls.{answer, looks, looks_twice, unlinked}
-use Rattle.syscalls.specs.Meets.{Meets}
+use Rattle.kernel.specs.Calls.{answer, looks, looks_twice, unlinks}
+use Rattle.syscalls.specs.AnswerViews.{Meets}
 use Rattle.syscalls.specs.Views.{world_with}
 use Rattle.syscalls.proofs.Finding.{refused_alone}
 use Rattle.syscalls.proofs.Tests.{passes}
@@ -24,4 +24,6 @@ returns-in-Ok g c = λ processes e same.
     let p = c.args.caller.now.number in
     let s = c.args.caller.now.process.now in
     subst (Meets w p (g.T.Tree.nodes c.remove.new.tree) f c.remove.result) (sym (passes _ _ _ _ (ap not c.in-Ok.ensures.ok)))
-    (subst (λ n. Meets w p (g.T.Tree.nodes c.remove.new.tree) f c.remove.result (unlinked w p s e c.args.directory (find_of t n c.args.path.now Global Keep))) c.root-root.ensures.first (c.remove.ensures c.args.caller.now.refuse f processes p s e same c.requires.idle))
+    (subst (λ n. Meets w p (g.T.Tree.nodes c.remove.new.tree) f c.remove.result
+    (unlinks w p s e c.args.directory (find_of t n c.args.path.now Global Keep))) c.root-root.ensures.first
+    (c.remove.ensures c.args.caller.now.refuse f processes p s e same c.requires.idle))

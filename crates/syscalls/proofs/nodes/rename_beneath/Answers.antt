@@ -4,7 +4,7 @@ use Rattle.fd_table.specs.Kept.{open_files}
 use Rattle.kernel.specs.Calls.{answer, looks, looks_twice}
 use Rattle.prog_asm.specs.Programs.{Renameat}
 use Rattle.prog_asm.specs.Views.{operand_of}
-use Rattle.syscalls.specs.Meets.{Meets, Refuses, held_seen}
+use Rattle.syscalls.specs.AnswerViews.{Meets, Refuses, held_seen}
 use Rattle.syscalls.specs.Views.{world_with}
 use Rattle.syscalls.proofs.Finding.{refused_alone}
 use Rattle.syscalls.proofs.Tests.{passes, fails}
@@ -23,8 +23,12 @@ returns-in-Err-held g c = λ processes e same.
 
 pub returns-then-not-contains : goal.returns-then-not-contains
 unfolding answer looks looks_twice
-returns-then-not-contains g c = λ processes e same.
-    (c.in-Ok.ensures.passes _ ∙ c.in-Ok-held.ensures.passes _ ∙ fails _ _ _ _ (ap (λ n. is_within n c.in-Ok.held.rights.0) (sym c.need_of.ensures) ∙ sym c.contains.ensures.computes ∙ c.if-not-contains.true), record { tree = refl; files = refl })
+returns-then-not-contains g c = λ processes e same. (
+  c.in-Ok.ensures.passes _ ∙ c.in-Ok-held.ensures.passes _
+      ∙ fails _ _ _ _ (ap (λ n. is_within n c.in-Ok.held.rights.0) (sym c.need_of.ensures) ∙ sym c.contains.ensures.computes
+      ∙ c.if-not-contains.true),
+  record { tree = refl; files = refl },
+)
 
 pub returns-then-not-contains-2 : goal.returns-then-not-contains-2
 unfolding answer looks looks_twice

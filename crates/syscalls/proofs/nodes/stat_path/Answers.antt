@@ -3,8 +3,8 @@ use Rattle.std.specs.Prelude.{not}
 use Rattle.fd_table.specs.Kept.{open_files}
 use Rattle.lookup.specs.Answers.{Global, Follow}
 use Rattle.lookup.specs.Looks.{find_of}
-use Rattle.kernel.specs.Calls.{answer, looks, looks_twice, looked_at}
-use Rattle.syscalls.specs.Meets.{Meets}
+use Rattle.kernel.specs.Calls.{answer, looks, looks_twice, stats_at}
+use Rattle.syscalls.specs.AnswerViews.{Meets}
 use Rattle.syscalls.specs.Views.{world_with}
 use Rattle.syscalls.proofs.Finding.{refused_alone}
 use Rattle.syscalls.proofs.Tests.{passes}
@@ -24,4 +24,5 @@ returns-in-Ok g c = λ processes e same.
     let p = c.args.caller.now.number in
     let s = c.args.caller.now.process.now in
     subst (Meets w p t f c.stat_at.result) (sym (passes _ _ _ _ (ap not c.in-Ok.ensures.ok)))
-    (subst (λ n. Meets w p t f c.stat_at.result (looked_at w p s e (find_of t n c.args.path.now Global Follow))) c.root.ensures.first (c.stat_at.ensures e.refuse f processes p s e refl c.requires.idle))
+    (subst (λ n. Meets w p t f c.stat_at.result (stats_at w p s e (find_of t n c.args.path.now Global Follow))) c.root.ensures.first
+    (c.stat_at.ensures e.refuse f processes p s e refl c.requires.idle))

@@ -3,7 +3,7 @@ use Rattle.std.specs.Prelude.{not}
 use Rattle.fd_table.specs.Views.{access_asked}
 use Rattle.fd_table.specs.Kept.{open_files}
 use Rattle.kernel.specs.Answers.{Same_tree}
-use Rattle.syscalls.specs.Meets.{Refuses}
+use Rattle.syscalls.specs.AnswerViews.{Refuses}
 use Rattle.syscalls.specs.Views.{world_with, effects_of}
 use Rattle.syscalls.proofs.Finding.{refused_alone}
 use Rattle.syscalls.proofs.Tests.{passes}

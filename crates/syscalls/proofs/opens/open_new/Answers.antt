@@ -25,4 +25,5 @@ returns g c = λ processes e same.
     open_succeeds w p _ _ _ _ _ (Make place File) c.in-Ok.number (length t) (access_asked how.flags) how.flags.append how.rights.0 how.fcntls.0 _
     (c.in-Ok.ensures.passes _ ∙ passes _ _ _ _ (below _ 1024 (omega arith)) ∙ passes _ _ _ _ (ap not (same ∙ c.if-caller.false)))
     (sym c.in_ok-made.ensures.effects) c.in_ok-made.ensures.tree
-    (subst (λ n. Opens (open_files c.args.files.now) left p c.in-Ok.number n (access_asked how.flags) how.flags.append how.rights.0 how.fcntls.0) c.in_ok-made.ensures.node c.in_ok-open_node.ensures.ok)
+    (subst (λ n. Opens (open_files c.args.files.now) left p c.in-Ok.number n
+    (access_asked how.flags) how.flags.append how.rights.0 how.fcntls.0) c.in_ok-made.ensures.node c.in_ok-open_node.ensures.ok)

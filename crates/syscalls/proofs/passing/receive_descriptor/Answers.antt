@@ -1,7 +1,7 @@
 use Rattle.std.proofs.Common.{sym, subst, refl, ◌∙◌}
 use Rattle.fd_table.specs.Kept.{open_files}
 use Rattle.kernel.specs.Calls.{answer}
-use Rattle.syscalls.specs.Meets.{Meets, Refuses}
+use Rattle.syscalls.specs.AnswerViews.{Meets, Refuses}
 use Rattle.syscalls.specs.Views.{world_with}
 use Rattle.syscalls.proofs.Finding.{refused_alone}
 use Rattle.syscalls.proofs.Targets.{at_node, at_end, end_named}

@@ -2,13 +2,13 @@ use Rattle.std.proofs.Common.{sym, subst, refl, ap, ◌∙◌}
 use Rattle.fd_table.specs.Descriptions.{other_side}
 use Rattle.fd_table.specs.OpenFiles.{Alike, is_open}
 use Rattle.fd_table.specs.Openings.{with_entry}
-use Rattle.fd_table.specs.Filled.{taken}
+use Rattle.fd_table.specs.Filled.{with_received}
 use Rattle.fd_table.specs.Kept.{open_files}
 use Rattle.fd_table.specs.Views.{side_seen, front_seen}
 use Rattle.kernel.specs.Answers.{Pop}
 use Rattle.kernel.specs.Calls.{blocked}
 use Rattle.kernel.specs.Changes.{files_after}
-use Rattle.syscalls.specs.Meets.{Refuses}
+use Rattle.syscalls.specs.AnswerViews.{Refuses}
 use Rattle.syscalls.specs.Views.{world_with, effects_of}
 use Rattle.syscalls.proofs.Finding.{refused_alone}
 use Rattle.syscalls.proofs.Tests.{passes, fails, kept}
@@ -46,6 +46,7 @@ returns c = λ t processes e same.
     let w = world_with t f processes in
     let p = c.args.caller.now.number in
     let side = side_seen c.args.side in
-    let arrives = receives w p c.args.caller.now.process.now e c.args.description c.args.pair side c.args.number (f.queue c.args.pair (other_side side)) (front_seen c.in-Some.front) c.in-Some.ensures (kept _ c.if-not-front.false) in
+    let arrives = receives w p c.args.caller.now.process.now e c.args.description c.args.pair side c.args.number
+    (f.queue c.args.pair (other_side side)) (front_seen c.in-Some.front) c.in-Some.ensures (kept _ c.if-not-front.false) in
     take_succeeds w p _ _ _ _ (Pop c.args.pair (other_side side)) c.args.number arrives.passed arrives.is (sym (ap effects_of c.new.ensures.items))
-    (subst (λ o. Alike (with_entry (taken f c.args.pair side) p c.args.number o) (open_files c.receive_to.new.self)) arrives.front c.receive_to.ensures)
+    (subst (λ o. Alike (with_entry (with_received f c.args.pair side) p c.args.number o) (open_files c.receive_to.new.self)) arrives.front c.receive_to.ensures)

@@ -5,7 +5,7 @@ use Rattle.fd_table.specs.Descriptions.{message_of}
 use Rattle.fd_table.specs.Kept.{open_files}
 use Rattle.fd_table.specs.Views.{side_seen}
 use Rattle.kernel.specs.Calls.{answer, sent_end}
-use Rattle.syscalls.specs.Meets.{Meets, held_seen}
+use Rattle.syscalls.specs.AnswerViews.{Meets, held_seen}
 use Rattle.syscalls.specs.Views.{world_with}
 use Rattle.syscalls.proofs.Tests.{passes}
 use Rattle.syscalls.proofs.Targets.{at_node, at_end, end_named}
@@ -30,7 +30,8 @@ returns-in-End c = λ t processes e same.
     subst after (sym (c.in-Ok.ensures.passes _ ∙ c.in-Ok-held.ensures.passes _
     ∙ passes _ _ _ _ (ap (λ n. is_within n c.in-Ok.held.rights.0) (sym c.need_of.ensures) ∙ sym c.contains.ensures.computes ∙ c.if-not-contains.false)
     ∙ at_end _ _ c.in-End.end c.target_of.ensures c.in-End.is _ _))
-    (subst (λ b. after (sent_end w p s e c.in-Ok.held.description c.in-End.end.pair (side_seen c.in-End.end.side) (message_of b (Some (held_seen c.in-Ok-held.held))))) c.byte_of-byte.ensures (c.write_end.ensures t processes e same))
+    (subst (λ b. after (sent_end w p s e c.in-Ok.held.description c.in-End.end.pair (side_seen c.in-End.end.side)
+    (message_of b (Some (held_seen c.in-Ok-held.held))))) c.byte_of-byte.ensures (c.write_end.ensures t processes e same))
 
 pub write_end-requires-clause-named : goal.write_end-requires-clause-named
 write_end-requires-clause-named c = c.in-Ok.ensures.named

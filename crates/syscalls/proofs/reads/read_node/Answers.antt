@@ -17,7 +17,9 @@ returns-in-None g c = λ caller processes e same.
     let s = caller.process.now in
     let w = world_with t (open_files c.args.files.now) processes in
     let byte : byte_of t c.args.node ((open_files c.args.files.now).states c.args.description).offset ≡ None = ap (byte_of t c.args.node) (sym c.offset_of-offset.ensures) ∙ sym c.in-None.ensures in
-    same_succeeds w p _ _ _ _ c.requires.idle (passes _ _ _ _ (ap not (sym c.is_directory.ensures ∙ c.if-is_directory.false)) ∙ passes _ _ _ _ (kept _ c.if-not-access.false) ∙ ap (read_byte w p s e c.args.description (node t c.args.node).place) byte) (sym c.in_ok-effects.ensures.effects)
+    same_succeeds w p _ _ _ _ c.requires.idle (passes _ _ _ _ (ap not (sym c.is_directory.ensures ∙ c.if-is_directory.false))
+    ∙ passes _ _ _ _ (kept _ c.if-not-access.false) ∙ ap (read_byte w p s e c.args.description (node t c.args.node).place) byte)
+    (sym c.in_ok-effects.ensures.effects)
 
 pub returns-in-Some : goal.returns-in-Some
 returns-in-Some g c = λ caller processes e same.
@@ -25,6 +27,9 @@ returns-in-Some g c = λ caller processes e same.
     let p = caller.number in
     let s = caller.process.now in
     let w = world_with t (open_files c.args.files.now) processes in
-    let byte : byte_of t c.args.node ((open_files c.args.files.now).states c.args.description).offset ≡ Some c.in-Some.byte = ap (byte_of t c.args.node) (sym c.offset_of-offset.ensures) ∙ sym c.in-Some.ensures in
-    state_succeeds w p _ _ _ _ c.args.description _ _ (passes _ _ _ _ (ap not (sym c.is_directory.ensures ∙ c.if-is_directory.false)) ∙ passes _ _ _ _ (kept _ c.if-not-access.false) ∙ ap (read_byte w p s e c.args.description (node t c.args.node).place) byte) (sym c.in_ok-effects.ensures.effects)
+    let byte : byte_of t c.args.node ((open_files c.args.files.now).states c.args.description).offset ≡ Some c.in-Some.byte = ap
+    (byte_of t c.args.node) (sym c.offset_of-offset.ensures) ∙ sym c.in-Some.ensures in
+    state_succeeds w p _ _ _ _ c.args.description _ _ (passes _ _ _ _ (ap not (sym c.is_directory.ensures ∙ c.if-is_directory.false))
+    ∙ passes _ _ _ _ (kept _ c.if-not-access.false) ∙ ap (read_byte w p s e c.args.description (node t c.args.node).place) byte)
+    (sym c.in_ok-effects.ensures.effects)
     (subst (λ o. Alike (with_offset (open_files c.args.files.now) c.args.description (o + 1)) (open_files c.set_offset.new.self)) c.offset_of-offset.ensures c.set_offset.ensures)

@@ -43,4 +43,5 @@ returns g c = λ refuse f processes p s e same idle.
 pub unreachable-requires : goal.unreachable-requires
 unreachable-requires g c =
     let other = but_into c.in-Err.fault c.in-Exists.is in
-    other.1 (into_free (g.T.Tree.nodes c.args.tree.now) c.args.n c.args.dir c.args.name.now c.in-Err.fault c.requires.tree c.requires.linked c.requires.dir_linked c.requires.free other.0 c.in-Err.ensures.refused)
+    other.1 (into_free (g.T.Tree.nodes c.args.tree.now) c.args.n c.args.dir c.args.name.now c.in-Err.fault c.requires.tree c.requires.linked
+    c.requires.dir_linked c.requires.free other.0 c.in-Err.ensures.refused)

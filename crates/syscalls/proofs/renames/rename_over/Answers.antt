@@ -36,7 +36,8 @@ returns-in-NotEmpty g c = λ refuse f processes p s e same idle.
     let name = c.args.name.now in
     let place : (node t m).place ≡ at_name (node t d).place name = named_place t m d name c.requires.named c.in-Some.ensures in
     let full : has_below t (node t m).place ≡ has_below t (at_name (node t d).place name) = ap (has_below t) place in (
-      over_rest (world_with t f processes) p s e n m (sym c.in_ok-is_within.ensures.within ∙ c.if-branch.false) (sym c.is_directory-moves_directory.ensures ∙ sym (same_from _ _ c.if-moves_directory-is_directory.false) ∙ c.is_directory.ensures)
+      over_rest (world_with t f processes) p s e n m (sym c.in_ok-is_within.ensures.within ∙ c.if-branch.false)
+          (sym c.is_directory-moves_directory.ensures ∙ sym (same_from _ _ c.if-moves_directory-is_directory.false) ∙ c.is_directory.ensures)
           ∙ fails _ _ _ _ (ap not (full ∙ is_full t n d name (told_full _ _ c.in-Err.ensures.refused c.in-NotEmpty.is))),
       record { tree = c.in-Err.ensures.err; files = refl },
     )
@@ -50,10 +51,13 @@ returns g c = λ refuse f processes p s e same idle.
     let name = c.args.name.now in
     let to = at_name (node t d).place name in
     let place : (node t m).place ≡ to = named_place t m d name c.requires.named c.in-Some.ensures in
-    let other : same_place to (node t n).place ≡ false = ap (λ p. same_place p (node t n).place) (sym place) ∙ apart_places t n m c.requires.tree c.requires.linked c.requires.over_linked c.requires.other in
+    let other : same_place to (node t n).place ≡ false = ap (λ p. same_place p (node t n).place) (sym place)
+    ∙ apart_places t n m c.requires.tree c.requires.linked c.requires.over_linked c.requires.other in
     let may = may_rename t n d name c.in-Ok.ensures.allowed other in
     tree_succeeds (world_with t f processes) p _ 0 _ _ (Move n (node t m).place) _ idle
-    (over_rest (world_with t f processes) p s e n m (sym c.in_ok-is_within.ensures.within ∙ c.if-branch.false) (sym c.is_directory-moves_directory.ensures ∙ sym (same_from _ _ c.if-moves_directory-is_directory.false) ∙ c.is_directory.ensures) ∙ passes _ _ _ _ (ap not (ap (has_below t) place ∙ may.empty)))
+    (over_rest (world_with t f processes) p s e n m (sym c.in_ok-is_within.ensures.within ∙ c.if-branch.false)
+    (sym c.is_directory-moves_directory.ensures ∙ sym (same_from _ _ c.if-moves_directory-is_directory.false) ∙ c.is_directory.ensures)
+    ∙ passes _ _ _ _ (ap not (ap (has_below t) place ∙ may.empty)))
     (sym (c.in_ok-effects-in-Ok.ensures.effects
     ∙ ap (λ x. x ∷ effect_of c.in_ok-from.from ∷ effect_of c.in_ok-to-in-Ok.to ∷ []) c.in_ok-replaced.ensures.effect
     ∙ ap (λ x. shown_at operations.Remove (node t m).place ∷ x ∷ effect_of c.in_ok-to-in-Ok.to ∷ []) c.in_ok-from.ensures.effect

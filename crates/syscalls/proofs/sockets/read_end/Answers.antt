@@ -7,7 +7,7 @@ use Rattle.kernel.specs.Answers.{gives, Pop}
 use Rattle.fd_table.specs.OpenFiles.{is_open}
 use Rattle.kernel.specs.Calls.{blocked}
 use Rattle.kernel.specs.Changes.{files_after}
-use Rattle.syscalls.specs.Meets.{Refuses}
+use Rattle.syscalls.specs.AnswerViews.{Refuses}
 use Rattle.syscalls.specs.Views.{world_with, effects_of}
 use Rattle.syscalls.proofs.Finding.{refused_alone}
 use Rattle.syscalls.proofs.Keeping.{same_succeeds, queue_succeeds}
@@ -23,7 +23,10 @@ returns-then-is_open c = λ t processes e same.
     let d = c.args.description in
     let side = side_seen c.args.side in
     refused_alone c.blocked.result w t f _
-    (subst (Refuses c.blocked.result) (sym (read_none w p s e d c.args.pair side (f.queue c.args.pair (other_side side)) c.in-None.ensures ∙ ap (λ b. if b then blocked w p s e (f.states c.args.description).nonblock else gives 256) (ap (is_open f c.args.pair) (sym c.other.ensures) ∙ sym c.if-is_open.ensures) ∙ ap (blocked w p s e) (sym c.is_nonblocking.ensures))) c.blocked.ensures)
+    (subst (Refuses c.blocked.result) (sym (read_none w p s e d c.args.pair side (f.queue c.args.pair (other_side side)) c.in-None.ensures
+    ∙ ap (λ b. if b then blocked w p s e (f.states c.args.description).nonblock else gives 256)
+    (ap (is_open f c.args.pair) (sym c.other.ensures) ∙ sym c.if-is_open.ensures)
+    ∙ ap (blocked w p s e) (sym c.is_nonblocking.ensures))) c.blocked.ensures)
     (record { tree = refl; files = refl })
 
 pub returns-else-is_open : goal.returns-else-is_open
@@ -35,7 +38,9 @@ returns-else-is_open c = λ t processes e same.
     let d = c.args.description in
     let side = side_seen c.args.side in
     same_succeeds w p _ _ _ [] c.requires.idle
-    (read_none w p s e d c.args.pair side (f.queue c.args.pair (other_side side)) c.in-None.ensures ∙ ap (λ b. if b then blocked w p s e (f.states c.args.description).nonblock else gives 256) (ap (is_open f c.args.pair) (sym c.other.ensures) ∙ sym c.if-is_open.ensures))
+    (read_none w p s e d c.args.pair side (f.queue c.args.pair (other_side side)) c.in-None.ensures
+    ∙ ap (λ b. if b then blocked w p s e (f.states c.args.description).nonblock else gives 256)
+    (ap (is_open f c.args.pair) (sym c.other.ensures) ∙ sym c.if-is_open.ensures))
     (sym (ap effects_of c.new.ensures.items))
 
 pub returns-in-Some : goal.returns-in-Some

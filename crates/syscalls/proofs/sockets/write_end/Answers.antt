@@ -7,7 +7,7 @@ use Rattle.kernel.specs.Answers.{Push}
 use Rattle.kernel.specs.Calls.{blocked}
 use Rattle.kernel.specs.Changes.{files_after}
 use Rattle.kernel.proofs.AlikeWorlds.{alike_bound}
-use Rattle.syscalls.specs.Meets.{Refuses}
+use Rattle.syscalls.specs.AnswerViews.{Refuses}
 use Rattle.syscalls.specs.Views.{world_with, effects_of}
 use Rattle.syscalls.proofs.Finding.{refused_alone}
 use Rattle.syscalls.proofs.Keeping.{queue_succeeds}
@@ -29,7 +29,8 @@ pub returns-in-Err-Closed : goal.returns-in-Err-Closed
 returns-in-Err-Closed c = λ t processes e same.
     let f = open_files c.args.files.now in
     let w = world_with t f processes in (
-      sends_closed w c.args.caller.now.number c.args.caller.now.process.now e c.args.description c.args.pair (side_seen c.args.side) _ (told_closed _ _ c.in-Err-Closed.ensures.refused c.in-Err-Closed.field-0-is),
+      sends_closed w c.args.caller.now.number c.args.caller.now.process.now e c.args.description c.args.pair (side_seen c.args.side) _
+          (told_closed _ _ c.in-Err-Closed.ensures.refused c.in-Err-Closed.field-0-is),
       record { tree = refl; files = c.in-Err-Closed.ensures.err },
     )
 

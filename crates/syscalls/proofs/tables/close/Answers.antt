@@ -23,5 +23,6 @@ returns c = λ t processes e same.
     let f = open_files c.args.files.now in
     let w = world_with t f processes in
     let p = c.args.caller.now.number in
-    entry_succeeds w p (open_files c.close.new.self) 0 _ _ (Clear_entry (value_of c.args.caller.now.process.now (operand_of c.args.operand))) [] tt tt (c.in-Ok.ensures.passes _) (sym (ap effects_of c.new.ensures.items))
+    entry_succeeds w p (open_files c.close.new.self) 0 _ _ (Clear_entry (value_of c.args.caller.now.process.now (operand_of c.args.operand))) [] tt tt
+    (c.in-Ok.ensures.passes _) (sym (ap effects_of c.new.ensures.items))
     (subst (λ n. Alike (with_entry f p n None) (open_files c.close.new.self)) c.in-Ok.ensures.number c.close.ensures)

@@ -5,7 +5,7 @@ use Rattle.fd_table.specs.Kept.{open_files}
 use Rattle.kernel.specs.Answers.{Set_entry}
 use Rattle.kernel.specs.Calls.{answer}
 use Rattle.kernel.specs.Changes.{files_after}
-use Rattle.syscalls.specs.Meets.{Refuses, held_seen}
+use Rattle.syscalls.specs.AnswerViews.{Refuses, held_seen}
 use Rattle.syscalls.specs.Views.{world_with, effects_of}
 use Rattle.syscalls.proofs.Finding.{refused_alone}
 use Rattle.syscalls.proofs.Keeping.{entry_succeeds}
@@ -20,7 +20,8 @@ pub returns-in-Err-free_number : goal.returns-in-Err-free_number
 unfolding answer
 returns-in-Err-free_number c = λ t processes e same.
     let refused = c.in-Err-free_number.refused in
-    refused_alone refused (world_with t (open_files c.args.files.now) processes) _ _ _ (subst (Refuses refused) (sym (c.in-Ok.ensures.passes _)) (c.in-Err-free_number.ensures.passes _)) (record { tree = refl; files = refl })
+    refused_alone refused (world_with t (open_files c.args.files.now) processes) _ _ _
+    (subst (Refuses refused) (sym (c.in-Ok.ensures.passes _)) (c.in-Err-free_number.ensures.passes _)) (record { tree = refl; files = refl })
 
 pub returns : goal.returns
 unfolding answer files_after

@@ -32,6 +32,10 @@ returns c = λ t processes e same.
     let p = c.args.caller.now.number in
     let left = open_files c.limit.new.self in
     let d : Descriptor = descriptor_of c.in-Ok.held.description c.args.rights.0 c.in-Ok.held.fcntls.0 in
-    entry_succeeds w p left 0 _ _ (Set_entry (value_of c.args.caller.now.process.now (operand_of c.args.operand)) d) [] tt tt (c.in-Ok.ensures.passes _ ∙ passes _ _ _ _ (sym c.contains.ensures.computes ∙ c.if-not-contains.false)) (sym (ap effects_of c.new.ensures.items))
+    entry_succeeds w p left 0 _ _ (Set_entry (value_of c.args.caller.now.process.now (operand_of c.args.operand)) d) [] tt tt
+    (c.in-Ok.ensures.passes _ ∙ passes _ _ _ _ (sym c.contains.ensures.computes ∙ c.if-not-contains.false))
+    (sym (ap effects_of c.new.ensures.items))
     (subst (λ n. Alike (with_entry f p n (Some d)) left) c.in-Ok.ensures.number
-    (subst (λ o. Alike (with_entry f p c.in-Ok.held.number (option_map (λ (x : Descriptor). record x { rights = c.args.rights.0; fcntls = c.in-Ok.held.fcntls.0 }) o)) left) c.in-Ok.ensures.entry c.limit.ensures))
+    (subst (λ o. Alike (with_entry f p c.in-Ok.held.number
+    (option_map (λ (x : Descriptor). record x { rights = c.args.rights.0; fcntls = c.in-Ok.held.fcntls.0 }) o)) left) c.in-Ok.ensures.entry
+    c.limit.ensures))

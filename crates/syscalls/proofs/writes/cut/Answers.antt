@@ -4,7 +4,7 @@ use Rattle.file_tree.specs.Changes.{resized}
 use Rattle.fd_table.specs.Views.{access_seen}
 use Rattle.kernel.specs.Answers.{Fill}
 use Rattle.kernel.specs.Calls.{resizes}
-use Rattle.syscalls.specs.Meets.{Succeeds}
+use Rattle.syscalls.specs.AnswerViews.{Succeeds}
 use Rattle.syscalls.specs.Views.{world_with, effects_of}
 use Rattle.syscalls.proofs.Tests.{passes, kept, at_most}
 use Rattle.syscalls.proofs.Keeping.{tree_succeeds}
@@ -18,4 +18,6 @@ returns-in-Ok g c = λ f processes p s e refuse idle.
     let access = access_seen c.args.access in
     let len = c.value_of-len.result in
     subst (λ v. Succeeds w p (g.T.Tree.nodes c.truncate.new.self) f 0 (effects_of c.in_ok-effects.effects.items) (resizes w p s e n access v)) c.value_of-len.ensures
-    (tree_succeeds w p _ 0 _ _ (Fill n (resized (node t n).content len)) _ idle (passes _ _ _ _ (kept _ c.if-not-access.false) ∙ passes _ _ _ _ (at_most len 4096 (omega arith))) (sym c.in_ok-effects.ensures.effects) c.in-Ok.ensures.ok)
+    (tree_succeeds w p _ 0 _ _ (Fill n (resized (node t n).content len)) _ idle
+    (passes _ _ _ _ (kept _ c.if-not-access.false) ∙ passes _ _ _ _ (at_most len 4096 (omega arith)))
+    (sym c.in_ok-effects.ensures.effects) c.in-Ok.ensures.ok)

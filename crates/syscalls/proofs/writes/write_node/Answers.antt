@@ -6,7 +6,7 @@ use Rattle.fd_table.specs.Kept.{open_files}
 use Rattle.prog_asm.specs.Views.{operand_of}
 use Rattle.kernel.specs.Answers.{Fill, value_of}
 use Rattle.kernel.specs.Calls.{write_at}
-use Rattle.syscalls.specs.Meets.{Succeeds}
+use Rattle.syscalls.specs.AnswerViews.{Succeeds}
 use Rattle.syscalls.specs.Views.{world_with, effects_of}
 use Rattle.syscalls.proofs.Tests.{passes, kept, below}
 use Rattle.syscalls.proofs.Keeping.{write_succeeds}

@@ -4,7 +4,7 @@ use Rattle.fd_table.specs.Descriptions.{message_of}
 use Rattle.fd_table.specs.Kept.{open_files}
 use Rattle.fd_table.specs.Views.{side_seen}
 use Rattle.kernel.specs.Calls.{sent_end}
-use Rattle.syscalls.specs.Meets.{Meets}
+use Rattle.syscalls.specs.AnswerViews.{Meets}
 use Rattle.syscalls.specs.Views.{world_with}
 use Rattle.syscalls.proofs.Tests.{passes}
 use Rattle.syscalls.proofs.writes.write_socket.Goals as goal

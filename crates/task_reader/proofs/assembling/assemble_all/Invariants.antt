@@ -1,6 +1,6 @@
 use Rattle.std.proofs.Common.{◌≡◌, ◌≤◌, length, drop}
 use Rattle.rights.specs.Limits.{most_programs}
-use Rattle.task_reader.specs.Apart.{first_assembled}
+use Rattle.task_reader.specs.ApartViews.{first_assembled}
 use Rattle.task_reader.specs.Reading.{all_assembled}
 use Rattle.task.specs.Views.{programs_of}
 use Rattle.task_reader.specs.WrittenViews.{programs_seen}

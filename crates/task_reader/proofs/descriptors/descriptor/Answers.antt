@@ -5,8 +5,8 @@ use Rattle.toml.specs.Data.{get_member}
 use Rattle.toml.specs.View.{table_view}
 use Rattle.task_reader.specs.Documents.{read_or}
 use Rattle.task_reader.specs.Reading.{Wrong_field, or_mistake}
-use Rattle.task_reader.specs.Written.{descriptor_in, object_in, set_in}
-use Rattle.task_reader.specs.Faults.{FaultIs}
+use Rattle.task_reader.specs.Written.{descriptor_in, object_written, set_in}
+use Rattle.task_reader.specs.FaultViews.{FaultIs}
 use Rattle.task_reader.proofs.FieldFaults.{field-fault, without-object, without-rights, without-fcntls}
 use Rattle.task_reader.proofs.descriptors.descriptor.Goals as goal
 
@@ -15,7 +15,7 @@ returns-in_err-object c =
     let p = err_from_is_err_and c.from_residual.result c.from_residual.ensures.1 in
     let error = c.in_err-object.field-0.0 in
     let ms = table_view c.args.table.now in
-    rw (p.1, p.2) (field-fault error (object_in ms) (descriptor_in ms) (without-object ms) c.in_err-object.ensures)
+    rw (p.1, p.2) (field-fault error (object_written ms) (descriptor_in ms) (without-object ms) c.in_err-object.ensures)
 
 pub returns-in_err-read_rights : goal.returns-in_err-read_rights
 returns-in_err-read_rights c =

@@ -4,8 +4,8 @@ use Rattle.toml.specs.Data.{get_member}
 use Rattle.toml.specs.View.{table_view}
 use Rattle.task_reader.specs.Documents.{read_or}
 use Rattle.task_reader.specs.Reading.{Wrong_field, or_mistake}
-use Rattle.task_reader.specs.Written.{access_in, path_in, reading}
-use Rattle.task_reader.specs.Faults.{FaultIs}
+use Rattle.task_reader.specs.Written.{access_in, path_written, reading}
+use Rattle.task_reader.specs.FaultViews.{FaultIs}
 use Rattle.task_reader.proofs.FieldFaults.{field-fault, without-flags}
 use Rattle.task_reader.proofs.descriptors.path.Goals as goal
 
@@ -16,4 +16,4 @@ returns-in_err-read_access-in-Some c =
     let ms = table_view c.args.table.now in
     let told : FaultIs error (or_mistake Wrong_field (read_or reading access_in (get_member (codes "flags") ms))) =
     subst (λ d. FaultIs error (or_mistake Wrong_field (read_or reading access_in d))) c.value_at.ensures c.in_err-read_access-in-Some.ensures in
-    rw (p.1, p.2) (field-fault error (read_or reading access_in (get_member (codes "flags") ms)) (path_in ms) (without-flags ms) told)
+    rw (p.1, p.2) (field-fault error (read_or reading access_in (get_member (codes "flags") ms)) (path_written ms) (without-flags ms) told)

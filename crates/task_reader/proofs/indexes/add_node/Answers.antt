@@ -4,7 +4,7 @@ use Rattle.std.specs.Str.{bytes_eq}
 use Rattle.std.proofs.lemmas.List.{length-map, map-append}
 use Rattle.std.proofs.lemmas.Map.Text.{hash_map_updates_str}
 use Rattle.task.specs.Views.{node_of, nodes_of}
-use Rattle.task_reader.specs.Indexes.{IsIndex, IsPath, number_in}
+use Rattle.task_reader.specs.IndexViews.{IsIndex, IsPath, number_in}
 use Rattle.task_reader.specs.WrittenViews.{node_seen}
 use Rattle.task_reader.proofs.IndexLaws.{index-more, made-so}
 use Rattle.task_reader.proofs.indexes.add_node.Goals as goal

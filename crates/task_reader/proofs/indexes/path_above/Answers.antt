@@ -2,7 +2,7 @@ use Rattle.std.proofs.Common.{◌≡◌, ◌<◌, ◌≤◌, ◌-◌, ◌+◌, �
 use Rattle.std.proofs.lemmas.List.{length-map, length-take, map-append}
 use Rattle.file_tree.specs.Places.{above, at_name}
 use Rattle.file_tree.specs.Views.{names_of}
-use Rattle.task_reader.specs.Indexes.{IsPath}
+use Rattle.task_reader.specs.IndexViews.{IsPath}
 use Rattle.task_reader.proofs.IndexLaws.{above-path, above-short, last-split, name-fits}
 use Rattle.task_reader.proofs.indexes.path_above.Goals as goal
 

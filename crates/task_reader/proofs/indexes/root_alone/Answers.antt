@@ -4,7 +4,7 @@ use Rattle.std.specs.Str.{bytes_eq}
 use Rattle.std.proofs.lemmas.Map.Text.{hash_map_updates_str}
 use Rattle.file_tree.specs.Refusals.{new_tree}
 use Rattle.task.specs.Views.{nodes_of}
-use Rattle.task_reader.specs.Indexes.{IsIndex, number_in}
+use Rattle.task_reader.specs.IndexViews.{IsIndex, number_in}
 use Rattle.task_reader.proofs.IndexLaws.{index-root}
 use Rattle.task_reader.proofs.indexes.root_alone.Goals as goal
 

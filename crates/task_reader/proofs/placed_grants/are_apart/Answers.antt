@@ -1,7 +1,7 @@
 use Rattle.std.proofs.Common.{map, sym, ap, ◌∙◌}
 use Rattle.std.specs.Cmp.Lexicographic.{slice_cmp}
 use Rattle.file_tree.specs.Views.{names_of}
-use Rattle.task_reader.specs.Apart.{none_begins_so}
+use Rattle.task_reader.specs.ApartViews.{none_begins_so}
 use Rattle.task_reader.proofs.ApartLaws.{name_cmp, slice_cmp-map, sorted-places}
 use Rattle.task_reader.proofs.placed_grants.are_apart.Goals as goal
 

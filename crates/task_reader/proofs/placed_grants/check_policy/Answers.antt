@@ -2,7 +2,7 @@ use Rattle.std.proofs.Common.{◌≡◌, None, Some, map, option_map, false, tru
 use Rattle.std.specs.Result.{IsOk}
 use Rattle.file_tree.specs.Views.{names_of}
 use Rattle.task.specs.Views.{nodes_of}
-use Rattle.task_reader.specs.Apart.{granted_places}
+use Rattle.task_reader.specs.ApartViews.{granted_places}
 use Rattle.task_reader.specs.Reading.{Wrong_grant, or_mistake}
 use Rattle.task_reader.specs.WrittenViews.{grants_seen}
 use Rattle.task_reader.proofs.ApartLaws.{no-policy, policy-if}

@@ -1,6 +1,6 @@
 use Rattle.std.proofs.Common.{◌≡◌, ◌++◌, drop, map, option_map}
 use Rattle.file_tree.specs.Views.{names_of}
-use Rattle.task_reader.specs.Apart.{granted_places}
+use Rattle.task_reader.specs.ApartViews.{granted_places}
 use Rattle.task.specs.Views.{nodes_of}
 use Rattle.task_reader.specs.WrittenViews.{grants_seen}
 use Rattle.task_reader.proofs.placed_grants.grant_places.Given as goal

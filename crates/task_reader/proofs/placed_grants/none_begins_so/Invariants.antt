@@ -1,6 +1,6 @@
 use Rattle.std.proofs.Common.{◌≡◌, ◌-◌, drop, map}
 use Rattle.file_tree.specs.Views.{names_of}
-use Rattle.task_reader.specs.Apart.{none_begins_so}
+use Rattle.task_reader.specs.ApartViews.{none_begins_so}
 use Rattle.task_reader.proofs.placed_grants.none_begins_so.Given as goal
 
 -- the places that are left, and the one before them, decide it

@@ -3,7 +3,7 @@ use Rattle.std.specs.Option.{option_map}
 use Rattle.std.proofs.lemmas.List.{length-map}
 use Rattle.rights.specs.Limits.{most_descriptors}
 use Rattle.task.specs.Views.{nodes_of}
-use Rattle.task_reader.specs.Placed.{placed_descriptor}
+use Rattle.task_reader.specs.PlacedViews.{placed_descriptor}
 use Rattle.task_reader.specs.Reading.{descriptors_placed}
 use Rattle.task_reader.specs.WrittenViews.{descriptor_seen}
 use Rattle.task_reader.proofs.NumberLaws.{too-many}

@@ -1,5 +1,5 @@
 use Rattle.std.proofs.Common.{◌≡◌, ◌++◌, map, drop, option_map}
-use Rattle.task_reader.specs.Placed.{placed_descriptor}
+use Rattle.task_reader.specs.PlacedViews.{placed_descriptor}
 use Rattle.task_reader.specs.Reading.{descriptors_placed}
 use Rattle.task.specs.Views.{nodes_of}
 use Rattle.task_reader.specs.WrittenViews.{descriptor_seen}

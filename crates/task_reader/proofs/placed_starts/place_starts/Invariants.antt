@@ -1,5 +1,5 @@
 use Rattle.std.proofs.Common.{◌≡◌, ◌++◌, drop, option_map}
-use Rattle.task_reader.specs.Placed.{placed_starts}
+use Rattle.task_reader.specs.PlacedViews.{placed_starts}
 use Rattle.task_reader.specs.Reading.{starts_placed}
 use Rattle.task.specs.Views.{nodes_of}
 use Rattle.task_reader.specs.WrittenViews.{starts_seen}

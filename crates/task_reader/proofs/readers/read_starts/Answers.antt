@@ -7,7 +7,7 @@ use Rattle.toml.specs.View.{table_view}
 use Rattle.task_reader.specs.Reading.{Wrong_field, or_mistake}
 use Rattle.task_reader.specs.Written.{WrittenProgram, WrittenStart, listed_starts, names_of_programs, some_start, written_starts}
 use Rattle.task_reader.specs.WrittenViews.{programs_seen, start_seen, starts_seen}
-use Rattle.task_reader.specs.Faults.{FaultIs}
+use Rattle.task_reader.specs.FaultViews.{FaultIs}
 use Rattle.task_reader.proofs.EachItem.{some_from}
 use Rattle.task_reader.proofs.FieldFaults.{field-fault}
 use Rattle.task_reader.proofs.readers.read_starts.Goals as goal

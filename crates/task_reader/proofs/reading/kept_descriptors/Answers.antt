@@ -1,7 +1,7 @@
 use Rattle.std.proofs.Common.{false}
 use Rattle.task_reader.specs.declared.placed_starts.PlacedDescriptor.{PlacedDescriptor}
 use Rattle.task_reader.specs.declared.placed_starts.PlacedObject.TheVariants as object
-use Rattle.task_reader.specs.Placed.{has_near, placed_descriptor}
+use Rattle.task_reader.specs.PlacedViews.{has_near, placed_descriptor}
 use Rattle.task_reader.proofs.Stages.{small-at}
 use Rattle.task_reader.proofs.reading.kept_descriptors.Goals as goal
 

@@ -1,5 +1,5 @@
 use Rattle.std.proofs.Common.{◌≡◌, map, take}
-use Rattle.task_reader.specs.Placed.{placed_descriptor}
+use Rattle.task_reader.specs.PlacedViews.{placed_descriptor}
 use Rattle.task.specs.Views.{first_descriptor_of}
 use Rattle.task_reader.proofs.reading.kept_descriptors.Given as goal
 

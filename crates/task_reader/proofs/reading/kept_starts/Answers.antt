@@ -1,5 +1,5 @@
 use Rattle.std.proofs.Common.{◌≡◌, true, sym, subst}
-use Rattle.task_reader.specs.Placed.{is_small, placed_start}
+use Rattle.task_reader.specs.PlacedViews.{is_small, placed_start}
 use Rattle.task_reader.proofs.Stages.{small-at}
 use Rattle.task_reader.proofs.reading.kept_starts.Goals as goal
 

@@ -1,5 +1,5 @@
 use Rattle.std.proofs.Common.{◌≡◌, take}
-use Rattle.task_reader.specs.Placed.{placed_starts}
+use Rattle.task_reader.specs.PlacedViews.{placed_starts}
 use Rattle.task.specs.Views.{starts_of}
 use Rattle.task_reader.proofs.reading.kept_starts.Given as goal
 

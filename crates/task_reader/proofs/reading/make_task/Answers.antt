@@ -7,9 +7,9 @@ use Rattle.rights.specs.Limits.{most_programs}
 use Rattle.std.proofs.Common.{take}
 use Rattle.task.specs.Plans.{Grant, NamedProgram, Start, Plan, plan_with}
 use Rattle.task.specs.Limits.{is_plan}
-use Rattle.task_reader.specs.Apart.{first_assembled}
-use Rattle.task_reader.specs.Faults.{FaultIs}
-use Rattle.task_reader.specs.Placed.{is_small, placed_starts}
+use Rattle.task_reader.specs.ApartViews.{first_assembled}
+use Rattle.task_reader.specs.FaultViews.{FaultIs}
+use Rattle.task_reader.specs.PlacedViews.{is_small, placed_starts}
 use Rattle.task_reader.specs.Reading.{Wrong_node, Wrong_grant, Wrong_descriptor, or_mistake, tree_of, policy_of, grants_placed, starts_placed, all_assembled, keeps_limits, plan_of}
 use Rattle.task_reader.specs.Written.{WrittenTask}
 use Rattle.task_reader.specs.declared.written.WrittenNode.{WrittenNode as NodeCode}

@@ -2,7 +2,7 @@ use Rattle.std.proofs.Common.{◌≡◌, ap, sym, subst, ◌∙◌}
 use Rattle.std.proofs.lemmas.Result.{err_from_is_err_and}
 use Rattle.toml.specs.View.{table_view}
 use Rattle.task_reader.specs.Documents.{document_of}
-use Rattle.task_reader.specs.Faults.{FaultIs, ReadsTask}
+use Rattle.task_reader.specs.FaultViews.{FaultIs, ReadsTask}
 use Rattle.task_reader.specs.Reading.{Not_toml, Wrong_field, ◌>>=◌, or_mistake, plan_in, plan_of, task_of}
 use Rattle.task_reader.specs.Written.{written_task}
 use Rattle.task_reader.specs.WrittenViews.{task_seen}

@@ -1,6 +1,6 @@
 use Rattle.std.proofs.Common.{◌≡◌, drop}
 use Rattle.file_tree.specs.Refusals.{new_tree}
-use Rattle.task_reader.specs.Indexes.{IsIndex}
+use Rattle.task_reader.specs.IndexViews.{IsIndex}
 use Rattle.task_reader.specs.Reading.{tree_from}
 use Rattle.task.specs.Views.{nodes_of}
 use Rattle.task_reader.specs.WrittenViews.{nodes_seen}

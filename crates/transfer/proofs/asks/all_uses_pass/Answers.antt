@@ -1,7 +1,7 @@
 use Rattle.certificate.specs.Views.{bound_of}
 use Rattle.prog_asm.specs.Views.{syscall_of}
 use Rattle.transfer.specs.Views.{needs_in}
-use Rattle.transfer.proofs.UseRows.{first_passes, first_fails}
+use Rattle.transfer.proofs.UseTests.{first_passes, first_fails}
 use Rattle.transfer.proofs.asks.all_uses_pass.Goals as goal
 
 pub returns-then-through_passes : goal.returns-then-through_passes

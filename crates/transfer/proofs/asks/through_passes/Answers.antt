@@ -3,7 +3,7 @@ use Rattle.std.proofs.lemmas.List.Folds.{list_all-map}
 use Rattle.certificate.specs.Views.{bound_of}
 use Rattle.prog_asm.specs.Views.{operand_of}
 use Rattle.rules.specs.Slots.{slots_in}
-use Rattle.transfer.specs.Needs.{use_of}
+use Rattle.rules.specs.Uses.{use_of}
 use Rattle.transfer.specs.Views.{need_of}
 use Rattle.transfer.proofs.asks.through_passes.Goals as goal
 

@@ -1,7 +1,7 @@
 use Rattle.certificate.specs.Views.{bound_of, interval_of}
 use Rattle.prog_asm.specs.Views.{operand_of}
 use Rattle.rules.specs.Slots.{OpenSlot, slots_in}
-use Rattle.transfer.specs.Given.{may_be, stays, given_at}
+use Rattle.transfer.specs.GivenViews.{may_be, stays, given_at}
 use Rattle.transfer.proofs.Keeping.{one_settles, repeated_settle, none_kept, some_kept}
 use Rattle.transfer.proofs.Repeated.{none_passes, some_passes}
 use Rattle.transfer.proofs.given.both_given_pass.Goals as goal

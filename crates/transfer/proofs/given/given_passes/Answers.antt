@@ -1,7 +1,7 @@
 use Rattle.certificate.specs.Views.{bound_of, interval_of}
 use Rattle.prog_asm.specs.Views.{operand_of}
 use Rattle.rules.specs.Slots.{OpenSlot, slots_in}
-use Rattle.transfer.specs.Given.{may_be, stays}
+use Rattle.transfer.specs.GivenViews.{may_be, stays}
 use Rattle.transfer.proofs.Keeping.{one_settles, none_kept, some_kept}
 use Rattle.transfer.proofs.Repeated.{none_passes, some_passes}
 use Rattle.transfer.proofs.given.given_passes.Goals as goal

@@ -4,12 +4,12 @@ use Rattle.certificate.specs.declared.points.Point.{Point}
 use Rattle.certificate.specs.declared.lines.Channel.{Channel}
 use Rattle.certificate.specs.Bounds.{Version}
 use Rattle.certificate.specs.Order.{same_class}
-use Rattle.certificate.specs.Growth.{IsCertificate, begins, classes_of, distinct, distinct_behind, programs_of}
+use Rattle.certificate.specs.Growth.{IsCertificate, begins, classes_of, distinct, distinct_behind, programs_named}
 use Rattle.certificate.specs.Views.{certificate_with, version_of}
 use Rattle.certificate.proofs.certs.Cert.new.Goals as goal
 
 empty : (version : Version) (points : List Point) (channels : List Channel) → points ≡ [] → channels ≡ [] → IsCertificate (certificate_with version points channels)
-    × ([] ≡ distinct bytes_eq (programs_of (certificate_with version points channels))) × (0 ≡ length (distinct same_class (classes_of (certificate_with version points channels))))
+    × ([] ≡ distinct bytes_eq (programs_named (certificate_with version points channels))) × (0 ≡ length (distinct same_class (classes_of (certificate_with version points channels))))
 unfolding distinct_behind
 empty version points channels no_points no_channels = rw (no_points, no_channels) (begins version, refl, refl)
 

@@ -6,7 +6,7 @@ use Rattle.certificate.specs.declared.lines.Channel.{Channel}
 use Rattle.certificate.specs.Bounds.{ChannelBound}
 use Rattle.certificate.specs.Lines.{Line}
 use Rattle.certificate.specs.Order.{same_class}
-use Rattle.certificate.specs.Growth.{IsCertificate, classes_in, classes_in_line, classes_of, distinct, most_classes, programs_of, stands, taken}
+use Rattle.certificate.specs.Growth.{IsCertificate, classes_in, classes_in_line, classes_of, distinct, most_classes, programs_named, stands, taken}
 use Rattle.certificate.specs.Room.{listed_with}
 use Rattle.certificate.specs.CountViews.{programs_listed}
 use Rattle.certificate.specs.Views.{certificate_with, channels_of, line_of, version_of}
@@ -71,7 +71,7 @@ returns c =
 pub invariant_of-self : goal.invariant_of-self
 invariant_of-self c =
     let version = version_of c.self.inside.version in
-    subst (λ d. IsCertificate d × (programs_listed c.self.inside.programs ≡ distinct bytes_eq (programs_of d)) × (c.self.inside.classes ≡ length (distinct same_class (classes_of d))))
+    subst (λ d. IsCertificate d × (programs_listed c.self.inside.programs ≡ distinct bytes_eq (programs_named d)) × (c.self.inside.classes ≡ length (distinct same_class (classes_of d))))
     (sym (c.in_err-extend.ensures.err version)) c.self.invariant
 
 pub returns-in_err-extend : goal.returns-in_err-extend

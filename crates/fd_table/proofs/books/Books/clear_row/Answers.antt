@@ -1,6 +1,6 @@
 use Rattle.std.proofs.Common.{refl, None, arith}
 use Rattle.fd_table.specs.Holders.{empty_hand}
-use Rattle.fd_table.specs.Stored.{books_kept}
+use Rattle.fd_table.specs.StoredViews.{books_kept}
 use Rattle.fd_table.proofs.Answering.{follows_itself}
 use Rattle.fd_table.proofs.Following.{following_first, following_last, following_next, follows_full}
 use Rattle.fd_table.proofs.Tables.{no_number}

@@ -1,5 +1,5 @@
 use Rattle.std.proofs.Common.{None}
-use Rattle.fd_table.specs.Stored.{books_kept}
+use Rattle.fd_table.specs.StoredViews.{books_kept}
 use Rattle.fd_table.proofs.Following.{IsFollowing}
 use Rattle.fd_table.proofs.books.Books.clear_row.Given as goal
 

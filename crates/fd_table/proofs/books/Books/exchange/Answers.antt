@@ -1,6 +1,6 @@
 use Rattle.std.proofs.Common.{ap, ◌∙◌, ◌+◌, ◌*◌}
 use Rattle.std.proofs.Math.Seq.{map-set}
-use Rattle.fd_table.specs.Stored.{books_kept, entries_kept, entry_kept}
+use Rattle.fd_table.specs.StoredViews.{books_kept, entries_kept, entry_kept}
 use Rattle.fd_table.proofs.Moving.{follows_exchange}
 use Rattle.fd_table.proofs.books.Books.exchange.Goals as goal
 

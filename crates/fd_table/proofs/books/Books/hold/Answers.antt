@@ -1,5 +1,5 @@
 use Rattle.fd_table.specs.Holders.{empty_hand}
-use Rattle.fd_table.specs.Stored.{books_kept, entry_kept}
+use Rattle.fd_table.specs.StoredViews.{books_kept, entry_kept}
 use Rattle.fd_table.proofs.Following.{few_counts, follows_held}
 use Rattle.fd_table.proofs.books.Books.hold.Goals as goal
 

@@ -1,6 +1,6 @@
 use Rattle.std.proofs.Common.{◌≡◌, sym, ◌∙◌}
 use Rattle.fd_table.specs.Views.{class_seen}
-use Rattle.fd_table.specs.Stored.{books_kept}
+use Rattle.fd_table.specs.StoredViews.{books_kept}
 use Rattle.fd_table.proofs.Making.{makes_pair}
 use Rattle.fd_table.proofs.books.Books.make_ends.Goals as goal
 

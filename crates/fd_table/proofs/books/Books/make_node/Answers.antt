@@ -1,6 +1,6 @@
 use Rattle.fd_table.specs.Views.{access_asked}
 use Rattle.fd_table.specs.Holders.{empty_hand}
-use Rattle.fd_table.specs.Stored.{books_kept}
+use Rattle.fd_table.specs.StoredViews.{books_kept}
 use Rattle.fd_table.proofs.Making.{makes_node}
 use Rattle.fd_table.proofs.Naming.{unnamed_vacant}
 use Rattle.fd_table.proofs.books.Books.make_node.Goals as goal

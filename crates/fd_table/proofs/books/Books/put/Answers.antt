@@ -1,4 +1,4 @@
-use Rattle.fd_table.specs.Stored.{books_kept}
+use Rattle.fd_table.specs.StoredViews.{books_kept}
 use Rattle.fd_table.proofs.Answering.{follows_itself}
 use Rattle.fd_table.proofs.books.Books.put.Goals as goal
 

@@ -1,5 +1,5 @@
 use Rattle.fd_table.specs.Views.{descriptor_seen}
-use Rattle.fd_table.specs.Stored.{books_kept}
+use Rattle.fd_table.specs.StoredViews.{books_kept}
 use Rattle.fd_table.proofs.Following.{endable}
 use Rattle.fd_table.proofs.Releasing.{follows_release}
 use Rattle.fd_table.proofs.books.Books.release.Goals as goal

@@ -1,5 +1,5 @@
 use Rattle.fd_table.specs.Holders.{empty_hand}
-use Rattle.fd_table.specs.Stored.{books_kept}
+use Rattle.fd_table.specs.StoredViews.{books_kept}
 use Rattle.fd_table.proofs.Answering.{alike_follows, follows_itself}
 use Rattle.fd_table.proofs.Following.{follows_full}
 use Rattle.fd_table.proofs.files.Files.close.Goals as goal

@@ -1,4 +1,4 @@
-use Rattle.fd_table.specs.Stored.{books_kept}
+use Rattle.fd_table.specs.StoredViews.{books_kept}
 use Rattle.fd_table.proofs.Answering.{alike_follows}
 use Rattle.fd_table.proofs.files.Files.close_all.Goals as goal
 

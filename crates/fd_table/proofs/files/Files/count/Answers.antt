@@ -1,5 +1,5 @@
 use Rattle.std.proofs.Common.{◌∙◌, sym}
-use Rattle.fd_table.specs.Stored.{books_kept, held_kept}
+use Rattle.fd_table.specs.StoredViews.{books_kept, held_kept}
 use Rattle.fd_table.proofs.Counting.{count_map, counts_is}
 use Rattle.fd_table.proofs.files.Files.count.Goals as goal
 

@@ -1,6 +1,6 @@
 use Rattle.std.proofs.Common.{◌∙◌, sym}
 use Rattle.fd_table.specs.Views.{side_seen}
-use Rattle.fd_table.specs.Stored.{books_kept}
+use Rattle.fd_table.specs.StoredViews.{books_kept}
 use Rattle.fd_table.proofs.Answering.{open_is}
 use Rattle.fd_table.proofs.files.Files.is_open.Goals as goal
 

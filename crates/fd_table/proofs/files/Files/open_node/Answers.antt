@@ -1,6 +1,6 @@
 use Rattle.fd_table.specs.Views.{descriptor_seen}
 use Rattle.fd_table.specs.Holders.{empty_hand}
-use Rattle.fd_table.specs.Stored.{books_kept}
+use Rattle.fd_table.specs.StoredViews.{books_kept}
 use Rattle.fd_table.proofs.Answering.{alike_follows}
 use Rattle.fd_table.proofs.files.Files.open_node.Goals as goal
 

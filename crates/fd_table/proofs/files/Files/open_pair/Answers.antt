@@ -3,7 +3,7 @@ use Rattle.rights.specs.Sets.{all_commands, all_rights}
 use Rattle.fd_table.specs.Descriptions.{descriptor_of}
 use Rattle.fd_table.specs.Holders.{empty_hand, with_hand}
 use Rattle.std.proofs.Common.{Some}
-use Rattle.fd_table.specs.Stored.{books_kept}
+use Rattle.fd_table.specs.StoredViews.{books_kept}
 use Rattle.fd_table.proofs.Answering.{alike_follows}
 use Rattle.fd_table.proofs.files.Files.open_pair.Goals as goal
 

@@ -1,6 +1,6 @@
 use Rattle.fd_table.specs.Views.{side_seen}
 use Rattle.fd_table.specs.Holders.{empty_hand}
-use Rattle.fd_table.specs.Stored.{books_kept}
+use Rattle.fd_table.specs.StoredViews.{books_kept}
 use Rattle.fd_table.proofs.Answering.{alike_follows, follows_itself}
 use Rattle.fd_table.proofs.Answering.{end_open}
 use Rattle.fd_table.proofs.Following.{follows_empty}
@@ -27,7 +27,9 @@ invariant_of-self-in-None c =
 pub returns-in-Some-clause-taken : goal.returns-in-Some-clause-taken
 returns-in-Some-clause-taken c =
     rw (← c.self.view_is)
-    (alike_follows _ (books_kept c.release.new.self) (c.release.ensures _ empty_hand (c.in-Some.ensures.follows _ empty_hand (follows_itself (books_kept c.self.inside.books) empty_hand c.self.invariant))))
+    (alike_follows _ (books_kept c.release.new.self)
+    (c.release.ensures _ empty_hand (c.in-Some.ensures.follows _ empty_hand
+    (follows_itself (books_kept c.self.inside.books) empty_hand c.self.invariant))))
 
 pub returns-in-None-clause-taken : goal.returns-in-None-clause-taken
 returns-in-None-clause-taken c =

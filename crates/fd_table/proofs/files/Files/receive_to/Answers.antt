@@ -1,7 +1,7 @@
 use Rattle.fd_table.specs.Views.{side_seen}
 use Rattle.fd_table.specs.Kept.{open_files}
 use Rattle.fd_table.specs.Holders.{empty_hand}
-use Rattle.fd_table.specs.Stored.{books_kept}
+use Rattle.fd_table.specs.StoredViews.{books_kept}
 use Rattle.fd_table.proofs.Answering.{alike_follows, follows_itself}
 use Rattle.fd_table.proofs.Answering.{end_open}
 use Rattle.fd_table.proofs.Refusals.{passed_is}

@@ -3,7 +3,7 @@ use Rattle.fd_table.specs.Descriptions.{other_side}
 use Rattle.fd_table.specs.Views.{side_seen}
 use Rattle.fd_table.specs.Kept.{open_files}
 use Rattle.fd_table.specs.Holders.{empty_hand}
-use Rattle.fd_table.specs.Stored.{books_kept, entry_kept}
+use Rattle.fd_table.specs.StoredViews.{books_kept, entry_kept}
 use Rattle.fd_table.proofs.Answering.{alike_follows, end_open, open_is, there_passed}
 use Rattle.fd_table.proofs.QueueLaws.{on_ok, on_ok_so}
 use Rattle.fd_table.proofs.Refusals.{closed_is, full_is, none_is}
@@ -35,4 +35,6 @@ unfolding open_files
 returns-clause-allowed c =
     let found = open_is (books_kept c.self.inside.books) c.args.end.pair (other_side (side_seen c.args.end.side)) c.self.invariant ∙ sym (rw c.other.ensures at c.is_end_open.ensures) in
     let few = rw c.number.ensures at c.messages_in.ensures in
-    rw (← c.self.view_is) (on_ok c.send.result (none_is (open_files (books_kept c.self.inside.books)) c.args.end.pair (side_seen c.args.end.side) (found ∙ c.if-not-is_end_open.false) (omega (arith, few))))
+    rw (← c.self.view_is) (on_ok c.send.result
+    (none_is (open_files (books_kept c.self.inside.books)) c.args.end.pair (side_seen c.args.end.side) (found ∙ c.if-not-is_end_open.false)
+    (omega (arith, few))))

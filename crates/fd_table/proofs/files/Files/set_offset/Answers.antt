@@ -2,7 +2,7 @@ use Rattle.std.proofs.Common.{ap}
 use Rattle.fd_table.specs.Descriptions.{State}
 use Rattle.fd_table.specs.Kept.{open_files}
 use Rattle.fd_table.specs.Holders.{empty_hand}
-use Rattle.fd_table.specs.Stored.{books_kept}
+use Rattle.fd_table.specs.StoredViews.{books_kept}
 use Rattle.fd_table.proofs.Answering.{alike_follows, follows_itself}
 use Rattle.fd_table.proofs.Answering.{there_named}
 use Rattle.fd_table.proofs.Following.{follows_described}
@@ -23,7 +23,9 @@ invariant_of-self c =
     let change = rw c.number-at.ensures at c.set_description.ensures in
     let object = rw c.number-at.ensures at c.description_of-description.ensures.object in
     let state = rw c.number-at.ensures at c.description_of-description.ensures.state in
-    let set = follows_described (open_files (books_kept c.self.inside.books)) (books_kept c.self.inside.books) _ c.args.d _ _ empty_hand (follows_itself (books_kept c.self.inside.books) empty_hand c.self.invariant) there change object (ap (λ (s : State). record s { offset = c.args.offset }) state) in
+    let set = follows_described (open_files (books_kept c.self.inside.books)) (books_kept c.self.inside.books) _ c.args.d _ _ empty_hand
+    (follows_itself (books_kept c.self.inside.books) empty_hand c.self.invariant) there change object
+    (ap (λ (s : State). record s { offset = c.args.offset }) state) in
     set.kept
 
 pub returns : goal.returns
@@ -33,5 +35,7 @@ returns c =
     let change = rw c.number-at.ensures at c.set_description.ensures in
     let object = rw c.number-at.ensures at c.description_of-description.ensures.object in
     let state = rw c.number-at.ensures at c.description_of-description.ensures.state in
-    let set = follows_described (open_files (books_kept c.self.inside.books)) (books_kept c.self.inside.books) _ c.args.d _ _ empty_hand (follows_itself (books_kept c.self.inside.books) empty_hand c.self.invariant) there change object (ap (λ (s : State). record s { offset = c.args.offset }) state) in
+    let set = follows_described (open_files (books_kept c.self.inside.books)) (books_kept c.self.inside.books) _ c.args.d _ _ empty_hand
+    (follows_itself (books_kept c.self.inside.books) empty_hand c.self.invariant) there change object
+    (ap (λ (s : State). record s { offset = c.args.offset }) state) in
     rw (← c.self.view_is) (alike_follows _ _ set)

@@ -1,5 +1,5 @@
 use Rattle.fd_table.specs.Holders.{empty_hand}
-use Rattle.fd_table.specs.Stored.{books_kept}
+use Rattle.fd_table.specs.StoredViews.{books_kept}
 use Rattle.fd_table.proofs.Answering.{there_named}
 use Rattle.fd_table.proofs.files.Files.what.Goals as goal
 

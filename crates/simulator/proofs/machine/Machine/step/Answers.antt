@@ -6,7 +6,8 @@ use Rattle.task.proofs.FirstWorlds.{first_well_formed}
 use Rattle.simulator.proofs.Tracing.{steps_good}
 use Rattle.simulator.proofs.machine.Machine.step.Goals as goal
 
-good : (g : _) (c : goal.In-Ok g) → IsWellFormed (programs_of_plan c.self.inside.task.now) (world_with (g.T.Tree.nodes c.step_world.new.world.tree) (open_files c.step_world.new.world.files) c.step_world.new.world.processes.items)
+good : (g : _) (c : goal.In-Ok g) → IsWellFormed (programs_of_plan c.self.inside.task.now)
+    (world_with (g.T.Tree.nodes c.step_world.new.world.tree) (open_files c.step_world.new.world.files) c.step_world.new.world.processes.items)
 good g c =
     steps_good (programs_of_plan c.self.inside.task.now) _ _ (event_of c.args.event) _ (first_well_formed c.self.inside.task.now c.self.invariant.valid).0
     (c.self.invariant.good c.if-self.false) c.in-Ok.ensures.byte c.in-Ok.ensures.step

@@ -5,7 +5,7 @@ use Rattle.certificate.specs.Bounds.{Interval, Target}
 use Rattle.certificate.specs.Views.{bound_of, name_of}
 use Rattle.prog_asm.specs.Programs.{Operand}
 use Rattle.rules.specs.Slots.{OpenSlot, slots_in}
-use Rattle.rules.specs.Outcomes.{Outcome, may_be_end, may_be_node, goes_on}
+use Rattle.rules.specs.Outcomes.{Outcome, may_be_end, may_be_node, leads_on}
 use Rattle.transfer.specs.declared.successes.Site.{Site}
 use Rattle.transfer.specs.declared.given.Kind.{Kind}
 use Rattle.transfer.specs.declared.given.Kind.TheVariants as kind
@@ -17,7 +17,7 @@ may_be kind.End t = may_be_end t
 
 -- on to the next point, with register 0 in an interval
 abbrev pub stays : Site → Interval → List Outcome
-stays s i = goes_on s.task.now.grants s.cert.now (name_of s.name.now) s.point (bound_of s.bound.now) (bound_of s.bound.now) i
+stays s i = leads_on s.task.now.grants s.cert.now (name_of s.name.now) s.point (bound_of s.bound.now) (bound_of s.bound.now) i
 
 -- these outcomes for each slot that may be of a kind
 abbrev pub where_kind : Kind → List Outcome → OpenSlot → List Outcome

@@ -90,12 +90,12 @@ Passes {B = B} view test (Ok found) = (rest : B → Answer) → test rest ≡ re
 Passes {B = B} view test (Err refused) = (rest : B → Answer) → Refuses refused (test rest)
 
 -- What a lookup found, or the fault that it is refused for.
-pub record IsNotFound (refused : Refusal) (found : lookups.Answer) : Type 0 where
-  pub fault : lookups.Fault
+pub record IsNotFound (refused : Refusal) (found : lookups.Finding) : Type 0 where
+  pub fault : lookups.LookupFault
   pub is : found ≡ lookups.Not_found fault
   pub refuses : Refuses refused (lookup_fails fault)
 
-abbrev pub Finds : lookups.Answer → Result Found Refusal → Type 0
+abbrev pub Finds : lookups.Finding → Result Found Refusal → Type 0
 Finds answer (Ok found) = found_of found ≡ answer
 Finds answer (Err refused) = refused ≢ refusal.Memory → IsNotFound refused answer
 

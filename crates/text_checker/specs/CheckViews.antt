@@ -6,7 +6,7 @@ use Rattle.checker.specs.Verdicts.{IsVerdict, Yes}
 use Rattle.checker.specs.Views.{verdict_of}
 use Rattle.checker.specs.declared.verdicts.Verdict.{Verdict}
 use Rattle.task.specs.Plans.{Plan}
-use Rattle.task_reader.specs.Faults.{FaultIs}
+use Rattle.task_reader.specs.FaultViews.{FaultIs}
 use Rattle.task_reader.specs.Reading.{Mistake}
 use Rattle.text_checker.specs.declared.checking.Claim.{Claim}
 use Rattle.text_checker.specs.declared.checking.Fault.{Fault}

@@ -18,13 +18,13 @@ ReadsField view (Ok x) field = field ≡ Some (view x)
 ReadsField view (Err mistake) field = FailsField mistake field
 
 -- A line is what it is read as, or has this mistake.
-abbrev pub Fails : {Y : Type 0} → MistakeCode → Result Y Mistake → Type 0
-Fails code.Word read = read ≡ Err assembly.Word
-Fails code.Operand read = read ≡ Err assembly.Operand
-Fails code.TwiceLabel read = read ≡ Err assembly.TwiceLabel
-Fails code.TooMany read = read ≡ Err assembly.TooMany
-Fails code.Memory read = Unit {0}
+abbrev pub FailsReading : {Y : Type 0} → MistakeCode → Result Y Mistake → Type 0
+FailsReading code.Word read = read ≡ Err assembly.Word
+FailsReading code.Operand read = read ≡ Err assembly.Operand
+FailsReading code.TwiceLabel read = read ≡ Err assembly.TwiceLabel
+FailsReading code.TooMany read = read ≡ Err assembly.TooMany
+FailsReading code.Memory read = Unit {0}
 
 abbrev pub ReadsAssembly : {X Y : Type 0} → (X → Y) → Result X MistakeCode → Result Y Mistake → Type 0
 ReadsAssembly view (Ok x) read = read ≡ Ok (view x)
-ReadsAssembly view (Err mistake) read = Fails mistake read
+ReadsAssembly view (Err mistake) read = FailsReading mistake read

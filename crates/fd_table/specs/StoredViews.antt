@@ -12,7 +12,7 @@ use Rattle.fd_table.specs.declared.books.Books.{Books}
 use Rattle.fd_table.specs.Descriptions.{Object, Descriptor, Message, new_state}
 use Rattle.fd_table.specs.Views.{descriptor_seen, object_seen, state_seen}
 use Rattle.fd_table.specs.Filled.{Entry}
-use Rattle.fd_table.specs.Kept.{Description, Held, Half, Pair, Kept}
+use Rattle.fd_table.specs.Kept.{Description, Counted, Half, Pair, Kept}
 
 abbrev pub entry_kept : Option DescriptorCode → Option Descriptor
 entry_kept o = option_map descriptor_seen o
@@ -27,10 +27,10 @@ description_kept d = record { object = object_seen d.object; state = state_seen 
 abbrev pub new_description : Object → Bool → Description
 new_description object append = record { object = object; state = new_state append }
 
-abbrev pub held_kept : HeldCode → Held
+abbrev pub held_kept : HeldCode → Counted
 held_kept h = record { description = description_kept h.description; count = h.count }
 
-abbrev pub descriptions_kept : List (Option HeldCode) → List (Option Held)
+abbrev pub descriptions_kept : List (Option HeldCode) → List (Option Counted)
 descriptions_kept slots = map (option_map held_kept) slots
 
 abbrev pub message_kept : MessageCode → Message

@@ -10,8 +10,8 @@ use Rattle.transfer.specs.declared.successes.Site.{Site}
 abbrev pub end_at : Site → ℕ → Held
 end_at s side = new_end s.task.now.grants s.cert.now (name_of s.name.now) s.point (bound_of s.bound.now) side
 
-abbrev pub paired : Site → ℕ → ℕ → Bound
-paired s first second = with_pair s.task.now.grants s.cert.now (name_of s.name.now) s.point (bound_of s.bound.now) first second
+abbrev pub pair_made : Site → ℕ → ℕ → Bound
+pair_made s first second = with_pair s.task.now.grants s.cert.now (name_of s.name.now) s.point (bound_of s.bound.now) first second
 
 abbrev pub call_at : Site → Syscall → List Outcome
 call_at s call = successes_of s.task.now.grants s.cert.now (name_of s.name.now) s.point (bound_of s.bound.now) call

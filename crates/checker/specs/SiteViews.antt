@@ -10,23 +10,23 @@ use Rattle.rules.specs.Outcomes.{Outcome, successes}
 use Rattle.rules.specs.Rules.{Test, tests}
 use Rattle.transfer.specs.declared.successes.Site.{Site}
 
-abbrev pub name_at : Site → List ℕ
-name_at s = name_of s.name.now
+abbrev pub site_name : Site → List ℕ
+site_name s = name_of s.name.now
 
 abbrev pub expansion_at : Site → Certificate
 expansion_at s = expansion s.task.now s.cert.now
 
 abbrev pub successes_in : Site → Instruction → List Outcome
-successes_in s i = successes s.task.now.grants (expansion_at s) (name_at s) s.point (bound_of s.bound.now) i
+successes_in s i = successes s.task.now.grants (expansion_at s) (site_name s) s.point (bound_of s.bound.now) i
 
 -- the tests at the point, of a program by its number
 abbrev pub tests_at : Site → ℕ → Instruction → List Test
 tests_at s program i = tests s.task.now (expansion_at s) program s.point i (bound_of s.bound.now)
 
 -- its program has this instruction there
-abbrev pub StandsAt : Site → Instruction → Type 0
-StandsAt s i = slice_get (code_named s.task.now.programs (name_at s)) s.point ≡ Some i
+abbrev pub SiteHas : Site → Instruction → Type 0
+SiteHas s i = slice_get (code_named s.task.now.programs (site_name s)) s.point ≡ Some i
 
 -- this is carried on from it
 abbrev pub CarriesOn : Site → Option BoundCode → Type 0
-CarriesOn s carried = option_map bound_of carried ≡ carried_to s.task.now s.cert.now (name_at s) (s.point + 1)
+CarriesOn s carried = option_map bound_of carried ≡ carried_to s.task.now s.cert.now (site_name s) (s.point + 1)

@@ -7,10 +7,10 @@ use Rattle.prog_asm.specs.declared.drafts.Step.{Step as StepCode}
 use Rattle.prog_asm.specs.declared.drafts.Draft.{Draft}
 use Rattle.prog_asm.specs.Assembly.{Mistake, Line, Step, Fault, is_label, is_one_too_many, line_behind, steps_on, steps_of}
 use Rattle.prog_asm.specs.Forms.{Written}
-use Rattle.prog_asm.specs.Faults.{FaultIs}
+use Rattle.prog_asm.specs.FaultViews.{FaultIs}
 use Rattle.prog_asm.specs.FormViews.{written_from}
 use Rattle.prog_asm.specs.LineViews.{point_in}
-use Rattle.prog_asm.specs.Readings.{Fails}
+use Rattle.prog_asm.specs.ReadingViews.{FailsReading}
 
 abbrev pub step_from : StepCode → Step
 step_from step = record { line = step.line; written = written_from step.written }
@@ -43,7 +43,7 @@ StepAdded (Err mistake.Memory) before after number instruction = Unit {0}
 -- The line is added behind these, or has this mistake there.
 abbrev pub AddsLine : Result (Unit {0}) MistakeCode → List Line → Result Line Mistake → Draft → Type 0
 AddsLine (Ok done) before line after = (added : Line) × (line_behind before line ≡ Ok added) × Drafts (before ++ added ∷ []) after
-AddsLine (Err mistake) before line after = Fails mistake (line_behind before line)
+AddsLine (Err mistake) before line after = FailsReading mistake (line_behind before line)
 
 -- The draft is that of the lines, or their fault is told.
 abbrev pub DraftsLines : Result Draft AsmFault → Result (List Line) Fault → Type 0

@@ -5,7 +5,7 @@ use Rattle.certificate.specs.Bounds as bounds
 use Rattle.certificate.specs.Views.{bound_of, name_of}
 use Rattle.rules.specs.Intervals.{only}
 use Rattle.rules.specs.Slots.{OpenSlot}
-use Rattle.rules.specs.Outcomes.{Outcome, beneath_target, goes_on, takes, opens_beneath, receives_at}
+use Rattle.rules.specs.Outcomes.{Outcome, beneath_target, leads_on, takes, opens_beneath, receives_at}
 use Rattle.transfer.specs.declared.successes.Site.{Site}
 use Rattle.transfer.specs.declared.successes.Act.{Act}
 use Rattle.transfer.specs.declared.successes.Act.TheVariants as act
@@ -20,12 +20,12 @@ received_at s t = receives_at s.task.now.grants s.cert.now (name_of s.name.now) 
 
 -- on to the next point, with register 0 at 0
 abbrev pub to_next : Site → Bound → List Outcome
-to_next s after = goes_on s.task.now.grants s.cert.now (name_of s.name.now) s.point (bound_of s.bound.now) after (only 0)
+to_next s after = leads_on s.task.now.grants s.cert.now (name_of s.name.now) s.point (bound_of s.bound.now) after (only 0)
 
 -- with what a limit leaves
-abbrev pub limited : Held → Limit → Held
-limited h (limits.Rights left) = record h { least = left.least.0; greatest = left.greatest.0 }
-limited h (limits.Commands left) = record h { least_fcntls = left.least.0; greatest_fcntls = left.greatest.0 }
+abbrev pub left_by_limit : Held → Limit → Held
+left_by_limit h (limits.Rights left) = record h { least = left.least.0; greatest = left.greatest.0 }
+left_by_limit h (limits.Commands left) = record h { least_fcntls = left.least.0; greatest_fcntls = left.greatest.0 }
 
 -- what a call does with a slot
 abbrev pub acted : Site → Act → OpenSlot → List Outcome
@@ -34,4 +34,4 @@ acted s act.Opens slot =
 acted s act.Receives slot = received_at s slot.held.target
 acted s act.Copies slot = taken_at s slot.held
 acted s act.Closes slot = to_next s (with_slot (bound_of s.bound.now) slot.number Closed)
-acted s (act.Limits limit) slot = to_next s (with_slot (bound_of s.bound.now) slot.number (bounds.Open (limited slot.held limit)))
+acted s (act.Limits limit) slot = to_next s (with_slot (bound_of s.bound.now) slot.number (bounds.Open (left_by_limit slot.held limit)))
