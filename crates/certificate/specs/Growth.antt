@@ -165,7 +165,7 @@ taken c line = if has_room c line then (if stands c line then Ok (with_line c li
 abbrev pub empty : Version → Certificate
 empty version = record { version = version; points = []; channels = [] }
 
--- A certificate of a version is what lines make of empty, each taken by what the lines before it made.
+-- A certificate of a version is what lines make of nothing, each taken by what the lines before it made.
 pub data IsCertificate : Certificate → Type 0 where
   begins : (version : Version) → IsCertificate (empty version)
   grows : {c : Certificate} {d : Certificate} → IsCertificate c → (line : Line) → is_line line ≡ true → taken c line ≡ Ok d → IsCertificate d

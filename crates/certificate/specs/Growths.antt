@@ -22,6 +22,6 @@ unfoldable pub grown_by : List PointBound → Certificate → Option Certificate
 grown_by [] c = Some c
 grown_by (b ∷ points) c = then_grown (grown_by points) (grown (block_lines b) c)
 
--- A certificate is what its own lines make of empty.
+-- A certificate is what its own lines make of nothing.
 abbrev pub IsGrown : Certificate → Type 0
 IsGrown c = grown (lines_of c) (empty c.version) ≡ Some c

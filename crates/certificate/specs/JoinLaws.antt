@@ -1,4 +1,4 @@
--- A join is join_above both. These are theorems, which the laws of `Domain` cite.
+-- A join is above both. These are theorems, which the laws of `Domain` cite.
 use Rattle.std.proofs.Common.{◌≡◌, ℕ, Bool, true, false, cond, min, max, bit_and, bit_or, List, [], ◌∷◌, length, refl, sym, arith, subst}
 use Rattle.std.specs.Prelude.{◌==◌, ◌&&◌, Option, Some, None}
 use Rattle.std.specs.Cmp.Derive.{both_true}
@@ -195,6 +195,6 @@ sends-right None b = sends-refl b
 sends-right (Some a) None = refl
 sends-right (Some a) (Some b) = held-right a b
 
--- whatever is the join is join_above both, where a law says so of the join
+-- whatever is the join is above both, where a law says so of the join
 pub join_above : {A : Type 0} (test : A → A → Bool) (a b joined join : A) → join ≡ joined → test a joined ≡ true → test b joined ≡ true → (test a join ≡ true) × (test b join ≡ true)
 join_above test a b joined join is left right = (subst (λ j. test a j ≡ true) (sym is) left, subst (λ j. test b j ≡ true) (sym is) right)

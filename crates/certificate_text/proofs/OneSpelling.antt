@@ -123,7 +123,7 @@ record Spelled (version : Version) (bytes : List ℕ) (c : Certificate) : Type 0
   text : body (lines_of c) ++ ended_line end_line ≡ bytes
   made : IsCertificate c
 
--- empty stands behind the last line
+-- nothing stands behind the last line
 closed-is : (c d : Certificate) (next : List ℕ) (texts : List (List ℕ)) (offset : ℕ) → closed c (lines_from offset (next ∷ texts)) ≡ Ok d → (next ∷ texts ≡ [] ∷ []) × (c ≡ d)
 closed-is c d next [] offset is = go (bytes_eq next []) refl is
   where

@@ -66,7 +66,7 @@ module _ (plan : Plan) (c : Certificate) (name : List ℕ) (carried : Option Bou
   along_failed r stop new d whole is failed same =
       failed_first r stop new (grown_by here d) (grown_by rest) whole is failed (sym same ∙ grown_parts d)
 
--- At a program's end empty is left to take.
+-- At a program's end nothing is left to take.
 pub along_end : (plan : Plan) (c : Certificate) (name : List ℕ) (carried : Option Bound) (point : ℕ) (d : Certificate) (whole : Option Certificate) → 256 ≤ point
     → grown_by (points_along plan c name carried point (256 - point)) d ≡ whole → whole ≡ Some d
 unfolding points_along grown_by

@@ -107,7 +107,7 @@ unused_vacant k pair kept vacant = record {
   empty = λ side. ap (λ o. (half_in o side).sent) vacant;
 }
 
--- what is names_count is there
+-- what is named is there
 other_at : (n : ℕ) (ms : List Message) (at : ℕ) (m : Message) → AreOther n ms → slice_get ms at ≡ Some m → IsOther n m.passed
 other_at n [] at m other is = absurd cc
 other_at n (x ∷ ms) zero m other is =
@@ -131,7 +131,7 @@ pub there_passed : (k : Kept) (o : Option Descriptor) (hand : ℕ → ℕ) → I
 there_passed k None hand kept may = tt
 there_passed k (Some d) hand kept may = there_named k d.description hand kept may
 
--- what an entry_at or a message names is as the lists show it
+-- what an entry or a message names is as the lists show it
 module _ (f : OpenFiles) (k : Kept) (follows : Follows f k empty_hand) where
   same_one : (o : Option Descriptor) → ((n : ℕ) → holders k n ≡ 0 → names n o ≡ false) → SameDescription f (open_files k) o
   unfolding open_files

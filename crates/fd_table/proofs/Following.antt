@@ -29,7 +29,7 @@ follows_empty f k hand follows = subst (Follows f k) (with_none hand) follows
 pub follows_full : (f : OpenFiles) (k : Kept) (hand : ℕ → ℕ) → Follows f k hand → Follows f k (with_hand None hand)
 follows_full f k hand follows = subst (Follows f k) (sym (with_none hand)) follows
 
--- what an entry_at names is there
+-- what an entry names is there
 pub there_entry : (k : Kept) (p n : ℕ) (hand : ℕ → ℕ) → IsKept k hand → IsDescriptionThere (item_at k.descriptions) (entry_at k.entries p n)
 there_entry k p n hand kept = go (entry_at k.entries p n) refl
   where
@@ -141,7 +141,7 @@ follows_take f k ps pair side s o hand follows opened front change small = go (i
             (follows_taken f k ps pair side s p m ms hand follows is whole
             (subst (Changed k.pairs ps pair) (ap (with_less side) is ∙ ap (λ l. Some (with_sent p side (drop 1 l))) whole) change) small busy)
 
--- an end is put into an entry_at
+-- an end is put into an entry
 pub table_own : (f : OpenFiles) (k : Kept) (table : ℕ → ℕ → Option Descriptor) (hand : ℕ → ℕ) → Follows (with_table f table) k hand → Follows (with_table f (entry_at k.entries)) k hand
 table_own f k table hand follows = record {
   kept = follows.kept;

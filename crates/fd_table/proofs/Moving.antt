@@ -1,4 +1,4 @@
--- A descriptor moves between the hand, an entry_at and a message.
+-- A descriptor moves between the hand, an entry and a message.
 use Rattle.std.proofs.Common.{◌≡◌, ◌≢◌, ℕ, zero, suc, ◌+◌, ◌*◌, ◌<◌, ◌≤◌, Bool, true, false, List, [], ◌∷◌, ◌++◌, length, drop, refl, ap, ◌∙◌, sym, subst, arith}
 use Rattle.std.specs.Prelude.{Option, Some, None, ◌&&◌, is_none, cond, slice_set}
 use Rattle.std.specs.List.{sum_by}
@@ -31,11 +31,11 @@ put2_own f p n q m =
     (λ _. ap (λ k. f k m) (sym same)))
     (λ _. refl)
 
--- what an entry_at is in the list
+-- what an entry is in the list
 entry_slot : (es : List (Option Descriptor)) (p n : ℕ) → n < 16 → entry_at es p n ≡ item_at es (p * 16 + n)
 entry_slot es p n small = ap (λ b. cond b (item_at es (p * 16 + n)) None) (lt-ltb n 16 small)
 
--- an entry_at is exchanged with the hand
+-- an entry is exchanged with the hand
 pub follows_exchange : (f : OpenFiles) (k : Kept) (es : List (Option Descriptor)) (p n : ℕ) (v : Option Descriptor) (hand : ℕ → ℕ) →
     Follows f k (with_hand v hand) → p < 16 → n < 16 → es ≡ slice_set k.entries (p * 16 + n) v → entry_at es ≡ put2 (entry_at k.entries) p n v →
     Follows (with_entry f p n v) (record k { entries = es }) (with_hand (entry_at k.entries p n) hand)
@@ -51,7 +51,7 @@ follows_exchange f k es p n v hand follows process number set is = record {
   };
 }
 
--- an entry_at names the same description with other rights
+-- an entry names the same description with other rights
 pub follows_limit : (f : OpenFiles) (k : Kept) (es : List (Option Descriptor)) (p n : ℕ) (d : Descriptor) (rights fcntls : ℕ) (hand : ℕ → ℕ) →
     Follows f k hand → p < 16 → n < 16 → Some d ≡ entry_at k.entries p n →
     es ≡ slice_set k.entries (p * 16 + n) (Some (record d { rights = rights; fcntls = fcntls })) →

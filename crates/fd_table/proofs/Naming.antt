@@ -1,4 +1,4 @@
--- A description with no holder is names_count by nobody, and one with a holder by somebody.
+-- A description with no holder is named by nobody, and one with a holder by somebody.
 use Rattle.std.proofs.Common.{◌≡◌, ℕ, zero, suc, ◌+◌, ◌*◌, ◌/◌, ◌%◌, ◌<◌, Bool, true, false, List, [], ◌∷◌, length, refl, ap, ◌∙◌, sym, subst, arith, inl, inr}
 use Rattle.std.specs.Prelude.{Option, Some, None, nat_lt, cond, is_some}
 use Rattle.std.specs.List.{list_any, sum_by}
@@ -38,7 +38,7 @@ zero_queue n (m ∷ ms) none =
     let rest = zero_queue n ms (right_false (names n m.passed) _ none) in
     omega (arith, both, first, rest)
 
--- where nobody is, no entry_at and no message names it
+-- where nobody is, no entry and no message names it
 pub entry_silent : (k : Kept) (n : ℕ) → holders k n ≡ 0 → (p m : ℕ) → names n (entry_at k.entries p m) ≡ false
 entry_silent k n none p m = go (nat_lt m 16)
   where
@@ -58,7 +58,7 @@ queue_silent k n none q s = go (item_at k.pairs q) s (omega (arith, none, sum_at
     go (Some p) (suc zero) silent = omega (arith, silent)
     go (Some p) (suc (suc s)) silent = refl
 
--- where no entry_at and no message names it, nobody is
+-- where no entry and no message names it, nobody is
 holders_none : (k : Kept) (n : ℕ) → length k.entries ≡ 256 → any_named (open_files k) (names n) ≡ false → holders k n ≡ 0
 unfolding open_files
 holders_none k n room none = omega (arith, in_entries, in_pairs)
@@ -114,7 +114,7 @@ unnamed_silent k n none = record {
   messages = λ pair side. are_other n (queue k.pairs pair side) (queue_zero n (queue k.pairs pair side) (queue_silent k n none pair side));
 }
 
--- a number without a description is names_count by nobody
+-- a number without a description is named by nobody
 pub holders_vacant : (k : Kept) (n : ℕ) (hand : ℕ → ℕ) → IsKept k hand → item_at k.descriptions n ≡ None → holders k n ≡ 0
 holders_vacant k n hand kept vacant =
     let none : holders k n + hand n ≡ 0 = subst (λ (o : Option Counted). IsCounted o (holders k n + hand n)) vacant (kept.counts n) in
@@ -137,7 +137,7 @@ named_none f n unnamed =
     (nothing_below 16 _ (λ p. nothing_below 16 _ (λ m. not_named n (f.table p m) (unnamed.entries p m))))
     (nothing_below f.pairs _ (λ q. nothing_below 2 _ (λ s. none_named n (f.queue q s) (unnamed.messages q s))))
 
--- whether a description is names_count is whether it is there
+-- whether a description is named is whether it is there
 pub named_is : (k : Kept) (n : ℕ) → IsKept k empty_hand → any_named (open_files k) (names n) ≡ is_some (item_at k.descriptions n)
 named_is k n kept = go (item_at k.descriptions n) refl (any_named (open_files k) (names n)) refl
   where

@@ -38,7 +38,7 @@ sum_same f (x ∷ xs) (y ∷ ys) nothing same =
 apart_suc : (n key : ℕ) → n ≢ key → suc n ≢ suc key
 apart_suc n key other same = other (omega (arith, same))
 
--- one item_at is changed
+-- one slot is changed
 pub sum_changed : {A : Type 0} (f : Option A → ℕ) (xs ys : List (Option A)) (key : ℕ) (v : Option A) → f None ≡ 0 → Changed xs ys key v → sum_by f ys + f (item_at xs key) ≡ sum_by f xs + f v
 sum_changed f [] [] key v nothing change =
     let gone : f v ≡ 0 = ap f (sym change.changed) ∙ nothing in

@@ -28,7 +28,7 @@ entry_same es p n v small within = go (nat_lt n 16) (lt-ltb n 16 small)
     go true is = get_or-set_same es (p * 16 + n) v None within
     go false is = absurd cc
 
--- an entry_at that is set
+-- an entry that is set
 pub entry_set : (es : Entries) (p n : ℕ) (v : Option Descriptor) → length es ≡ 256 → p < 16 → n < 16 → entry_at (slice_set es (p * 16 + n) v) ≡ put2 (entry_at es) p n v
 entry_set es p n v room process number = λ i q m. at q m i
   where
@@ -68,7 +68,7 @@ lt_or_le m zero = inr (omega arith)
 lt_or_le zero (suc n) = inl (omega arith)
 lt_or_le (suc m) (suc n) = elim (lt_or_le m n) [ inl below ↦ inl (omega arith) | inr far ↦ inr (omega arith) ]
 
--- so large processes have no entry_at
+-- so large processes have no entry
 pub no_process : (es : Entries) (p n : ℕ) → length es ≡ 256 → 16 ≤ p → entry_at es p n ≡ None
 no_process es p n room far = go (nat_lt n 16)
   where
@@ -129,7 +129,7 @@ filled f g q n row all filling far = λ i p m. at p m i
         (λ same. ap (λ k. g k m) same ∙ here m)
         (λ other. filling.others p m other)
 
--- an entry_at in a row that is being filled from a row, of another process or of the same
+-- an entry in a row that is being filled from a row, of another process or of the same
 pub source_kept : (f g : ℕ → ℕ → Option Descriptor) (p q n : ℕ) → IsFilling f g q n (f p) → g p n ≡ f p n
 source_kept f g p q n filling = go (ℕ_discrete p q)
   where

@@ -22,7 +22,7 @@ pub record Shows (us : List TreeEntry) (count : ℕ) (kinds : ℕ → Kind) (con
 pub shows_itself : (ls : List TreeEntry) → Shows ls (length ls) (λ k. (tree_entry ls k).kind) (λ k. (tree_entry ls k).content) (λ k. (tree_entry ls k).stand) (λ k. (tree_entry ls k).child)
 shows_itself ls = record { count_is = refl; kind = λ k. refl; content = λ k. refl; stand = λ k. refl; child = λ k name. refl }
 
--- one tree_entry is replaced by another
+-- one entry is replaced by another
 pub record Replaced (us vs : List TreeEntry) (n : ℕ) (l : TreeEntry) : Type 0 where
   pub count : length vs ≡ length us
   pub here : tree_entry vs n ≡ l

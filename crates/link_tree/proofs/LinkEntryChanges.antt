@@ -1,4 +1,4 @@
--- What a change of one tree_entry of a tree by links makes of the links.
+-- What a change of one entry of a tree by links makes of the links.
 use Rattle.std.proofs.Common.{◌≡◌, ℕ, ◌<◌, inl, inr, List, Bool, true, false, Option, Vec, Global, length, get_or, slice_set, ap, sym, ◌∙◌, refl, cond}
 use Rattle.std.proofs.Math.Path.{fun_ext}
 use Rattle.std.proofs.Math.Seq.{map-set_same}
@@ -63,7 +63,7 @@ module _ (es : List EntryCode) (n : ℕ) (e : EntryCode) (there : n < length es)
       (λ l. record { kind = l.kind; stand = l.stand; child = l.child; content = content })
       (λ i. record { kind = (link_of e).kind; stand = (link_of e).stand; child = (link_of e).child; content = same i })
 
-  -- a map or a content of the same entries makes the same tree_entry
+  -- a map or a content of the same entries makes the same entry
   pub same_children : (m : BTreeMap (Vec ℕ Global) ℕ) → m.entries ≡ e.children.entries →
       links_of (slice_set es n (record { kind = e.kind; stand = e.stand; children = m; content = e.content })) ≡ links_of es
   same_children m same = entry_same (record { kind = e.kind; stand = e.stand; children = m; content = e.content })

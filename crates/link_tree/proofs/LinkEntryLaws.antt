@@ -1,4 +1,4 @@
--- What an tree_entry of a tree by links says of its node.
+-- What an entry of a tree by links says of its node.
 use Rattle.std.proofs.Common.{◌≡◌, ℕ, ◌<◌, List, Option, Some, None, length, get_or, ap, sym, ◌∙◌, arith}
 use Rattle.std.proofs.lemmas.List.{get_or-map, length-map}
 use Rattle.std.specs.Prelude.{IfSome}
@@ -47,6 +47,6 @@ module _ (es : List EntryCode) (linked : IsLinkedTree (links_of es)) where
   pub entry_stand : (n : ℕ) (e : EntryCode) (s : Standing) → n < length es → e ≡ get_or es n e → stand_of e.stand ≡ s → (tree_entry (links_of es) n).stand ≡ s
   entry_stand n e s there is stands = ap (λ (l : TreeEntry). l.stand) (entry_link es n e there is) ∙ stands
 
-  -- what an tree_entry says of a node that has a name in a directory
+  -- what an entry says of a node that has a name in a directory
   pub entry_held : (n : ℕ) (e : EntryCode) (d : ℕ) (name : List ℕ) → n < length es → e ≡ get_or es n e → stand_of e.stand ≡ In d name → Held (linked_nodes (links_of es)) n d name
   entry_held n e d name there is stands = held (linked_nodes (links_of es)) (links_of es) n d name linked.fits (entry_stand n e (In d name) there is stands)

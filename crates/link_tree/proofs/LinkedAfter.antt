@@ -42,7 +42,7 @@ filled_linked ls n content linked there tree =
     is_linked (filled (linked_nodes ls) n content) (refilled ls n content) tree (filled_fits (linked_nodes ls) ls n content linked.fits there)
     (filled_filed (linked_nodes ls) ls n content linked.fits there linked.filed)
 
--- the content of a tree_entry is that of its node
+-- the content of an entry is that of its node
 pub same_content : (ls : List TreeEntry) (n : ℕ) → IsLinkedTree ls → n < length (linked_nodes ls) → (tree_entry ls n).content ≡ (node (linked_nodes ls) n).content
 same_content ls n linked there = (linked.fits.each n there).content
 

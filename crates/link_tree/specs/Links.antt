@@ -92,7 +92,7 @@ filed ls d name o =
 unfoldable pub refilled : List TreeEntry → ℕ → List ℕ → List TreeEntry
 refilled ls n content = slice_set ls n (record { kind = (tree_entry ls n).kind; stand = (tree_entry ls n).stand; child = (tree_entry ls n).child; content = content })
 
--- A tree_entry of a node that was just made in a directory: it has that name there, and no children.
+-- An entry of a node that was just made in a directory: it has that name there, and no children.
 pub record IsNewLink (l : TreeEntry) (d : ℕ) (name : List ℕ) (kind : Kind) (content : List ℕ) : Type 0 where
   pub stand : l.stand ≡ In d name
   pub bare : (q : List ℕ) → l.child q ≡ None

@@ -84,7 +84,7 @@ abbrev pub steps_on : ℕ → Option Written → List Step
 steps_on n None = []
 steps_on n (Some written) = record { line = n; written = written } ∷ []
 
--- the instructions of lines that are told_at from n on
+-- the instructions of lines that are numbered from n on
 abbrev pub steps_from : ℕ → List Line → List Step
 steps_from n [] = []
 steps_from n (line ∷ lines) = steps_on n line.instruction ++ steps_from (n + 1) lines

@@ -7,7 +7,7 @@ use Rattle.prog_asm.specs.Programs.{Instruction}
 use Rattle.task.specs.Plans.{Grant}
 use Rattle.rules.specs.Outcomes.{Outcome, successes, error_outcomes}
 
--- a bound, joined_bound to what came before it, if anything did
+-- a bound, joined to what came before it, if anything did
 abbrev pub joined_bound : Option Bound → Bound → Option Bound
 joined_bound None b = Some b
 joined_bound (Some a) b = Some (bound_join a b)

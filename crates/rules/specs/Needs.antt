@@ -33,7 +33,7 @@ pub record Through : Type 0 where
   pub operand : Operand
   pub need : Need
 
--- A call goes through no operand, or through_one, or two.
+-- A call goes through no operand, or one, or two.
 pub record Needs : Type 0 where
   pub first : Option Through
   pub second : Option Through
@@ -71,7 +71,7 @@ no_need = record {
 abbrev pub through_none : Needs
 through_none = record { first = None; second = None }
 
--- through through_one operand, with the rights that the call needs
+-- through one operand, with the rights that the call needs
 abbrev pub through_one : Operand → Need → Needs
 through_one x need = record { first = Some (record { operand = x; need = need }); second = None }
 

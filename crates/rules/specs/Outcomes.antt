@@ -131,14 +131,14 @@ module _ (grants : List Grant) (certificate : Certificate) (name : List ℕ) (po
   abbrev pub leads_on : Bound → Interval → List Outcome
   leads_on after i = outcome_to (point + 1) (with_interval after 0 i)
 
-  -- through_each each slot that an operand may name
+  -- through each slot that an operand may name
   abbrev pub through_each : Operand → (OpenSlot → List Outcome) → List Outcome
   through_each x rest = flat_map rest (slots_in b x)
 
   abbrev pub gives_through : Operand → Interval → List Outcome
   gives_through x i = through_each x (λ (s : OpenSlot). leads_on b i)
 
-  -- through_each each that may be of a node
+  -- through each that may be of a node
   abbrev pub gives_at_node : Operand → List Outcome → List Outcome
   gives_at_node x rest = through_each x (λ (s : OpenSlot). if may_be_node s.held.target then rest else [])
 

@@ -114,7 +114,7 @@ at_main mode more = bound_of_slots mode (Open in_work ∷ Open in_log ∷ more)
 abbrev pub few_held : Held
 few_held = with_rights in_work few_rights
 
--- with few_held rights or more
+-- with few rights or more
 abbrev pub few_at_least : Held
 few_at_least = record in_work { least = few_rights }
 

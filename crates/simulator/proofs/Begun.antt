@@ -1,4 +1,4 @@
--- First descriptors, with_opened one after another under any numbers.
+-- First descriptors, opened one after another under any numbers.
 use Rattle.std.proofs.Common.{◌≡◌, inl, inr, ℕ, zero, suc, ◌+◌, ◌<◌, true, false, List, [], ◌∷◌, length, take, drop, ◌-◌, refl, ap, sym, subst, ◌∙◌, arith}
 use Rattle.std.specs.Prelude.{◌≢◌, ◌||◌, Option, Some, None, option_map}
 use Rattle.std.specs.Option.{IsSome}
@@ -231,7 +231,7 @@ module _ (gifts : List Gift) (valid : are_gifts gifts ≡ true) (k : ℕ) (g : G
           (differs b.renaming _ _ (filled_same b.renaming model f b.files (no_queue gifts waits) g.process g.given.number (whole_end pair side) source_twin))
           (subst (λ x. Alike (with_entry f g.process g.given.number x) next) source_is alike)
 
-    -- then it is with_limit
+    -- then it is limited
     module _ (f : OpenFiles) (b : Ready f) where
       abbrev readied : Table
       readied = put2 waits g.process g.given.number (Some (whole_end pair side))

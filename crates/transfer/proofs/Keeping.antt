@@ -28,7 +28,7 @@ kept-twice (Some point) before o = go (o.point == point)
     go true = joined-twice before o.bound
     go false = refl
 
--- outcomes that change nothing once they are joined_bound
+-- outcomes that change nothing once they are joined
 abbrev pub Settles : Option ℕ → List Outcome → Type 0
 Settles joins outs = (before : Option Bound) → kept_all joins (kept_all joins before outs) outs ≡ kept_all joins before outs
 
@@ -54,7 +54,7 @@ module _ {A : Type 0} (joins : Option ℕ) (same : List Outcome) (settles : Sett
       kept_all-append joins before same rest ∙ later (kept_all joins before same) ∙ again before none
   step false none rest before later = later before
 
-  -- where each element that is so has the same outcomes, they are joined_bound once, if any is
+  -- where each element that is so has the same outcomes, they are joined once, if any is
   kept_once : (xs : List A) (before : Option Bound)
       → kept_all joins before (repeated xs) ≡ (if none_is xs then before else kept_all joins before same)
   kept_once [] before = refl
