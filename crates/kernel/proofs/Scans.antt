@@ -4,16 +4,21 @@ use Rattle.std.specs.Prelude.{◌||◌, Some}
 use Rattle.std.specs.List.{slice_get, list_any}
 use Rattle.std.proofs.lemmas.Bool.{cases_Bool}
 use Rattle.lookup.proofs.LookLaws.{find_led, find_only}
+use Rattle.lookup.proofs.Walking.{arrives_at_find, find_arrives}
 use Rattle.fd_table.specs.Descriptions.{Message}
 use Rattle.fd_table.specs.OpenFiles.{any_below, names_end, is_open}
 use Rattle.kernel.specs.World.{World}
 use Rattle.kernel.specs.Steps.{Programs}
 use Rattle.kernel.specs.WellFormed.{IsWellFormed}
-use Rattle.kernel.specs.Scans.{LookupsCompute, IsNamedEnd, in_table, in_queue, OpenEndsAreNamed}
+use Rattle.kernel.specs.Scans.{LookupsCompute, WalksArrive, IsNamedEnd, in_table, in_queue, OpenEndsAreNamed}
 use Rattle.kernel.proofs.Fresh.{entry_unnamed, message_unnamed}
 
 pub lookups_compute : LookupsCompute
 lookups_compute t start path way last answer = (find_led t start path way last answer, λ led. sym (find_only t start path way last answer led))
+
+pub walks_arrive : WalksArrive
+walks_arrive t start path way last finding tree none =
+    (λ arrives. arrives_at_find t start path way last finding tree none arrives, λ found. find_arrives t start path way last finding tree none found)
 
 either : (a b : Bool) → (a || b) ≡ true → (a ≡ true) ⊎ (b ≡ true)
 either true b is = inl refl

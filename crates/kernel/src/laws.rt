@@ -5,7 +5,7 @@ ghost use Rattle.kernel.specs.Gainful.{NothingComesFromElsewhere};
 ghost use Rattle.kernel.specs.Gains.{NoRunGains};
 ghost use Rattle.kernel.specs.Renamings.{NumbersAreIgnoredTwice, NumbersDoNotMatter};
 ghost use Rattle.kernel.specs.Runs.{AlikeWorldsRunAlike, FreshNumbersExist, NextWorldExists, RunExists, RunsShowTheSame, RunsShowTheSameLines, WellFormedWorldExists};
-ghost use Rattle.kernel.specs.Scans.{LookupsCompute, OpenEndsAreNamed};
+ghost use Rattle.kernel.specs.Scans.{LookupsCompute, OpenEndsAreNamed, WalksArrive};
 
 /// From a well-formed world each event has a next world: there are fresh numbers to choose, and whichever are chosen,
 /// the next world is well formed.
@@ -98,6 +98,11 @@ pub fn a_well_formed_world_exists()
 /// relation. (open(2))
 pub fn lookups_compute()
     ensures { LookupsCompute }
+{}
+
+/// A lookup that takes an event for each name comes on one tree to what the path leads to, and to nothing else. (own)
+pub fn walks_arrive()
+    ensures { WalksArrive }
 {}
 
 /// In a well-formed world an end is open, which the model finds by a scan of sixteen tables and of the pairs in use, exactly

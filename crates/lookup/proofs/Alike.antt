@@ -1,11 +1,13 @@
 -- On one tree a lookup by nodes is the lookup by places.
-use Rattle.std.proofs.Common.{◌≡◌, ℕ, List, [], ◌∷◌, Bool, true, false, Option, Some, None, ap, sym, ◌∙◌, refl, cond}
-use Rattle.std.specs.Prelude.{not, ◌&&◌}
-use Rattle.file_tree.specs.Places.{at_name, path_components}
-use Rattle.file_tree.specs.Nodes.{Node, node, node_at, child_of, is_dir, is_link}
+use Rattle.std.proofs.Common.{◌≡◌, ℕ, ◌<◌, ◌+◌, List, [], ◌∷◌, Bool, true, false, Option, Some, None, length, ap, sym, ◌∙◌, refl, arith, cond}
+use Rattle.std.specs.Prelude.{not, ◌&&◌, nat_eq}
+use Rattle.std.proofs.lemmas.Bool.Decides.{nat_tests}
+use Rattle.file_tree.specs.Places.{above, at_name, path_components}
+use Rattle.file_tree.specs.Nodes.{Node, node, node_at, child_of, parent_of, is_dir, is_link}
+use Rattle.file_tree.proofs.PlaceLaws.{at_name_length, above_at_name}
 use Rattle.file_tree.specs.WellFormed.{IsTree}
 use Rattle.file_tree.proofs.NodeLaws.{linked_there}
-use Rattle.file_tree.proofs.TreeLaws.{Found, at_place, node_at_its_place, child_by_place, root_there}
+use Rattle.file_tree.proofs.TreeLaws.{Found, at_place, node_at_its_place, child_by_place, parent_above, root_there}
 use Rattle.lookup.specs.Answers.{Way, Beneath, Global, Last, is_kept, LookupFault, No_entry}
 use Rattle.lookup.specs.Paths.{is_dot, is_dot_dot, path_fault}
 use Rattle.rights.specs.Limits.{most_links}
@@ -34,6 +36,14 @@ stands_there t start (name ∷ below) n (d ∷ before) h = h.0
 pub found_at : (t : List Node) (p : List (List ℕ)) (n : ℕ) → IsTree t → Found t p n → node_at t p ≡ Some n
 found_at t p n tree found = ap (node_at t) (sym found.place) ∙ node_at_its_place t n tree found.linked
 
+-- where the directory walked before holds the node, `..` goes back to it
+goes_back : (t : List Node) (way : Way) (n d : ℕ) (before : List ℕ) → parent_of t n ≡ Some d →
+    back t way n (d ∷ before) ≡ Moves (record { current = d; before = before })
+goes_back t way n d before held = rw (held, same_number d) refl
+  where
+    same_number : (d : ℕ) → nat_eq d d ≡ true
+    same_number d = grind (arith, nat_tests)
+
 -- three tests, one after the other
 chain_alike : {P Q : Type 0} (R : P → Q → Type 0) (a b c : Bool) (x u v w : Move P) (x' u' v' w' : Move Q) → SameMove R x x' → SameMove R u u' →
     SameMove R v v' → SameMove R w w' → SameMove R (cond a x (cond b u (cond c v w))) (cond a x' (cond b u' (cond c v' w')))
@@ -43,12 +53,21 @@ chain_alike R false false true x u v w x' u' v' w' hx hu hv hw = hv
 chain_alike R false false false x u v w x' u' v' w' hx hu hv hw = hw
 
 module _ (t : List Node) (way : Way) (last : Last) (start : List (List ℕ)) (tree : IsTree t) where
-  up_alike : (way : Way) (below : List (List ℕ)) (n : ℕ) (before : List ℕ) → OnWay t start below n before → SameMove (Goes_with t start) (upwards way below) (back way n before)
+  -- the directory walked before holds the node
+  held_by : (below : List (List ℕ)) (name : List ℕ) (n d : ℕ) → Found t (place_below start (name ∷ below)) n → Found t (place_below start below) d → parent_of t n ≡ Some d
+  held_by below name n d here above_it =
+      let longer : length (node t n).place ≡ length (place_below start below) + 1 = ap length here.place ∙ at_name_length (place_below start below) name in
+      let low : 0 < length (node t n).place = omega arith in
+      parent_above t n here.linked low ∙ ap (λ (p : List (List ℕ)). node_at t (above p)) here.place
+      ∙ ap (node_at t) (above_at_name (place_below start below) name) ∙ found_at t (place_below start below) d tree above_it
+
+  up_alike : (way : Way) (below : List (List ℕ)) (n : ℕ) (before : List ℕ) → OnWay t start below n before → SameMove (Goes_with t start) (upwards way below) (back t way n before)
   up_alike Beneath [] n [] h = refl
   up_alike Global [] n [] h = h
   up_alike way [] n (d ∷ before) h = absurd h
   up_alike way (name ∷ below) n [] h = absurd h
-  up_alike way (name ∷ below) n (d ∷ before) h = h.1
+  up_alike way (name ∷ below) n (d ∷ before) h =
+      rw (goes_back t way n d before (held_by below name n d h.0 (stands_there t start below d before h.1))) h.1
 
   down_alike : (below : List (List ℕ)) (d : ℕ) (before : List ℕ) (name : List ℕ) (left : List (List ℕ)) (o : Option ℕ) →
       OnWay t start below d before → node_at t (at_name (place_below start below) name) ≡ o →
@@ -68,7 +87,7 @@ module _ (t : List Node) (way : Way) (last : Last) (start : List (List ℕ)) (tr
       let found = stands_there t start below d before h in
       let there : node_at t (place_below start below) ≡ Some d = found_at t (place_below start below) d tree found in
       let child : child_of t d name ≡ node_at t (at_name (place_below start below) name) = child_by_place t d name found.linked ∙ ap (λ (p : List (List ℕ)). node_at t (at_name p name)) found.place in
-      rw (there, child) (chain_alike (Goes_with t start) (not (is_dir (node t d).kind)) (is_dot name) (is_dot_dot name) _ _ _ _ _ _ _ _ refl h
+      rw (there, child, found.linked) (chain_alike (Goes_with t start) (not (is_dir (node t d).kind)) (is_dot name) (is_dot_dot name) _ _ _ _ _ _ _ _ refl h
       (up_alike way below d before h) (down_alike below d before name left _ h refl))
 
   pub together : SameSpot (Goes_with t start) (restart_below way) (restart_node way) → Together (by_places t way last start) (by_nodes t way last) (Goes_with t start)

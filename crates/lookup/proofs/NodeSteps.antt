@@ -1,16 +1,18 @@
 -- What a name does where a walk stands.
-use Rattle.std.proofs.Common.{◌≡◌, ℕ, List, ◌∷◌, Bool, true, false, Some, None, Result, refl, cond}
-use Rattle.std.specs.Prelude.{not, ◌&&◌}
-use Rattle.file_tree.specs.Nodes.{Kind, File, Dir, Link, Node, node, child_of, link_target, is_link}
-use Rattle.lookup.specs.Answers.{Way, Last, is_kept}
+use Rattle.std.proofs.Common.{◌≡◌, ℕ, List, [], ◌∷◌, ◌++◌, Bool, true, false, Option, Some, None, Result, ap, ◌∙◌, refl, cond}
+use Rattle.std.specs.Prelude.{not, ◌&&◌, reverse, IfSome}
+use Rattle.std.proofs.lemmas.List.{reverse-append}
+use Rattle.file_tree.specs.Nodes.{Kind, File, Dir, Link, Node, node, child_of, parent_of, link_target, is_link}
+use Rattle.lookup.specs.Answers.{Way, Last, LookupFault, Not_found, is_kept}
 use Rattle.lookup.specs.Paths.{is_dot, is_dot_dot}
-use Rattle.lookup.specs.Leads.{Stand, Next}
-use Rattle.lookup.specs.Steps.{Move, Moves, Meets, Stops}
+use Rattle.lookup.specs.Leads.{Stand, Next, Ends}
+use Rattle.lookup.specs.Steps.{Rules, Move, Moves, Meets, Stops}
 use Rattle.lookup.specs.ByPlaces.{absent}
-use Rattle.lookup.specs.ByNodes.{Walked, in_node, into}
-use Rattle.lookup.specs.Views.{StepsAlong}
+use Rattle.lookup.specs.ByNodes.{Walked, is_holder, no_way_back, back, in_node, into}
+use Rattle.lookup.specs.Views.{StepsAlong, after_move}
+use Rattle.lookup.specs.declared.trail.Trail.{Trail}
 use Rattle.lookup.specs.declared.faults.PathFault.{PathFault}
-use Rattle.lookup.specs.declared.walk.Progress.{Progress}
+use Rattle.lookup.specs.declared.ways.Progress.{Progress}
 
 -- what has no target is no link
 link_by : (k : Kind) (content : List ℕ) → cond (is_link k) (Some content) None ≡ None → is_link k ≡ false
@@ -38,10 +40,23 @@ into_kept t last d before left n h = by_kind (is_link (node t n).kind)
 
 -- a name that no node in a directory has is absent there
 pub enters_absent : (t : List Node) (way : Way) (last : Last) (d : ℕ) (before : List ℕ) (name : List ℕ) (left : List (List ℕ)) →
-    (node t d).kind ≡ Dir → is_dot name ≡ false → is_dot_dot name ≡ false → child_of t d name ≡ None →
+    (node t d).kind ≡ Dir → (node t d).linked ≡ true → is_dot name ≡ false → is_dot_dot name ≡ false → child_of t d name ≡ None →
     in_node t way last d before name left ≡ Stops (absent last left d)
-enters_absent t way last d before name left dir dot dots none = rw (dir, dot, dots, none) refl
+enters_absent t way last d before name left dir linked dot dots none = rw (dir, linked, dot, dots, none) refl
 
 -- what a walk did was next, if that is the same
 pub steps_same : (r : Result Progress PathFault) (one other : Next Walked) (stand : Stand Walked) → one ≡ other → StepsAlong r other stand → StepsAlong r one stand
 steps_same r one other stand same steps = rw same steps
+
+-- where the directory walked before doesn't hold the node, the way back is lost
+pub back_lost : (t : List Node) (way : Way) (n d : ℕ) (before rest : List ℕ) → before ≡ d ∷ rest → is_holder d (parent_of t n) ≡ false → back t way n before ≡ no_way_back way
+back_lost t way n d before rest is lost = rw (is, lost) refl
+
+pub lost_steps : (rules : Rules Walked) (trail : Trail) (move : Move Walked) (way : Way) (o : Option LookupFault) → move ≡ no_way_back way →
+    IfSome o (λ fault. no_way_back way ≡ Stops (Not_found fault)) → IfSome o (λ fault. after_move rules trail move ≡ Ends (Not_found fault))
+lost_steps rules trail move way None is lost = tt
+lost_steps rules trail move way (Some fault) is lost = ap (after_move rules trail) (is ∙ lost)
+
+-- what was pushed last comes first
+pub popped : (items rest : List ℕ) (d : ℕ) → items ≡ rest ++ d ∷ [] → reverse items ≡ d ∷ reverse rest
+popped items rest d is = ap reverse is ∙ reverse-append rest (d ∷ [])

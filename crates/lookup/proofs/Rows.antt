@@ -1,7 +1,7 @@
 -- Rows of the definitions: the values of worked examples, which the definitions compute.
 use Rattle.std.specs.Prelude.{◌≡◌, ℕ, zero, suc, ◌+◌, List, [], ◌∷◌, ◌++◌, codes, replicate, refl}
 use Rattle.file_tree.specs.Places.{path_components}
-use Rattle.file_tree.specs.Nodes.{File, Dir, Link, Node, node_at, child_of}
+use Rattle.file_tree.specs.Nodes.{File, Dir, Link, Node, node_at, child_of, parent_of}
 use Rattle.file_tree.specs.Changes.{removed}
 use Rattle.file_tree.specs.Refusals.{new_tree, created}
 use Rattle.lookup.specs.Answers.{Way, Beneath, Global, Last, Follow, Keep, Escape, No_entry, Not_dir, Loop, Too_long, Bad_last, Finding, Found_node, Found_free, Not_found}
@@ -33,130 +33,130 @@ Leads_to t path way last answer = (find_of t 1 path way last ≡ answer) × (wal
 
 -- beneath `/work`, the last name followed
 same_followed : Leads_to base (codes "same") Beneath Follow (Found_node 2)
-unfolding base created find_of walk_of lookup_fault path_fault path_components last_component looked by_places by_nodes node_at child_of
+unfolding base created find_of walk_of lookup_fault path_fault path_components last_component looked by_places by_nodes node_at child_of parent_of
 same_followed = (refl, refl)
 
 out_and_back : Leads_to base (codes "out/..") Beneath Follow (Found_node 1)
-unfolding base created find_of walk_of lookup_fault path_fault path_components last_component looked by_places by_nodes node_at child_of
+unfolding base created find_of walk_of lookup_fault path_fault path_components last_component looked by_places by_nodes node_at child_of parent_of
 out_and_back = (refl, refl)
 
 dot_alone : Leads_to base (codes ".") Beneath Follow (Found_node 1)
-unfolding base created find_of walk_of lookup_fault path_fault path_components last_component looked by_places by_nodes node_at child_of
+unfolding base created find_of walk_of lookup_fault path_fault path_components last_component looked by_places by_nodes node_at child_of parent_of
 dot_alone = (refl, refl)
 
 -- absolute, and without a name that can be kept
 slash_kept : Leads_to base (codes "/") Beneath Keep (Not_found Escape)
-unfolding base created find_of walk_of lookup_fault path_fault path_components last_component looked by_places by_nodes node_at child_of
+unfolding base created find_of walk_of lookup_fault path_fault path_components last_component looked by_places by_nodes node_at child_of parent_of
 slash_kept = (refl, refl)
 
 dots_above : Leads_to base (codes "..") Beneath Follow (Not_found Escape)
-unfolding base created find_of walk_of lookup_fault path_fault path_components last_component looked by_places by_nodes node_at child_of
+unfolding base created find_of walk_of lookup_fault path_fault path_components last_component looked by_places by_nodes node_at child_of parent_of
 dots_above = (refl, refl)
 
 dots_after_out : Leads_to base (codes "out/../..") Beneath Follow (Not_found Escape)
-unfolding base created find_of walk_of lookup_fault path_fault path_components last_component looked by_places by_nodes node_at child_of
+unfolding base created find_of walk_of lookup_fault path_fault path_components last_component looked by_places by_nodes node_at child_of parent_of
 dots_after_out = (refl, refl)
 
 dots_in_target : Leads_to base (codes "up") Beneath Follow (Not_found Escape)
-unfolding base created find_of walk_of lookup_fault path_fault path_components last_component looked by_places by_nodes node_at child_of
+unfolding base created find_of walk_of lookup_fault path_fault path_components last_component looked by_places by_nodes node_at child_of parent_of
 dots_in_target = (refl, refl)
 
 absolute_target : Leads_to base (codes "abs") Beneath Follow (Not_found Escape)
-unfolding base created find_of walk_of lookup_fault path_fault path_components last_component looked by_places by_nodes node_at child_of
+unfolding base created find_of walk_of lookup_fault path_fault path_components last_component looked by_places by_nodes node_at child_of parent_of
 absolute_target = (refl, refl)
 
 absolute_path : Leads_to base (codes "/work/in") Beneath Follow (Not_found Escape)
-unfolding base created find_of walk_of lookup_fault path_fault path_components last_component looked by_places by_nodes node_at child_of
+unfolding base created find_of walk_of lookup_fault path_fault path_components last_component looked by_places by_nodes node_at child_of parent_of
 absolute_path = (refl, refl)
 
 name_in_file : Leads_to base (codes "in/x") Beneath Follow (Not_found Not_dir)
-unfolding base created find_of walk_of lookup_fault path_fault path_components last_component looked by_places by_nodes node_at child_of
+unfolding base created find_of walk_of lookup_fault path_fault path_components last_component looked by_places by_nodes node_at child_of parent_of
 name_in_file = (refl, refl)
 
 dots_in_file : Leads_to base (codes "in/..") Beneath Follow (Not_found Not_dir)
-unfolding base created find_of walk_of lookup_fault path_fault path_components last_component looked by_places by_nodes node_at child_of
+unfolding base created find_of walk_of lookup_fault path_fault path_components last_component looked by_places by_nodes node_at child_of parent_of
 dots_in_file = (refl, refl)
 
 dot_in_file : Leads_to base (codes "in/.") Beneath Follow (Not_found Not_dir)
-unfolding base created find_of walk_of lookup_fault path_fault path_components last_component looked by_places by_nodes node_at child_of
+unfolding base created find_of walk_of lookup_fault path_fault path_components last_component looked by_places by_nodes node_at child_of parent_of
 dot_in_file = (refl, refl)
 
 name_behind_link : Leads_to base (codes "same/x") Beneath Follow (Not_found Not_dir)
-unfolding base created find_of walk_of lookup_fault path_fault path_components last_component looked by_places by_nodes node_at child_of
+unfolding base created find_of walk_of lookup_fault path_fault path_components last_component looked by_places by_nodes node_at child_of parent_of
 name_behind_link = (refl, refl)
 
 absent_name : Leads_to base (codes "nope") Beneath Follow (Not_found No_entry)
-unfolding base created find_of walk_of lookup_fault path_fault path_components last_component looked by_places by_nodes node_at child_of
+unfolding base created find_of walk_of lookup_fault path_fault path_components last_component looked by_places by_nodes node_at child_of parent_of
 absent_name = (refl, refl)
 
 absent_directory : Leads_to base (codes "nope/x") Beneath Follow (Not_found No_entry)
-unfolding base created find_of walk_of lookup_fault path_fault path_components last_component looked by_places by_nodes node_at child_of
+unfolding base created find_of walk_of lookup_fault path_fault path_components last_component looked by_places by_nodes node_at child_of parent_of
 absent_directory = (refl, refl)
 
 empty_path : Leads_to base [] Beneath Follow (Not_found No_entry)
-unfolding base created find_of walk_of lookup_fault path_fault path_components last_component looked by_places by_nodes node_at child_of
+unfolding base created find_of walk_of lookup_fault path_fault path_components last_component looked by_places by_nodes node_at child_of parent_of
 empty_path = (refl, refl)
 
 -- beneath `/work`, the last name kept
 same_kept : Leads_to base (codes "same/") Beneath Keep (Found_node 4)
-unfolding base created find_of walk_of lookup_fault path_fault path_components last_component looked by_places by_nodes node_at child_of
+unfolding base created find_of walk_of lookup_fault path_fault path_components last_component looked by_places by_nodes node_at child_of parent_of
 same_kept = (refl, refl)
 
 abs_kept : Leads_to base (codes "abs") Beneath Keep (Found_node 6)
-unfolding base created find_of walk_of lookup_fault path_fault path_components last_component looked by_places by_nodes node_at child_of
+unfolding base created find_of walk_of lookup_fault path_fault path_components last_component looked by_places by_nodes node_at child_of parent_of
 abs_kept = (refl, refl)
 
 in_kept : Leads_to base (codes "out/../in") Beneath Keep (Found_node 2)
-unfolding base created find_of walk_of lookup_fault path_fault path_components last_component looked by_places by_nodes node_at child_of
+unfolding base created find_of walk_of lookup_fault path_fault path_components last_component looked by_places by_nodes node_at child_of parent_of
 in_kept = (refl, refl)
 
 free_in_work : Leads_to base (codes "nope") Beneath Keep (Found_free 1)
-unfolding base created find_of walk_of lookup_fault path_fault path_components last_component looked by_places by_nodes node_at child_of
+unfolding base created find_of walk_of lookup_fault path_fault path_components last_component looked by_places by_nodes node_at child_of parent_of
 free_in_work = (refl, refl)
 
 free_in_out : Leads_to base (codes "out/new") Beneath Keep (Found_free 3)
-unfolding base created find_of walk_of lookup_fault path_fault path_components last_component looked by_places by_nodes node_at child_of
+unfolding base created find_of walk_of lookup_fault path_fault path_components last_component looked by_places by_nodes node_at child_of parent_of
 free_in_out = (refl, refl)
 
 absent_directory_kept : Leads_to base (codes "nope/x") Beneath Keep (Not_found No_entry)
-unfolding base created find_of walk_of lookup_fault path_fault path_components last_component looked by_places by_nodes node_at child_of
+unfolding base created find_of walk_of lookup_fault path_fault path_components last_component looked by_places by_nodes node_at child_of parent_of
 absent_directory_kept = (refl, refl)
 
 dot_kept : Leads_to base (codes ".") Beneath Keep (Not_found Bad_last)
-unfolding base created find_of walk_of lookup_fault path_fault path_components last_component looked by_places by_nodes node_at child_of
+unfolding base created find_of walk_of lookup_fault path_fault path_components last_component looked by_places by_nodes node_at child_of parent_of
 dot_kept = (refl, refl)
 
 dots_kept : Leads_to base (codes "out/..") Beneath Keep (Not_found Bad_last)
-unfolding base created find_of walk_of lookup_fault path_fault path_components last_component looked by_places by_nodes node_at child_of
+unfolding base created find_of walk_of lookup_fault path_fault path_components last_component looked by_places by_nodes node_at child_of parent_of
 dots_kept = (refl, refl)
 
 empty_kept : Leads_to base [] Beneath Keep (Not_found No_entry)
-unfolding base created find_of walk_of lookup_fault path_fault path_components last_component looked by_places by_nodes node_at child_of
+unfolding base created find_of walk_of lookup_fault path_fault path_components last_component looked by_places by_nodes node_at child_of parent_of
 empty_kept = (refl, refl)
 
 up_then_kept : Leads_to base (codes "up/x") Beneath Keep (Not_found Escape)
-unfolding base created find_of walk_of lookup_fault path_fault path_components last_component looked by_places by_nodes node_at child_of
+unfolding base created find_of walk_of lookup_fault path_fault path_components last_component looked by_places by_nodes node_at child_of parent_of
 up_then_kept = (refl, refl)
 
 -- in all of the tree
 dots_above_root : Leads_to base (codes "/../work/up") Global Follow (Found_node 11)
-unfolding base created find_of walk_of lookup_fault path_fault path_components last_component looked by_places by_nodes node_at child_of
+unfolding base created find_of walk_of lookup_fault path_fault path_components last_component looked by_places by_nodes node_at child_of parent_of
 dots_above_root = (refl, refl)
 
 absolute_target_global : Leads_to base (codes "work/abs") Global Follow (Found_node 11)
-unfolding base created find_of walk_of lookup_fault path_fault path_components last_component looked by_places by_nodes node_at child_of
+unfolding base created find_of walk_of lookup_fault path_fault path_components last_component looked by_places by_nodes node_at child_of parent_of
 absolute_target_global = (refl, refl)
 
 root_path : Leads_to base (codes "/") Global Follow (Found_node 0)
-unfolding base created find_of walk_of lookup_fault path_fault path_components last_component looked by_places by_nodes node_at child_of
+unfolding base created find_of walk_of lookup_fault path_fault path_components last_component looked by_places by_nodes node_at child_of parent_of
 root_path = (refl, refl)
 
 root_kept : Leads_to base (codes "/") Global Keep (Not_found Bad_last)
-unfolding base created find_of walk_of lookup_fault path_fault path_components last_component looked by_places by_nodes node_at child_of
+unfolding base created find_of walk_of lookup_fault path_fault path_components last_component looked by_places by_nodes node_at child_of parent_of
 root_kept = (refl, refl)
 
 free_globally : Leads_to base (codes "work/nope") Global Keep (Found_free 1)
-unfolding base created find_of walk_of lookup_fault path_fault path_components last_component looked by_places by_nodes node_at child_of
+unfolding base created find_of walk_of lookup_fault path_fault path_components last_component looked by_places by_nodes node_at child_of parent_of
 free_globally = (refl, refl)
 
 -- a removed start: the text is asked first, and nothing of it is asked of a lookup from the root
@@ -231,21 +231,21 @@ links_33_behind = (refl, refl)
 
 -- lengths of names and paths
 long_path : Leads_to base (replicate 1024 97) Beneath Follow (Not_found Too_long)
-unfolding base created find_of walk_of lookup_fault path_fault path_components last_component looked by_places by_nodes node_at child_of
+unfolding base created find_of walk_of lookup_fault path_fault path_components last_component looked by_places by_nodes node_at child_of parent_of
 long_path = (refl, refl)
 
 long_name : Leads_to base (replicate 256 97) Beneath Follow (Not_found Too_long)
-unfolding base created find_of walk_of lookup_fault path_fault path_components last_component looked by_places by_nodes node_at child_of
+unfolding base created find_of walk_of lookup_fault path_fault path_components last_component looked by_places by_nodes node_at child_of parent_of
 long_name = (refl, refl)
 
 greatest_name : Leads_to base (replicate 255 97) Beneath Follow (Not_found No_entry)
-unfolding base created find_of walk_of lookup_fault path_fault path_components last_component looked by_places by_nodes node_at child_of
+unfolding base created find_of walk_of lookup_fault path_fault path_components last_component looked by_places by_nodes node_at child_of parent_of
 greatest_name = (refl, refl)
 
 greatest_path : Leads_to base (codes "in" ++ replicate 1021 47) Beneath Follow (Found_node 2)
-unfolding base created find_of walk_of lookup_fault path_fault path_components last_component looked by_places by_nodes node_at child_of
+unfolding base created find_of walk_of lookup_fault path_fault path_components last_component looked by_places by_nodes node_at child_of parent_of
 greatest_path = (refl, refl)
 
 long_absolute : Leads_to base (replicate 1024 47) Beneath Keep (Not_found Too_long)
-unfolding base created find_of walk_of lookup_fault path_fault path_components last_component looked by_places by_nodes node_at child_of
+unfolding base created find_of walk_of lookup_fault path_fault path_components last_component looked by_places by_nodes node_at child_of parent_of
 long_absolute = (refl, refl)

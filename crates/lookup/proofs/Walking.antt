@@ -1,38 +1,34 @@
 -- What a walk that goes on, or ends, says of the whole.
-use Rattle.std.proofs.Common.{◌≡◌, ℕ, List, Option, Some, None, ap, sym, ◌∙◌, refl}
+use Rattle.std.proofs.Common.{◌≡◌, ℕ, List, [], ◌∷◌, Option, Some, None, ap, subst, sym, ◌∙◌, refl, arith}
 use Rattle.std.specs.Prelude.{IfSome}
 use Rattle.file_tree.specs.Places.{path_components}
 use Rattle.file_tree.specs.Nodes.{Node}
-use Rattle.lookup.specs.Answers.{Way, Last, LookupFault, Finding, Not_found}
+use Rattle.lookup.specs.Answers.{Way, Last, LookupFault, Finding, Found_node, Not_found}
 use Rattle.rights.specs.Limits.{most_links}
-use Rattle.lookup.specs.Leads.{Stand, Goes, Ends, next}
-use Rattle.lookup.specs.Steps.{Rules, looked}
+use Rattle.file_tree.specs.WellFormed.{IsTree}
+use Rattle.lookup.specs.Leads.{Stand, Next, Goes, Ends, next, Leads, here, there}
+use Rattle.lookup.specs.Steps.{looked}
 use Rattle.lookup.specs.ByNodes.{Walked, from_node, by_nodes}
-use Rattle.lookup.specs.Looks.{first_stand, start_node, lookup_fault, unless_lost, walk_of}
-use Rattle.lookup.specs.Views.{SameRules, found_of, fault_of, last_of, not_found, rules_of, stand_of, way_of}
-use Rattle.lookup.specs.declared.ways.Way.{Way as WayCode}
-use Rattle.lookup.specs.declared.ways.Last.{Last as LastCode}
+use Rattle.lookup.specs.Walks.{WalkState, Done, More, begun, settled_at, settled, handled, Arrives, in_one, in_more}
+use Rattle.lookup.specs.Looks.{first_stand, start_node, lookup_fault, unless_lost, find_of, walk_of}
+use Rattle.lookup.specs.Views.{fault_of, not_found}
 use Rattle.lookup.specs.declared.faults.PathFault.{PathFault}
-use Rattle.lookup.specs.declared.ways.Found.{Found}
-use Rattle.lookup.specs.declared.walk.Walk.{Walk}
-use Rattle.lookup.proofs.StepLaws.{rest_of, rest_goes, rest_ends}
+use Rattle.lookup.proofs.StepLaws.{rest_of, rest_goes, rest_ends, leads_rest, leads_only}
+use Rattle.lookup.proofs.Alike.{walk_is_find}
+
+-- what is left of a walk leads to
+abbrev pub rest_of_walk : List Node → WalkState → Finding
+rest_of_walk t walk = rest_of (by_nodes t walk.way walk.last) walk.stand
 
 -- where nothing is wrong, all is left before the first name
-pub walk_is_rest : (t : List Node) (start : ℕ) (path : List ℕ) (way : Way) (last : Last) → lookup_fault t start path way last ≡ None →
+walk_is_rest : (t : List Node) (start : ℕ) (path : List ℕ) (way : Way) (last : Last) → lookup_fault t start path way last ≡ None →
     rest_of (by_nodes t way last) (first_stand (from_node (start_node start way)) path) ≡ walk_of t start path way last
 unfolding walk_of
 walk_is_rest t start path way last none = rw none refl
 
-pub begun_rest : (t : List Node) (start : ℕ) (path : List ℕ) (way : WayCode) (last : LastCode) (walk : Walk) →
-    lookup_fault t start path (way_of way) (last_of last) ≡ None → stand_of walk ≡ first_stand (from_node (start_node start (way_of way))) path →
-    (walk.way ≡ way) × (walk.last ≡ last) → rest_of (rules_of t walk) (stand_of walk) ≡ walk_of t start path (way_of way) (last_of last)
-begun_rest t start path way last walk none begun same =
-    ap (λ (s : Stand Walked). rest_of (rules_of t walk) s) begun
-    ∙ ap (λ (rules : Rules Walked). rest_of rules (first_stand (from_node (start_node start (way_of way))) path)) (walking_rules t walk way last same)
-    ∙ walk_is_rest t start path (way_of way) (last_of last) none
-  where
-    walking_rules : (t : List Node) (walk : Walk) (way : WayCode) (last : LastCode) → (walk.way ≡ way) × (walk.last ≡ last) → rules_of t walk ≡ by_nodes t (way_of way) (last_of last)
-    walking_rules t walk way last same = rw (same.0, same.1) refl
+pub begun_rest : (t : List Node) (start : ℕ) (path : List ℕ) (way : Way) (last : Last) (walk : WalkState) → lookup_fault t start path way last ≡ None →
+    walk ≡ begun start path way last → rest_of_walk t walk ≡ walk_of t start path way last
+begun_rest t start path way last walk none is = rw is (walk_is_rest t start path way last none)
 
 -- where something is wrong, that is the answer
 pub fault_is_walk : (t : List Node) (start : ℕ) (path : List ℕ) (way : Way) (last : Last) (error : PathFault) →
@@ -46,22 +42,86 @@ fault_is_walk t start path way last error same = by_fault (fault_of error) same
     by_fault None e = tt
     by_fault (Some fault) e = rw e refl
 
-same_rules : (t : List Node) (old new : Walk) → SameRules old new → rules_of t new ≡ rules_of t old
-same_rules t old new same = rw (same.0, same.1) refl
+-- where no name is left, what is left leads to where the walk stands
+arrived_rest : (t : List Node) (way : Way) (last : Last) (stand : Stand Walked) → stand.left ≡ [] → rest_of (by_nodes t way last) stand ≡ Found_node stand.spot.current
+unfolding by_nodes
+arrived_rest t way last stand none = rest_ends (by_nodes t way last) stand (Found_node stand.spot.current) (rw none refl)
 
--- a walk that went on leaves what it had left before
-pub goes_on : (t : List Node) (old new : Walk) (answer : Finding) → SameRules old new → next (rules_of t old) (stand_of old) ≡ Goes (stand_of new) →
-    rest_of (rules_of t old) (stand_of old) ≡ answer → rest_of (rules_of t new) (stand_of new) ≡ answer
-goes_on t old new answer same steps rest =
-    ap (λ (rules : Rules Walked). rest_of rules (stand_of new)) (same_rules t old new same) ∙ sym (rest_goes (rules_of t old) (stand_of old) (stand_of new) steps) ∙ rest
+module _ (t : List Node) (walk : WalkState) where
+  -- a walk that goes on leaves what it had left before
+  pub handled_more : (after : WalkState) → handled t walk ≡ More after → rest_of_walk t after ≡ rest_of_walk t walk
+  unfolding handled
+  handled_more after event = by_next (next (by_nodes t walk.way walk.last) walk.stand) refl event
+    where
+      by_left : (stand : Stand Walked) (left : List (List ℕ)) → next (by_nodes t walk.way walk.last) walk.stand ≡ Goes stand →
+          settled_at walk stand left ≡ More after → rest_of_walk t after ≡ rest_of_walk t walk
+      by_left stand [] goes e = cc
+      by_left stand (name ∷ left) goes e =
+          let same : record walk { stand = stand } ≡ after = cc in
+          subst (λ (w : WalkState). rest_of_walk t w ≡ rest_of_walk t walk) same (sym (rest_goes (by_nodes t walk.way walk.last) walk.stand stand goes))
 
--- one that ended gives the answer, or a fault that is the answer
-pub ends_with : (t : List Node) (walk : Walk) (found : Found) (answer : Finding) → next (rules_of t walk) (stand_of walk) ≡ Ends (found_of found) →
-    rest_of (rules_of t walk) (stand_of walk) ≡ answer → found_of found ≡ answer
-ends_with t walk found answer steps rest = sym (rest_ends (rules_of t walk) (stand_of walk) (found_of found) steps) ∙ rest
+      by_next : (after_it : Next Walked) → next (by_nodes t walk.way walk.last) walk.stand ≡ after_it → settled walk after_it ≡ More after → rest_of_walk t after ≡ rest_of_walk t walk
+      by_next (Goes stand) is e = by_left stand stand.left is e
+      by_next (Ends finding) is e = cc
 
-pub ends_lost : (t : List Node) (walk : Walk) (o : Option LookupFault) (answer : Finding) →
-    IfSome o (λ fault. next (rules_of t walk) (stand_of walk) ≡ Ends (Not_found fault)) → rest_of (rules_of t walk) (stand_of walk) ≡ answer →
-    IfSome (not_found o) (λ a. a ≡ answer)
-ends_lost t walk None answer steps rest = tt
-ends_lost t walk (Some fault) answer steps rest = sym (rest_ends (rules_of t walk) (stand_of walk) (Not_found fault) steps) ∙ rest
+  -- one that ends gives what it had left
+  pub handled_done : (finding : Finding) → handled t walk ≡ Done finding → rest_of_walk t walk ≡ finding
+  unfolding handled
+  handled_done finding event = by_next (next (by_nodes t walk.way walk.last) walk.stand) refl event
+    where
+      by_left : (stand : Stand Walked) (left : List (List ℕ)) → stand.left ≡ left → next (by_nodes t walk.way walk.last) walk.stand ≡ Goes stand →
+          settled_at walk stand left ≡ Done finding → rest_of_walk t walk ≡ finding
+      by_left stand [] none goes e =
+          let same : Found_node stand.spot.current ≡ finding = cc in
+          rest_goes (by_nodes t walk.way walk.last) walk.stand stand goes ∙ arrived_rest t walk.way walk.last stand none ∙ same
+      by_left stand (name ∷ left) some goes e = cc
+
+      by_next : (after : Next Walked) → next (by_nodes t walk.way walk.last) walk.stand ≡ after → settled walk after ≡ Done finding → rest_of_walk t walk ≡ finding
+      by_next (Goes stand) is e = by_left stand stand.left refl is e
+      by_next (Ends other) is e =
+          let same : other ≡ finding = cc in rest_ends (by_nodes t walk.way walk.last) walk.stand other is ∙ same
+
+  -- so what it gives is the answer of the whole
+  pub ends_with : (finding answer : Finding) → handled t walk ≡ Done finding → rest_of_walk t walk ≡ answer → finding ≡ answer
+  ends_with finding answer event rest = sym (handled_done finding event) ∙ rest
+
+  pub ends_lost : (o : Option LookupFault) (answer : Finding) → IfSome o (λ fault. handled t walk ≡ Done (Not_found fault)) → rest_of_walk t walk ≡ answer →
+      IfSome (not_found o) (λ a. a ≡ answer)
+  ends_lost None answer event rest = tt
+  ends_lost (Some fault) answer event rest = ends_with (Not_found fault) answer event rest
+
+-- On one tree a walk comes to what it has left.
+arrives_rest : (t : List Node) (walk : WalkState) (finding : Finding) → Arrives t walk finding → rest_of_walk t walk ≡ finding
+arrives_rest t walk finding (in_one event) = handled_done t walk finding event
+arrives_rest t walk finding (in_more {after = after} event rest) = sym (handled_more t walk after event) ∙ arrives_rest t after finding rest
+
+abbrev walk_at : Way → Last → Stand Walked → WalkState
+walk_at way last stand = record { way = way; last = last; stand = stand }
+
+leads_arrives : (t : List Node) (way : Way) (last : Last) (stand : Stand Walked) (finding : Finding) → Leads (by_nodes t way last) stand finding →
+    Arrives t (walk_at way last stand) finding
+unfolding handled
+leads_arrives t way last stand finding (here ends) = in_one (ap (settled (walk_at way last stand)) ends)
+leads_arrives t way last stand finding (there {after = after} goes led) =
+    by_left after.left refl (ap (settled (walk_at way last stand)) goes) (leads_arrives t way last after finding led)
+  where
+    by_left : (left : List (List ℕ)) → after.left ≡ left → handled t (walk_at way last stand) ≡ settled_at (walk_at way last stand) after after.left →
+        Arrives t (walk_at way last after) finding → Arrives t (walk_at way last stand) finding
+    by_left [] none event rest =
+        let is : finding ≡ Found_node after.spot.current = leads_only (by_nodes t way last) after finding led ∙ arrived_rest t way last after none in
+        in_one (event ∙ ap (settled_at (walk_at way last stand) after) none ∙ sym (ap Done is))
+    by_left (name ∷ left) some event rest = in_more (event ∙ ap (settled_at (walk_at way last stand) after) some) rest
+
+-- So it comes to what the path leads to.
+module _ (t : List Node) (start : ℕ) (path : List ℕ) (way : Way) (last : Last) (finding : Finding) (tree : IsTree t) (none : lookup_fault t start path way last ≡ None) where
+  rest_is_find : rest_of_walk t (begun start path way last) ≡ find_of t start path way last
+  rest_is_find = walk_is_rest t start path way last none ∙ walk_is_find t start path way last tree
+
+  pub arrives_at_find : Arrives t (begun start path way last) finding → find_of t start path way last ≡ finding
+  arrives_at_find arrives = sym rest_is_find ∙ arrives_rest t (begun start path way last) finding arrives
+
+  pub find_arrives : find_of t start path way last ≡ finding → Arrives t (begun start path way last) finding
+  find_arrives found =
+      let stand = first_stand (from_node (start_node start way)) path in
+      subst (λ (a : Finding). Arrives t (begun start path way last) a) (rest_is_find ∙ found)
+      (leads_arrives t way last stand _ (leads_rest (by_nodes t way last) stand (omega arith)))

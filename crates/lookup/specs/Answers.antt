@@ -1,5 +1,5 @@
 -- What a lookup is asked for, and what it gives.
-use Rattle.std.specs.Prelude.{ℕ, Bool, true, false, List, [], ◌∷◌}
+use Rattle.std.specs.Prelude.{Bool, true, false, List, [], ◌∷◌}
 use Rattle.rights.specs.Values.{Name, NodeNumber}
 
 -- Beneath the directory of a descriptor (capsicum(4); open(2), O_RESOLVE_BENEATH), or in all of the tree.

@@ -6,4 +6,5 @@ pub mod ByPlaces
 pub mod ByNodes
 pub mod Looks
 pub mod Promises
+pub mod Walks
 pub mod Views

@@ -1,6 +1,5 @@
 -- What the values of the code stand for.
-use Rattle.std.specs.Prelude.{◌≡◌, ◌<◌, ◌+◌, ◌-◌, ◌*◌, ◌^◌, ℕ, List, length, reverse, Option, Some, None, IfSome, Result, Ok, Err, Vec, vec_len}
-use Rattle.std.specs.List.{All}
+use Rattle.std.specs.Prelude.{◌≡◌, ℕ, List, reverse, Option, Some, None, IfSome, Result, Ok, Err, Vec}
 use Rattle.lookup.specs.declared.ways.Way.{Way as WayCode}
 use Rattle.lookup.specs.declared.ways.Way.TheVariants as way
 use Rattle.lookup.specs.declared.ways.Last.{Last as LastCode}
@@ -10,13 +9,14 @@ use Rattle.lookup.specs.declared.ways.Found.TheVariants as found
 use Rattle.lookup.specs.declared.faults.PathFault.{PathFault}
 use Rattle.lookup.specs.declared.faults.PathFault.TheVariants as fault
 use Rattle.file_tree.specs.Views.{names_of}
-use Rattle.lookup.specs.declared.walk.Walk.{Walk}
-use Rattle.lookup.specs.declared.walk.Progress.{Progress}
-use Rattle.lookup.specs.declared.walk.Progress.TheVariants as progress
+use Rattle.lookup.specs.declared.trail.Trail.{Trail}
+use Rattle.lookup.specs.declared.ways.Progress.{Progress as ProgressCode}
+use Rattle.lookup.specs.declared.ways.Progress.TheVariants as progress
 use Rattle.file_tree.specs.Nodes.{Node}
 use Rattle.lookup.specs.Leads.{Stand, Next, Goes, Ends, onward}
 use Rattle.lookup.specs.Steps.{Move, Rules}
 use Rattle.lookup.specs.ByNodes.{Walked, by_nodes, in_node, into}
+use Rattle.lookup.specs.Walks.{WalkState, Progress, Done, More, settled_at, IsNear, IsNearFinding}
 use Rattle.lookup.specs.Answers.{Way, Beneath, Global, Last, Follow, Keep, LookupFault, Escape, No_entry, Not_dir, Loop, Too_long, Bad_last, Finding, Found_node, Found_free, Not_found}
 
 abbrev pub way_of : WayCode → Way
@@ -69,42 +69,55 @@ abbrev pub names_left : {A : Type 0} → List (Vec ℕ A) → List (List ℕ)
 names_left names = reverse (names_of names)
 
 -- where a walk stands, and by which rules it goes on in a tree
-abbrev pub stand_of : Walk → Stand Walked
-stand_of walk = record {
-  spot = record { current = walk.current; before = reverse walk.before.items };
-  left = names_left walk.left.items;
-  followed = walk.followed;
+abbrev pub stand_of : Trail → Stand Walked
+stand_of trail = record {
+  spot = record { current = trail.current; before = reverse trail.before.items };
+  left = names_left trail.left.items;
+  followed = trail.followed;
 }
 
-abbrev pub rules_of : List Node → Walk → Rules Walked
-rules_of t walk = by_nodes t (way_of walk.way) (last_of walk.last)
+abbrev pub walk_state : Trail → WalkState
+walk_state trail = record { way = way_of trail.way; last = last_of trail.last; stand = stand_of trail }
+
+abbrev pub rules_of : List Node → Trail → Rules Walked
+rules_of t trail = by_nodes t (way_of trail.way) (last_of trail.last)
 
 -- what is next, by where a name leads
-abbrev pub after_move : Rules Walked → Walk → Move Walked → Next Walked
-after_move rules walk move = onward rules (stand_of walk).spot (stand_of walk).left walk.followed move
+abbrev pub after_move : Rules Walked → Trail → Move Walked → Next Walked
+after_move rules trail move = onward rules (stand_of trail).spot (stand_of trail).left trail.followed move
 
 -- what is next after a name, and after a node that has the name
-abbrev pub after_name : List Node → Walk → List ℕ → Next Walked
-after_name t walk name =
-    after_move (rules_of t walk) walk (in_node t (way_of walk.way) (last_of walk.last) walk.current (stand_of walk).spot.before name (stand_of walk).left)
+abbrev pub after_name : List Node → Trail → List ℕ → Next Walked
+after_name t trail name =
+    after_move (rules_of t trail) trail
+    (in_node t (way_of trail.way) (last_of trail.last) trail.current (stand_of trail).spot.before name (stand_of trail).left)
 
-abbrev pub after_node : List Node → Walk → ℕ → Next Walked
-after_node t walk n =
-    after_move (rules_of t walk) walk (into t (last_of walk.last) walk.current (stand_of walk).spot.before (stand_of walk).left (Some n))
+abbrev pub after_node : List Node → Trail → ℕ → Next Walked
+after_node t trail n =
+    after_move (rules_of t trail) trail (into t (last_of trail.last) trail.current (stand_of trail).spot.before (stand_of trail).left (Some n))
 
-abbrev pub SameRules : Walk → Walk → Type 0
+abbrev pub SameRules : Trail → Trail → Type 0
 SameRules old new = (new.way ≡ old.way) × (new.last ≡ old.last)
 
 -- The walk did what was next, unless it met want of memory.
-abbrev pub StepsAlong : Result Progress PathFault → Next Walked → Stand Walked → Type 0
+abbrev pub StepsAlong : Result ProgressCode PathFault → Next Walked → Stand Walked → Type 0
 StepsAlong (Ok progress.More) next stand = next ≡ Goes stand
 StepsAlong (Ok (progress.Done found)) next stand = next ≡ Ends (found_of found)
 StepsAlong (Err error) next stand = IfSome (fault_of error) (λ fault. next ≡ Ends (Not_found fault))
 
--- whether the nodes of a walk are of the tree
-abbrev pub IsInTree : List Node → Walk → Type 0
-IsInTree t walk = (walk.current < length t) × All (λ d. d < length t) walk.before.items
+-- The same of a whole event.
+abbrev pub IsEvent : Result ProgressCode PathFault → Progress → WalkState → Type 0
+IsEvent (Ok progress.More) event walk = event ≡ More walk
+IsEvent (Ok (progress.Done found)) event walk = event ≡ Done (found_of found)
+IsEvent (Err error) event walk = IfSome (fault_of error) (λ fault. event ≡ Done (Not_found fault))
 
--- what a walk has left to do: links that it may follow, and names
-abbrev pub work_left : Walk → ℕ
-work_left walk = (33 - walk.followed) * 2 ^ 64 + vec_len walk.left
+-- what no name left, or some, makes of a walk that goes on
+abbrev pub IsSettled : ProgressCode → Stand Walked → Type 0
+IsSettled result stand =
+    (walk : WalkState) → IsEvent (Ok result) (settled_at walk stand stand.left) (record walk { stand = stand })
+
+-- what an event gave, or where the walk stands after it, is near where it stood
+abbrev pub StaysNear : List Node → Walked → Result ProgressCode PathFault → WalkState → Type 0
+StaysNear t at (Ok progress.More) walk = IsNear t at walk.stand.spot.current
+StaysNear t at (Ok (progress.Done found)) walk = IsNearFinding t at (found_of found)
+StaysNear t at (Err error) walk = Unit {0}

@@ -9,8 +9,8 @@ ghost use Rattle.lookup.specs.Promises.{IsBelow, IsBeneath, IsFollowed, IsFreeNa
 ghost use Rattle.lookup.specs.Views.{answer_of, found_of, last_of, way_of};
 
 use crate::faults::PathFault;
-use crate::walk::{Progress, Walk};
-use crate::ways::{Found, Last, Way};
+use crate::walk::Walk;
+use crate::ways::{Found, Last, Progress, Way};
 use file_tree::{NodeId, Tree};
 use std::alloc::Global;
 

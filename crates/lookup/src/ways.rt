@@ -30,3 +30,12 @@ pub enum Found {
     /// The directory in which only the last name is absent; with `Last::Keep` alone.
     Free(NodeId),
 }
+
+/// What one event of a lookup under way comes to.
+#[derive(Clone, Copy, PartialEq, Eq)]
+pub enum Progress {
+    /// Names are left for later events.
+    More,
+    /// The lookup has ended.
+    Done(Found),
+}

@@ -1,7 +1,7 @@
 use Rattle.std.proofs.Common.{ap, sym, ◌∙◌}
 use Rattle.lookup.specs.Views.{after_move, rules_of, stand_of, last_of}
 use Rattle.lookup.proofs.NodeSteps.{into_node, into_kept, steps_same}
-use Rattle.lookup.proofs.walk.Walk.go_to.Goals as goal
+use Rattle.lookup.proofs.trail.Trail.go_to.Goals as goal
 
 pub returns-in-None-clause-steps : goal.returns-in-None-clause-steps
 returns-in-None-clause-steps g c =
