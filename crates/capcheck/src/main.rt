@@ -3,9 +3,9 @@
 
 ghost use Rattle.std.specs.Prelude.{None};
 
+use commands::statuses::{REFUSED, STOPPED};
+use commands::{Console, Source, Unread, closed, fetched, serve};
 use rights::write_all;
-use service::statuses::{REFUSED, STOPPED};
-use service::{Console, Source, Unread, closed, fetched, serve};
 use std::io::{BufWriter, ErrorKind};
 use std::process::ExitCode;
 use std::{env, fs};

@@ -5,10 +5,10 @@
 ghost use Rattle.std.specs.Prelude.{◌≡◌, None};
 
 use anyhow::{Context, Result, bail};
+use commands::statuses::{DONE, STOPPED};
+use commands::{Source, Unread, fetched, serve};
 use rights::{Out, OutFault};
 use serde::Deserialize;
-use service::statuses::{DONE, STOPPED};
-use service::{Source, Unread, fetched, serve};
 use std::alloc::Global;
 use std::fs;
 use std::process::ExitCode;

@@ -1,0 +1,95 @@
+-- What is told of an accepted certificate: at each point the rights that a process may have in each grant. (own)
+use Rattle.std.specs.Prelude.{◌≡◌, ◌==◌, ◌++◌, ℕ, List, [], ◌∷◌, codes, take, Option, Some, None, bit_or, if◌then◌else◌}
+use Rattle.std.specs.Fmt.{decimal}
+use Rattle.std.specs.Str.{bytes_eq}
+use Rattle.rights.specs.Output.{Took}
+use Rattle.rights.specs.Sets.{is_within, right_names}
+use Rattle.texts.specs.Bytes.{comma}
+use Rattle.texts.specs.Parts.{joined}
+use Rattle.certificate.specs.Bounds.{Target, In_grant, Any_node, Socket, Unknown, Held, Slot, Bound, Certificate, bound_at, held_in}
+use Rattle.certificate_text.specs.Pieces.{in_order}
+use Rattle.checker.specs.Verdicts.{Verdict, Yes, No, IsVerdict}
+use Rattle.rules.specs.Expansions.{expansion}
+use Rattle.prog_asm.specs.Programs.{Instruction}
+use Rattle.task.specs.Plans.{Grant, NamedProgram, Plan}
+use Rattle.task.specs.Sandboxed.{IsSandboxed}
+use Rattle.commands.specs.Judged.{verdict_status, verdict_text}
+
+-- ## The rights in a grant
+-- The greatest rights of a descriptor in the grant of this name; none is said of one elsewhere.
+abbrev pub greatest_of : List ℕ → Target → ℕ → Option ℕ
+greatest_of name (In_grant grant) greatest = if bytes_eq grant name then Some greatest else None
+greatest_of name Any_node greatest = None
+greatest_of name (Socket class side) greatest = None
+greatest_of name Unknown greatest = None
+
+abbrev pub greatest_in : List ℕ → Option Held → Option ℕ
+greatest_in name None = None
+greatest_in name (Some h) = greatest_of name h.target h.greatest
+
+-- of two sets, of which either may be missing, the rights in either
+abbrev pub either_set : Option ℕ → Option ℕ → Option ℕ
+either_set None b = b
+either_set (Some a) None = Some a
+either_set (Some a) (Some b) = Some (bit_or a b)
+
+-- The greatest rights of all slots that may be open in the grant of this name; none where no slot may be.
+abbrev pub rights_there : List ℕ → List Slot → Option ℕ
+rights_there name [] = None
+rights_there name (s ∷ slots) = either_set (greatest_in name (held_in s)) (rights_there name slots)
+
+-- ## Its line
+-- the fourteen rights by their names, without the two aliases
+abbrev pub own_names : List (List ℕ × ℕ)
+own_names = take 14 right_names
+
+abbrev pub names_in : ℕ → List (List ℕ × ℕ) → List (List ℕ)
+names_in set [] = []
+names_in set (row ∷ rows) = if is_within row.1 set then row.0 ∷ names_in set rows else names_in set rows
+
+-- `READ,LOOKUP`, in the order of the rights, and `none` of the empty set
+abbrev pub rights_text : ℕ → List ℕ
+rights_text set = if set == 0 then codes "none" else joined comma (names_in set own_names)
+
+-- `main:0 work `
+abbrev pub point_text : List ℕ → ℕ → List ℕ → List ℕ
+point_text program point grant = program ++ codes ":" ++ decimal point ++ codes " " ++ grant ++ codes " "
+
+-- `main:0 work READ,LOOKUP`
+abbrev pub grant_line : List ℕ → ℕ → List ℕ → Option ℕ → List ℕ
+grant_line program point grant None = []
+grant_line program point grant (Some rights) = point_text program point grant ++ rights_text rights ++ codes "\n"
+
+-- names, with what separates the first of them from what stands before it
+abbrev pub parted : List ℕ → List (List ℕ) → List ℕ
+parted separator [] = []
+parted separator (name ∷ names) = separator ++ name ++ parted (codes ",") names
+
+-- ## The report
+-- the lines of a point with a bound, by the grants of the task
+abbrev pub point_lines : List Grant → List ℕ → ℕ → Option Bound → List ℕ
+point_lines grants program point None = []
+point_lines grants program point (Some b) =
+    in_order (λ n (g : Grant). grant_line program point g.name (rights_there g.name b.slots)) 0 grants
+
+-- of a program, by its points
+abbrev pub program_lines : List Grant → Certificate → NamedProgram → List ℕ
+program_lines grants certificate p =
+    in_order (λ point (i : Instruction). point_lines grants p.name point (bound_at certificate p.name point)) 0 p.code
+
+-- of a task, by its programs
+abbrev pub report_text : Plan → Certificate → List ℕ
+report_text plan certificate = in_order (λ n. program_lines plan.grants certificate) 0 plan.programs
+
+-- ## What is written
+-- the report on the expansion where the certificate is accepted, and else the line of the verdict
+abbrev pub answer_text : Plan → Certificate → Verdict → List ℕ
+answer_text plan certificate Yes = report_text plan (expansion plan certificate)
+answer_text plan certificate (No program point rule) = verdict_text plan (No program point rule)
+
+pub record Reports (plan : Plan) (bounds : Certificate) (status : ℕ) (before after : Option (List ℕ)) : Type 0 where
+  pub verdict : Verdict
+  pub is : IsVerdict plan bounds verdict
+  pub status_is : status ≡ verdict_status verdict
+  pub sound : verdict ≡ Yes → IsSandboxed plan
+  pub writes : Took before after (answer_text plan bounds verdict)

@@ -1,0 +1,44 @@
+-- What the program has written when it says that it is done.
+use Rattle.std.specs.Prelude.{◌≡◌, ◌==◌, ◌||◌, ℕ, Bool, List, Option}
+use Rattle.command_line.specs.Orders.{Order, Example, Run, Check, Report, Search, Expand, AsksFor}
+use Rattle.task.specs.Plans.{Plan}
+use Rattle.certificate_text.specs.Readings.{certificate_of_text}
+use Rattle.simulator.specs.Schedules.{schedule_of}
+use Rattle.simulator.specs.Simulations.{WritesTrace}
+use Rattle.commands.specs.Examples.{example_events, first_plan}
+use Rattle.commands.specs.Expanded.{Expands}
+use Rattle.commands.specs.Files.{Files, IsTask, OfFiles}
+use Rattle.commands.specs.Judged.{Judges}
+use Rattle.commands.specs.Reports.{Reports}
+use Rattle.commands.specs.Searched.{Searches}
+
+-- The example writes its trace, and `run` that of a task over the events of a schedule; `check` writes a verdict, `report` a
+-- report or a no, and `search` a certificate or that it found none, and their status is 0 or 1; `expand` writes an expansion.
+abbrev pub DoesOrder : Files → Order → ℕ → Option (List ℕ) → Option (List ℕ) → Type 0
+DoesOrder files Example status before after = (status ≡ 0) × WritesTrace first_plan example_events before after
+DoesOrder files (Run task schedule) status before after =
+    (status ≡ 0) × OfFiles files task schedule schedule_of (λ plan events. WritesTrace plan events before after)
+DoesOrder files (Check task certificate) status before after =
+    OfFiles files task certificate certificate_of_text (λ plan bounds. Judges plan bounds status before after)
+DoesOrder files (Report task certificate) status before after =
+    OfFiles files task certificate certificate_of_text (λ plan bounds. Reports plan bounds status before after)
+DoesOrder files (Search task) status before after = (plan : Plan) × IsTask files task plan × Searches plan status before after
+DoesOrder files (Expand task certificate) status before after =
+    (status ≡ 0) × OfFiles files task certificate certificate_of_text (λ plan bounds. Expands plan bounds before after)
+
+-- The words ask for something, and it is done.
+pub record Serves (files : Files) (words : List (List ℕ)) (status : ℕ) (before after : Option (List ℕ)) : Type 0 where
+  pub order : Order
+  pub asked : AsksFor words order
+  pub done : DoesOrder files order status before after
+
+-- The status of a fault: 2 of one in words or files, 3 of want of memory and of a failed output. That of
+-- a program that is done is 0, or 1 where it answers no.
+abbrev pub is_fault_status : ℕ → Bool
+is_fault_status status = (status == 2) || (status == 3)
+
+abbrev pub is_done_status : ℕ → Bool
+is_done_status status = (status == 0) || (status == 1)
+
+abbrev pub is_status : ℕ → Bool
+is_status status = is_done_status status || is_fault_status status

@@ -1,0 +1,126 @@
+//! The task that runs without words. Its one process `main` begins outside capability mode, with `/work/in` open for reading as
+//! descriptor 2; it enters the mode and reads a byte. Its one grant, `work`, is to look and read beneath `/work`.
+
+ghost use Rattle.std.specs.Prelude.{◌≡◌, ◌∷◌, [], codes, IfOk};
+ghost use Rattle.commands.specs.Examples.{enter_and_read, first_plan, small_start, work_grant};
+ghost use Rattle.task.specs.Breaches.{small_tree};
+ghost use Rattle.file_tree.specs.Views.{names_of};
+ghost use Rattle.rights.specs.Sets.{all_rights};
+ghost use Rattle.task.specs.Views.{grants_of, nodes_of, starts_of};
+
+use fd_table::Access;
+use file_tree::Kind;
+use prog_asm::{Instruction, Operand, Program, Syscall};
+use rights::{Fcntls, Op, Rights};
+use std::alloc::{AllocError, Global};
+use task::{FirstDescriptor, FirstObject, Grant, NamedProgram, Start, Task, TaskNode};
+
+/// `/work`.
+fn work(alloc: Global) -> Result<Vec<Vec<u8>>, AllocError>
+    ensures { IfOk result (λ place. names_of place.items ≡ codes "work" ∷ []) }
+{
+    let mut place = Vec::new(alloc);
+    place.push(Vec::from_slice(alloc, b"work")?)?;
+    Ok(place)
+}
+
+/// `/work/in`.
+fn work_in(alloc: Global) -> Result<Vec<Vec<u8>>, AllocError>
+    ensures { IfOk result (λ place. names_of place.items ≡ codes "work" ∷ codes "in" ∷ []) }
+{
+    let mut place = work(alloc)?;
+    place.push(Vec::from_slice(alloc, b"in")?)?;
+    Ok(place)
+}
+
+/// The root, `/work`, and the file `/work/in` with two bytes.
+fn nodes(alloc: Global) -> Result<Vec<TaskNode>, AllocError>
+    ensures { IfOk result (λ nodes. nodes_of nodes.items ≡ small_tree) }
+{
+    let mut nodes = Vec::new(alloc);
+    nodes.push(TaskNode {
+        kind: Kind::Dir,
+        place: Vec::new(alloc),
+        content: Vec::new(alloc),
+    })?;
+    nodes.push(TaskNode {
+        kind: Kind::Dir,
+        place: work(alloc)?,
+        content: Vec::new(alloc),
+    })?;
+    nodes.push(TaskNode {
+        kind: Kind::File,
+        place: work_in(alloc)?,
+        content: Vec::from_slice(alloc, b"AB")?,
+    })?;
+    Ok(nodes)
+}
+
+fn grants(alloc: Global) -> Result<Vec<Grant>, AllocError>
+    ensures { IfOk result (λ grants. grants_of grants.items ≡ work_grant ∷ []) }
+{
+    let mut grants = Vec::new(alloc);
+    grants.push(Grant {
+        name: String::from_str(alloc, "work")?,
+        path: work(alloc)?,
+        operations: Vec::from_slice(alloc, &[Op::Look, Op::Read])?,
+    })?;
+    Ok(grants)
+}
+
+fn starts(alloc: Global) -> Result<Vec<Start>, AllocError>
+    ensures { IfOk result (λ starts. starts_of starts.items ≡ small_start all_rights ∷ []) }
+{
+    let mut descriptors = Vec::new(alloc);
+    descriptors.push(FirstDescriptor {
+        number: 2,
+        object: FirstObject::Node {
+            node: 2,
+            access: Access {
+                readable: true,
+                writable: false,
+            },
+        },
+        rights: Rights::all(),
+        fcntls: Fcntls::all(),
+    })?;
+    let mut starts = Vec::new(alloc);
+    starts.push(Start {
+        program: 0,
+        mode: false,
+        descriptors,
+    })?;
+    Ok(starts)
+}
+
+/// Enters the mode and reads a byte.
+fn enter_and_read(alloc: Global) -> Result<Program, AllocError>
+    ensures { IfOk result (λ program. program ≡ enter_and_read) }
+{
+    let mut code = Vec::new(alloc);
+    code.push(Instruction::Invoke {
+        call: Syscall::CapEnter,
+        otherwise: 2,
+    })?;
+    code.push(Instruction::Invoke {
+        call: Syscall::Read {
+            descriptor: Operand::Number(2),
+        },
+        otherwise: 2,
+    })?;
+    code.push(Instruction::Halt)?;
+    Ok(Program::new(code))
+}
+
+/// The example's task.
+#[tactic(auto, unfolding(file_tree::specs::WellFormed::is_within_limits, file_tree::specs::Places::is_file_name))]
+pub fn example_task(alloc: Global) -> Result<Task, AllocError>
+    ensures { IfOk result (λ task. task ≡ first_plan) }
+{
+    let mut programs = Vec::new(alloc);
+    programs.push(NamedProgram {
+        name: String::from_str(alloc, "main")?,
+        program: enter_and_read(alloc)?,
+    })?;
+    Ok(Task::new(nodes(alloc)?, grants(alloc)?, programs, starts(alloc)?))
+}

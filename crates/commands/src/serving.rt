@@ -1,0 +1,244 @@
+//! What the program does with its words, and with the files that they name.
+
+ghost use Rattle.std.specs.Prelude.{◌≡◌, ◌<◌, ◌⊎◌, ◌-◌, ◌^◌, IfErr, IfOk, IsTrue, None, OnOk, map, string_bytes};
+ghost use Rattle.commands.specs.Begun.{HasBegun};
+ghost use Rattle.commands.specs.Fails.{Fails, RefusesWords, WordsFail};
+ghost use Rattle.commands.specs.Faults.{No_file, No_memory, Refused};
+ghost use Rattle.commands.specs.FaultViews.{fault_of};
+ghost use Rattle.commands.specs.Files.{IsFile, IsMissing};
+ghost use Rattle.commands.specs.Served.{DoesOrder, Serves, is_done_status, is_fault_status, is_status};
+ghost use Rattle.command_line.specs.Orders.{Check, Example, Expand, Report, Run, Search};
+ghost use Rattle.command_line.specs.OrderViews.{order_of};
+
+use crate::example::example_task;
+use crate::expanding::write_expansion;
+use crate::faults::{Fault, tell};
+use crate::judging::judge;
+use crate::proposing::propose;
+use crate::reporting::report_checked;
+use crate::sources::{Source, Unread};
+use crate::statuses::DONE;
+use command_line::{Order, WordsFault, read_order};
+use rights::Out;
+use simulator::{read_schedule, simulate};
+use std::alloc::Global;
+use syscalls::Event;
+use task_reader::read_task;
+use text_checker::read_texts;
+
+/// Two events of the first process.
+const EXAMPLE: [Event; 2] = [
+    Event {
+        process: 0,
+        input: 0,
+        refuse: false,
+    },
+    Event {
+        process: 0,
+        input: 0,
+        refuse: false,
+    },
+];
+
+/// The trace of the example's task on two events.
+fn example<'a, W: Out>(alloc: Global, out: &mut W) -> Result<(), Fault<'a>>
+    requires { W.faults out.old < 2 ^ 64 - 1 }
+    ensures done { OnOk result (DoesOrder None Example 0 (W.taken out.old) (W.taken out.new)) }
+    ensures fails { IfErr result (λ fault. Fails None Example
+        (W.taken out.old) (W.taken out.new) (W.faults out.old) (W.faults out.new) (fault_of fault)) }
+{
+    let task = example_task(alloc)?;
+    simulate(alloc, &task, &EXAMPLE, out)?;
+    Ok(())
+}
+
+/// The bytes of a file.
+fn fetch<'a, S: Source>(files: &mut S, name: &'a str) -> Result<Vec<u8>, Fault<'a>>
+    ensures text { IfOk result (λ bytes. IsFile (S.files files.old) name.now bytes.items) }
+    ensures missing { IfErr result (λ fault. (fault_of fault ≡ No_memory) ⊎ ((fault_of fault ≡ Refused (No_file name.now)) × IsMissing (S.files files.old) name.now)) }
+    ensures same { S.files files.new ≡ S.files files.old }
+{
+    match files.fetch(name) {
+        Ok(bytes) => Ok(bytes),
+        Err(Unread::NotThere) => Err(Fault::File(name)),
+        Err(Unread::Memory) => Err(Fault::Memory),
+    }
+}
+
+/// Runs the task of a file over the events of another. Both are fetched before either is read.
+fn run<'a, S: Source, W: Out>(
+    alloc: Global,
+    task: &'a str,
+    schedule: &'a str,
+    files: &mut S,
+    out: &mut W,
+) -> Result<(), Fault<'a>>
+    requires { W.faults out.old < 2 ^ 64 - 1 }
+    ensures done { OnOk result (DoesOrder (S.files files.old) (Run task.now schedule.now) 0 (W.taken out.old) (W.taken out.new)) }
+    ensures fails { IfErr result (λ fault. Fails (S.files files.old) (Run task.now schedule.now)
+        (W.taken out.old) (W.taken out.new) (W.faults out.old) (W.faults out.new) (fault_of fault)) }
+{
+    let task_text = fetch(files, task)?;
+    let schedule_text = fetch(files, schedule)?;
+    let plan = read_task(alloc, &task_text)?;
+    let events = read_schedule(alloc, &schedule_text)?;
+    simulate(alloc, &plan, &events, out)?;
+    Ok(())
+}
+
+/// Checks the certificate of a file against the task of another, writes the verdict and gives its status. Both files are
+/// fetched before either is read.
+fn check_files<'a, S: Source, W: Out>(
+    alloc: Global,
+    task: &'a str,
+    cert: &'a str,
+    files: &mut S,
+    out: &mut W,
+) -> Result<u8, Fault<'a>>
+    requires { W.faults out.old < 2 ^ 64 - 1 }
+    ensures done { IfOk result (λ status. DoesOrder (S.files files.old) (Check task.now cert.now) status (W.taken out.old) (W.taken out.new)) }
+    ensures fails { IfErr result (λ fault. Fails (S.files files.old) (Check task.now cert.now)
+        (W.taken out.old) (W.taken out.new) (W.faults out.old) (W.faults out.new) (fault_of fault)) }
+{
+    let task_bytes = fetch(files, task)?;
+    let cert_bytes = fetch(files, cert)?;
+    let claim = read_texts(alloc, &task_bytes, &cert_bytes)?;
+    Ok(judge(alloc, &claim.task, &claim.cert, out)?)
+}
+
+/// Checks the certificate of a file against the task of another, and writes the report or the line of a no, with the status.
+/// Both files are fetched before either is read.
+fn report_files<'a, S: Source, W: Out>(
+    alloc: Global,
+    task: &'a str,
+    cert: &'a str,
+    files: &mut S,
+    out: &mut W,
+) -> Result<u8, Fault<'a>>
+    requires { W.faults out.old < 2 ^ 64 - 1 }
+    ensures done { IfOk result (λ status. DoesOrder (S.files files.old) (Report task.now cert.now) status (W.taken out.old) (W.taken out.new)) }
+    ensures fails { IfErr result (λ fault. Fails (S.files files.old) (Report task.now cert.now)
+        (W.taken out.old) (W.taken out.new) (W.faults out.old) (W.faults out.new) (fault_of fault)) }
+{
+    let task_file = fetch(files, task)?;
+    let cert_file = fetch(files, cert)?;
+    let claim = read_texts(alloc, &task_file, &cert_file)?;
+    Ok(report_checked(alloc, &claim.task, &claim.cert, out)?)
+}
+
+/// Searches for a certificate of the task of a file, writes it, or `none`, and gives the status.
+fn search_file<'a, S: Source, W: Out>(
+    alloc: Global,
+    task: &'a str,
+    files: &mut S,
+    out: &mut W,
+) -> Result<u8, Fault<'a>>
+    requires { W.faults out.old < 2 ^ 64 - 1 }
+    ensures done { IfOk result (λ status. DoesOrder (S.files files.old) (Search task.now) status (W.taken out.old) (W.taken out.new)) }
+    ensures fails { IfErr result (λ fault. Fails (S.files files.old) (Search task.now)
+        (W.taken out.old) (W.taken out.new) (W.faults out.old) (W.faults out.new) (fault_of fault)) }
+{
+    let text = fetch(files, task)?;
+    let plan = read_task(alloc, &text)?;
+    Ok(propose(alloc, &plan, out)?)
+}
+
+/// Writes the expansion of the certificate of a file, by the task of another. Both files are fetched before either is read.
+fn expand_files<'a, S: Source, W: Out>(
+    alloc: Global,
+    task: &'a str,
+    cert: &'a str,
+    files: &mut S,
+    out: &mut W,
+) -> Result<(), Fault<'a>>
+    requires { W.faults out.old < 2 ^ 64 - 1 }
+    ensures done { OnOk result (DoesOrder (S.files files.old) (Expand task.now cert.now) 0 (W.taken out.old) (W.taken out.new)) }
+    ensures fails { IfErr result (λ fault. Fails (S.files files.old) (Expand task.now cert.now)
+        (W.taken out.old) (W.taken out.new) (W.faults out.old) (W.faults out.new) (fault_of fault)) }
+{
+    let task_source = fetch(files, task)?;
+    let cert_source = fetch(files, cert)?;
+    let claim = read_texts(alloc, &task_source, &cert_source)?;
+    Ok(write_expansion(alloc, &claim.task, &claim.cert, out)?)
+}
+
+/// Does what is asked for, and gives the status.
+fn perform<'a, S: Source, W: Out>(
+    alloc: Global,
+    order: Order<'a>,
+    files: &mut S,
+    out: &mut W,
+) -> Result<u8, Fault<'a>>
+    requires { W.faults out.old < 2 ^ 64 - 1 }
+    ensures done { IfOk result (λ status. DoesOrder (S.files files.old) (order_of order.entry) status (W.taken out.old) (W.taken out.new)) }
+    ensures fails { IfErr result (λ fault. Fails (S.files files.old) (order_of order.entry)
+        (W.taken out.old) (W.taken out.new) (W.faults out.old) (W.faults out.new) (fault_of fault)) }
+{
+    match order {
+        Order::Example => {
+            example(alloc, out)?;
+            Ok(DONE)
+        }
+        Order::Run { task, schedule } => {
+            run(alloc, task, schedule, files, out)?;
+            Ok(DONE)
+        }
+        Order::Check { task, cert } => check_files(alloc, task, cert, files, out),
+        Order::Report { task, cert } => report_files(alloc, task, cert, files, out),
+        Order::Search { task } => search_file(alloc, task, files, out),
+        Order::Expand { task, cert } => {
+            expand_files(alloc, task, cert, files, out)?;
+            Ok(DONE)
+        }
+    }
+}
+
+/// Does what the words say, and gives the status.
+fn serve_words<'a, S: Source, W: Out>(
+    alloc: Global,
+    words: &'a [String],
+    files: &mut S,
+    out: &mut W,
+) -> Result<u8, Fault<'a>>
+    requires { W.faults out.old < 2 ^ 64 - 1 }
+    ensures done { IfOk result (λ status. Serves (S.files files.old) (map string_bytes words.now) status (W.taken out.old) (W.taken out.new)) }
+    ensures fails { IfErr result (λ fault. WordsFail (S.files files.old) (map string_bytes words.now)
+        (W.taken out.old) (W.taken out.new) (W.faults out.old) (W.faults out.new) (fault_of fault)) }
+{
+    match read_order(alloc, words) {
+        Ok(order) => perform(alloc, order, files, out),
+        Err(WordsFault::Words) => Err(Fault::Words),
+        Err(WordsFault::Memory) => Err(Fault::Memory),
+    }
+}
+
+/// The program: does what its words say, or tells the fault on the error stream, and gives the status: 0, or 1 where it answers
+/// `no` or `none`, or 2 for a fault in words or files, or 3 for want of memory or a failed output.
+///
+/// A file that can't be read is told before either text is parsed, in the order of the words; the task is parsed first.
+/// With status 2 nothing is written to the output. With 3 a beginning of what is written with 0 or 1 is, where the output failed;
+/// and for want of memory nothing, or of a trace a beginning. Want of memory may be told in place of any fault. `err` takes the
+/// line of a fault and nothing else, and its failures change neither the status nor the output.
+pub fn serve<S: Source, W: Out, V: Out>(
+    alloc: Global,
+    words: &[String],
+    files: &mut S,
+    out: &mut W,
+    err: &mut V,
+) -> u8
+    requires out { W.faults out.old < 2 ^ 64 - 1 }
+    requires err { V.faults err.old < 2 ^ 64 - 1 }
+    ensures done { IsTrue (is_done_status result) → Serves (S.files files.old) (map string_bytes words.now) result (W.taken out.old) (W.taken out.new)
+        × (V.taken err.new ≡ V.taken err.old) }
+    ensures refused { IsTrue (is_fault_status result) → RefusesWords (S.files files.old) (map string_bytes words.now) result
+        (W.taken out.old) (W.taken out.new) (W.faults out.old) (W.faults out.new)
+        (V.taken err.old) (V.taken err.new) (V.faults err.old) (V.faults err.new) }
+    ensures stopped { result ≡ 3 → (W.taken out.new ≡ W.taken out.old)
+        ⊎ HasBegun (Serves (S.files files.old) (map string_bytes words.now)) (W.taken out.old) (W.taken out.new) }
+    ensures known { IsTrue (is_status result) }
+{
+    match serve_words(alloc, words, files, out) {
+        Ok(status) => status,
+        Err(fault) => tell(alloc, &fault, err),
+    }
+}

@@ -1,5 +1,0 @@
-use Rattle.service.proofs.Rows.{every_example, every_first, every_bare, every_loop, every_absent}
-use Rattle.service.proofs.laws.small_tasks_show_these_traces.Goals as goal
-
-pub returns : goal.returns
-returns c = record { example = every_example; first = every_first; bare = every_bare; reads_on = every_loop; absent = every_absent }

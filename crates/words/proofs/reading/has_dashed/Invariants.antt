@@ -1,8 +1,0 @@
-use Rattle.std.proofs.Common.{◌≡◌, drop, map, string_bytes}
-use Rattle.std.specs.List.{list_any}
-use Rattle.words.specs.Orders.{is_dashed}
-use Rattle.words.proofs.reading.has_dashed.Given as goal
-
-abbrev pub invariant-loop-word : goal.invariant-loop-word
-invariant-loop-word l =
-    list_any is_dashed (map string_bytes (drop l.word-index l.words)) ≡ list_any is_dashed (map string_bytes l.words)
