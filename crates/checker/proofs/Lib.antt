@@ -1,3 +1,4 @@
+pub mod Joined
 pub mod PastEnds
 pub mod Named
 pub mod Standing

@@ -1,10 +1,10 @@
 -- A point of the code, in the expansion of its certificate.
-use Rattle.std.specs.Prelude.{◌≡◌, ◌+◌, ℕ, List, Option, Some, option_map}
+use Rattle.std.specs.Prelude.{◌≡◌, ◌+◌, ℕ, List, [], Option, Some, option_map, drop, take}
 use Rattle.std.specs.List.{slice_get}
 use Rattle.certificate.specs.Bounds.{Certificate}
 use Rattle.certificate.specs.Views.{bound_of, name_of}
 use Rattle.certificate.specs.declared.bounds.Bound.{Bound as BoundCode}
-use Rattle.prog_asm.specs.Programs.{Instruction}
+use Rattle.prog_asm.specs.Programs.{Syscall, Instruction, Invoke}
 use Rattle.rules.specs.Expansions.{carried_to, code_named, expansion}
 use Rattle.rules.specs.Outcomes.{Outcome, successes}
 use Rattle.rules.specs.Rules.{Test, tests}
@@ -22,6 +22,14 @@ successes_in s i = successes s.task.now.grants (expansion_at s) (site_name s) s.
 -- the tests at the point, of a program by its number
 abbrev pub tests_at : Site → ℕ → Instruction → List Test
 tests_at s program i = tests s.task.now (expansion_at s) program s.point i (bound_of s.bound.now)
+
+-- the tests of a call alone, which are the same in each program and wherever its errors go: those of the rules 4 to 15
+abbrev pub call_tests : Site → Syscall → List Test
+call_tests s call = take 12 (drop 3 (tests_at s 0 (Invoke call 0)))
+
+abbrev pub call_tests_of : Site → Instruction → List Test
+call_tests_of s (Invoke call otherwise) = call_tests s call
+call_tests_of s _ = []
 
 -- its program has this instruction there
 abbrev pub SiteHas : Site → Instruction → Type 0

@@ -1,15 +1,12 @@
 //! The rules at a point of a program, in the order of their numbers.
 
-ghost use Rattle.std.specs.Prelude.{◌≡◌, ◌+◌, ℕ, IfSome, None, drop, not, option_map, take, true};
+ghost use Rattle.std.specs.Prelude.{◌≡◌, ◌+◌, ℕ, IfSome, None, drop, option_map, take, true};
 ghost use Rattle.certificate.specs.Views.{bound_of, name_of};
-ghost use Rattle.checker.specs.SiteViews.{CarriesOn, SiteHas, expansion_at, tests_at};
-ghost use Rattle.prog_asm.specs.Views.{instruction_of};
-ghost use Rattle.rules.specs.Channels.{all_have_channels};
-ghost use Rattle.rules.specs.Demands.{demands, keeps_beneath, keeps_numbers, keeps_single};
+ghost use Rattle.checker.specs.SiteViews.{CarriesOn, SiteHas, call_tests, call_tests_of, tests_at};
+ghost use Rattle.prog_asm.specs.Views.{instruction_of, syscall_of};
 ghost use Rattle.rules.specs.Expansions.{carried_to, expansion};
 ghost use Rattle.rules.specs.Points.{instruction_at};
-ghost use Rattle.rules.specs.Rules.{least_broken, of_call};
-ghost use Rattle.rules.specs.Uses.{uses};
+ghost use Rattle.rules.specs.Rules.{least_broken};
 ghost use Rattle.rules.specs.Verdicts.{found_at, found_with};
 ghost use Rattle.task.specs.Plans.{program_name};
 ghost use Rattle.transfer.specs.Limits.{leaves_known};
@@ -20,152 +17,84 @@ use crate::points::instruction_at;
 use crate::starts::{is_started, starts_within};
 use crate::uses::{
     KeepsChannelBound, KeepsCommands, KeepsLimit, KeepsPolicy, KeepsRights, MovesWithin,
-    NamesKnown, WorksOnKnown, each_use, in_the_mode,
+    NamesKnown, WorksOnKnown, in_the_mode,
 };
 use certificate::{Bound, Cert, Name};
-use prog_asm::Instruction;
+use prog_asm::{Instruction, Syscall};
 use task::Task;
-use transfer::{Site, demanded};
+use transfer::{
+    Site, all_have_channels, all_uses_pass, demanded, keeps_beneath, keeps_numbers, keeps_single,
+};
 
-/// Whether the operand of a call that changes its slot is a single number.
-fn keeps_single(bound: &Bound, instruction: &Instruction) -> bool
-    ensures { result ≡ of_call (keeps_single (bound_of bound.now)) (instruction_of instruction.now) }
-{
-    match instruction {
-        Instruction::Invoke { call, .. } => transfer::keeps_single(bound, call),
-        _ => true,
-    }
-}
-
-/// Whether the free numbers that a call takes are determined.
-fn keeps_numbers(bound: &Bound, instruction: &Instruction) -> bool
-    ensures { result ≡ of_call (keeps_numbers (bound_of bound.now)) (instruction_of instruction.now) }
-{
-    match instruction {
-        Instruction::Invoke { call, .. } => transfer::keeps_numbers(bound, call),
-        _ => true,
-    }
-}
-
-/// Whether a call keeps from global name spaces where the mode may be on. (capsicum(4))
-fn keeps_beneath(bound: &Bound, instruction: &Instruction) -> bool
-    ensures { result ≡ of_call (keeps_beneath (bound_of bound.now)) (instruction_of instruction.now) }
-{
-    match instruction {
-        Instruction::Invoke { call, .. } => transfer::keeps_beneath(bound, call),
-        _ => true,
-    }
-}
-
-/// Whether a call changes no name of a global name space.
-fn keeps_global_names(instruction: &Instruction) -> bool
-    ensures { result ≡ of_call (λ call. not (demands call).changes_global_names) (instruction_of instruction.now) }
-{
-    match instruction {
-        Instruction::Invoke { call, .. } => !demanded(call).changes_global_names,
-        _ => true,
-    }
-}
-
-/// Whether the channels are known that a call uses.
-#[tactic(auto, using(rules::proofs::Channelled::expansion_channels))]
-fn all_have_channels(site: &Site<'_>, instruction: &Instruction) -> bool
-    ensures { result ≡ of_call (λ call. all_have_channels (expansion_at site.now) (uses (bound_of site.now.bound.now) call))
-        (instruction_of instruction.now) }
-{
-    match instruction {
-        Instruction::Invoke { call, .. } => {
-            transfer::all_have_channels(site.cert, site.bound, call)
-        }
-        _ => true,
-    }
-}
-
-/// The least of the rules 1 to 8 that is broken at a point with a bound, which carries this on.
+/// The least of the rules 4 to 9 that a call breaks where that bound holds.
 #[tactic(auto, unfolding(rules::specs::Rules::tests))]
-fn broken_first(
-    site: &Site<'_>,
-    program: u8,
-    carried: &Option<Bound>,
-    instruction: &Instruction,
-) -> Option<u8>
-    requires name { name_of site.now.name.now ≡ program_name site.now.task.now program }
-    requires stands { SiteHas site.now (instruction_of instruction.now) }
-    requires carries { CarriesOn site.now carried.now }
-    requires known { leaves_known (instruction_of instruction.now) ≡ true }
-    ensures { result ≡ least_broken (take 8 (tests_at site.now program (instruction_of instruction.now))) }
+fn broken_in_needs(site: &Site<'_>, call: &Syscall) -> Option<u8>
+    ensures { result ≡ least_broken (take 6 (call_tests site.now (syscall_of call.now))) }
 {
     let bound = site.bound;
-    if !starts_within(site.task, program, site.point, bound) {
-        return Some(1);
-    }
-    if !successes_within(site, carried, instruction) {
-        return Some(2);
-    }
-    if !failure_within(site, carried, instruction) {
-        return Some(3);
-    }
-    if !keeps_single(bound, instruction) {
+    if !keeps_single(bound, call) {
         return Some(4);
     }
-    if !keeps_numbers(bound, instruction) {
+    if !keeps_numbers(bound, call) {
         return Some(5);
     }
-    if !keeps_beneath(bound, instruction) {
+    if !keeps_beneath(bound, call) {
         return Some(6);
     }
-    if !each_use(bound, instruction, &KeepsRights) {
+    if !all_uses_pass(bound, call, &KeepsRights) {
         return Some(7);
     }
-    if !each_use(bound, instruction, &KeepsCommands) {
+    if !all_uses_pass(bound, call, &KeepsCommands) {
         return Some(8);
+    }
+    if !all_uses_pass(bound, call, &KeepsLimit) {
+        return Some(9);
     }
     None
 }
 
-/// The least of the rules 9 to 16.
-#[tactic(auto, unfolding(rules::specs::Rules::tests))]
-fn broken_last(
-    site: &Site<'_>,
-    program: u8,
-    carried: &Option<Bound>,
-    instruction: &Instruction,
-) -> Option<u8>
-    requires name { name_of site.now.name.now ≡ program_name site.now.task.now program }
-    requires stands { SiteHas site.now (instruction_of instruction.now) }
-    requires carries { CarriesOn site.now carried.now }
-    requires known { leaves_known (instruction_of instruction.now) ≡ true }
-    ensures { result ≡ least_broken (drop 8 (tests_at site.now program (instruction_of instruction.now))) }
+/// The least of the rules 10 to 15 that it breaks.
+#[tactic(auto, unfolding(rules::specs::Rules::tests), using(rules::proofs::Channelled::expansion_channels))]
+fn broken_in_targets(site: &Site<'_>, call: &Syscall) -> Option<u8>
+    ensures { result ≡ least_broken (drop 6 (call_tests site.now (syscall_of call.now))) }
 {
     let (task, cert, bound) = (site.task, site.cert, site.bound);
-    if !each_use(bound, instruction, &KeepsLimit) {
-        return Some(9);
-    }
-    if !in_the_mode(bound, instruction, &WorksOnKnown) {
+    if !in_the_mode(bound, call, &WorksOnKnown) {
         return Some(10);
     }
-    if !in_the_mode(bound, instruction, &KeepsPolicy { task }) {
+    if !in_the_mode(bound, call, &KeepsPolicy { task }) {
         return Some(11);
     }
-    if !(keeps_global_names(instruction) && each_use(bound, instruction, &NamesKnown)) {
+    if demanded(call).changes_global_names || !all_uses_pass(bound, call, &NamesKnown) {
         return Some(12);
     }
-    if !each_use(bound, instruction, &MovesWithin) {
+    if !all_uses_pass(bound, call, &MovesWithin) {
         return Some(13);
     }
-    if !each_use(bound, instruction, &KeepsChannelBound { task, cert }) {
+    if !all_uses_pass(bound, call, &KeepsChannelBound { task, cert }) {
         return Some(14);
     }
-    if !all_have_channels(site, instruction) {
+    if !all_have_channels(cert, bound, call) {
         return Some(15);
     }
-    if !(successes_there(site, carried, instruction) && failure_there(site, carried, instruction)) {
-        return Some(16);
-    }
     None
+}
+
+/// The least of the rules 4 to 15 that an instruction breaks; what is no call breaks none.
+fn broken_by_call(site: &Site<'_>, instruction: &Instruction) -> Option<u8>
+    ensures { result ≡ least_broken (call_tests_of site.now (instruction_of instruction.now)) }
+{
+    let Instruction::Invoke { call, .. } = instruction else {
+        return None;
+    };
+    match broken_in_needs(site, call) {
+        None => broken_in_targets(site, call),
+        Some(rule) => Some(rule),
+    }
 }
 
 /// The least rule that is broken at a point with a bound, which carries this on.
+#[tactic(auto, unfolding(rules::specs::Rules::tests))]
 fn broken_with(
     site: &Site<'_>,
     program: u8,
@@ -178,10 +107,22 @@ fn broken_with(
     requires known { leaves_known (instruction_of instruction.now) ≡ true }
     ensures { result ≡ least_broken (tests_at site.now program (instruction_of instruction.now)) }
 {
-    match broken_first(site, program, carried, instruction) {
-        None => broken_last(site, program, carried, instruction),
-        Some(rule) => Some(rule),
+    if !starts_within(site.task, program, site.point, site.bound) {
+        return Some(1);
     }
+    if !successes_within(site, carried, instruction) {
+        return Some(2);
+    }
+    if !failure_within(site, carried, instruction) {
+        return Some(3);
+    }
+    if let Some(rule) = broken_by_call(site, instruction) {
+        return Some(rule);
+    }
+    if !(successes_there(site, carried, instruction) && failure_there(site, carried, instruction)) {
+        return Some(16);
+    }
+    None
 }
 
 /// The name of a program of the task; where it has none, it has no instructions.

@@ -5,36 +5,27 @@ ghost use Rattle.std.specs.List.{list_all};
 ghost use Rattle.rights.specs.Views.{operation_of};
 ghost use Rattle.certificate.specs.Order.{held_within};
 ghost use Rattle.certificate.specs.Views.{bound_of, held_of, target_of};
-ghost use Rattle.prog_asm.specs.Views.{instruction_of, operand_of};
+ghost use Rattle.prog_asm.specs.Programs.{Invoke};
+ghost use Rattle.prog_asm.specs.Views.{operand_of, syscall_of};
 ghost use Rattle.rules.specs.Expansions.{expansion};
 ghost use Rattle.rules.specs.Channels.{keeps_channel_bound, sends_into};
-ghost use Rattle.rules.specs.Rules.{each_use, in_the_mode, is_known, keeps_commands, keeps_limit, keeps_policy, keeps_rights, moves_within, names_known, same_grant, target_lists, works_on_known};
+ghost use Rattle.rules.specs.Rules.{in_the_mode, is_known, keeps_commands, keeps_limit, keeps_policy, keeps_rights, moves_within, names_known, same_grant, target_lists, works_on_known};
 ghost use Rattle.rules.specs.Slots.{slots_in};
 ghost use Rattle.transfer.specs.Views.{operation_list};
 
 use certificate::{Bound, Cert, Domain, Held, Target};
-use prog_asm::{Instruction, Operand};
+use prog_asm::{Operand, Syscall};
 use rights::Op;
 use task::{Task, grant_lists};
 use transfer::{
     Need, Passed, SlotTest, UseTest, all_slots_pass, all_uses_pass, channel_at, may_be_on,
 };
 
-/// Whether each slot passes that a call may go through; what is no call goes through none.
-pub(crate) fn each_use<T: UseTest>(bound: &Bound, instruction: &Instruction, test: &T) -> bool
-    ensures { result ≡ each_use (bound_of bound.now) (T.passes test.now) (instruction_of instruction.now) }
+/// Whether each slot that a call may go through passes, where a process may be in capability mode.
+pub(crate) fn in_the_mode<T: UseTest>(bound: &Bound, call: &Syscall, test: &T) -> bool
+    ensures { result ≡ in_the_mode (bound_of bound.now) (T.passes test.now) (Invoke (syscall_of call.now) 0) }
 {
-    match instruction {
-        Instruction::Invoke { call, .. } => all_uses_pass(bound, call, test),
-        _ => true,
-    }
-}
-
-/// Whether each does where a process may be in capability mode.
-pub(crate) fn in_the_mode<T: UseTest>(bound: &Bound, instruction: &Instruction, test: &T) -> bool
-    ensures { result ≡ in_the_mode (bound_of bound.now) (T.passes test.now) (instruction_of instruction.now) }
-{
-    !may_be_on(bound.mode()) || each_use(bound, instruction, test)
+    !may_be_on(bound.mode()) || all_uses_pass(bound, call, test)
 }
 
 /// The test whether it surely has the rights that the call needs. (rights(4))
