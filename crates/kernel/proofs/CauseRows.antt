@@ -16,11 +16,11 @@ use Rattle.lookup.specs.Steps.{looked}
 use Rattle.lookup.specs.ByPlaces.{by_places}
 use Rattle.lookup.specs.Looks.{lookup_fault, find_of}
 use Rattle.prog_asm.specs.Programs.{Number, Open, Openat, Read, Write, Sendfd, Recvfd, Lseek, Ftruncate, Fsync, Fcntl_setfl}
-use Rattle.fd_table.specs.Descriptions.{Access, At_node, descriptor_of}
+use Rattle.fd_table.specs.Descriptions.{At_node, descriptor_of}
 use Rattle.fd_table.specs.OpenFiles.{any_below, lowest_from}
 use Rattle.kernel.specs.Answers.{Pop, Fails, Gives, same, gives, unless, held, at_object, at_number}
 use Rattle.kernel.specs.Calls.{looks, looks_twice, answer}
-use Rattle.kernel.proofs.Samples.{base, reading}
+use Rattle.kernel.proofs.Samples.{base}
 use Rattle.kernel.proofs.CauseWorlds.{holding, all, with_rights, no_free, writing, dir, file, end_a, end_b, at_end, queued, unblocked, full, quiet, refusing, to_read, to_write}
 use Rattle.kernel.proofs.CauseWorlds.{to_make, free_process, in_mode}
 

@@ -1,15 +1,17 @@
 -- What no step does is refused by the relation.
-use Rattle.std.proofs.Common.{◌≡◌, ℕ, zero, suc, inl, inr, true, false, List, [], length, subst, sym, ap, arith, refl, ◌∙◌}
-use Rattle.std.specs.Prelude.{Option, Some, None, is_some}
-use Rattle.std.specs.List.{slice_get}
+use Rattle.std.proofs.Common.{◌≡◌, ℕ, zero, suc, inl, inr, Bool, true, false, List, [], ◌∷◌, length, subst, sym, ap, arith, refl, ◌∙◌}
+use Rattle.std.specs.Prelude.{not, ◌&&◌, Option, Some, None, is_some}
+use Rattle.std.specs.List.{list_all, slice_get}
+use Rattle.std.proofs.lemmas.Bool.{and_parts}
 use Rattle.std.proofs.Math.Decide.{ℕ_discrete}
 use Rattle.rights.specs.Sets.{is_within, all_rights, all_commands, read_right}
 use Rattle.process.specs.State.{new_process}
 use Rattle.prog_asm.specs.Programs.{Syscall, Number, Sendfd, Recvfd, Dup, Cap_rights_limit, Cap_fcntls_limit, Fork}
 use Rattle.fd_table.specs.Descriptions.{Descriptor, Message}
 use Rattle.kernel.specs.World.{World}
-use Rattle.kernel.specs.Origins.{Caller, ComesFrom, stood, was_made, was_copied, IsMade, IsSent, origin, QueuedFrom, had_waited, was_sent}
-use Rattle.kernel.specs.Gainful.{NothingComesFromElsewhere, wide, narrow, two_processes, carries, with_message, at_ends, receiving, second, second_ended, opens, opens_in_directory, sends, receives}
+use Rattle.kernel.specs.Origins.{Caller, ComesFrom, stood, was_made, was_copied, makes_own, source_of, IsNoWider, IsMade, IsSent, origin, QueuedFrom, had_waited, was_sent}
+use Rattle.kernel.specs.Gainful.{NothingComesFromElsewhere, NoneMakes, calls_that_make_none, wide, narrow, two_processes, carries, with_message, at_ends, receiving, second}
+use Rattle.kernel.specs.Gainful.{second_ended, opens, opens_in_directory, sends, receives}
 
 some_is : (o : Option Descriptor) (d : Descriptor) → o ≡ Some d → is_some o ≡ true
 some_is o d is = ap is_some is
@@ -89,6 +91,35 @@ no_wider_commands made = elim made.comes [ inl within ↦ impossible within.1 | 
 no_wider_openat : IsMade two_processes (second false opens_in_directory) 1 wide → ⊥
 unfolding ℕ_discrete
 no_wider_openat made = elim made.comes [ inl within ↦ impossible within.0 | inr own ↦ impossible own.makes ]
+
+-- a call that makes none of its own, and none within another
+abbrev is_no_maker : Syscall → Bool
+is_no_maker call = not (makes_own false (origin call)) && not (is_some (source_of two_processes 1 (new_process 0 false) (origin call)))
+
+makes_none : (call : Syscall) → is_no_maker call ≡ true → IsMade two_processes (second false call) 1 wide → ⊥
+makes_none call none made =
+    elim made.comes [
+      | inl within ↦ no_source _ (and_parts _ _ none).1 within
+      | inr own ↦ not_both (makes_own false (origin call)) own.makes (and_parts _ _ none).0
+    ]
+  where
+    no_source : (source : Option Descriptor) → not (is_some source) ≡ true → IsNoWider wide source → ⊥
+    no_source None is within = within
+    no_source (Some d) is within = impossible is
+
+    not_both : (b : Bool) → b ≡ true → not b ≡ true → ⊥
+    not_both true is other = impossible other
+    not_both false is other = impossible is
+
+none_make : (calls : List Syscall) → list_all is_no_maker calls ≡ true → NoneMakes calls
+unfolding ℕ_discrete
+none_make [] all = tt
+none_make (call ∷ calls) all =
+    let parts = and_parts (is_no_maker call) (list_all is_no_maker calls) all in
+    (λ gains. by_call two_processes _ 1 wide refl (empty_there wide) (makes_none call parts.0) (gains.entries 1 1), none_make calls parts.1)
+
+no_making : NoneMakes calls_that_make_none
+no_making = none_make calls_that_make_none refl
 
 no_wider_receive : IsMade (receiving 1) (second false receives) 1 wide → ⊥
 unfolding ℕ_discrete
@@ -207,6 +238,7 @@ nothing_comes_from_elsewhere = record {
   no_open_in_the_mode = λ gains. by_call two_processes _ 1 wide refl (empty_there wide) no_open (gains.entries 1 1);
   no_open_of_other_rights = λ gains. by_call two_processes _ 1 _ refl (empty_there _) no_other_right (gains.entries 1 1);
   no_open_of_other_commands = λ gains. by_call two_processes _ 1 _ refl (empty_there _) no_other_command (gains.entries 1 1);
+  no_making = no_making;
   no_wider_receive = λ gains. by_call (receiving 1) _ 1 wide refl (empty_there wide) no_wider_receive (gains.entries 1 1);
   no_receive_of_ones_own = λ gains. by_call (receiving 0) _ 1 narrow refl (empty_there narrow) no_own_message (gains.entries 1 1);
   no_receive_through_a_file = λ gains.

@@ -5,7 +5,8 @@ use Rattle.rights.specs.Maps.{put2}
 use Rattle.rights.specs.Opens.{open_request}
 use Rattle.rights.specs.Sets.{all_rights, all_commands, read_right}
 use Rattle.process.specs.State.{new_process}
-use Rattle.prog_asm.specs.Programs.{Syscall, Number, Open, Openat, Sendfd, Recvfd, Dup, Cap_rights_limit, Cap_fcntls_limit, Fork, Set, Halt, Invoke}
+use Rattle.prog_asm.specs.Programs.{Syscall, Number, Open, Openat, Read, Write, Sendfd, Recvfd, Lseek, Ftruncate, Fsync, Fstat, Fcntl_getfl, Fcntl_setfl, Fstatat, Stat, Mkdirat}
+use Rattle.prog_asm.specs.Programs.{Mkdir, Unlinkat, Unlink, Renameat, Dup, Close, Cap_rights_limit, Cap_fcntls_limit, Cap_enter, Cap_getmode, Fork, Set, Halt, Invoke}
 use Rattle.fd_table.specs.Descriptions.{Initial, At_node, At_end, Descriptor, Message, descriptor_of, message_of, new_state}
 use Rattle.kernel.specs.World.{World}
 use Rattle.kernel.specs.Answers.{Event}
@@ -51,6 +52,14 @@ sends = Sendfd (Number 0) (Number 0) (Number 0)
 abbrev pub receives : Syscall
 receives = Recvfd (Number 0)
 
+-- The calls that make no descriptor of their process: a receiver makes one elsewhere, a child holds its own.
+abbrev pub calls_that_make_none : List Syscall
+calls_that_make_none =
+    Read (Number 0) ∷ Write (Number 0) (Number 0) ∷ sends ∷ Lseek (Number 0) (Number 0) ∷ Ftruncate (Number 0) (Number 0)
+    ∷ Fsync (Number 0) ∷ Fstat (Number 0) ∷ Fcntl_getfl (Number 0) ∷ Fcntl_setfl (Number 0) (Number 0) ∷ Fstatat (Number 0) []
+    ∷ Stat [] ∷ Mkdirat (Number 0) [] ∷ Mkdir [] ∷ Unlinkat (Number 0) [] false ∷ Unlink [] false
+    ∷ Renameat (Number 0) [] (Number 0) [] ∷ Close (Number 0) ∷ Cap_enter ∷ Cap_getmode ∷ Fork ∷ []
+
 -- a world with a descriptor at (p, n), with messages of end (0, 0), and with other processes
 abbrev pub with_held : World → ℕ → ℕ → Descriptor → World
 with_held w p n d = record w { files = record w.files { table = put2 w.files.table p n (Some d) } }
@@ -91,13 +100,18 @@ event_by p = record { process = p; input = 0; refuse = false }
 abbrev pub second_ended : World
 second_ended = record two_processes { processes = new_process 0 false ∷ record (new_process 0 false) { alive = false } ∷ [] }
 
+-- the second process has no such descriptor by any of these calls
+abbrev pub NoneMakes : List Syscall → Type 0
+NoneMakes [] = Unit {0}
+NoneMakes (call ∷ calls) = (GainsNothing two_processes 1 (Some (second false call)) (with_at 1 1 wide) → ⊥) × NoneMakes calls
+
 -- Copies are made by `fork` alone, and for its child alone: a child of the second process hasn't the first one's table. A dup
 -- of the second has no rights of the first's, and no commands that its original hasn't, and is the second's. A limit doesn't
 -- widen, and leaves what it narrows where it stood. An `openat` has no more than its directory. An open takes no number that is
 -- taken, makes nothing in the mode, and makes all rights and commands. What is received has no more than what the front message
 -- carries that the other end has sent, through an end that is open. No message carries what nobody sent, another thing than it
 -- did, or more than what was sent, also behind another message; and `sendfd` alone sends, through an end that is open, into that
--- end's queue. A process that has ended or was never made makes no call, and an instruction that is none makes nothing. Nobody
+-- end's queue. The twenty calls that make none make none, `fork` for its caller too. A process that has ended or was never made makes no call, and an instruction that is none makes nothing. Nobody
 -- leaves the mode, no child of one in it is outside, and no process vanishes or comes from nowhere.
 pub record NothingComesFromElsewhere : Type 0 where
   pub no_other_table : GainsNothing two_processes 1 (Some (second false Fork)) (with_at 2 0 wide) → ⊥
@@ -118,6 +132,7 @@ pub record NothingComesFromElsewhere : Type 0 where
   pub no_open_in_the_mode : GainsNothing two_processes 1 (Some (second true opens)) (with_at 1 1 wide) → ⊥
   pub no_open_of_other_rights : GainsNothing two_processes 1 (Some (second false opens)) (with_at 1 1 (record wide { rights = read_right })) → ⊥
   pub no_open_of_other_commands : GainsNothing two_processes 1 (Some (second false opens)) (with_at 1 1 (record wide { fcntls = 0 })) → ⊥
+  pub no_making : NoneMakes calls_that_make_none
   pub no_wider_receive : GainsNothing (receiving 1) 1 (Some (second false receives)) (with_held (receiving 1) 1 1 wide) → ⊥
   pub no_receive_of_ones_own :
       GainsNothing (receiving 0) 1 (Some (second false receives)) (with_held (receiving 0) 1 1 narrow) → ⊥

@@ -1,5 +1,5 @@
 -- The state of a run. (after capsicum(4) and Watson et al., USENIX Security 2010; own)
-use Rattle.std.specs.Prelude.{◌≢◌, ℕ, List}
+use Rattle.std.specs.Prelude.{◌≢◌, List}
 use Rattle.rights.specs.Values.{DescriptionNumber, PairNumber}
 use Rattle.process.specs.State.{ProcessState}
 use Rattle.file_tree.specs.Nodes.{Node}
