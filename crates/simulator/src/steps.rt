@@ -59,16 +59,14 @@ fn execute<T: Tree>(
     alloc: Global,
     world: &mut World<T>,
     event: Event,
-    input: u8,
     instruction: &Instruction,
 ) -> Result<Executed, Memory>
-    requires byte { input ≡ event.input }
     requires stands { StandsAt (world_of T.nodes world.old) event.process (instruction_of instruction.now) }
     ensures { IfOk result (λ done. Executes (world_of T.nodes world.old) (event_of event) (instruction_of instruction.now)
         (result_of done.outcome) (effects_of done.effects.items) (world_of T.nodes world.new)) }
 {
     let number = event.process as usize;
-    match act(&mut world.processes[number], instruction, input) {
+    match act(&mut world.processes[number], instruction, event.input) {
         Action::Moves => Ok(without_effects(alloc, LineResult::Done)),
         Action::Ends => Ok(halt(alloc, world, event.process)),
         Action::Calls => {
@@ -97,9 +95,7 @@ fn step_process<T: Tree>(
     task: &Task,
     world: &mut World<T>,
     event: Event,
-    input: u8,
 ) -> Result<Executed, Memory>
-    requires byte { input ≡ event.input }
     requires good { IsWellFormed (programs_of_plan task.now) (world_of T.nodes world.old) }
     requires made { event.process < length world.old.processes.items }
     ensures { IfOk result (λ done. DoesAs (programs_of_plan task.now) (world_of T.nodes world.old) (event_of event)
@@ -111,17 +107,14 @@ fn step_process<T: Tree>(
     }
     match instruction_at(task.programs(), process.program, process.point) {
         None => Ok(without_effects(alloc, LineResult::Ended)),
-        Some(instruction) => execute(alloc, world, event, input, instruction),
+        Some(instruction) => execute(alloc, world, event, instruction),
     }
 }
 
-/// The byte that an event gives.
-fn input_of(event: Event) -> u8
-    ensures value { result ≡ event.input }
-    ensures byte { event.input < 256 }
-{
-    event.input
-}
+/// Notes that what an event gives is a byte, as its type says.
+fn note_byte(event: Event)
+    ensures { event.input < 256 }
+{}
 
 /// The step of an event, and its line.
 pub(crate) fn step_world<T: Tree>(
@@ -136,7 +129,7 @@ pub(crate) fn step_world<T: Tree>(
         (world_of T.nodes world.new)) }
     ensures byte { event.input < 256 }
 {
-    let input = input_of(event);
+    note_byte(event);
     let Some(process) = world.processes.get(event.process as usize) else {
         return Ok(Line {
             process: event.process,
@@ -145,7 +138,7 @@ pub(crate) fn step_world<T: Tree>(
     };
     let program = process.program;
     let point = process.point;
-    let done = step_process(alloc, task, world, event, input)?;
+    let done = step_process(alloc, task, world, event)?;
     Ok(Line {
         process: event.process,
         acted: Some(Acted {

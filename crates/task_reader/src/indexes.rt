@@ -71,7 +71,7 @@ pub(crate) fn number_at(tree: &IndexedNodes<'_>, path: &[u8]) -> Option<usize>
 }
 
 /// Whether a directory stands at the place of a path.
-pub(crate) fn has_directory(tree: &IndexedNodes<'_>, path: &[u8], place: &[Vec<u8>]) -> bool
+fn has_directory(tree: &IndexedNodes<'_>, path: &[u8], place: &[Vec<u8>]) -> bool
     requires index { IsIndex tree.now.numbers (nodes_of tree.now.nodes.items) }
     requires path { IsPath path.now (names_of place.now) }
     ensures { result ≡ has_directory (nodes_of tree.now.nodes.items) (names_of place.now) }

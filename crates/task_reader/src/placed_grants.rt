@@ -3,54 +3,21 @@
 ghost use Rattle.std.specs.Prelude.{◌≡◌, IfErr, IfOk, map, option_map};
 ghost use Rattle.file_tree.specs.Views.{names_of};
 ghost use Rattle.task_reader.specs.FaultViews.{Checks, ReadsTask};
-ghost use Rattle.task_reader.specs.IndexViews.{IsIndex, IsPath};
+ghost use Rattle.task_reader.specs.IndexViews.{IsIndex};
 ghost use Rattle.task.specs.Limits.{all_apart};
-ghost use Rattle.task_reader.specs.Reading.{Wrong_grant, are_separate, can_grant, grant_placed, granted_place, grants_placed, or_mistake, policy_of};
+ghost use Rattle.task_reader.specs.Reading.{Wrong_grant, are_separate, grant_placed, granted_place, grants_placed, or_mistake, policy_of};
 ghost use Rattle.task.specs.Views.{grant_of, grants_of, nodes_of};
 ghost use Rattle.task_reader.specs.WrittenViews.{grant_seen, grants_seen};
 ghost use Rattle.task_reader.specs.ApartViews.{granted_places, none_begins_so};
 ghost use Rattle.task_reader.specs.declared.faults.TaskFault.TheVariants as fault;
 
 use crate::faults::TaskFault;
-use crate::indexes::{IndexedNodes, has_directory, number_at};
+use crate::indexes::{IndexedNodes, number_at};
 use crate::paths::read_place;
 use crate::written::WrittenGrant;
 use file_tree::{Kind, is_front};
 use std::alloc::{AllocError, Global};
 use task::Grant;
-
-/// Whether a grant can be of the place of a path: a directory stands there.
-#[tactic(auto, unfolding(crate::specs::Reading::can_grant))]
-fn can_grant(tree: &IndexedNodes<'_>, path: &[u8], place: &[Vec<u8>]) -> bool
-    requires index { IsIndex tree.now.numbers (nodes_of tree.now.nodes.items) }
-    requires path { IsPath path.now (names_of place.now) }
-    ensures { result ≡ can_grant (nodes_of tree.now.nodes.items) (names_of place.now) }
-{
-    has_directory(tree, path, place)
-}
-
-/// The grant, if a directory stands at its path.
-fn place_grant(
-    alloc: Global,
-    tree: &IndexedNodes<'_>,
-    grant: &WrittenGrant<'_>,
-) -> Result<Option<Grant>, AllocError>
-    requires { IsIndex tree.now.numbers (nodes_of tree.now.nodes.items) }
-    ensures { IfOk result (λ placed. option_map grant_of placed ≡ grant_placed (nodes_of tree.now.nodes.items) (grant_seen grant.now)) }
-{
-    let path = grant.path.as_bytes();
-    let Some(place) = read_place(alloc, path)? else {
-        return Ok(None);
-    };
-    if !can_grant(tree, path, &place) {
-        return Ok(None);
-    }
-    Ok(Some(Grant {
-        name: String::from_str(alloc, grant.name)?,
-        path: place,
-        operations: Vec::from_slice(alloc, &grant.operations)?,
-    }))
-}
 
 /// The place of a path, if a directory stands there.
 fn directory_at<'t>(tree: &'t IndexedNodes<'_>, path: &str) -> Option<&'t [Vec<u8>]>
@@ -63,6 +30,28 @@ fn directory_at<'t>(tree: &'t IndexedNodes<'_>, path: &str) -> Option<&'t [Vec<u
         Kind::Dir => Some(&node.place),
         Kind::File | Kind::Link => None,
     }
+}
+
+/// The grant, if a directory stands at its path.
+fn place_grant(
+    alloc: Global,
+    tree: &IndexedNodes<'_>,
+    grant: &WrittenGrant<'_>,
+) -> Result<Option<Grant>, AllocError>
+    requires { IsIndex tree.now.numbers (nodes_of tree.now.nodes.items) }
+    ensures { IfOk result (λ placed. option_map grant_of placed ≡ grant_placed (nodes_of tree.now.nodes.items) (grant_seen grant.now)) }
+{
+    if directory_at(tree, grant.path).is_none() {
+        return Ok(None);
+    }
+    let Some(place) = read_place(alloc, grant.path.as_bytes())? else {
+        return Ok(None);
+    };
+    Ok(Some(Grant {
+        name: String::from_str(alloc, grant.name)?,
+        path: place,
+        operations: Vec::from_slice(alloc, &grant.operations)?,
+    }))
 }
 
 /// The places of the grants, if a directory stands at each.

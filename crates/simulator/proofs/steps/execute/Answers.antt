@@ -1,4 +1,4 @@
-use Rattle.std.proofs.Common.{◌<◌, ◌≡◌, ◌∙◌, List, ap, length, subst, sym}
+use Rattle.std.proofs.Common.{◌<◌, ◌≡◌, List, length, subst, sym}
 use Rattle.std.specs.Prelude.{Some}
 use Rattle.std.specs.List.{slice_get}
 use Rattle.fd_table.specs.Kept.{open_files}
@@ -9,7 +9,6 @@ use Rattle.prog_asm.specs.Views.{instruction_of}
 use Rattle.syscalls.specs.CallViews.{result_of as outcome_of}
 use Rattle.syscalls.specs.MayCall.{CallComes, MayCall}
 use Rattle.syscalls.specs.Views.{effects_of, event_of, world_of, world_with}
-use Rattle.simulator.specs.Steps.{acted_on}
 use Rattle.simulator.specs.Views.{result_of}
 use Rattle.simulator.proofs.Doing.{calls_unchanged, ends_unchanged, executes_called, executes_ended, executes_moved, made_few, made_within, may_call, needs_next}
 use Rattle.simulator.proofs.steps.execute.Goals as goal
@@ -20,7 +19,7 @@ act-requires g c = needs_next (world_of g.T.Tree.nodes c.args.world.now) c.args.
 pub halt-requires-clause-made : goal.halt-requires-clause-made
 halt-requires-clause-made g c =
     subst (λ (ps : List ProcessState). c.args.event.process < length ps)
-    (sym (ends_unchanged (world_of g.T.Tree.nodes c.args.world.now) c.args.event.process c.index_mut.result.now c.act.new.process c.args.input
+    (sym (ends_unchanged (world_of g.T.Tree.nodes c.args.world.now) c.args.event.process c.index_mut.result.now c.act.new.process c.args.event.input
     c.index_mut.ensures.value (instruction_of c.args.instruction.now) c.requires.stands c.in-Ends.ensures.action c.in-Ends.ensures.process))
     (made_within (world_of g.T.Tree.nodes c.args.world.now) c.args.event.process (instruction_of c.args.instruction.now) c.requires.stands)
 
@@ -30,7 +29,7 @@ halt-requires-clause-few g c = made_few (world_of g.T.Tree.nodes c.args.world.no
 pub call-requires-clause-may : goal.call-requires-clause-may
 call-requires-clause-may g c =
     subst (λ (ps : List ProcessState). MayCall (world_with (g.T.Tree.nodes c.args.world.now.tree) (open_files c.args.world.now.files) ps) c.args.event.process)
-    (sym (calls_unchanged (world_of g.T.Tree.nodes c.args.world.now) c.args.event.process c.index_mut.result.now c.act.new.process c.args.input
+    (sym (calls_unchanged (world_of g.T.Tree.nodes c.args.world.now) c.args.event.process c.index_mut.result.now c.act.new.process c.args.event.input
     c.index_mut.ensures.value (instruction_of c.args.instruction.now) c.requires.stands c.in-Calls.ensures.action c.in-Calls.ensures.process))
     (may_call (world_of g.T.Tree.nodes c.args.world.now) c.args.event.process (instruction_of c.args.instruction.now) c.requires.stands c.in-Calls.ensures.action)
 
@@ -38,7 +37,7 @@ pub returns-in-Moves : goal.returns-in-Moves
 returns-in-Moves g c =
     executes_moved (world_of g.T.Tree.nodes c.args.world.now) (event_of c.args.event) c.index_mut.result.now c.act.new.process (instruction_of c.args.instruction.now)
     (result_of c.without_effects.result.outcome) (effects_of c.without_effects.result.effects.items) c.requires.stands c.index_mut.ensures.value c.in-Moves.ensures.action
-    (c.in-Moves.ensures.process ∙ ap (λ n. acted_on c.index_mut.result.now n (instruction_of c.args.instruction.now)) c.requires.byte)
+    c.in-Moves.ensures.process
     c.without_effects.ensures.outcome c.without_effects.ensures.effects
 
 pub returns-in-Ends : goal.returns-in-Ends
@@ -48,7 +47,7 @@ returns-in-Ends g c =
     (subst (λ (ps : List ProcessState). (s : ProcessState) → slice_get ps c.args.event.process ≡ Some s →
     AlikeWorlds (halted (world_with (g.T.Tree.nodes c.args.world.now.tree) (open_files c.args.world.now.files) ps) c.args.event.process s)
     (world_of g.T.Tree.nodes c.halt.new.world))
-    (ends_unchanged (world_of g.T.Tree.nodes c.args.world.now) c.args.event.process c.index_mut.result.now c.act.new.process c.args.input
+    (ends_unchanged (world_of g.T.Tree.nodes c.args.world.now) c.args.event.process c.index_mut.result.now c.act.new.process c.args.event.input
     c.index_mut.ensures.value (instruction_of c.args.instruction.now) c.requires.stands c.in-Ends.ensures.action c.in-Ends.ensures.process)
     c.halt.ensures.world)
 
@@ -57,7 +56,7 @@ returns-in_ok-outcome-in-Calls g c =
     let v = world_of g.T.Tree.nodes c.call.new.world in
     let shows = effects_of c.in_ok-outcome-in-Calls.effects.items in
     let unchanged = calls_unchanged (world_of g.T.Tree.nodes c.args.world.now) c.args.event.process c.index_mut.result.now c.act.new.process
-    c.args.input c.index_mut.ensures.value (instruction_of c.args.instruction.now) c.requires.stands c.in-Calls.ensures.action
+    c.args.event.input c.index_mut.ensures.value (instruction_of c.args.instruction.now) c.requires.stands c.in-Calls.ensures.action
     c.in-Calls.ensures.process in
     executes_called (world_of g.T.Tree.nodes c.args.world.now) (event_of c.args.event) (instruction_of c.args.instruction.now) (result_of c.result_of_call.result) shows v c.requires.stands
     (subst (λ told. CallComes (world_of g.T.Tree.nodes c.args.world.now) c.args.event.process (event_of c.args.event)

@@ -27,16 +27,18 @@ returns-in-None g c =
     (made_at c.args.world.now.processes.items c.args.event.process c.index-process.result.now c.requires.made c.index-process.ensures)
     c.without_effects-in-None.ensures.outcome c.without_effects-in-None.ensures.effects
 
-pub execute-requires-clause-stands : goal.execute-requires-clause-stands
-execute-requires-clause-stands g c = record {
-  programs = programs_of_plan c.args.task.now;
-  valid = (first_well_formed c.args.task.now c.programs.ensures.valid).0;
-  good = c.requires.good;
-  process = c.index-process.result.now;
-  made = made_at c.args.world.now.processes.items c.args.event.process c.index-process.result.now c.requires.made c.index-process.ensures;
-  here =
-      sym (ap (λ (t : ProcessState). slice_get (programs_of_plan c.args.task.now t.program) t.point) c.process.view_is)
-      ∙ ap (λ (ps : List NamedProgram). slice_get (code_in (slice_get ps c.process.inside.program)) c.process.inside.point) (sym c.programs.ensures.programs) ∙ sym c.in-Some.ensures;
+pub execute-requires : goal.execute-requires
+execute-requires g c = record {
+  stands = record {
+    programs = programs_of_plan c.args.task.now;
+    valid = (first_well_formed c.args.task.now c.programs.ensures.valid).0;
+    good = c.requires.good;
+    process = c.index-process.result.now;
+    made = made_at c.args.world.now.processes.items c.args.event.process c.index-process.result.now c.requires.made c.index-process.ensures;
+    here =
+        sym (ap (λ (t : ProcessState). slice_get (programs_of_plan c.args.task.now t.program) t.point) c.process.view_is)
+        ∙ ap (λ (ps : List NamedProgram). slice_get (code_in (slice_get ps c.process.inside.program)) c.process.inside.point) (sym c.programs.ensures.programs) ∙ sym c.in-Some.ensures;
+  };
 }
 
 pub returns-in-Some : goal.returns-in-Some

@@ -5,7 +5,7 @@ use Rattle.std.proofs.lemmas.Result.{err_from_is_err_and}
 use Rattle.file_tree.specs.Nodes.{Node}
 use Rattle.rights.specs.Limits.{most_programs}
 use Rattle.std.proofs.Common.{take}
-use Rattle.task.specs.Plans.{Grant, NamedProgram, Start, Plan, plan_with}
+use Rattle.task.specs.Plans.{Grant, NamedProgram, Start, plan_with}
 use Rattle.task.specs.Limits.{is_plan}
 use Rattle.task_reader.specs.ApartViews.{first_assembled}
 use Rattle.task_reader.specs.FaultViews.{FaultIs}
