@@ -1,15 +1,13 @@
 //! Where each call may lead, but for errors.
 
 ghost use Rattle.std.specs.Prelude.{◌≡◌, ◌-◌, true};
-ghost use Rattle.std.specs.List.{list_all};
-ghost use Rattle.rights.specs.Limits.{most_bytes, most_processes};
 ghost use Rattle.rights.specs.Sets.{all_commands, all_rights, is_within};
-ghost use Rattle.certificate.specs.Views.{bound_of, held_of, interval_of, mode_of, name_of, side_of};
+ghost use Rattle.certificate.specs.Views.{bound_of, held_of, interval_of, mode_of, side_of};
 ghost use Rattle.prog_asm.specs.Programs.{Cap_enter, Cap_fcntls_limit, Cap_rights_limit, Fork, Socketpair};
 ghost use Rattle.prog_asm.specs.Views.{operand_of, syscall_of};
-ghost use Rattle.rules.specs.Outcomes.{from_to, is_formed, is_surely_on, mode_interval};
+ghost use Rattle.rules.specs.Outcomes.{is_formed, is_surely_on, mode_interval};
 ghost use Rattle.transfer.specs.CallViews.{call_at, end_at, pair_made};
-ghost use Rattle.transfer.specs.Kept.{kept_all};
+ghost use Rattle.transfer.specs.Kept.{TestsEach};
 ghost use Rattle.transfer.specs.Limits.{has_known_limit};
 
 use crate::channels::all_have_channels;
@@ -77,10 +75,7 @@ fn paired(site: &Site<'_>, first: u8, second: u8) -> Bound
 
 /// Whether the outcome passes of a new pair, if two numbers are free.
 fn pair_passes<T: OutcomeTest>(site: &Site<'_>, test: &mut T) -> bool
-    ensures value { result ≡ list_all (T.passes test.old) (call_at site.now Socketpair) }
-    ensures same { T.passes test.new ≡ T.passes test.old }
-    ensures same_point { T.joins test.new ≡ T.joins test.old }
-    ensures kept { result ≡ true → T.kept test.new ≡ kept_all (T.joins test.old) (T.kept test.old)
+    ensures { TestsEach T.passes T.joins T.kept test.old test.new result
         (call_at site.now Socketpair) }
 {
     match free_numbers(Takes::Two, site.bound) {
@@ -97,10 +92,7 @@ fn pair_passes<T: OutcomeTest>(site: &Site<'_>, test: &mut T) -> bool
 
 /// Whether the outcome of entering the mode passes.
 fn entered_passes<T: OutcomeTest>(site: &Site<'_>, test: &mut T) -> bool
-    ensures value { result ≡ list_all (T.passes test.old) (call_at site.now Cap_enter) }
-    ensures same { T.passes test.new ≡ T.passes test.old }
-    ensures same_point { T.joins test.new ≡ T.joins test.old }
-    ensures kept { result ≡ true → T.kept test.new ≡ kept_all (T.joins test.old) (T.kept test.old)
+    ensures { TestsEach T.passes T.joins T.kept test.old test.new result
         (call_at site.now Cap_enter) }
 {
     let change = Change::Register {
@@ -112,10 +104,7 @@ fn entered_passes<T: OutcomeTest>(site: &Site<'_>, test: &mut T) -> bool
 
 /// Whether the outcomes pass of a child and of its parent, which gets the child's number.
 fn forked_pass<T: OutcomeTest>(site: &Site<'_>, test: &mut T) -> bool
-    ensures value { result ≡ list_all (T.passes test.old) (call_at site.now Fork) }
-    ensures same { T.passes test.new ≡ T.passes test.old }
-    ensures same_point { T.joins test.new ≡ T.joins test.old }
-    ensures kept { result ≡ true → T.kept test.new ≡ kept_all (T.joins test.old) (T.kept test.old)
+    ensures { TestsEach T.passes T.joins T.kept test.old test.new result
         (call_at site.now Fork) }
 {
     step_passes(site, only(0), test)
@@ -130,11 +119,7 @@ fn rights_limited_pass<T: OutcomeTest>(
     test: &mut T,
 ) -> bool
     requires { is_within rights.0 all_rights ≡ true }
-    ensures value { result ≡ list_all (T.passes test.old)
-        (call_at site.now (Cap_rights_limit (operand_of operand) rights.0)) }
-    ensures same { T.passes test.new ≡ T.passes test.old }
-    ensures same_point { T.joins test.new ≡ T.joins test.old }
-    ensures kept { result ≡ true → T.kept test.new ≡ kept_all (T.joins test.old) (T.kept test.old)
+    ensures { TestsEach T.passes T.joins T.kept test.old test.new result
         (call_at site.now (Cap_rights_limit (operand_of operand) rights.0)) }
 {
     let left = RightsRange::new(rights, rights);
@@ -149,11 +134,7 @@ fn commands_limited_pass<T: OutcomeTest>(
     test: &mut T,
 ) -> bool
     requires { is_within commands.0 all_commands ≡ true }
-    ensures value { result ≡ list_all (T.passes test.old)
-        (call_at site.now (Cap_fcntls_limit (operand_of operand) commands.0)) }
-    ensures same { T.passes test.new ≡ T.passes test.old }
-    ensures same_point { T.joins test.new ≡ T.joins test.old }
-    ensures kept { result ≡ true → T.kept test.new ≡ kept_all (T.joins test.old) (T.kept test.old)
+    ensures { TestsEach T.passes T.joins T.kept test.old test.new result
         (call_at site.now (Cap_fcntls_limit (operand_of operand) commands.0)) }
 {
     let left = FcntlsRange::new(commands, commands);
@@ -163,10 +144,7 @@ fn commands_limited_pass<T: OutcomeTest>(
 /// Whether each success of a call passes, where it is looked at.
 pub(crate) fn call_passes<T: OutcomeTest>(site: &Site<'_>, call: &Syscall, test: &mut T) -> bool
     requires { has_known_limit (syscall_of call.now) ≡ true }
-    ensures value { result ≡ list_all (T.passes test.old) (call_at site.now (syscall_of call.now)) }
-    ensures same { T.passes test.new ≡ T.passes test.old }
-    ensures same_point { T.joins test.new ≡ T.joins test.old }
-    ensures kept { result ≡ true → T.kept test.new ≡ kept_all (T.joins test.old) (T.kept test.old)
+    ensures { TestsEach T.passes T.joins T.kept test.old test.new result
         (call_at site.now (syscall_of call.now)) }
 {
     match call {

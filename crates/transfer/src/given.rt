@@ -2,13 +2,12 @@
 //! about once.
 
 ghost use Rattle.std.specs.Prelude.{◌≡◌, not, true};
-ghost use Rattle.std.specs.List.{flat_map, list_all};
+ghost use Rattle.std.specs.List.{list_all};
 ghost use Rattle.certificate.specs.Views.{bound_of, interval_of, target_of};
 ghost use Rattle.prog_asm.specs.Views.{operand_of};
-ghost use Rattle.rules.specs.Outcomes.{leads_on};
 ghost use Rattle.rules.specs.Slots.{slots_in};
 ghost use Rattle.transfer.specs.GivenViews.{both_given, given_at, may_be, stays};
-ghost use Rattle.transfer.specs.Kept.{kept_all};
+ghost use Rattle.transfer.specs.Kept.{TestsEach};
 
 use crate::asks::{SlotTest, all_slots_pass};
 use crate::outcomes::Change;
@@ -60,10 +59,7 @@ fn none_is(bound: &Bound, operand: Operand, kind: Kind) -> bool
 
 /// Whether the next point passes with register 0 in an interval.
 pub(crate) fn step_passes<T: OutcomeTest>(site: &Site<'_>, given: Interval, test: &mut T) -> bool
-    ensures value { result ≡ list_all (T.passes test.old) (stays site.now (interval_of given)) }
-    ensures same { T.passes test.new ≡ T.passes test.old }
-    ensures same_point { T.joins test.new ≡ T.joins test.old }
-    ensures kept { result ≡ true → T.kept test.new ≡ kept_all (T.joins test.old) (T.kept test.old)
+    ensures { TestsEach T.passes T.joins T.kept test.old test.new result
         (stays site.now (interval_of given)) }
 {
     let change = Change::Register {
@@ -81,10 +77,7 @@ pub(crate) fn given_passes<T: OutcomeTest>(
     given: Interval,
     test: &mut T,
 ) -> bool
-    ensures value { result ≡ list_all (T.passes test.old) (given_at site.now (operand_of operand) kind (interval_of given)) }
-    ensures same { T.passes test.new ≡ T.passes test.old }
-    ensures same_point { T.joins test.new ≡ T.joins test.old }
-    ensures kept { result ≡ true → T.kept test.new ≡ kept_all (T.joins test.old) (T.kept test.old)
+    ensures { TestsEach T.passes T.joins T.kept test.old test.new result
         (given_at site.now (operand_of operand) kind (interval_of given)) }
 {
     none_is(site.bound, operand, kind) || step_passes(site, given, test)
@@ -98,11 +91,7 @@ pub(crate) fn both_given_pass<T: OutcomeTest>(
     given: Interval,
     test: &mut T,
 ) -> bool
-    ensures value { result ≡ list_all (T.passes test.old)
-        (both_given site.now (operand_of first.0) first.1 (operand_of second.0) second.1 (interval_of given)) }
-    ensures same { T.passes test.new ≡ T.passes test.old }
-    ensures same_point { T.joins test.new ≡ T.joins test.old }
-    ensures kept { result ≡ true → T.kept test.new ≡ kept_all (T.joins test.old) (T.kept test.old)
+    ensures { TestsEach T.passes T.joins T.kept test.old test.new result
         (both_given site.now (operand_of first.0) first.1 (operand_of second.0) second.1 (interval_of given)) }
 {
     let (operand, kind) = first;

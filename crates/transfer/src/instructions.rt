@@ -1,12 +1,11 @@
 //! Where an instruction may lead.
 
 ghost use Rattle.std.specs.Prelude.{◌≡◌, true, option_map};
-ghost use Rattle.std.specs.List.{list_all};
 ghost use Rattle.certificate.specs.Views.{bound_of, interval_of};
 ghost use Rattle.prog_asm.specs.Views.{instruction_of};
-ghost use Rattle.rules.specs.Outcomes.{equal_outcomes, error_interval, error_outcomes, less_outcomes, outcomes_in};
+ghost use Rattle.rules.specs.Outcomes.{equal_outcomes, error_outcomes, less_outcomes, outcomes_in};
 ghost use Rattle.transfer.specs.CallViews.{successes_at};
-ghost use Rattle.transfer.specs.Kept.{kept_all};
+ghost use Rattle.transfer.specs.Kept.{TestsEach};
 ghost use Rattle.transfer.specs.Limits.{leaves_known};
 ghost use Rattle.transfer.specs.OutcomeViews.{outcomes_of};
 
@@ -26,11 +25,7 @@ fn part_passes<T: OutcomeTest>(
     part: Option<Interval>,
     test: &mut T,
 ) -> bool
-    ensures value { result ≡ list_all (T.passes test.old)
-        (outcomes_in point (bound_of site.now.bound.now) register (option_map interval_of part)) }
-    ensures same { T.passes test.new ≡ T.passes test.old }
-    ensures same_point { T.joins test.new ≡ T.joins test.old }
-    ensures kept { result ≡ true → T.kept test.new ≡ kept_all (T.joins test.old) (T.kept test.old)
+    ensures { TestsEach T.passes T.joins T.kept test.old test.new result
         (outcomes_in point (bound_of site.now.bound.now) register (option_map interval_of part)) }
 {
     match part {
@@ -54,11 +49,7 @@ fn equal_pass<T: OutcomeTest>(
     target: u8,
     test: &mut T,
 ) -> bool
-    ensures value { result ≡ list_all (T.passes test.old)
-        (equal_outcomes site.now.point (bound_of site.now.bound.now) register value target) }
-    ensures same { T.passes test.new ≡ T.passes test.old }
-    ensures same_point { T.joins test.new ≡ T.joins test.old }
-    ensures kept { result ≡ true → T.kept test.new ≡ kept_all (T.joins test.old) (T.kept test.old)
+    ensures { TestsEach T.passes T.joins T.kept test.old test.new result
         (equal_outcomes site.now.point (bound_of site.now.bound.now) register value target) }
 {
     let interval = site.bound.interval(register.number());
@@ -77,11 +68,7 @@ fn less_pass<T: OutcomeTest>(
     target: u8,
     test: &mut T,
 ) -> bool
-    ensures value { result ≡ list_all (T.passes test.old)
-        (less_outcomes site.now.point (bound_of site.now.bound.now) register value target) }
-    ensures same { T.passes test.new ≡ T.passes test.old }
-    ensures same_point { T.joins test.new ≡ T.joins test.old }
-    ensures kept { result ≡ true → T.kept test.new ≡ kept_all (T.joins test.old) (T.kept test.old)
+    ensures { TestsEach T.passes T.joins T.kept test.old test.new result
         (less_outcomes site.now.point (bound_of site.now.bound.now) register value target) }
 {
     let interval = site.bound.interval(register.number());
@@ -101,10 +88,7 @@ pub fn successes_pass<T: OutcomeTest>(
     test: &mut T,
 ) -> bool
     requires { leaves_known (instruction_of instruction.now) ≡ true }
-    ensures value { result ≡ list_all (T.passes test.old) (successes_at site.now (instruction_of instruction.now)) }
-    ensures same { T.passes test.new ≡ T.passes test.old }
-    ensures same_point { T.joins test.new ≡ T.joins test.old }
-    ensures kept { result ≡ true → T.kept test.new ≡ kept_all (T.joins test.old) (T.kept test.old)
+    ensures { TestsEach T.passes T.joins T.kept test.old test.new result
         (successes_at site.now (instruction_of instruction.now)) }
 {
     let bound = site.bound;

@@ -1,14 +1,14 @@
 //! Where an instruction may lead from a point with a bound, but for errors: each outcome is asked about, and none is kept.
 
-ghost use Rattle.std.specs.Prelude.{◌≡◌, ◌+◌, ◌≤◌, ℕ, Bool, Option, true, length, map, option_map};
-ghost use Rattle.std.specs.List.{flat_map, list_all};
+ghost use Rattle.std.specs.Prelude.{◌≡◌, ◌+◌, ◌≤◌, ℕ, Bool, Option, true, length, map};
+ghost use Rattle.std.specs.List.{flat_map};
 ghost use Rattle.certificate.specs.Bounds.{Bound as BoundSeen, with_interval, with_slot};
 ghost use Rattle.certificate.specs.Views.{bound_of, held_of, interval_of, slot_of, target_of};
-ghost use Rattle.prog_asm.specs.Views.{instruction_of, operand_of, syscall_of};
+ghost use Rattle.prog_asm.specs.Views.{operand_of};
 ghost use Rattle.rules.specs.Outcomes.{Outcome as OutcomeSeen, outcome_to};
 ghost use Rattle.rules.specs.Intervals.{only};
 ghost use Rattle.rules.specs.Slots.{slots_from, slots_in};
-ghost use Rattle.transfer.specs.Kept.{kept_all, kept_with};
+ghost use Rattle.transfer.specs.Kept.{TestsEach, kept_with};
 ghost use Rattle.transfer.specs.OutcomeViews.{bound_changed, outcome_of};
 ghost use Rattle.transfer.specs.SiteViews.{acted, left_by_limit, received_at, taken_at};
 ghost use Rattle.transfer.specs.Tested.{slot_at};
@@ -82,11 +82,7 @@ pub(crate) fn next_passes<T: OutcomeTest>(
     change: Change,
     test: &mut T,
 ) -> bool
-    ensures value { result ≡ list_all (T.passes test.old)
-        (outcome_to (site.now.point + 1) (bound_changed (bound_of bound.now) change)) }
-    ensures same { T.passes test.new ≡ T.passes test.old }
-    ensures same_point { T.joins test.new ≡ T.joins test.old }
-    ensures kept { result ≡ true → T.kept test.new ≡ kept_all (T.joins test.old) (T.kept test.old)
+    ensures { TestsEach T.passes T.joins T.kept test.old test.new result
         (outcome_to (site.now.point + 1) (bound_changed (bound_of bound.now) change)) }
 {
     let point = site.point as usize + 1;
@@ -99,10 +95,7 @@ pub(crate) fn next_passes<T: OutcomeTest>(
 
 /// Whether the outcome passes where the lowest free number is taken for what is held, if one is free.
 pub(crate) fn taken_passes<T: OutcomeTest>(site: &Site<'_>, held: &Held, test: &mut T) -> bool
-    ensures value { result ≡ list_all (T.passes test.old) (taken_at site.now (held_of held.now)) }
-    ensures same { T.passes test.new ≡ T.passes test.old }
-    ensures same_point { T.joins test.new ≡ T.joins test.old }
-    ensures kept { result ≡ true → T.kept test.new ≡ kept_all (T.joins test.old) (T.kept test.old)
+    ensures { TestsEach T.passes T.joins T.kept test.old test.new result
         (taken_at site.now (held_of held.now)) }
 {
     match free_numbers(Takes::One, site.bound) {
@@ -120,13 +113,8 @@ pub(crate) fn taken_passes<T: OutcomeTest>(site: &Site<'_>, held: &Held, test: &
 
 /// Whether the outcome passes where a slot is otherwise and register 0 is 0.
 fn slot_passes<T: OutcomeTest>(site: &Site<'_>, number: u8, slot: Slot, test: &mut T) -> bool
-    ensures value { result ≡ list_all (T.passes test.old) (outcome_to (site.now.point + 1)
-        (with_interval (with_slot (bound_of site.now.bound.now) number (slot_of slot)) 0 (only 0))) }
-    ensures same { T.passes test.new ≡ T.passes test.old }
-    ensures same_point { T.joins test.new ≡ T.joins test.old }
-    ensures kept { result ≡ true → T.kept test.new ≡ kept_all (T.joins test.old) (T.kept test.old)
-        (outcome_to (site.now.point + 1)
-        (with_interval (with_slot (bound_of site.now.bound.now) number (slot_of slot)) 0 (only 0))) }
+    ensures { TestsEach T.passes T.joins T.kept test.old test.new result
+        (outcome_to (site.now.point + 1) (with_interval (with_slot (bound_of site.now.bound.now) number (slot_of slot)) 0 (only 0))) }
 {
     let change = Change::Slot {
         number,
@@ -138,10 +126,7 @@ fn slot_passes<T: OutcomeTest>(site: &Site<'_>, number: u8, slot: Slot, test: &m
 
 /// Whether the outcome passes of what comes from a channel, or from an end of unknown kind.
 fn received_passes<T: OutcomeTest>(site: &Site<'_>, target: &Target, test: &mut T) -> bool
-    ensures value { result ≡ list_all (T.passes test.old) (received_at site.now (target_of target.now)) }
-    ensures same { T.passes test.new ≡ T.passes test.old }
-    ensures same_point { T.joins test.new ≡ T.joins test.old }
-    ensures kept { result ≡ true → T.kept test.new ≡ kept_all (T.joins test.old) (T.kept test.old)
+    ensures { TestsEach T.passes T.joins T.kept test.old test.new result
         (received_at site.now (target_of target.now)) }
 {
     match target {
@@ -175,11 +160,7 @@ fn acted_passes<T: OutcomeTest>(
     held: &Held,
     test: &mut T,
 ) -> bool
-    ensures value { result ≡ list_all (T.passes test.old)
-        (acted site.now act (record { number = number; held = held_of held.now })) }
-    ensures same { T.passes test.new ≡ T.passes test.old }
-    ensures same_point { T.joins test.new ≡ T.joins test.old }
-    ensures kept { result ≡ true → T.kept test.new ≡ kept_all (T.joins test.old) (T.kept test.old)
+    ensures { TestsEach T.passes T.joins T.kept test.old test.new result
         (acted site.now act (record { number = number; held = held_of held.now })) }
 {
     match act {
@@ -206,11 +187,7 @@ fn one_passes<T: OutcomeTest>(
     interval: Interval,
     test: &mut T,
 ) -> bool
-    ensures value { result ≡ list_all (T.passes test.old)
-        (flat_map (acted site.now act) (slot_at number (interval_of interval) (slot_of slot.now))) }
-    ensures same { T.passes test.new ≡ T.passes test.old }
-    ensures same_point { T.joins test.new ≡ T.joins test.old }
-    ensures kept { result ≡ true → T.kept test.new ≡ kept_all (T.joins test.old) (T.kept test.old)
+    ensures { TestsEach T.passes T.joins T.kept test.old test.new result
         (flat_map (acted site.now act) (slot_at number (interval_of interval) (slot_of slot.now))) }
 {
     match slot {
@@ -231,11 +208,7 @@ fn rest_pass<T: OutcomeTest>(
     test: &mut T,
 ) -> bool
     requires { number + length slots.now ≤ 16 }
-    ensures value { result ≡ list_all (T.passes test.old)
-        (flat_map (acted site.now act) (slots_from number (interval_of interval) (map slot_of slots.now))) }
-    ensures same { T.passes test.new ≡ T.passes test.old }
-    ensures same_point { T.joins test.new ≡ T.joins test.old }
-    ensures kept { result ≡ true → T.kept test.new ≡ kept_all (T.joins test.old) (T.kept test.old)
+    ensures { TestsEach T.passes T.joins T.kept test.old test.new result
         (flat_map (acted site.now act) (slots_from number (interval_of interval) (map slot_of slots.now))) }
 {
     match slots {
@@ -255,11 +228,7 @@ pub(crate) fn all_pass<T: OutcomeTest>(
     operand: Operand,
     test: &mut T,
 ) -> bool
-    ensures value { result ≡ list_all (T.passes test.old)
-        (flat_map (acted site.now act) (slots_in (bound_of site.now.bound.now) (operand_of operand))) }
-    ensures same { T.passes test.new ≡ T.passes test.old }
-    ensures same_point { T.joins test.new ≡ T.joins test.old }
-    ensures kept { result ≡ true → T.kept test.new ≡ kept_all (T.joins test.old) (T.kept test.old)
+    ensures { TestsEach T.passes T.joins T.kept test.old test.new result
         (flat_map (acted site.now act) (slots_in (bound_of site.now.bound.now) (operand_of operand))) }
 {
     let interval = operand_interval(site.bound, operand);

@@ -1,3 +1,4 @@
+use Rattle.std.proofs.Common.{refl}
 use Rattle.certificate.specs.Views.{bound_of, interval_of}
 use Rattle.prog_asm.specs.Views.{operand_of}
 use Rattle.rules.specs.Slots.{OpenSlot, slots_in}
@@ -6,28 +7,30 @@ use Rattle.transfer.proofs.Keeping.{one_settles, none_kept, some_kept}
 use Rattle.transfer.proofs.Repeated.{none_passes, some_passes}
 use Rattle.transfer.proofs.given.given_passes.Goals as goal
 
-pub returns-then-none_is-clause-value : goal.returns-then-none_is-clause-value
-returns-then-none_is-clause-value g c =
-    none_passes (g.T.OutcomeTest.passes c.args.test.now) (stays c.args.site.now (interval_of c.args.given))
-    (λ (slot : OpenSlot). may_be c.args.kind slot.held.target) (slots_in (bound_of c.args.site.now.bound.now) (operand_of c.args.operand))
-    c.none_is.result c.none_is.ensures c.if-none_is.true
+pub returns-then-none_is : goal.returns-then-none_is
+returns-then-none_is g c = (
+  none_passes (g.T.OutcomeTest.passes c.args.test.now) (stays c.args.site.now (interval_of c.args.given))
+      (λ (slot : OpenSlot). may_be c.args.kind slot.held.target) (slots_in (bound_of c.args.site.now.bound.now) (operand_of c.args.operand))
+      c.none_is.result c.none_is.ensures c.if-none_is.true,
+  refl,
+  refl,
+  λ passes.
+      none_kept (g.T.OutcomeTest.joins c.args.test.now) (stays c.args.site.now (interval_of c.args.given))
+      (one_settles (g.T.OutcomeTest.joins c.args.test.now) _)
+      (λ (slot : OpenSlot). may_be c.args.kind slot.held.target) (slots_in (bound_of c.args.site.now.bound.now) (operand_of c.args.operand))
+      (g.T.OutcomeTest.kept c.args.test.now) c.none_is.result c.none_is.ensures c.if-none_is.true,
+)
 
-pub returns-then-none_is-clause-kept : goal.returns-then-none_is-clause-kept
-returns-then-none_is-clause-kept g c passes =
-    none_kept (g.T.OutcomeTest.joins c.args.test.now) (stays c.args.site.now (interval_of c.args.given))
-    (one_settles (g.T.OutcomeTest.joins c.args.test.now) _)
-    (λ (slot : OpenSlot). may_be c.args.kind slot.held.target) (slots_in (bound_of c.args.site.now.bound.now) (operand_of c.args.operand))
-    (g.T.OutcomeTest.kept c.args.test.now) c.none_is.result c.none_is.ensures c.if-none_is.true
-
-pub returns-else-none_is-clause-value : goal.returns-else-none_is-clause-value
-returns-else-none_is-clause-value g c =
-    some_passes (g.T.OutcomeTest.passes c.args.test.now) (stays c.args.site.now (interval_of c.args.given))
-    (λ (slot : OpenSlot). may_be c.args.kind slot.held.target) (slots_in (bound_of c.args.site.now.bound.now) (operand_of c.args.operand))
-    c.none_is.result c.step_passes.result c.none_is.ensures c.if-none_is.false c.step_passes.ensures.value
-
-pub returns-else-none_is-clause-kept : goal.returns-else-none_is-clause-kept
-returns-else-none_is-clause-kept g c passes =
-    some_kept (g.T.OutcomeTest.joins c.args.test.now) (stays c.args.site.now (interval_of c.args.given))
-    (one_settles (g.T.OutcomeTest.joins c.args.test.now) _)
-    (λ (slot : OpenSlot). may_be c.args.kind slot.held.target) (slots_in (bound_of c.args.site.now.bound.now) (operand_of c.args.operand))
-    (g.T.OutcomeTest.kept c.args.test.now) _ c.none_is.result c.none_is.ensures c.if-none_is.false (c.step_passes.ensures.kept passes)
+pub returns-else-none_is : goal.returns-else-none_is
+returns-else-none_is g c = (
+  some_passes (g.T.OutcomeTest.passes c.args.test.now) (stays c.args.site.now (interval_of c.args.given))
+      (λ (slot : OpenSlot). may_be c.args.kind slot.held.target) (slots_in (bound_of c.args.site.now.bound.now) (operand_of c.args.operand))
+      c.none_is.result c.step_passes.result c.none_is.ensures c.if-none_is.false c.step_passes.ensures.0,
+  c.step_passes.ensures.1,
+  c.step_passes.ensures.2,
+  λ passes.
+      some_kept (g.T.OutcomeTest.joins c.args.test.now) (stays c.args.site.now (interval_of c.args.given))
+      (one_settles (g.T.OutcomeTest.joins c.args.test.now) _)
+      (λ (slot : OpenSlot). may_be c.args.kind slot.held.target) (slots_in (bound_of c.args.site.now.bound.now) (operand_of c.args.operand))
+      (g.T.OutcomeTest.kept c.args.test.now) _ c.none_is.result c.none_is.ensures c.if-none_is.false (c.step_passes.ensures.3 passes),
+)
