@@ -15,10 +15,10 @@ use Rattle.texts.specs.Bytes.{is_digit, is_lower}
 use Rattle.texts.specs.Hex.{hex_of, hex_text, is_hex_digit}
 use Rattle.texts.specs.Names.{is_name, is_name_byte}
 use Rattle.texts.specs.Numbers.{number_of}
-use Rattle.texts.specs.Parts.{joined, lacks, parts}
+use Rattle.texts.specs.Parts.{joined, parts}
 use Rattle.texts.proofs.HexTexts.{digits-hex, hex-back}
 use Rattle.texts.proofs.NumberTexts.{digits-decimal, number-decimal}
-use Rattle.texts.proofs.WordLaws.{lacks-by, parts-joined, parts-more, parts-one}
+use Rattle.texts.proofs.WordLaws.{lacks, lacks-by, parts-joined, parts-more, parts-one}
 use Rattle.certificate.specs.Bounds.{ModeBound, Off, On, Either, Interval, Target, In_grant, Any_node, Socket, Unknown, Held, Slot, Closed, Open, Maybe, full_interval, held_in}
 use Rattle.certificate.specs.Lines.{Line, Begins_block, Bounds_register, Bounds_slot, Bounds_channel, are_held, are_named, are_numbered, is_bound_slot, is_held_bound, is_interval, is_line}
 use Rattle.certificate.specs.Lines.{is_named_class, is_named_target, is_numbered_class, is_numbered_target, is_range}

@@ -6,8 +6,8 @@ use Rattle.std.specs.Str.{bytes_eq}
 use Rattle.std.proofs.lemmas.Grind.{flat_map-append}
 use Rattle.rights.proofs.Words.{same_bytes}
 use Rattle.texts.specs.Lines.{Line as TextLine, lines_from}
-use Rattle.texts.specs.Parts.{joined, lacks, parts, parts_from}
-use Rattle.texts.proofs.WordLaws.{joined-parts, parts-more}
+use Rattle.texts.specs.Parts.{joined, parts, parts_from}
+use Rattle.texts.proofs.WordLaws.{lacks, joined-parts, parts-more}
 use Rattle.certificate.specs.Bounds.{Version, One, Two, Certificate}
 use Rattle.certificate.specs.Growth.{IsCertificate, begins, grows, empty, No_room, Out_of_order, Refused, taken}
 use Rattle.certificate.specs.Lines.{Line, is_line, lines_of}

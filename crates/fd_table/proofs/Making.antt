@@ -11,11 +11,15 @@ use Rattle.fd_table.proofs.Naming.{unnamed_vacant}
 use Rattle.fd_table.proofs.Answering.{follows_itself, unused_vacant}
 use Rattle.fd_table.specs.Kept.{open_files, Counted, Pair, Kept, item_at, queue, object_in, half_in, end_of}
 use Rattle.fd_table.specs.Holders.{IsKept, in_pair, holders, IsCounted, IsNeeded, with_hand, empty_hand}
-use Rattle.fd_table.specs.Changes.{Changed, pair_new, held_new}
+use Rattle.fd_table.specs.Changes.{Changed, pair_new}
 use Rattle.fd_table.specs.Follows.{ShowsAt, Follows, Makes}
 use Rattle.fd_table.proofs.Sums.{changed-cases, sum_changed}
 use Rattle.fd_table.proofs.Ending.{same_end, end_itself, half_there}
 use Rattle.fd_table.proofs.Releasing.{named_own, named_other}
+
+-- a description that begins with one holder
+abbrev held_new : Object → Bool → Counted
+held_new object append = record { description = record { object = object; state = new_state append }; count = 1 }
 
 -- the maps with a new description
 shows_described : (f : OpenFiles) (ds es : List (Option Counted)) (n : ℕ) (object : Object) (append : Bool) → ((m : ℕ) → ShowsAt f m (item_at ds m)) →

@@ -1,7 +1,7 @@
 -- What becomes of descriptions and pairs, step by step.
-use Rattle.std.specs.Prelude.{◌≡◌, ◌≢◌, ◌+◌, ◌-◌, ℕ, zero, suc, Bool, nat_lt, ◌++◌, drop, List, [], ◌∷◌, Option, Some, None, if◌then◌else◌}
+use Rattle.std.specs.Prelude.{◌≡◌, ◌≢◌, ◌+◌, ◌-◌, ℕ, zero, suc, nat_lt, ◌++◌, drop, List, [], ◌∷◌, Option, Some, None, if◌then◌else◌}
 use Rattle.std.specs.Option.{IsSome, option_map}
-use Rattle.fd_table.specs.Descriptions.{Object, At_node, At_end, Descriptor, Message, new_state}
+use Rattle.fd_table.specs.Descriptions.{Object, At_node, At_end, Descriptor, Message}
 use Rattle.fd_table.specs.Kept.{Description, Counted, Pair, item_at, half_in}
 use Rattle.fd_table.specs.Holders.{is_idle}
 
@@ -26,10 +26,6 @@ ended_in (Some h) = if nat_lt 1 h.count then None else Some h.description
 
 abbrev pub described_as : Description → Option Counted → Option Counted
 described_as description o = option_map (λ (h : Counted). record h { description = description }) o
-
--- a description that begins with one holder
-abbrev pub held_new : Object → Bool → Counted
-held_new object append = record { description = record { object = object; state = new_state append }; count = 1 }
 
 -- the descriptions after one holder more of what a descriptor names, if there is one
 abbrev pub IsHeld : List (Option Counted) → List (Option Counted) → Option Descriptor → Type 0

@@ -4,8 +4,12 @@ use Rattle.std.specs.Prelude.{◌==◌, ◌&&◌, cond, Option, Some, None, is_s
 use Rattle.std.specs.List.{list_all}
 use Rattle.std.proofs.Common.{Bor}
 use Rattle.std.proofs.lemmas.Bool.{and_from, and_parts}
-use Rattle.texts.specs.Parts.{joined, lacks, parts, parts_from}
+use Rattle.texts.specs.Parts.{joined, parts, parts_from}
 use Rattle.texts.specs.Words.{is_used_up, words_left}
+
+-- whether the byte that separates isn't in a part
+abbrev pub lacks : ℕ → List ℕ → Bool
+lacks separator part = list_all (λ byte. not (byte == separator)) part
 
 -- There is a part at least.
 some-part : (separator : ℕ) (text begun : List ℕ) → is_used_up (parts_from separator text begun) ≡ false

@@ -1,6 +1,5 @@
 -- The parts of a text between the bytes that separate them. (own)
-use Rattle.std.specs.Prelude.{◌≡◌, ◌==◌, ℕ, Bool, not, List, [], ◌∷◌, ◌++◌, Option, Some, None, if◌then◌else◌}
-use Rattle.std.specs.List.{list_all}
+use Rattle.std.specs.Prelude.{◌≡◌, ◌==◌, ℕ, List, [], ◌∷◌, ◌++◌, Option, Some, None, if◌then◌else◌}
 
 -- the parts, behind what has begun already
 abbrev pub parts_from : ℕ → List ℕ → List ℕ → List (List ℕ)
@@ -21,7 +20,3 @@ abbrev pub joined : ℕ → List (List ℕ) → List ℕ
 joined separator [] = []
 joined separator (part ∷ []) = part
 joined separator (part ∷ next ∷ others) = part ++ separator ∷ joined separator (next ∷ others)
-
--- whether the byte that separates isn't in a part
-abbrev pub lacks : ℕ → List ℕ → Bool
-lacks separator part = list_all (λ byte. not (byte == separator)) part
