@@ -112,7 +112,8 @@ full false false false false is = absurd cc
 
 pub is_full : (t : List Node) (n d : ℕ) (name : List ℕ) → rename_fault t n d name ≡ Some NotEmpty → has_below t (at_name (node t d).place name) ≡ true
 unfolding rename_fault
-is_full t n d name is = full (not ((node t n).linked && (node t d).linked)) (same_place (at_name (node t d).place name) (node t n).place) (begins (node t n).place (at_name (node t d).place name)) _ is
+is_full t n d name is = full (not ((node t n).linked && (node t d).linked))
+    (same_place (at_name (node t d).place name) (node t n).place) (begins (node t n).place (at_name (node t d).place name)) _ is
 
 -- two linked nodes stand at different places
 pub apart_places : (t : List Node) (n m : ℕ) → IsTree t → (node t n).linked ≡ true → (node t m).linked ≡ true → m ≢ n → same_place (node t m).place (node t n).place ≡ false

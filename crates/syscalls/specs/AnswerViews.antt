@@ -24,7 +24,7 @@ use Rattle.syscalls.specs.declared.outcomes.Refusal.TheVariants as refusal
 use Rattle.fd_table.specs.Views.{access_seen, side_seen}
 use Rattle.prog_asm.specs.Programs.{Syscall, called}
 use Rattle.kernel.specs.Calls.{answer, no_request}
-use Rattle.syscalls.specs.declared.nodes.Beneath.{Beneath}
+use Rattle.syscalls.specs.declared.paths.Beneath.{Beneath}
 use Rattle.syscalls.specs.declared.descriptors.Caller.{Caller}
 use Rattle.syscalls.specs.declared.descriptors.OpenNode.{OpenNode}
 use Rattle.syscalls.specs.declared.descriptors.Opened.{Opened}
@@ -98,6 +98,19 @@ pub record IsNotFound (refused : Refusal) (found : lookups.Finding) : Type 0 whe
 abbrev pub Finds : lookups.Finding → Result Found Refusal → Type 0
 Finds answer (Ok found) = found_of found ≡ answer
 Finds answer (Err refused) = refused ≢ refusal.Memory → IsNotFound refused answer
+
+-- What goes on from a lookup fails as the lookup does.
+abbrev pub TellsFaults : (lookups.Finding → Answer) → Type 0
+TellsFaults rest = (fault : lookups.LookupFault) → rest (lookups.Not_found fault) ≡ lookup_fails fault
+
+-- A lookup of the model, with the tests before it, goes on with what the code found, or is refused as the code is,
+-- whoever calls.
+abbrev pub Leads : ((lookups.Finding → Answer) → Answer) → Result Found Refusal → Type 0
+Leads look (Ok found) = (rest : lookups.Finding → Answer) → look rest ≡ rest (found_of found)
+Leads look (Err refused) = (rest : lookups.Finding → Answer) → TellsFaults rest → Refuses refused (look rest)
+
+abbrev pub LeadsIn : List Node → OpenFiles → (World → ℕ → ProcessState → Event → (lookups.Finding → Answer) → Answer) → Result Found Refusal → Type 0
+LeadsIn t f look r = (processes : List ProcessState) (p : ℕ) (s : ProcessState) (e : Event) → Leads (look (world_with t f processes) p s e) r
 
 -- queues are only where pairs are
 abbrev pub IsIdle : OpenFiles → Type 0

@@ -9,12 +9,12 @@ ghost use Rattle.syscalls.specs.NodeCalls.{is_on_nodes};
 use crate::asks::{get_flags, set_status, stat_descriptor, sync};
 use crate::descriptors::Caller;
 use crate::modes::get_mode;
-use crate::nodes::{
+use crate::outcomes::{Refusal, Success};
+use crate::passing::{receive_descriptor, send_descriptor};
+use crate::paths::{
     make_beneath, make_path, open_beneath, open_path, remove_beneath, remove_path, rename_beneath,
     stat_beneath, stat_path,
 };
-use crate::outcomes::{Refusal, Success};
-use crate::passing::{receive_descriptor, send_descriptor};
 use crate::reads::{read, seek};
 use crate::tables::{close, duplicate, limit_fcntls, limit_rights};
 use crate::writes::{truncate, write};

@@ -1,21 +1,19 @@
 //! Calls that make directories, and that ask what a node is.
 
-ghost use Rattle.std.specs.Prelude.{◌≡◌, ◌<◌, Bool, true, false, length};
-ghost use Rattle.file_tree.specs.Nodes.{is_dir, is_link, node};
+ghost use Rattle.std.specs.Prelude.{◌≡◌, ◌<◌, ℕ, Bool, List, true, length};
+ghost use Rattle.file_tree.specs.Nodes.{is_dir, node};
 ghost use Rattle.file_tree.specs.Views.{kind_of};
 ghost use Rattle.file_tree.specs.WellFormed.{IsTree};
-ghost use Rattle.lookup.specs.Looks.{find_of};
-ghost use Rattle.lookup.specs.Answers as lookups;
-ghost use Rattle.lookup.specs.Views.{way_of};
+ghost use Rattle.lookup.specs.Promises.{IsFindingThere, IsFreeName, IsUnderName, MayBeMade};
+ghost use Rattle.lookup.specs.Views.{found_of};
 ghost use Rattle.kernel.specs.Calls.{kind_number, stats, stats_at, made_directory, unlinks};
 ghost use Rattle.prog_asm.specs.Programs.{is_path};
 ghost use Rattle.syscalls.specs.AnswerViews.{OnTree};
 
 use crate::changes::create_node;
 use crate::outcomes::{Refusal, Success, effects_at};
-use crate::paths::look_up;
 use file_tree::{Kind, New, NodeId, Tree, TreeFault};
-use lookup::{Found, Last, Way, last_name};
+use lookup::{Found, last_name};
 use rights::limits::MAX_NODES;
 use rights::{Cause, Errno, Op};
 use std::alloc::Global;
@@ -41,42 +39,33 @@ pub(crate) fn stat<T: Tree>(alloc: Global, tree: &T, n: NodeId) -> Result<Succes
     Ok(Success { value, effects })
 }
 
-/// What a path leads to. (fstatat(2), stat(2))
-pub(crate) fn stat_at<T: Tree>(
-    alloc: Global,
-    tree: &T,
-    start: NodeId,
-    path: &[u8],
-    way: Way,
-) -> Result<Success, Refusal>
-    requires there { start < length (T.nodes tree.now) }
-    requires opened { is_link (node (T.nodes tree.now) start).kind ≡ false }
-    ensures { (refuse : Bool) → OnTree (T.nodes tree.now) (T.nodes tree.now) refuse result (λ w p s e.
-        stats_at w p s e (find_of (T.nodes tree.now) start path.now (way_of way) lookups.Follow)) }
+/// What is found at a path. (fstatat(2), stat(2))
+pub(crate) fn stat_found<T: Tree>(alloc: Global, tree: &T, found: Found) -> Result<Success, Refusal>
+    requires { IsFindingThere (T.nodes tree.now) (found_of found) }
+    ensures { (refuse : Bool) → OnTree (T.nodes tree.now) (T.nodes tree.now) refuse result (λ w p s e. stats_at w p s e (found_of found)) }
 {
-    match look_up(alloc, tree, start, path, way, Last::Follow)? {
+    match found {
         Found::Free(_) => Err(Refusal::Fails(Errno::ENOENT, Cause::Path)),
         Found::Node(n) => stat(alloc, tree, n),
     }
 }
 
-/// Makes a directory. (mkdirat(2), mkdir(2); that a full tree is asked before the kernel is own)
+/// Makes a directory of the last name of the path, if that is what is free. (mkdirat(2), mkdir(2); that a full tree is asked before the kernel is own)
 #[tactic(auto, unfolding(kernel::specs::Answers::unless), using(crate::proofs::Tests::below, crate::proofs::Tests::not_below))]
 pub(crate) fn make_directory<T: Tree>(
     alloc: Global,
     tree: &mut T,
-    start: NodeId,
+    found: Found,
     path: &[u8],
-    way: Way,
     refuse: bool,
 ) -> Result<Success, Refusal>
-    requires there { start < length (T.nodes tree.old) }
-    requires opened { is_link (node (T.nodes tree.old) start).kind ≡ false }
+    requires there { IsFindingThere (T.nodes tree.old) (found_of found) }
+    requires free { IsFreeName (T.nodes tree.old) path.now (found_of found) }
+    requires may_be_made { MayBeMade path.now (found_of found) }
     requires text { is_path path.now ≡ true }
-    ensures { OnTree (T.nodes tree.old) (T.nodes tree.new) refuse result (λ w p s e.
-        made_directory w p s e path.now (find_of (T.nodes tree.old) start path.now (way_of way) lookups.Keep)) }
+    ensures { OnTree (T.nodes tree.old) (T.nodes tree.new) refuse result (λ w p s e. made_directory w p s e path.now (found_of found)) }
 {
-    let dir = match look_up(alloc, tree, start, path, way, Last::Keep)? {
+    let dir = match found {
         Found::Node(_) => return Err(Refusal::Fails(Errno::EEXIST, Cause::Path)),
         Found::Free(dir) => dir,
     };
@@ -107,18 +96,15 @@ pub(crate) fn is_directory<T: Tree>(tree: &T, n: NodeId) -> bool
 pub(crate) fn remove<T: Tree>(
     alloc: Global,
     tree: &mut T,
-    start: NodeId,
-    path: &[u8],
-    way: Way,
+    found: Found,
     directory: bool,
 ) -> Result<Success, Refusal>
     requires tree { IsTree (T.nodes tree.old) }
-    requires there { start < length (T.nodes tree.old) }
-    requires opened { is_link (node (T.nodes tree.old) start).kind ≡ false }
-    ensures { (refuse : Bool) → OnTree (T.nodes tree.old) (T.nodes tree.new) refuse result (λ w p s e.
-        unlinks w p s e directory (find_of (T.nodes tree.old) start path.now (way_of way) lookups.Keep)) }
+    requires there { IsFindingThere (T.nodes tree.old) (found_of found) }
+    requires named { (path : List ℕ) × IsUnderName (T.nodes tree.old) path (found_of found) }
+    ensures { (refuse : Bool) → OnTree (T.nodes tree.old) (T.nodes tree.new) refuse result (λ w p s e. unlinks w p s e directory (found_of found)) }
 {
-    let n = match look_up(alloc, tree, start, path, way, Last::Keep)? {
+    let n = match found {
         Found::Free(_) => return Err(Refusal::Fails(Errno::ENOENT, Cause::Path)),
         Found::Node(n) => n,
     };

@@ -9,7 +9,6 @@ mod directories;
 pub mod events;
 mod forks;
 mod modes;
-mod nodes;
 mod opens;
 pub mod outcomes;
 mod pairs;

@@ -1,8 +1,8 @@
 //! open and openat.
 
-ghost use Rattle.std.specs.Prelude.{◌≡◌, ◌<◌, ◌||◌, Bool, IfOk, IfErr, None, length, map, not, true, false};
+ghost use Rattle.std.specs.Prelude.{◌≡◌, ◌<◌, ◌||◌, Bool, IfOk, IfErr, None, length, map, not, true};
 ghost use Rattle.rights.specs.Errors.{ENFILE, Refused};
-ghost use Rattle.file_tree.specs.Nodes.{Dir, File, is_link};
+ghost use Rattle.file_tree.specs.Nodes.{Dir, File};
 ghost use Rattle.file_tree.specs.Nodes as nodes;
 ghost use Rattle.file_tree.specs.Places.{at_name, is_file_name};
 ghost use Rattle.fd_table.specs.Filled.{IsFreeAt};
@@ -10,8 +10,8 @@ ghost use Rattle.fd_table.specs.Kept.{open_files};
 ghost use Rattle.fd_table.specs.OpenFiles as open_state;
 ghost use Rattle.kernel.specs.Answers as answers;
 ghost use Rattle.kernel.specs.Calls as model;
-ghost use Rattle.lookup.specs.Looks.{find_of};
-ghost use Rattle.lookup.specs.Views.{way_of};
+ghost use Rattle.lookup.specs.Promises.{IsFindingThere, IsFreeName, MayBeMade};
+ghost use Rattle.lookup.specs.Views.{found_of};
 ghost use Rattle.prog_asm.specs.Programs.{is_path};
 ghost use Rattle.syscalls.specs.AnswerViews.{Does, Passes, number_seen};
 ghost use Rattle.kernel.specs.Changes.{tree_after};
@@ -21,11 +21,10 @@ ghost use Rattle.syscalls.specs.Views.{effects_of};
 use crate::changes::create_node;
 use crate::descriptors::Caller;
 use crate::outcomes::{Effect, Refusal, Success, effects_at, want_of_memory};
-use crate::paths::look_up;
 use crate::tables::free_number;
 use fd_table::Files;
 use file_tree::{Kind, New, NodeId, Tree};
-use lookup::{Found, Last, Way, last_name};
+use lookup::{Found, last_name};
 use rights::limits::MAX_NODES;
 use rights::{Cause, Errno, Fcntls, Op, OpenFlags, Rights};
 use std::alloc::Global;
@@ -188,31 +187,25 @@ fn open_new<T: Tree>(
     })
 }
 
-/// Opens what a path leads to.
+/// Opens what is found at a path, or makes a file of its last name.
 pub(crate) fn open_found<T: Tree>(
     alloc: Global,
     tree: &mut T,
     files: &mut Files,
     caller: &Caller<'_>,
-    start: NodeId,
+    found: Found,
     path: &[u8],
-    way: Way,
     how: &Opening,
 ) -> Result<Success, Refusal>
     requires process { caller.now.number < 16 }
-    requires there { start < length (T.nodes tree.old) }
-    requires opened { is_link (nodes.node (T.nodes tree.old) start).kind ≡ false }
+    requires there { IsFindingThere (T.nodes tree.old) (found_of found) }
+    requires free { IsFreeName (T.nodes tree.old) path.now (found_of found) }
+    requires may_be_made { MayBeMade path.now (found_of found) }
     requires text { is_path path.now ≡ true }
     ensures { Does (T.nodes tree.old) (open_files files.old) caller.now (T.nodes tree.new) (open_files files.new) result
-        (λ w e. model.opened w caller.now.number caller.now.process.now e how.now.flags how.now.rights.0 how.now.fcntls.0 path.now
-        (find_of (T.nodes tree.old) start path.now (way_of way) (model.last_if how.now.flags.create))) }
+        (λ w e. model.opened w caller.now.number caller.now.process.now e how.now.flags how.now.rights.0 how.now.fcntls.0 path.now (found_of found)) }
 {
-    let last = if how.flags.create() {
-        Last::Keep
-    } else {
-        Last::Follow
-    };
-    let n = match look_up(alloc, tree, start, path, way, last)? {
+    let n = match found {
         Found::Free(dir) => {
             return open_new(alloc, tree, files, caller, dir, last_name(path), how);
         }

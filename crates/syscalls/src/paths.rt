@@ -1,18 +1,40 @@
-//! Lookups, as calls make them.
+//! Calls with a path: what it leads to, beneath a directory's descriptor or from the root, and what is done with that.
 
-ghost use Rattle.std.specs.Prelude.{◌≡◌, ◌<◌, Err, IfOk, IfSome, false, length};
-ghost use Rattle.file_tree.specs.Nodes.{is_link, node};
-ghost use Rattle.lookup.specs.Looks.{find_of, start_place};
-ghost use Rattle.lookup.specs.Promises.{IsBeneath, IsFollowed, IsFreeName, IsFindingThere, IsUnderName, MayBeMade};
+ghost use Rattle.std.specs.Prelude.{◌≡◌, ◌<◌, Bool, Err, IfErr, IfOk, IfSome, OnOk, List, not, true, false, length};
+ghost use Rattle.fd_table.specs.Descriptions.{Descriptor};
+ghost use Rattle.fd_table.specs.Filled.{IsNamed};
+ghost use Rattle.fd_table.specs.Kept.{open_files};
+ghost use Rattle.fd_table.specs.OpenFiles.{OpenFiles};
+ghost use Rattle.file_tree.specs.Nodes.{Node, is_link, node};
+ghost use Rattle.file_tree.specs.WellFormed.{IsTree};
 ghost use Rattle.lookup.specs.Answers as lookups;
+ghost use Rattle.lookup.specs.Looks.{find_of};
+ghost use Rattle.lookup.specs.Promises.{IsFreeName, IsFindingThere, IsUnderName, MayBeMade};
 ghost use Rattle.lookup.specs.Views as views;
 ghost use Rattle.lookup.specs.Views.{fault_of, found_of, last_of, way_of};
-ghost use Rattle.syscalls.specs.AnswerViews.{Finds};
+ghost use Rattle.prog_asm.specs.Programs as programs;
+ghost use Rattle.prog_asm.specs.Programs.{Syscall, is_path};
+ghost use Rattle.prog_asm.specs.Views.{operand_of};
+ghost use Rattle.rights.specs.Calls as calls;
+ghost use Rattle.rights.specs.Errors.{ECAPMODE, CapMode};
+ghost use Rattle.rights.specs.Needs.{First, needs_of};
+ghost use Rattle.kernel.specs.Answers as answers;
+ghost use Rattle.kernel.specs.Answers.{Answer, unless};
+ghost use Rattle.kernel.specs.Calls as model;
+ghost use Rattle.syscalls.specs.AnswerViews.{Calls, Finds, HasNumbers, IsReady, IsReadyDescription, LeadsIn, MayReplace, OnTree, Passes, Refuses, beneath_seen, need};
 
-use crate::outcomes::Refusal;
+use crate::descriptors::{
+    Caller, directory_of, directory_through, held, need_of, second_need, through_rights,
+};
+use crate::directories::{make_directory, remove, stat_found};
+use crate::opens::{Opening, open_found};
+use crate::outcomes::{Refusal, Success};
+use crate::renames::rename_to;
+use fd_table::{DescriptionId, Files};
 use file_tree::{NodeId, Tree};
 use lookup::{Found, Last, PathFault, Way, find};
-use rights::{Cause, Errno};
+use prog_asm::Operand;
+use rights::{Call, Cause, Errno, Fcntls, OpenFlags, Position, Rights, needs};
 use std::alloc::Global;
 
 /// What a fault of a lookup is refused as. An escape is no missing right, though its error is the same. (open(2),
@@ -32,7 +54,7 @@ fn refusal_of(fault: PathFault) -> Refusal
 }
 
 /// What a path leads to, from a start that is a file or directory of the tree.
-pub(crate) fn look_up<T: Tree>(
+fn look_up<T: Tree>(
     alloc: Global,
     tree: &T,
     start: NodeId,
@@ -44,14 +66,366 @@ pub(crate) fn look_up<T: Tree>(
     requires opened { is_link (node (T.nodes tree.now) start).kind ≡ false }
     ensures finds { Finds (find_of (T.nodes tree.now) start path.now (way_of way) (last_of last)) result }
     ensures there { IfOk result (λ found. IsFindingThere (T.nodes tree.now) (found_of found)) }
-    ensures beneath { IfOk result (λ found. IsBeneath (T.nodes tree.now) (start_place (T.nodes tree.now) start (way_of way)) (found_of found)) }
     ensures named { last ≡ Last.Keep → IfOk result (λ found. IsUnderName (T.nodes tree.now) path.now (found_of found)) }
-    ensures free { last ≡ Last.Keep → IfOk result (λ found. IsFreeName (T.nodes tree.now) path.now (found_of found)) }
-    ensures may_be_made { last ≡ Last.Keep → IfOk result (λ found. MayBeMade path.now (found_of found)) }
-    ensures followed { last ≡ Last.Follow → IfOk result (λ found. IsFollowed (T.nodes tree.now) (found_of found)) }
+    ensures free { IfOk result (λ found. IsFreeName (T.nodes tree.now) path.now (found_of found)) }
+    ensures may_be_made { IfOk result (λ found. MayBeMade path.now (found_of found)) }
 {
     match find(alloc, tree, start, path, way, last) {
         Ok(found) => Ok(found),
         Err(fault) => Err(refusal_of(fault)),
     }
+}
+
+/// Global name spaces can't be reached in capability mode. (capsicum(4), cap_enter(2), ECAPMODE)
+#[tactic(auto, unfolding(kernel::specs::Answers::unless))]
+fn outside_mode(caller: &Caller<'_>) -> Result<(), Refusal>
+    ensures ok { OnOk result (caller.now.process.now.mode ≡ false) }
+    ensures refused { (rest : Answer) → IfErr result (λ refused. Refuses refused (unless (not caller.now.process.now.mode) ECAPMODE CapMode rest)) }
+{
+    if caller.process.mode() {
+        return Err(Refusal::Fails(Errno::ECAPMODE, Cause::CapMode));
+    }
+    Ok(())
+}
+
+/// What a path leads to beneath the directory of an operand, through the rights that the call needs.
+fn find_beneath<T: Tree>(
+    alloc: Global,
+    tree: &T,
+    files: &Files,
+    caller: &Caller<'_>,
+    operand: Operand,
+    path: &[u8],
+    call: Call,
+    last: Last,
+) -> Result<Found, Refusal>
+    requires { IsReady (T.nodes tree.now) (open_files files.now) caller.now.number }
+    ensures leads { LeadsIn (T.nodes tree.now) (open_files files.now) (λ w p s e rest.
+        answers.through (need call) ((open_files files.now).table caller.now.number (answers.value_of caller.now.process.now (operand_of operand)))
+        (λ d. model.in_directory w p s e d.description (λ n. model.looks w p s e n lookups.Beneath path.now (last_of last) rest))) result }
+    ensures there { IfOk result (λ found. IsFindingThere (T.nodes tree.now) (found_of found)) }
+    ensures named { last ≡ Last.Keep → IfOk result (λ found. IsUnderName (T.nodes tree.now) path.now (found_of found)) }
+    ensures free { IfOk result (λ found. IsFreeName (T.nodes tree.now) path.now (found_of found)) }
+    ensures may_be_made { IfOk result (λ found. MayBeMade path.now (found_of found)) }
+{
+    match directory_through(tree, files, caller, operand, call) {
+        Err(refused) => Err(refused),
+        Ok(dir) => look_up(alloc, tree, dir, path, Way::Beneath, last),
+    }
+}
+
+/// What a path leads to from the root, outside capability mode.
+fn find_from_root<T: Tree>(
+    alloc: Global,
+    tree: &T,
+    caller: &Caller<'_>,
+    path: &[u8],
+    last: Last,
+) -> Result<Found, Refusal>
+    ensures leads { (f : OpenFiles) → LeadsIn (T.nodes tree.now) f (λ w p s e rest.
+        model.outside_mode w p caller.now.process.now e (model.looks w p s e 0 lookups.Global path.now (last_of last) rest)) result }
+    ensures there { IfOk result (λ found. IsFindingThere (T.nodes tree.now) (found_of found)) }
+    ensures named { last ≡ Last.Keep → IfOk result (λ found. IsUnderName (T.nodes tree.now) path.now (found_of found)) }
+    ensures free { IfOk result (λ found. IsFreeName (T.nodes tree.now) path.now (found_of found)) }
+    ensures may_be_made { IfOk result (λ found. MayBeMade path.now (found_of found)) }
+{
+    match outside_mode(caller) {
+        Err(refused) => Err(refused),
+        Ok(()) => look_up(alloc, tree, tree.root(), path, Way::Global, last),
+    }
+}
+
+/// Asks what the node beneath a directory is. (fstatat(2))
+pub(crate) fn stat_beneath<T: Tree>(
+    alloc: Global,
+    tree: &T,
+    files: &Files,
+    caller: &Caller<'_>,
+    operand: Operand,
+    path: &[u8],
+) -> Result<Success, Refusal>
+    requires { IsReady (T.nodes tree.now) (open_files files.now) caller.now.number }
+    ensures { Calls (T.nodes tree.now) (open_files files.now) caller.now (T.nodes tree.now) (open_files files.now) result (programs.Fstatat (operand_of operand) path.now) }
+{
+    let call = Call::Fstatat;
+    match find_beneath(
+        alloc,
+        tree,
+        files,
+        caller,
+        operand,
+        path,
+        call,
+        Last::Follow,
+    ) {
+        Err(refused) => Err(refused),
+        Ok(found) => stat_found(alloc, tree, found),
+    }
+}
+
+/// Asks what the node at a path is. (stat(2))
+pub(crate) fn stat_path<T: Tree>(
+    alloc: Global,
+    tree: &T,
+    files: &Files,
+    caller: &Caller<'_>,
+    path: &[u8],
+) -> Result<Success, Refusal>
+    requires { IsReady (T.nodes tree.now) (open_files files.now) caller.now.number }
+    ensures { Calls (T.nodes tree.now) (open_files files.now) caller.now (T.nodes tree.now) (open_files files.now) result (programs.Stat path.now) }
+{
+    match find_from_root(alloc, tree, caller, path, Last::Follow) {
+        Err(refused) => Err(refused),
+        Ok(found) => stat_found(alloc, tree, found),
+    }
+}
+
+/// Makes a directory beneath a directory. (mkdirat(2))
+pub(crate) fn make_beneath<T: Tree>(
+    alloc: Global,
+    tree: &mut T,
+    files: &Files,
+    caller: &Caller<'_>,
+    operand: Operand,
+    path: &[u8],
+) -> Result<Success, Refusal>
+    requires ready { IsReady (T.nodes tree.old) (open_files files.now) caller.now.number }
+    requires text { is_path path.now ≡ true }
+    ensures { Calls (T.nodes tree.old) (open_files files.now) caller.now (T.nodes tree.new) (open_files files.now) result (programs.Mkdirat (operand_of operand) path.now) }
+{
+    let call = Call::Mkdirat;
+    match find_beneath(alloc, tree, files, caller, operand, path, call, Last::Keep) {
+        Err(refused) => Err(refused),
+        Ok(found) => make_directory(alloc, tree, found, path, caller.refuse),
+    }
+}
+
+/// Makes a directory at a path. (mkdir(2))
+pub(crate) fn make_path<T: Tree>(
+    alloc: Global,
+    tree: &mut T,
+    files: &Files,
+    caller: &Caller<'_>,
+    path: &[u8],
+) -> Result<Success, Refusal>
+    requires ready { IsReady (T.nodes tree.old) (open_files files.now) caller.now.number }
+    requires text { is_path path.now ≡ true }
+    ensures { Calls (T.nodes tree.old) (open_files files.now) caller.now (T.nodes tree.new) (open_files files.now) result (programs.Mkdir path.now) }
+{
+    match find_from_root(alloc, tree, caller, path, Last::Keep) {
+        Err(refused) => Err(refused),
+        Ok(found) => make_directory(alloc, tree, found, path, caller.refuse),
+    }
+}
+
+/// Removes a node beneath a directory. (unlinkat(2))
+pub(crate) fn remove_beneath<T: Tree>(
+    alloc: Global,
+    tree: &mut T,
+    files: &Files,
+    caller: &Caller<'_>,
+    operand: Operand,
+    path: &[u8],
+    directory: bool,
+) -> Result<Success, Refusal>
+    requires { IsReady (T.nodes tree.old) (open_files files.now) caller.now.number }
+    ensures { Calls (T.nodes tree.old) (open_files files.now) caller.now (T.nodes tree.new) (open_files files.now) result (programs.Unlinkat (operand_of operand) path.now directory) }
+{
+    let call = Call::Unlinkat;
+    match find_beneath(alloc, tree, files, caller, operand, path, call, Last::Keep) {
+        Err(refused) => Err(refused),
+        Ok(found) => remove(alloc, tree, found, directory),
+    }
+}
+
+/// Removes the node at a path. (unlink(2), rmdir(2))
+pub(crate) fn remove_path<T: Tree>(
+    alloc: Global,
+    tree: &mut T,
+    files: &Files,
+    caller: &Caller<'_>,
+    path: &[u8],
+    directory: bool,
+) -> Result<Success, Refusal>
+    requires { IsReady (T.nodes tree.old) (open_files files.now) caller.now.number }
+    ensures { Calls (T.nodes tree.old) (open_files files.now) caller.now (T.nodes tree.new) (open_files files.now) result (programs.Unlink path.now directory) }
+{
+    match find_from_root(alloc, tree, caller, path, Last::Keep) {
+        Err(refused) => Err(refused),
+        Ok(found) => remove(alloc, tree, found, directory),
+    }
+}
+
+/// What becomes of the last name of a path that is opened: a name that is made is kept as it is. (open(2), O_CREAT; own)
+fn last_if(flags: OpenFlags) -> Last
+    ensures { last_of result ≡ model.last_if flags.create }
+{
+    if flags.create() {
+        Last::Keep
+    } else {
+        Last::Follow
+    }
+}
+
+/// Opens the file or directory at a path, with all rights. (open(2))
+pub(crate) fn open_path<T: Tree>(
+    alloc: Global,
+    tree: &mut T,
+    files: &mut Files,
+    caller: &Caller<'_>,
+    path: &[u8],
+    flags: OpenFlags,
+) -> Result<Success, Refusal>
+    requires ready { IsReady (T.nodes tree.old) (open_files files.old) caller.now.number }
+    requires text { is_path path.now ≡ true }
+    ensures { Calls (T.nodes tree.old) (open_files files.old) caller.now (T.nodes tree.new) (open_files files.new) result (programs.Open path.now flags) }
+{
+    let found = match find_from_root(alloc, tree, caller, path, last_if(flags)) {
+        Err(refused) => return Err(refused),
+        Ok(found) => found,
+    };
+    let how = Opening {
+        flags,
+        rights: Rights::all(),
+        fcntls: Fcntls::all(),
+    };
+    open_found(alloc, tree, files, caller, found, path, &how)
+}
+
+/// A directory's description, and how what is beneath it is opened.
+#[derive(Clone, Copy)]
+pub(crate) struct Beneath {
+    pub description: DescriptionId,
+    pub how: Opening,
+}
+
+/// What `openat` needs of its directory, and what it opens gets from it. (openat(2); that it gets these is own)
+fn opening_beneath(
+    files: &Files,
+    caller: &Caller<'_>,
+    operand: Operand,
+    flags: OpenFlags,
+) -> Result<Beneath, Refusal>
+    requires { HasNumbers (open_files files.now) caller.now.number }
+    ensures passes { Passes beneath_seen (answers.through (needs_of calls.Openat flags First false)
+        ((open_files files.now).table caller.now.number (answers.value_of caller.now.process.now (operand_of operand)))) result }
+    ensures flags { IfOk result (λ b. b.how.flags ≡ flags) }
+    ensures named { IfOk result (λ b. IsNamed (open_files files.now) b.description) }
+    ensures ready { (t : List Node) → IsReady t (open_files files.now) caller.now.number → IfOk result (λ b. IsReadyDescription t (open_files files.now) b.description) }
+{
+    let need = needs(Call::Openat, flags, Position::First, false);
+    match through_rights(files, caller, operand, need) {
+        Err(refused) => Err(refused),
+        Ok(held) => Ok(Beneath {
+            description: held.description,
+            how: Opening {
+                flags,
+                rights: held.rights,
+                fcntls: held.fcntls,
+            },
+        }),
+    }
+}
+
+/// Opens the file or directory at a path beneath a directory, with the rights of the directory's descriptor. (openat(2);
+/// that it gets these is own)
+pub(crate) fn open_beneath<T: Tree>(
+    alloc: Global,
+    tree: &mut T,
+    files: &mut Files,
+    caller: &Caller<'_>,
+    operand: Operand,
+    path: &[u8],
+    flags: OpenFlags,
+) -> Result<Success, Refusal>
+    requires ready { IsReady (T.nodes tree.old) (open_files files.old) caller.now.number }
+    requires text { is_path path.now ≡ true }
+    ensures { Calls (T.nodes tree.old) (open_files files.old) caller.now (T.nodes tree.new) (open_files files.new) result (programs.Openat (operand_of operand) path.now flags) }
+{
+    let beneath = match opening_beneath(files, caller, operand, flags) {
+        Err(refused) => return Err(refused),
+        Ok(beneath) => beneath,
+    };
+    let dir = match directory_of(tree, files, beneath.description) {
+        Err(refused) => return Err(refused),
+        Ok(dir) => dir,
+    };
+    let last = last_if(flags);
+    match look_up(alloc, tree, dir, path, Way::Beneath, last) {
+        Err(refused) => Err(refused),
+        Ok(found) => open_found(alloc, tree, files, caller, found, path, &beneath.how),
+    }
+}
+
+/// Renames what one path leads to to where another leads, beneath a directory each. The second path is looked up only if
+/// the first leads to a node. (rename(2), ENOENT)
+fn rename<T: Tree>(
+    alloc: Global,
+    tree: &mut T,
+    start: NodeId,
+    path: &[u8],
+    target: NodeId,
+    new_path: &[u8],
+    may_replace: bool,
+) -> Result<Success, Refusal>
+    requires tree { IsTree (T.nodes tree.old) }
+    requires there { start < length (T.nodes tree.old) }
+    requires opened { is_link (node (T.nodes tree.old) start).kind ≡ false }
+    requires target_there { target < length (T.nodes tree.old) }
+    requires target_opened { is_link (node (T.nodes tree.old) target).kind ≡ false }
+    requires text { is_path new_path.now ≡ true }
+    ensures { (refuse : Bool) (call : Syscall) (holder : Descriptor) → MayReplace call holder may_replace
+        → OnTree (T.nodes tree.old) (T.nodes tree.new) refuse result (λ w p s e.
+        model.renamed_from w p s e (find_of (T.nodes tree.old) start path.now lookups.Beneath lookups.Keep) (λ n.
+        model.renamed_to w p s e call holder n new_path.now (find_of (T.nodes tree.old) target new_path.now lookups.Beneath lookups.Keep))) }
+{
+    let n = match look_up(alloc, tree, start, path, Way::Beneath, Last::Keep)? {
+        Found::Free(_) => return Err(Refusal::Fails(Errno::ENOENT, Cause::Path)),
+        Found::Node(n) => n,
+    };
+    let place = look_up(alloc, tree, target, new_path, Way::Beneath, Last::Keep)?;
+    rename_to(alloc, tree, n, place, new_path, may_replace)
+}
+
+/// Renames what a path leads to beneath a directory to where another leads beneath another. (renameat(2))
+#[tactic(auto, unfolding(kernel::specs::Answers::unless))]
+pub(crate) fn rename_beneath<T: Tree>(
+    alloc: Global,
+    tree: &mut T,
+    files: &Files,
+    caller: &Caller<'_>,
+    operand: Operand,
+    path: &[u8],
+    target: Operand,
+    new_path: &[u8],
+) -> Result<Success, Refusal>
+    requires ready { IsReady (T.nodes tree.old) (open_files files.now) caller.now.number }
+    requires text { is_path new_path.now ≡ true }
+    ensures { Calls (T.nodes tree.old) (open_files files.now) caller.now (T.nodes tree.new) (open_files files.now) result
+        (programs.Renameat (operand_of operand) path.now (operand_of target) new_path.now) }
+{
+    let source = match held(files, caller, operand) {
+        Err(refused) => return Err(refused),
+        Ok(held) => held,
+    };
+    let target = match held(files, caller, target) {
+        Err(refused) => return Err(refused),
+        Ok(held) => held,
+    };
+    if !source.rights.contains(need_of(Call::Renameat)) {
+        return Err(Refusal::Fails(Errno::ENOTCAPABLE, Cause::MissingRight));
+    }
+    if !target.rights.contains(second_need(false)) {
+        return Err(Refusal::Fails(Errno::ENOTCAPABLE, Cause::MissingRight));
+    }
+    let start = match directory_of(tree, files, source.description) {
+        Err(refused) => return Err(refused),
+        Ok(dir) => dir,
+    };
+    let end = match directory_of(tree, files, target.description) {
+        Err(refused) => return Err(refused),
+        Ok(dir) => dir,
+    };
+    let may_replace = target.rights.contains(second_need(true));
+    rename(alloc, tree, start, path, end, new_path, may_replace)
 }

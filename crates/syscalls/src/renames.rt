@@ -1,14 +1,13 @@
 //! Renaming. (renameat(2), rename(2))
 
-ghost use Rattle.std.specs.Prelude.{◌≡◌, ◌<◌, ◌≢◌, ◌∷◌, [], Bool, IfErr, IfOk, None, true, false, length};
-ghost use Rattle.file_tree.specs.Nodes.{Dir, is_link};
+ghost use Rattle.std.specs.Prelude.{◌≡◌, ◌<◌, ◌≢◌, ◌∷◌, [], Bool, IfErr, IfOk, None, true, length};
+ghost use Rattle.file_tree.specs.Nodes.{Dir};
 ghost use Rattle.file_tree.specs.Nodes as nodes;
 ghost use Rattle.file_tree.specs.Places.{at_name, begins, is_file_name};
 ghost use Rattle.file_tree.specs.WellFormed.{IsTree};
 ghost use Rattle.fd_table.specs.Descriptions.{Descriptor};
-ghost use Rattle.lookup.specs.Answers as lookups;
-ghost use Rattle.lookup.specs.Looks.{find_of};
-ghost use Rattle.lookup.specs.Promises.{HasName};
+ghost use Rattle.lookup.specs.Promises.{HasName, IsFindingThere, IsFreeName, IsUnderName, MayBeMade};
+ghost use Rattle.lookup.specs.Views.{found_of};
 ghost use Rattle.prog_asm.specs.Programs.{Syscall, is_path};
 ghost use Rattle.kernel.specs.Calls as model;
 ghost use Rattle.syscalls.specs.AnswerViews.{MayReplace, OnTree};
@@ -16,9 +15,8 @@ ghost use Rattle.syscalls.specs.Views.{effect_of, effects_of};
 
 use crate::directories::is_directory;
 use crate::outcomes::{Effect, Refusal, Success, effect_at, place_of};
-use crate::paths::look_up;
 use file_tree::{NodeId, Tree, TreeFault};
-use lookup::{Found, Last, Way, last_name};
+use lookup::{Found, last_name};
 use rights::{Cause, Errno, Op};
 use std::alloc::Global;
 
@@ -148,28 +146,29 @@ pub(crate) fn rename_over<T: Tree>(
     }
 }
 
-/// Gives a node the place that a path leads to. (renameat(2); that a node is replaced with the right to unlink alone is
-/// own)
+/// Gives a node the place that was found at a path. (renameat(2); that a node is replaced with the right to unlink alone
+/// is own)
 #[tactic(auto, unfolding(kernel::specs::Answers::unless))]
 pub(crate) fn rename_to<T: Tree>(
     alloc: Global,
     tree: &mut T,
     n: NodeId,
-    start: NodeId,
+    place: Found,
     path: &[u8],
     may_replace: bool,
 ) -> Result<Success, Refusal>
     requires tree { IsTree (T.nodes tree.old) }
     requires there { n < length (T.nodes tree.old) }
     requires linked { (nodes.node (T.nodes tree.old) n).linked ≡ true }
-    requires start_there { start < length (T.nodes tree.old) }
-    requires opened { is_link (nodes.node (T.nodes tree.old) start).kind ≡ false }
+    requires place_there { IsFindingThere (T.nodes tree.old) (found_of place) }
+    requires named { IsUnderName (T.nodes tree.old) path.now (found_of place) }
+    requires free { IsFreeName (T.nodes tree.old) path.now (found_of place) }
+    requires may_be_made { MayBeMade path.now (found_of place) }
     requires text { is_path path.now ≡ true }
     ensures { (refuse : Bool) (call : Syscall) (target : Descriptor) → MayReplace call target may_replace
-        → OnTree (T.nodes tree.old) (T.nodes tree.new) refuse result (λ w p s e.
-        model.renamed_to w p s e call target n path.now (find_of (T.nodes tree.old) start path.now lookups.Beneath lookups.Keep)) }
+        → OnTree (T.nodes tree.old) (T.nodes tree.new) refuse result (λ w p s e. model.renamed_to w p s e call target n path.now (found_of place)) }
 {
-    let over = match look_up(alloc, tree, start, path, Way::Beneath, Last::Keep)? {
+    let over = match place {
         Found::Free(dir) => return rename_free(alloc, tree, n, dir, last_name(path)),
         Found::Node(over) => over,
     };
@@ -183,32 +182,4 @@ pub(crate) fn rename_to<T: Tree>(
         return Err(Refusal::Fails(Errno::ENOTCAPABLE, Cause::MissingRight));
     }
     rename_over(alloc, tree, n, over, last_name(path))
-}
-
-/// Renames what one path leads to to where another leads.
-pub(crate) fn rename<T: Tree>(
-    alloc: Global,
-    tree: &mut T,
-    start: NodeId,
-    path: &[u8],
-    target: NodeId,
-    new_path: &[u8],
-    may_replace: bool,
-) -> Result<Success, Refusal>
-    requires tree { IsTree (T.nodes tree.old) }
-    requires there { start < length (T.nodes tree.old) }
-    requires opened { is_link (nodes.node (T.nodes tree.old) start).kind ≡ false }
-    requires target_there { target < length (T.nodes tree.old) }
-    requires target_opened { is_link (nodes.node (T.nodes tree.old) target).kind ≡ false }
-    requires text { is_path new_path.now ≡ true }
-    ensures { (refuse : Bool) (call : Syscall) (holder : Descriptor) → MayReplace call holder may_replace
-        → OnTree (T.nodes tree.old) (T.nodes tree.new) refuse result (λ w p s e.
-        model.renamed_from w p s e (find_of (T.nodes tree.old) start path.now lookups.Beneath lookups.Keep) (λ n.
-        model.renamed_to w p s e call holder n new_path.now (find_of (T.nodes tree.old) target new_path.now lookups.Beneath lookups.Keep))) }
-{
-    let n = match look_up(alloc, tree, start, path, Way::Beneath, Last::Keep)? {
-        Found::Free(_) => return Err(Refusal::Fails(Errno::ENOENT, Cause::Path)),
-        Found::Node(n) => n,
-    };
-    rename_to(alloc, tree, n, target, new_path, may_replace)
 }

@@ -8,7 +8,7 @@ use Rattle.syscalls.specs.AnswerViews.{Meets, Refuses, held_seen}
 use Rattle.syscalls.specs.Views.{world_with}
 use Rattle.syscalls.proofs.Finding.{refused_alone}
 use Rattle.syscalls.proofs.Tests.{passes, fails}
-use Rattle.syscalls.proofs.nodes.rename_beneath.Goals as goal
+use Rattle.syscalls.proofs.paths.rename_beneath.Goals as goal
 
 pub returns-in-Err : goal.returns-in-Err
 unfolding answer looks looks_twice

@@ -1,0 +1,28 @@
+use Rattle.std.proofs.Common.{sym, subst, refl}
+use Rattle.fd_table.specs.Kept.{open_files}
+use Rattle.kernel.specs.Calls.{answer, made_directory}
+use Rattle.syscalls.specs.AnswerViews.{Meets}
+use Rattle.syscalls.specs.Views.{world_with}
+use Rattle.syscalls.proofs.Finding.{refused_alone}
+use Rattle.syscalls.proofs.paths.make_path.Goals as goal
+
+pub returns-in-Err : goal.returns-in-Err
+unfolding answer
+returns-in-Err g c = λ processes e same.
+    let t = g.T.Tree.nodes c.args.tree.now in
+    let f = open_files c.args.files.now in
+    let w = world_with t f processes in
+    let p = c.args.caller.now.number in
+    let s = c.args.caller.now.process.now in
+    refused_alone c.in-Err.refused w _ _ _ (c.in-Err.ensures.leads f processes p s e (made_directory w p s e c.args.path.now) (λ fault. refl)) (record { tree = refl; files = refl })
+
+pub returns-in-Ok : goal.returns-in-Ok
+unfolding answer
+returns-in-Ok g c = λ processes e same.
+    let t = g.T.Tree.nodes c.args.tree.now in
+    let f = open_files c.args.files.now in
+    let w = world_with t f processes in
+    let p = c.args.caller.now.number in
+    let s = c.args.caller.now.process.now in
+    subst (Meets w p (g.T.Tree.nodes c.make_directory.new.tree) f c.make_directory.result) (sym (c.in-Ok.ensures.leads f processes p s e (made_directory w p s e c.args.path.now)))
+    (c.make_directory.ensures f processes p s e same c.requires.ready.idle)
