@@ -1,6 +1,6 @@
 -- From the parts of a call to the whole: its process, and its fresh numbers.
-use Rattle.std.proofs.Common.{◌≡◌, ◌+◌, ◌<◌, ◌≤◌, arith, ℕ, Bool, true, false, List, [], ◌++◌, map, length, slice_set, refl, ap, sym, subst, ◌∙◌, append-nil}
-use Rattle.std.specs.Prelude.{◌||◌, Option, Some, None, Result}
+use Rattle.std.proofs.Common.{◌≡◌, ◌≢◌, ◌+◌, ◌<◌, ◌≤◌, arith, ℕ, Bool, List, [], ◌++◌, map, length, slice_set, refl, ap, sym, subst, ◌∙◌, append-nil}
+use Rattle.std.specs.Prelude.{Option, Some, None, Result}
 use Rattle.std.specs.List.{slice_get}
 use Rattle.std.proofs.Math.ListN.{get_or}
 use Rattle.std.proofs.lemmas.Option.{slice_get_within, get_or_from_slice_get}
@@ -12,15 +12,16 @@ use Rattle.rights.specs.Errors.{Errno, Cause}
 use Rattle.rights.specs.Views.{errno_of, cause_of}
 use Rattle.rights.specs.declared.errors.Errno.{Errno as ErrnoCode}
 use Rattle.rights.specs.declared.errors.Cause.{Cause as CauseCode}
+use Rattle.syscalls.specs.declared.outcomes.Besides.{Besides}
+use Rattle.syscalls.specs.declared.outcomes.Besides.TheVariants as besides
 use Rattle.syscalls.specs.declared.outcomes.Success.{Success}
 use Rattle.syscalls.specs.declared.outcomes.Refusal.{Refusal}
 use Rattle.syscalls.specs.declared.outcomes.Refusal.TheVariants as refusal
-use Rattle.prog_asm.specs.Programs.{Syscall, Open, Openat, Read, Write, Sendfd, Recvfd, Lseek, Ftruncate, Fsync, Fstat, Fcntl_getfl, Fcntl_setfl, Fstatat, Stat, Mkdirat, Mkdir}
-use Rattle.prog_asm.specs.Programs.{Unlinkat, Unlink, Renameat, Dup, Close, Cap_rights_limit, Cap_fcntls_limit, Cap_enter, Cap_getmode, Socketpair, Fork}
+use Rattle.prog_asm.specs.Programs.{Syscall}
 use Rattle.kernel.specs.World.{World, Choice, IsFresh}
 use Rattle.kernel.specs.Answers.{Event, TreeChange, TableChange, Same_table, Set_entry, Clear_entry, New_file, New_pair, New_process, QueueChange, StateChange, Change, Fails, Waits}
 use Rattle.kernel.specs.Calls.{answer}
-use Rattle.kernel.specs.Changes.{files_after, changed, given, second_number, children, processes_after}
+use Rattle.kernel.specs.Changes.{files_after, changed, given, children, processes_after}
 use Rattle.kernel.specs.Steps.{LineResult, Value, Failed, Waiting, Programs, answered, failed}
 use Rattle.kernel.specs.WellFormed.{IsWellFormed, Numbering, IsObject, IsDescriptor}
 use Rattle.kernel.proofs.Trees.{there_if_opened}
@@ -30,10 +31,9 @@ use Rattle.kernel.proofs.Fresh.{fresh_some}
 use Rattle.kernel.proofs.Keeping.{fresh_numbers}
 use Rattle.syscalls.specs.Shows.{Shown, shown}
 use Rattle.syscalls.specs.Views.{world_with}
-use Rattle.syscalls.specs.AnswerViews.{Suits, IsOrdinary, IsPlain, Succeeds, RefusesAlone, Meets, IsIdle, IsReady, IsReadyDescription, IsReadyObject}
-use Rattle.syscalls.specs.MayCall.{MayCall, is_entering, is_making, is_pairing}
-use Rattle.syscalls.specs.NodeCalls.{is_on_nodes}
-use Rattle.syscalls.specs.CallViews.{Comes, FailsAs, succeeded_as}
+use Rattle.syscalls.specs.AnswerViews.{Suits, IsBesides, Succeeds, RefusesAlone, Meets, IsIdle, IsReady, IsReadyDescription, IsReadyObject}
+use Rattle.syscalls.specs.MayCall.{MayCall}
+use Rattle.syscalls.specs.CallViews.{Comes, FailsAs, processes_as, succeeded_as}
 use Rattle.syscalls.proofs.Keeping.{alike_refl}
 
 -- A fresh choice with which the change leaves the same.
@@ -43,14 +43,14 @@ record Chosen (f : OpenFiles) (p n : ℕ) (change : Change) (g : OpenFiles) : Ty
   alike : Alike (files_after f p n choice change) g
 
 chosen : (f : OpenFiles) (p n : ℕ) (tree : TreeChange) (table : TableChange) (queue : QueueChange) (state : StateChange) (enters : Bool)
-    (choice : Choice) (g : OpenFiles) → MayChoose f → (some : Choice) → IsFresh f some → Suits f choice table → IsOrdinary table →
+    (choice : Choice) (g : OpenFiles) → MayChoose f → (some : Choice) → IsFresh f some → Suits f choice table →
     Alike (files_after f p n choice (record { tree = tree; table = table; queue = queue; state = state; enters = enters })) g →
     Chosen f p n (record { tree = tree; table = table; queue = queue; state = state; enters = enters }) g
 unfolding files_after
-chosen f p n tree Same_table queue state enters choice g may some fresh suits ordinary alike = record { choice = some; fresh = fresh; alike = alike }
-chosen f p n tree (Set_entry number d) queue state enters choice g may some fresh suits ordinary alike = record { choice = some; fresh = fresh; alike = alike }
-chosen f p n tree (Clear_entry number) queue state enters choice g may some fresh suits ordinary alike = record { choice = some; fresh = fresh; alike = alike }
-chosen f p n tree (New_file number node access append rights fcntls) queue state enters choice g may some fresh suits ordinary alike =
+chosen f p n tree Same_table queue state enters choice g may some fresh suits alike = record { choice = some; fresh = fresh; alike = alike }
+chosen f p n tree (Set_entry number d) queue state enters choice g may some fresh suits alike = record { choice = some; fresh = fresh; alike = alike }
+chosen f p n tree (Clear_entry number) queue state enters choice g may some fresh suits alike = record { choice = some; fresh = fresh; alike = alike }
+chosen f p n tree (New_file number node access append rights fcntls) queue state enters choice g may some fresh suits alike =
     let with = may.with_first choice.first suits in
     record {
       choice = with.0;
@@ -59,37 +59,19 @@ chosen f p n tree (New_file number node access append rights fcntls) queue state
           (record { tree = tree; table = New_file number node access append rights fcntls; queue = queue; state = state; enters = enters })) g)
           (sym with.1) alike;
     }
-chosen f p n tree (New_pair first second class) queue state enters choice g may some fresh suits ordinary alike = absurd ordinary
-chosen f p n tree New_process queue state enters choice g may some fresh suits ordinary alike = absurd ordinary
+chosen f p n tree (New_pair first second class) queue state enters choice g may some fresh (one, two, apart, unused) alike = record {
+  choice = choice;
+  fresh = record { first = one; second = two; apart = apart; pair = unused };
+  alike = alike;
+}
+chosen f p n tree New_process queue state enters choice g may some fresh suits alike = record { choice = some; fresh = fresh; alike = alike }
 
--- what a plain change makes of the process
-plain_registers : (table : TableChange) (registers : List ℕ) → IsOrdinary table → second_number table registers ≡ registers
-plain_registers Same_table registers ordinary = refl
-plain_registers (Set_entry number d) registers ordinary = refl
-plain_registers (Clear_entry number) registers ordinary = refl
-plain_registers (New_file number node access append rights fcntls) registers ordinary = refl
-plain_registers (New_pair first second class) registers ordinary = absurd ordinary
-plain_registers New_process registers ordinary = absurd ordinary
-
-no_children : (table : TableChange) (s : ProcessState) → IsOrdinary table → children table s ≡ []
-no_children Same_table s ordinary = refl
-no_children (Set_entry number d) s ordinary = refl
-no_children (Clear_entry number) s ordinary = refl
-no_children (New_file number node access append rights fcntls) s ordinary = refl
-no_children (New_pair first second class) s ordinary = absurd ordinary
-no_children New_process s ordinary = absurd ordinary
-
-given_plain : (s : ProcessState) (value : ℕ) (change : Change) → IsPlain change → given s value change ≡ succeeded_as s value false
-given_plain s value change (enters, ordinary) =
-    ap (λ registers. record s { registers = registers; point = s.point + 1; mode = s.mode || change.enters }) (plain_registers change.table (slice_set s.registers 0 value) ordinary)
-    ∙ ap (λ b. record s { registers = slice_set s.registers 0 value; point = s.point + 1; mode = s.mode || b }) enters
-
-processes_plain : (processes : List ProcessState) (p : ℕ) (s : ProcessState) (value : ℕ) (change : Change) → IsPlain change →
-    processes_after processes p (given s value change) change.table ≡ slice_set processes p (succeeded_as s value false)
-processes_plain processes p s value change plain =
-    ap (λ more. slice_set processes p (given s value change) ++ more) (no_children change.table (given s value change) plain.1)
-    ∙ append-nil (slice_set processes p (given s value change))
-    ∙ ap (slice_set processes p) (given_plain s value change plain)
+-- what a change makes of the processes
+processes_besides : (processes : List ProcessState) (p : ℕ) (s : ProcessState) (value : ℕ) (b : Besides) (change : Change) → IsBesides b change →
+    processes_after processes p (given s value change) change.table ≡ processes_as processes p s value b
+processes_besides processes p s value b change is =
+    ap (λ (x : ProcessState). slice_set processes p x ++ children change.table x) (is.process s value)
+    ∙ ap (λ more. slice_set processes p (succeeded_as s value b) ++ more) (is.children (succeeded_as s value b))
 
 -- ## The three ways of a call
 module _ (programs : Programs) (t : List Node) (f : OpenFiles) (processes : List ProcessState)
@@ -104,20 +86,21 @@ module _ (programs : Programs) (t : List Node) (f : OpenFiles) (processes : List
   some = fresh_some programs good.numbering w good.world
 
   -- it succeeds
-  pub succeeds : (after : List Node) (left : OpenFiles) (value : ℕ) (shows : List Shown) → Succeeds w p after left value shows (answer w p s e call) →
-      Comes w p s e call otherwise (Value value) shows (world_with after left (slice_set processes p (succeeded_as s value false)))
+  pub succeeds : (after : List Node) (left : OpenFiles) (value : ℕ) (b : Besides) (shows : List Shown) →
+      Succeeds w p after left value b shows (answer w p s e call) →
+      Comes w p s e call otherwise (Value value) shows (world_with after left (processes_as processes p s value b))
   unfolding answered changed
-  succeeds after left value shows y =
+  succeeds after left value b shows y =
       let c = chosen f p (length processes) y.change.tree y.change.table y.change.queue y.change.state y.change.enters y.choice left
-      (fresh_numbers programs w good) some.0 some.1 y.suits y.plain.1 y.files in
-      let v = world_with after left (slice_set processes p (succeeded_as s value false)) in
+      (fresh_numbers programs w good) some.0 some.1 y.suits y.files in
+      let v = world_with after left (processes_as processes p s value b) in
       record {
         choice = c.choice;
         fresh = c.fresh;
         outcome = ap (λ a. (answered w p s c.choice otherwise a).outcome) (sym y.is);
         prints = sym y.prints ∙ ap (λ a. map shown (answered w p s c.choice otherwise a).effects) (sym y.is);
         world = subst (λ a. AlikeWorlds (answered w p s c.choice otherwise a).world v) (sym y.is)
-            (record { tree = y.tree; processes = sym (processes_plain processes p s value y.change y.plain); files = c.alike });
+            (record { tree = y.tree; processes = sym (processes_besides processes p s value b y.change y.makes); files = c.alike });
       }
 
   -- it fails
@@ -144,22 +127,6 @@ module _ (programs : Programs) (t : List Node) (f : OpenFiles) (processes : List
     prints = ap (λ a. map shown (answered w p s some.0 otherwise a).effects) (sym is);
     world = subst (λ a. AlikeWorlds (answered w p s some.0 otherwise a).world w) (sym is) (record { tree = refl; processes = refl; files = alike_refl f idle });
   }
-
--- cap_enter always succeeds
-pub enters : (programs : Programs) (t : List Node) (f : OpenFiles) (processes : List ProcessState) →
-    IsWellFormed programs (world_with t f processes) → (p : ℕ) (s : ProcessState) (e : Event) (otherwise : ℕ) →
-    Comes (world_with t f processes) p s e Cap_enter otherwise (Value 0) [] (world_with t f (slice_set processes p (succeeded_as s 0 true)))
-unfolding answer answered changed files_after
-enters programs t f processes good p s e otherwise =
-    let w = world_with t f processes in
-    let some = fresh_some programs good.numbering w good.world in
-    record {
-      choice = some.0;
-      fresh = some.1;
-      outcome = refl;
-      prints = refl;
-      world = record { tree = refl; processes = sym (append-nil (slice_set processes p (succeeded_as s 0 true))); files = alike_refl f good.world.idle };
-    }
 
 -- What a well-formed world gives to the parts of a call.
 ready_object : (t : List Node) (numbering : Numbering) (d : ℕ) (o : Object) → IsObject t numbering d o → IsReadyObject t o
@@ -197,9 +164,6 @@ ready t f processes p may =
 pub stands : (processes : List ProcessState) (p : ℕ) (s x : ProcessState) → slice_get processes p ≡ Some s → x ≡ get_or processes p x → x ≡ s
 stands processes p s x made read = read ∙ get_or_from_slice_get processes p s x made
 
-pub has_next : (t : List Node) (f : OpenFiles) (processes : List ProcessState) (p : ℕ) (x : ProcessState) → MayCall (world_with t f processes) p → x ≡ get_or processes p x → x.point + 1 < 256
-has_next t f processes p x may read = subst (λ (y : ProcessState). y.point + 1 < 256) (sym (stands processes p may.process x may.made read)) may.next
-
 -- what failed there
 pub failed_at : (processes : List ProcessState) (p : ℕ) (s x : ProcessState) (otherwise : ℕ) (errno : Errno) (cause : Cause) (told : LineResult)
     (shows : List Shown) (next : ProcessState) → slice_get processes p ≡ Some s → x ≡ get_or processes p x →
@@ -215,65 +179,6 @@ meets_at t f processes p s x e call after left r made read is = subst
     (λ y. Meets (world_with t f processes) p after left r (answer (world_with t f processes) p y e call)) (stands processes p s x made read) is
 
 -- ## The same of what the code left
-only_entering : (call : Syscall) → is_entering call ≡ true → call ≡ Cap_enter
-only_entering (Open path flags) is = absurd cc
-only_entering (Openat descriptor path flags) is = absurd cc
-only_entering (Read descriptor) is = absurd cc
-only_entering (Write descriptor value) is = absurd cc
-only_entering (Sendfd descriptor sent value) is = absurd cc
-only_entering (Recvfd descriptor) is = absurd cc
-only_entering (Lseek descriptor offset) is = absurd cc
-only_entering (Ftruncate descriptor len) is = absurd cc
-only_entering (Fsync descriptor) is = absurd cc
-only_entering (Fstat descriptor) is = absurd cc
-only_entering (Fcntl_getfl descriptor) is = absurd cc
-only_entering (Fcntl_setfl descriptor flags) is = absurd cc
-only_entering (Fstatat descriptor path) is = absurd cc
-only_entering (Stat path) is = absurd cc
-only_entering (Mkdirat descriptor path) is = absurd cc
-only_entering (Mkdir path) is = absurd cc
-only_entering (Unlinkat descriptor path directory) is = absurd cc
-only_entering (Unlink path directory) is = absurd cc
-only_entering (Renameat descriptor path target new_path) is = absurd cc
-only_entering (Dup descriptor) is = absurd cc
-only_entering (Close descriptor) is = absurd cc
-only_entering (Cap_rights_limit descriptor rights) is = absurd cc
-only_entering (Cap_fcntls_limit descriptor commands) is = absurd cc
-only_entering Cap_enter is = refl
-only_entering Cap_getmode is = absurd cc
-only_entering Socketpair is = absurd cc
-only_entering Fork is = absurd cc
-
--- every other call leaves the mode and the processes, and makes no pair
-pub on_nodes_else : (call : Syscall) → is_making call ≡ false → is_pairing call ≡ false → is_entering call ≡ false → is_on_nodes call ≡ true
-on_nodes_else (Open path flags) fork pair enter = refl
-on_nodes_else (Openat descriptor path flags) fork pair enter = refl
-on_nodes_else (Read descriptor) fork pair enter = refl
-on_nodes_else (Write descriptor value) fork pair enter = refl
-on_nodes_else (Sendfd descriptor sent value) fork pair enter = refl
-on_nodes_else (Recvfd descriptor) fork pair enter = refl
-on_nodes_else (Lseek descriptor offset) fork pair enter = refl
-on_nodes_else (Ftruncate descriptor len) fork pair enter = refl
-on_nodes_else (Fsync descriptor) fork pair enter = refl
-on_nodes_else (Fstat descriptor) fork pair enter = refl
-on_nodes_else (Fcntl_getfl descriptor) fork pair enter = refl
-on_nodes_else (Fcntl_setfl descriptor flags) fork pair enter = refl
-on_nodes_else (Fstatat descriptor path) fork pair enter = refl
-on_nodes_else (Stat path) fork pair enter = refl
-on_nodes_else (Mkdirat descriptor path) fork pair enter = refl
-on_nodes_else (Mkdir path) fork pair enter = refl
-on_nodes_else (Unlinkat descriptor path directory) fork pair enter = refl
-on_nodes_else (Unlink path directory) fork pair enter = refl
-on_nodes_else (Renameat descriptor path target new_path) fork pair enter = refl
-on_nodes_else (Dup descriptor) fork pair enter = refl
-on_nodes_else (Close descriptor) fork pair enter = refl
-on_nodes_else (Cap_rights_limit descriptor rights) fork pair enter = refl
-on_nodes_else (Cap_fcntls_limit descriptor commands) fork pair enter = refl
-on_nodes_else Cap_enter fork pair enter = absurd cc
-on_nodes_else Cap_getmode fork pair enter = refl
-on_nodes_else Socketpair fork pair enter = absurd cc
-on_nodes_else Fork fork pair enter = absurd cc
-
 -- worlds of equal parts
 same_world : {t u : List Node} {f h : OpenFiles} {processes others : List ProcessState} → t ≡ u → f ≡ h → processes ≡ others → world_with t f processes ≡ world_with u h others
 same_world tree files processes i = world_with (tree i) (files i) (processes i)
@@ -307,13 +212,13 @@ falls_as programs t f processes good p s e call otherwise after left refused err
 
 module _ (programs : Programs) (t : List Node) (f : OpenFiles) (processes : List ProcessState)
     (good : IsWellFormed programs (world_with t f processes)) (p : ℕ) (s : ProcessState) (e : Event) (call : Syscall) (otherwise : ℕ)
-    (after : List Node) (left : OpenFiles) (next : ProcessState) (shows : List Shown) where
-  pub succeeds_as : (value : ℕ) → Succeeds (world_with t f processes) p after left value shows (answer (world_with t f processes) p s e call) →
-      next ≡ succeeded_as s value false → Comes (world_with t f processes) p s e call otherwise (Value value) shows
-      (world_with after left (slice_set processes p next))
-  succeeds_as value y is =
-      subst (λ (v : World). Comes (world_with t f processes) p s e call otherwise (Value value) shows v) (same_world refl refl (ap (slice_set processes p) (sym is)))
-      (succeeds programs t f processes good p s e call otherwise after left value shows y)
+    (after : List Node) (left : OpenFiles) (shows : List Shown) where
+  pub succeeds_as : (value : ℕ) (b : Besides) → Succeeds (world_with t f processes) p after left value b shows (answer (world_with t f processes) p s e call) →
+      (others : List ProcessState) → others ≡ processes_as processes p s value b →
+      Comes (world_with t f processes) p s e call otherwise (Value value) shows (world_with after left others)
+  succeeds_as value b y others is =
+      subst (λ (v : World). Comes (world_with t f processes) p s e call otherwise (Value value) shows v) (same_world refl refl (sym is))
+      (succeeds programs t f processes good p s e call otherwise after left value b shows y)
 
   pub waits_as : (refused : Refusal) → refused ≡ refusal.Waits →
       RefusesAlone refused (world_with t f processes) after left (answer (world_with t f processes) p s e call) → shows ≡ [] →
@@ -324,19 +229,21 @@ module _ (programs : Programs) (t : List Node) (f : OpenFiles) (processes : List
       subst (λ (v : World). Comes w p s e call otherwise Waiting shows v) (same_world (sym nothing.tree) (sym nothing.files) refl)
       (subst (λ x. Comes w p s e call otherwise Waiting x w) (sym none) (waits programs t f processes good p s e call otherwise answers))
 
-pub enters_as : (programs : Programs) (t : List Node) (f : OpenFiles) (processes : List ProcessState) →
-    IsWellFormed programs (world_with t f processes) →
-    (p : ℕ) (s : ProcessState) (e : Event) (call : Syscall) (otherwise : ℕ) (next : ProcessState) (shows : List Shown) → is_entering call ≡ true →
-    next ≡ succeeded_as s 0 true → shows ≡ [] → (told : LineResult) → told ≡ Value 0 →
-    Comes (world_with t f processes) p s e call otherwise told shows (world_with t f (slice_set processes p next))
-enters_as programs t f processes good p s e call otherwise next shows entering is none told value =
-    let w = world_with t f processes in
-    let after = world_with t f (slice_set processes p (succeeded_as s 0 true)) in
-    subst (λ (v : World). Comes w p s e call otherwise told shows v) (same_world refl refl (ap (slice_set processes p) (sym is)))
-    (subst (λ x. Comes w p s e call otherwise x shows after) (sym value)
-    (subst (λ x. Comes w p s e call otherwise (Value 0) x after) (sym none)
-    (subst (λ x. Comes w p s e x otherwise (Value 0) [] after) (sym (only_entering call entering)) (enters programs t f processes good p s e otherwise))))
+-- the process that calls, whatever is known to stand at its number
+pub same_process : (processes : List ProcessState) (p : ℕ) (s x : ProcessState) → slice_get processes p ≡ Some s → slice_get processes p ≡ Some x → s ≡ x
+same_process processes p s x made read = some_same (sym made ∙ read)
+  where
+    some_same : {a b : ProcessState} → Some a ≡ Some b → a ≡ b
+    some_same is = cc
 
-pub or_false : (b : Bool) → (b || false) ≡ b
-or_false true = refl
-or_false false = refl
+pub next_at : (t : List Node) (f : OpenFiles) (processes : List ProcessState) (p : ℕ) → MayCall (world_with t f processes) p →
+    (s : ProcessState) → slice_get processes p ≡ Some s → s.point + 1 < 256
+next_at t f processes p may s made = subst (λ (y : ProcessState). y.point + 1 < 256) (same_process processes p may.process s may.made made) may.next
+
+-- the processes where none is made
+pub alone : (processes : List ProcessState) (p : ℕ) (s : ProcessState) (value : ℕ) (b : Besides) → b ≢ besides.Child →
+    slice_set processes p (succeeded_as s value b) ≡ processes_as processes p s value b
+alone processes p s value besides.Nothing other = sym (append-nil (slice_set processes p (succeeded_as s value besides.Nothing)))
+alone processes p s value besides.Mode other = sym (append-nil (slice_set processes p (succeeded_as s value besides.Mode)))
+alone processes p s value (besides.Second second) other = sym (append-nil (slice_set processes p (succeeded_as s value (besides.Second second))))
+alone processes p s value besides.Child other = absurd (other refl)

@@ -10,10 +10,11 @@ use Rattle.fd_table.specs.Descriptions.{Access, Message, Descriptor, State}
 use Rattle.fd_table.specs.Filled.{with_state, Opens}
 use Rattle.fd_table.specs.OpenFiles.{OpenFiles, Alike, SameDescription, SameDescriptions}
 use Rattle.kernel.specs.World.{World, Choice}
-use Rattle.kernel.specs.Answers.{Effect, TreeChange, TableChange, QueueChange, New_file, Make, Set_state, Answer, Gives, same, Set_entry}
+use Rattle.kernel.specs.Answers.{Effect, TreeChange, TableChange, Same_table, Set_entry, Clear_entry, New_file, New_pair, New_process, QueueChange, Make, Set_state, Answer, Gives, same}
 use Rattle.kernel.specs.Changes.{tree_after, files_after}
+use Rattle.syscalls.specs.declared.outcomes.Besides.TheVariants as besides
 use Rattle.syscalls.specs.Shows.{Shown, shown}
-use Rattle.syscalls.specs.AnswerViews.{Succeeds, Suits, IsOrdinary, IsIdle}
+use Rattle.syscalls.specs.AnswerViews.{Succeeds, Suits, IsBesides, IsIdle}
 
 same_description : (f : OpenFiles) (o : Option Descriptor) → SameDescription f f o
 same_description f None = tt
@@ -39,7 +40,7 @@ any_choice = record { first = 0; second = 0; pair = 0 }
 -- a change of the tree alone
 pub tree_succeeds : (w : World) (p : ℕ) (t : List Node) (value : ℕ) (shows : List Shown) (a : Answer) (change : TreeChange) (effects : List Effect) →
     IsIdle w.files → a ≡ Gives value (record same { tree = change }) effects → map shown effects ≡ shows → t ≡ tree_after w.tree change →
-    Succeeds w p t w.files value shows a
+    Succeeds w p t w.files value besides.Nothing shows a
 unfolding files_after
 tree_succeeds w p t value shows a change effects idle is prints tree = record {
   change = record same { tree = change };
@@ -48,7 +49,7 @@ tree_succeeds w p t value shows a change effects idle is prints tree = record {
   is = is;
   prints = prints;
   suits = tt;
-  plain = (refl, tt);
+  makes = record { process = λ s value. refl; children = λ s. refl };
   tree = tree;
   files = alike_refl w.files idle;
 }
@@ -67,7 +68,7 @@ free_creates t d name linked absent room =
 -- a change of a description's state alone
 pub state_succeeds : (w : World) (p : ℕ) (f : OpenFiles) (value : ℕ) (shows : List Shown) (a : Answer) (n : ℕ) (state : State)
     (effects : List Effect) → a ≡ Gives value (record same { state = Set_state n state }) effects → map shown effects ≡ shows →
-    Alike (with_state w.files n state) f → Succeeds w p w.tree f value shows a
+    Alike (with_state w.files n state) f → Succeeds w p w.tree f value besides.Nothing shows a
 unfolding files_after
 state_succeeds w p f value shows a n state effects is prints files = record {
   change = record same { state = Set_state n state };
@@ -76,14 +77,14 @@ state_succeeds w p f value shows a n state effects is prints files = record {
   is = is;
   prints = prints;
   suits = tt;
-  plain = (refl, tt);
+  makes = record { process = λ s value. refl; children = λ s. refl };
   tree = refl;
   files = files;
 }
 
 -- no change
 pub same_succeeds : (w : World) (p : ℕ) (value : ℕ) (shows : List Shown) (a : Answer) (effects : List Effect) → IsIdle w.files →
-    a ≡ Gives value same effects → map shown effects ≡ shows → Succeeds w p w.tree w.files value shows a
+    a ≡ Gives value same effects → map shown effects ≡ shows → Succeeds w p w.tree w.files value besides.Nothing shows a
 unfolding files_after
 same_succeeds w p value shows a effects idle is prints = record {
   change = same;
@@ -92,7 +93,7 @@ same_succeeds w p value shows a effects idle is prints = record {
   is = is;
   prints = prints;
   suits = tt;
-  plain = (refl, tt);
+  makes = record { process = λ s value. refl; children = λ s. refl };
   tree = refl;
   files = alike_refl w.files idle;
 }
@@ -100,7 +101,7 @@ same_succeeds w p value shows a effects idle is prints = record {
 -- a change of the tree and of a description's state
 pub write_succeeds : (w : World) (p : ℕ) (t : List Node) (f : OpenFiles) (value : ℕ) (shows : List Shown) (a : Answer) (change : TreeChange) (n : ℕ)
     (state : State) (effects : List Effect) → a ≡ Gives value (record same { tree = change; state = Set_state n state }) effects →
-    map shown effects ≡ shows → t ≡ tree_after w.tree change → Alike (with_state w.files n state) f → Succeeds w p t f value shows a
+    map shown effects ≡ shows → t ≡ tree_after w.tree change → Alike (with_state w.files n state) f → Succeeds w p t f value besides.Nothing shows a
 unfolding files_after
 write_succeeds w p t f value shows a change n state effects is prints tree files = record {
   change = record same { tree = change; state = Set_state n state };
@@ -109,16 +110,30 @@ write_succeeds w p t f value shows a change n state effects is prints tree files
   is = is;
   prints = prints;
   suits = tt;
-  plain = (refl, tt);
+  makes = record { process = λ s value. refl; children = λ s. refl };
   tree = tree;
   files = files;
 }
+
+-- The change makes neither a pair nor a child.
+abbrev pub IsOrdinary : TableChange → Type 0
+IsOrdinary (New_pair first second class) = ⊥
+IsOrdinary New_process = ⊥
+IsOrdinary _ = Unit {0}
+
+ordinary_besides : (table : TableChange) → IsOrdinary table → IsBesides besides.Nothing (record same { table = table })
+ordinary_besides Same_table ordinary = record { process = λ s value. refl; children = λ s. refl }
+ordinary_besides (Set_entry number d) ordinary = record { process = λ s value. refl; children = λ s. refl }
+ordinary_besides (Clear_entry number) ordinary = record { process = λ s value. refl; children = λ s. refl }
+ordinary_besides (New_file number n access append rights fcntls) ordinary = record { process = λ s value. refl; children = λ s. refl }
+ordinary_besides (New_pair first second class) ordinary = absurd ordinary
+ordinary_besides New_process ordinary = absurd ordinary
 
 -- a change of the table alone, of entries that there are
 pub entry_succeeds : (w : World) (p : ℕ) (f : OpenFiles) (value : ℕ) (shows : List Shown) (a : Answer) (change : TableChange)
     (effects : List Effect) → Suits w.files any_choice change → IsOrdinary change → a ≡ Gives value (record same { table = change }) effects →
     map shown effects ≡ shows → Alike (files_after w.files p (length w.processes) any_choice (record same { table = change })) f →
-    Succeeds w p w.tree f value shows a
+    Succeeds w p w.tree f value besides.Nothing shows a
 entry_succeeds w p f value shows a change effects suits ordinary is prints files = record {
   change = record same { table = change };
   effects = effects;
@@ -126,7 +141,7 @@ entry_succeeds w p f value shows a change effects suits ordinary is prints files
   is = is;
   prints = prints;
   suits = suits;
-  plain = (refl, ordinary);
+  makes = ordinary_besides change ordinary;
   tree = refl;
   files = files;
 }
@@ -135,7 +150,7 @@ entry_succeeds w p f value shows a change effects suits ordinary is prints files
 pub open_succeeds : (w : World) (p : ℕ) (t : List Node) (f : OpenFiles) (value : ℕ) (shows : List Shown) (a : Answer) (change : TreeChange)
     (number n : ℕ) (access : Access) (append : Bool) (rights fcntls : ℕ) (effects : List Effect) →
     a ≡ Gives value (record same { tree = change; table = New_file number n access append rights fcntls }) effects → map shown effects ≡ shows →
-    t ≡ tree_after w.tree change → Opens w.files f p number n access append rights fcntls → Succeeds w p t f value shows a
+    t ≡ tree_after w.tree change → Opens w.files f p number n access append rights fcntls → Succeeds w p t f value besides.Nothing shows a
 unfolding files_after
 open_succeeds w p t f value shows a change number n access append rights fcntls effects is prints tree opens = record {
   change = record same { tree = change; table = New_file number n access append rights fcntls };
@@ -144,7 +159,7 @@ open_succeeds w p t f value shows a change number n access append rights fcntls 
   is = is;
   prints = prints;
   suits = opens.fresh;
-  plain = (refl, tt);
+  makes = record { process = λ s value. refl; children = λ s. refl };
   tree = tree;
   files = opens.alike;
 }
@@ -152,7 +167,7 @@ open_succeeds w p t f value shows a change number n access append rights fcntls 
 -- a change of a queue alone, which takes a message
 pub queue_succeeds : (w : World) (p : ℕ) (f : OpenFiles) (value : ℕ) (shows : List Shown) (a : Answer) (change : QueueChange)
     (effects : List Effect) → a ≡ Gives value (record same { queue = change }) effects → map shown effects ≡ shows →
-    Alike (files_after w.files p (length w.processes) any_choice (record same { queue = change })) f → Succeeds w p w.tree f value shows a
+    Alike (files_after w.files p (length w.processes) any_choice (record same { queue = change })) f → Succeeds w p w.tree f value besides.Nothing shows a
 queue_succeeds w p f value shows a change effects is prints files = record {
   change = record same { queue = change };
   effects = effects;
@@ -160,7 +175,7 @@ queue_succeeds w p f value shows a change effects is prints files = record {
   is = is;
   prints = prints;
   suits = tt;
-  plain = (refl, tt);
+  makes = record { process = λ s value. refl; children = λ s. refl };
   tree = refl;
   files = files;
 }
@@ -169,7 +184,7 @@ queue_succeeds w p f value shows a change effects is prints files = record {
 pub take_succeeds : (w : World) (p : ℕ) (f : OpenFiles) (value : ℕ) (shows : List Shown) (a : Answer) (queue : QueueChange) (number : ℕ)
     (d : Descriptor) → a ≡ Gives value (record same { queue = queue; table = Set_entry number d }) [] → [] ≡ shows →
     Alike (files_after w.files p (length w.processes) any_choice (record same { queue = queue; table = Set_entry number d })) f →
-    Succeeds w p w.tree f value shows a
+    Succeeds w p w.tree f value besides.Nothing shows a
 take_succeeds w p f value shows a queue number d is prints files = record {
   change = record same { queue = queue; table = Set_entry number d };
   effects = [];
@@ -177,7 +192,7 @@ take_succeeds w p f value shows a queue number d is prints files = record {
   is = is;
   prints = prints;
   suits = tt;
-  plain = (refl, tt);
+  makes = record { process = λ s value. refl; children = λ s. refl };
   tree = refl;
   files = files;
 }

@@ -39,10 +39,6 @@ pub kept : (b : Bool) → not b ≡ false → b ≡ true
 kept true is = refl
 kept false is = absurd cc
 
-pub denied : (b : Bool) → not b ≡ true → b ≡ false
-denied true is = absurd cc
-denied false is = refl
-
 pub equal : (n m : ℕ) → n ≡ m → (n == m) ≡ true
 equal n m is = grind (arith, nat_tests)
 

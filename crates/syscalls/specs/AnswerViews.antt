@@ -16,8 +16,9 @@ use Rattle.lookup.specs.declared.ways.Found.{Found}
 use Rattle.lookup.specs.Views.{found_of}
 use Rattle.lookup.specs.Answers as lookups
 use Rattle.kernel.specs.World.{World, Choice}
-use Rattle.kernel.specs.Answers.{Event, Effect, TableChange, New_file, New_pair, Change, Answer, Fails, Waits, Gives, lookup_fails, New_process}
-use Rattle.kernel.specs.Changes.{tree_after, files_after}
+use Rattle.kernel.specs.Answers.{Event, Effect, TableChange, New_file, New_pair, Change, Answer, Fails, Waits, Gives, lookup_fails}
+use Rattle.kernel.specs.Changes.{tree_after, files_after, given, children}
+use Rattle.syscalls.specs.declared.outcomes.Besides.{Besides}
 use Rattle.syscalls.specs.declared.outcomes.Success.{Success}
 use Rattle.syscalls.specs.declared.outcomes.Refusal.{Refusal}
 use Rattle.syscalls.specs.declared.outcomes.Refusal.TheVariants as refusal
@@ -33,7 +34,7 @@ use Rattle.syscalls.specs.declared.descriptors.Target.{Target}
 use Rattle.syscalls.specs.declared.descriptors.Target.TheVariants as target
 use Rattle.syscalls.specs.declared.descriptors.Numbered.{Numbered}
 use Rattle.syscalls.specs.Shows.{Shown, shown}
-use Rattle.syscalls.specs.Views.{effects_of, world_with}
+use Rattle.syscalls.specs.Views.{change_of, effects_of, world_with}
 
 -- the chosen numbers that a change needs are free
 abbrev pub Suits : OpenFiles → Choice → TableChange → Type 0
@@ -42,24 +43,20 @@ Suits f choice (New_pair first second class) =
     IsUnnamed f choice.first × IsUnnamed f choice.second × (choice.first ≢ choice.second) × IsUnused f choice.pair
 Suits f choice _ = Unit {0}
 
--- The process neither makes a pair or a child nor enters capability mode.
-abbrev pub IsOrdinary : TableChange → Type 0
-IsOrdinary (New_pair first second class) = ⊥
-IsOrdinary New_process = ⊥
-IsOrdinary _ = Unit {0}
+-- The change makes this of its process, and such children.
+pub record IsBesides (besides : Besides) (change : Change) : Type 0 where
+  pub process : (s : ProcessState) (value : ℕ) → given s value change ≡ given s value (change_of besides)
+  pub children : (s : ProcessState) → children change.table s ≡ children (change_of besides).table s
 
-abbrev pub IsPlain : Change → Type 0
-IsPlain change = (change.enters ≡ false) × IsOrdinary change.table
-
--- The answer is a success with this value, and the tree and what is open are what its change leaves.
-pub record Succeeds (w : World) (p : ℕ) (t : List Node) (f : OpenFiles) (value : ℕ) (shows : List Shown) (a : Answer) : Type 0 where
+-- The answer is a success with this value, and the tree, what is open and the processes are what its change leaves.
+pub record Succeeds (w : World) (p : ℕ) (t : List Node) (f : OpenFiles) (value : ℕ) (besides : Besides) (shows : List Shown) (a : Answer) : Type 0 where
   pub change : Change
   pub effects : List Effect
   pub choice : Choice
   pub is : a ≡ Gives value change effects
   pub prints : map shown effects ≡ shows
   pub suits : Suits w.files choice change.table
-  pub plain : IsPlain change
+  pub makes : IsBesides besides change
   pub tree : t ≡ tree_after w.tree change.tree
   pub files : Alike (files_after w.files p (length w.processes) choice change) f
 
@@ -81,7 +78,7 @@ RefusesAlone refusal.Memory w t f a = Unit {0}
 
 -- What the code came to, with the tree and what is open after it, is what the model answers.
 abbrev pub Meets : World → ℕ → List Node → OpenFiles → Result Success Refusal → Answer → Type 0
-Meets w p t f (Ok success) a = Succeeds w p t f success.value (effects_of success.effects.items) a
+Meets w p t f (Ok success) a = Succeeds w p t f success.value success.besides (effects_of success.effects.items) a
 Meets w p t f (Err refused) a = RefusesAlone refused w t f a
 
 -- A test of the model goes on with what the code found, or is refused as the code is.
@@ -198,6 +195,14 @@ Does t f caller after left r answer =
 abbrev pub Calls : List Node → OpenFiles → Caller → List Node → OpenFiles → Result Success Refusal → Syscall → Type 0
 Calls t f caller after left r call =
     Does t f caller after left r (λ w e. answer w caller.number caller.process.now e call)
+
+-- The same where so many processes were made, which fork alone looks at.
+abbrev pub Performs : List Node → OpenFiles → Caller → List Node → OpenFiles → Result Success Refusal → Syscall → Type 0
+Performs t f caller after left r call =
+    (processes : List ProcessState) (e : Event)
+    → e.refuse ≡ caller.refuse
+    → length processes ≡ caller.made
+    → Meets (world_with t f processes) caller.number after left r (answer (world_with t f processes) caller.number caller.process.now e call)
 
 -- what a call that opens nothing needs of its first descriptor
 abbrev pub need : Call → ℕ

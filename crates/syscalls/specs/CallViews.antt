@@ -1,5 +1,5 @@
 -- What a call of a process comes to, with its process after it.
-use Rattle.std.specs.Prelude.{◌≡◌, ◌+◌, ◌||◌, ℕ, Bool, List, [], map, slice_set}
+use Rattle.std.specs.Prelude.{◌≡◌, ℕ, List, [], map}
 use Rattle.rights.specs.Errors.{Errno, Cause}
 use Rattle.rights.specs.Views.{errno_of, cause_of}
 use Rattle.process.specs.State.{ProcessState}
@@ -7,24 +7,26 @@ use Rattle.prog_asm.specs.Programs.{Syscall}
 use Rattle.kernel.specs.World.{World, Choice, IsFresh}
 use Rattle.kernel.specs.Answers.{Event}
 use Rattle.kernel.specs.Calls.{answer}
+use Rattle.kernel.specs.Changes.{given, processes_after}
 use Rattle.kernel.specs.Steps.{LineResult, Value, Failed, Waiting, answered, failed}
 use Rattle.kernel.specs.Alike.{AlikeWorlds}
+use Rattle.syscalls.specs.declared.outcomes.Besides.{Besides}
 use Rattle.syscalls.specs.declared.outcomes.Outcome.{Outcome}
 use Rattle.syscalls.specs.declared.outcomes.Outcome.TheVariants as outcome
 use Rattle.syscalls.specs.Shows.{Shown, shown}
+use Rattle.syscalls.specs.Views.{change_of}
 
 abbrev pub result_of : Outcome → LineResult
 result_of (outcome.Value value) = Value value
 result_of (outcome.Error errno cause) = Failed (errno_of errno) (cause_of cause)
 result_of outcome.Wait = Waiting
 
--- a process after a success, which sets register 0 and goes on
-abbrev pub succeeded_as : ProcessState → ℕ → Bool → ProcessState
-succeeded_as s value enters = record s { registers = slice_set s.registers 0 value; point = s.point + 1; mode = s.mode || enters }
+-- a process after a success, and the processes that there are then
+abbrev pub succeeded_as : ProcessState → ℕ → Besides → ProcessState
+succeeded_as s value besides = given s value (change_of besides)
 
--- and after it made a pair, whose second number register 1 has
-abbrev pub paired_as : ProcessState → ℕ → ℕ → ProcessState
-paired_as s first second = record s { registers = slice_set (slice_set s.registers 0 first) 1 second; point = s.point + 1 }
+abbrev pub processes_as : List ProcessState → ℕ → ProcessState → ℕ → Besides → List ProcessState
+processes_as processes p s value besides = processes_after processes p (succeeded_as s value besides) (change_of besides).table
 
 -- A call that fails is told with its cause, shows nothing, and leaves this of its process.
 pub record FailsAs (s : ProcessState) (otherwise : ℕ) (errno : Errno) (cause : Cause) (result : LineResult) (shows : List Shown) (after : ProcessState) : Type 0 where

@@ -1,6 +1,5 @@
 pub mod AnswerViews
 pub mod CallViews
 pub mod MayCall
-pub mod NodeCalls
 pub mod Shows
 pub mod Views

@@ -1,26 +1,14 @@
 -- What the caller of a call has to know. (own)
-use Rattle.std.specs.Prelude.{◌≡◌, ◌+◌, ◌<◌, ℕ, Bool, true, false, List, Some}
+use Rattle.std.specs.Prelude.{◌≡◌, ◌+◌, ◌<◌, ℕ, List, Some}
 use Rattle.std.specs.List.{slice_get}
 use Rattle.process.specs.State.{ProcessState}
-use Rattle.prog_asm.specs.Programs.{Instruction, Invoke, Syscall, Cap_enter, Socketpair, Fork}
+use Rattle.prog_asm.specs.Programs.{Instruction, Invoke}
 use Rattle.kernel.specs.World.{World}
 use Rattle.kernel.specs.Answers.{Event}
 use Rattle.kernel.specs.Steps.{LineResult, Programs}
 use Rattle.kernel.specs.WellFormed.{IsWellFormed}
 use Rattle.syscalls.specs.Shows.{Shown}
 use Rattle.syscalls.specs.CallViews.{Comes}
-
-abbrev pub is_entering : Syscall → Bool
-is_entering Cap_enter = true
-is_entering _ = false
-
-abbrev pub is_making : Syscall → Bool
-is_making Fork = true
-is_making _ = false
-
-abbrev pub is_pairing : Syscall → Bool
-is_pairing Socketpair = true
-is_pairing _ = false
 
 abbrev pub IsCall : Instruction → Type 0
 IsCall (Invoke call otherwise) = Unit {0}

@@ -1,12 +1,15 @@
 -- What the values of the code stand for.
-use Rattle.std.specs.Prelude.{List, map}
+use Rattle.std.specs.Prelude.{List, map, true}
 use Rattle.rights.specs.Views.{operation_of}
 use Rattle.process.specs.State.{ProcessState}
 use Rattle.file_tree.specs.Nodes.{Node}
 use Rattle.fd_table.specs.OpenFiles.{OpenFiles}
 use Rattle.fd_table.specs.Kept.{open_files}
 use Rattle.kernel.specs.World.{World}
-use Rattle.kernel.specs.Answers.{Event}
+use Rattle.fd_table.specs.Descriptions.{Made_at}
+use Rattle.kernel.specs.Answers.{Event, Change, New_pair, New_process, same}
+use Rattle.syscalls.specs.declared.outcomes.Besides.{Besides}
+use Rattle.syscalls.specs.declared.outcomes.Besides.TheVariants as besides
 use Rattle.syscalls.specs.declared.events.Event.{Event as EventCode}
 use Rattle.syscalls.specs.declared.outcomes.Effect.{Effect as EffectCode}
 use Rattle.syscalls.specs.declared.world.World.{World as WorldCode}
@@ -20,6 +23,13 @@ effect_of e = record { operation = operation_of e.op; place = e.place.items }
 
 abbrev pub effects_of : List EffectCode → List Shown
 effects_of effects = map effect_of effects
+
+-- a change that makes no more of the processes than this (the first number of a pair and its class make nothing of them)
+abbrev pub change_of : Besides → Change
+change_of besides.Nothing = same
+change_of besides.Mode = record same { enters = true }
+change_of (besides.Second second) = record same { table = New_pair 0 second (Made_at 0 0) }
+change_of besides.Child = record same { table = New_process }
 
 -- the world of these parts
 abbrev pub world_with : List Node → OpenFiles → List ProcessState → World

@@ -14,7 +14,7 @@ ghost use Rattle.syscalls.specs.AnswerViews.{Calls, Does, HasNumbers, IsIdle, Is
 
 use crate::descriptors::{Caller, Target, reach, through, value_of};
 use crate::directories::stat;
-use crate::outcomes::{Refusal, Success};
+use crate::outcomes::{Besides, Refusal, Success};
 use fd_table::{DescriptionId, Files, Status};
 use file_tree::Tree;
 use prog_asm::Operand;
@@ -41,6 +41,7 @@ pub(crate) fn sync<T: Tree>(
         Target::End(_) => Err(Refusal::Fails(Errno::EINVAL, Cause::Kind)),
         Target::Node(_) => Ok(Success {
             value: 0,
+            besides: Besides::Nothing,
             effects: Vec::new(alloc),
         }),
     }
@@ -69,6 +70,7 @@ pub(crate) fn stat_descriptor<T: Tree>(
         Target::Node(found) => stat(alloc, tree, found.node),
         Target::End(_) => Ok(Success {
             value: SOCKET,
+            besides: Besides::Nothing,
             effects: Vec::new(alloc),
         }),
     }
@@ -116,6 +118,7 @@ pub(crate) fn get_flags(
     let status = files.what(description).status;
     Ok(Success {
         value: status.number() as u32,
+        besides: Besides::Nothing,
         effects: Vec::new(alloc),
     })
 }
@@ -146,6 +149,7 @@ fn change_flags(
     );
     Ok(Success {
         value: 0,
+        besides: Besides::Nothing,
         effects: Vec::new(alloc),
     })
 }

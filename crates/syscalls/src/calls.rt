@@ -1,15 +1,16 @@
-//! Every call that leaves the mode and the processes: what it answers, and what it does to the tree and to what is open.
+//! The calls, each with its function: what it answers, and what it does to the tree and to what is open.
 
-ghost use Rattle.std.specs.Prelude.{◌≡◌, true};
+ghost use Rattle.std.specs.Prelude.{◌≡◌, ℕ, None};
 ghost use Rattle.fd_table.specs.Kept.{open_files};
 ghost use Rattle.prog_asm.specs.Views.{syscall_of};
-ghost use Rattle.syscalls.specs.AnswerViews.{Calls, IsReady};
-ghost use Rattle.syscalls.specs.NodeCalls.{is_on_nodes};
+ghost use Rattle.syscalls.specs.AnswerViews.{IsReady, Performs};
 
 use crate::asks::{get_flags, set_status, stat_descriptor, sync};
 use crate::descriptors::Caller;
-use crate::modes::get_mode;
+use crate::forks::fork;
+use crate::modes::{enter_mode, get_mode};
 use crate::outcomes::{Refusal, Success};
+use crate::pairs::make_pair;
 use crate::passing::{receive_descriptor, send_descriptor};
 use crate::paths::{
     make_beneath, make_path, open_beneath, open_path, remove_beneath, remove_path, rename_beneath,
@@ -23,7 +24,7 @@ use file_tree::Tree;
 use prog_asm::Syscall;
 use std::alloc::Global;
 
-/// What the call answers, and does to the tree and to what is open.
+/// What the call answers, and does to the tree and to what is open. No process is changed or made yet.
 pub(crate) fn perform<T: Tree>(
     alloc: Global,
     tree: &mut T,
@@ -32,8 +33,8 @@ pub(crate) fn perform<T: Tree>(
     call: &Syscall,
 ) -> Result<Success, Refusal>
     requires ready { IsReady (T.nodes tree.old) (open_files files.old) caller.now.number }
-    requires nodes { is_on_nodes (syscall_of call.now) ≡ true }
-    ensures { Calls (T.nodes tree.old) (open_files files.old) caller.now (T.nodes tree.new) (open_files files.new) result (syscall_of call.now) }
+    requires unmade { (n : ℕ) → (open_files files.old).table caller.now.made n ≡ None }
+    ensures { Performs (T.nodes tree.old) (open_files files.old) caller.now (T.nodes tree.new) (open_files files.new) result (syscall_of call.now) }
 {
     match call {
         Syscall::Open { path, flags } => {
@@ -122,7 +123,9 @@ pub(crate) fn perform<T: Tree>(
             descriptor,
             commands,
         } => limit_fcntls(alloc, files, caller, *descriptor, *commands),
+        Syscall::CapEnter => Ok(enter_mode(alloc)),
         Syscall::CapGetmode => Ok(get_mode(alloc, caller)),
-        Syscall::CapEnter | Syscall::Socketpair | Syscall::Fork => unreachable!(),
+        Syscall::Socketpair => make_pair(alloc, files, caller),
+        Syscall::Fork => fork(alloc, files, caller),
     }
 }

@@ -21,11 +21,12 @@ use process::Process;
 use prog_asm::Operand;
 use rights::{Call, Cause, Errno, Fcntls, OpenFlags, Position, Rights, needs};
 
-/// Who calls: the process, its number, and whether the kernel refuses at this event.
+/// Who calls: the process, its number, how many processes were made, and whether the kernel refuses at this event.
 #[derive(Clone, Copy)]
 pub(crate) struct Caller<'a> {
     pub number: u8,
     pub process: &'a Process,
+    pub made: usize,
     pub refuse: bool,
 }
 

@@ -11,7 +11,7 @@ ghost use Rattle.prog_asm.specs.Programs.{is_path};
 ghost use Rattle.syscalls.specs.AnswerViews.{OnTree};
 
 use crate::changes::create_node;
-use crate::outcomes::{Refusal, Success, effects_at};
+use crate::outcomes::{Besides, Refusal, Success, effects_at};
 use file_tree::{Kind, New, NodeId, Tree, TreeFault};
 use lookup::{Found, last_name};
 use rights::limits::MAX_NODES;
@@ -36,7 +36,11 @@ pub(crate) fn stat<T: Tree>(alloc: Global, tree: &T, n: NodeId) -> Result<Succes
 {
     let value = number_of(tree.kind(n));
     let effects = effects_at(alloc, tree, Op::Look, n)?;
-    Ok(Success { value, effects })
+    Ok(Success {
+        value,
+        besides: Besides::Nothing,
+        effects,
+    })
 }
 
 /// What is found at a path. (fstatat(2), stat(2))
@@ -78,6 +82,7 @@ pub(crate) fn make_directory<T: Tree>(
     let made = create_node(alloc, tree, dir, last_name(path), New::Dir)?;
     Ok(Success {
         value: 0,
+        besides: Besides::Nothing,
         effects: made.effects,
     })
 }
@@ -119,7 +124,11 @@ pub(crate) fn remove<T: Tree>(
     }
     let effects = effects_at(alloc, tree, Op::Remove, n)?;
     match tree.remove(n) {
-        Ok(()) => Ok(Success { value: 0, effects }),
+        Ok(()) => Ok(Success {
+            value: 0,
+            besides: Besides::Nothing,
+            effects,
+        }),
         Err(fault) => match fault {
             TreeFault::NotEmpty => Err(Refusal::Fails(Errno::ENOTEMPTY, Cause::Path)),
             TreeFault::Memory => Err(Refusal::Memory),

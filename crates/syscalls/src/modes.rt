@@ -1,4 +1,4 @@
-//! Asking for the mode.
+//! Capability mode: cap_enter and cap_getmode.
 
 ghost use Rattle.std.specs.Prelude.{◌≡◌, List, Ok};
 ghost use Rattle.file_tree.specs.Nodes.{Node};
@@ -9,7 +9,7 @@ ghost use Rattle.syscalls.specs.declared.descriptors.Caller.{Caller as CallerSee
 ghost use Rattle.syscalls.specs.AnswerViews.{Calls, IsIdle};
 
 use crate::descriptors::Caller;
-use crate::outcomes::Success;
+use crate::outcomes::{Besides, Success};
 use std::alloc::Global;
 
 /// What `cap_getmode` gives. (cap_getmode(2))
@@ -25,6 +25,18 @@ pub(crate) fn get_mode(alloc: Global, caller: &Caller<'_>) -> Success
 {
     Success {
         value: mode_number(caller.process.mode()),
+        besides: Besides::Nothing,
+        effects: Vec::new(alloc),
+    }
+}
+
+/// Enters capability mode, for good. (cap_enter(2))
+pub(crate) fn enter_mode(alloc: Global) -> Success
+    ensures { (t : List Node) (f : OpenFiles) (caller : CallerSeen) → IsIdle f → Calls t f caller t f (Ok result) programs.Cap_enter }
+{
+    Success {
+        value: 0,
+        besides: Besides::Mode,
         effects: Vec::new(alloc),
     }
 }

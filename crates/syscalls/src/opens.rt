@@ -20,7 +20,7 @@ ghost use Rattle.syscalls.specs.Views.{effects_of};
 
 use crate::changes::create_node;
 use crate::descriptors::Caller;
-use crate::outcomes::{Effect, Refusal, Success, effects_at, want_of_memory};
+use crate::outcomes::{Besides, Effect, Refusal, Success, effects_at, want_of_memory};
 use crate::tables::free_number;
 use fd_table::Files;
 use file_tree::{Kind, New, NodeId, Tree};
@@ -87,6 +87,7 @@ fn open_directory<T: Tree>(
     files.open_node(caller.number, number, n, flags, how.rights, how.fcntls)?;
     Ok(Success {
         value: number as u32,
+        besides: Besides::Nothing,
         effects: Vec::new(alloc),
     })
 }
@@ -138,6 +139,7 @@ fn open_file<T: Tree>(
     files.open_node(caller.number, number, n, flags, how.rights, how.fcntls)?;
     Ok(Success {
         value: number as u32,
+        besides: Besides::Nothing,
         effects,
     })
 }
@@ -183,6 +185,7 @@ fn open_new<T: Tree>(
     )?;
     Ok(Success {
         value: number as u32,
+        besides: Besides::Nothing,
         effects: made.effects,
     })
 }

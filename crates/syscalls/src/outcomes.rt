@@ -30,10 +30,23 @@ pub enum Outcome {
     Wait,
 }
 
+/// What a success makes of the process, besides giving it the value.
+#[derive(Clone, Copy)]
+pub(crate) enum Besides {
+    Nothing,
+    /// It is in capability mode.
+    Mode,
+    /// It has the second number of a pair.
+    Second(u32),
+    /// It has a child.
+    Child,
+}
+
 /// What a call that succeeds gives, and what it did.
 #[derive(Drop)]
 pub(crate) struct Success {
     pub value: u32,
+    pub besides: Besides,
     pub effects: Vec<Effect>,
 }
 
@@ -77,17 +90,6 @@ pub(crate) fn want_of_memory(fault: TreeFault) -> Refusal
     match fault {
         TreeFault::Memory => Refusal::Memory,
         _ => unreachable!(),
-    }
-}
-
-/// A success without effects.
-pub(crate) fn gives(alloc: Global, value: u32) -> Success
-    ensures value { result.value ≡ value }
-    ensures effects { effects_of result.effects.items ≡ [] }
-{
-    Success {
-        value,
-        effects: Vec::new(alloc),
     }
 }
 

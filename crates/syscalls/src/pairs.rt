@@ -1,31 +1,19 @@
 //! Making a pair of sockets: socketpair.
 
-ghost use Rattle.std.specs.Prelude.{◌≡◌, ◌+◌, ◌<◌, IfOk};
+ghost use Rattle.std.specs.Prelude.{◌≡◌, ◌<◌, List};
 ghost use Rattle.fd_table.specs.Descriptions.{Made_at};
+ghost use Rattle.fd_table.specs.Kept.{open_files};
 ghost use Rattle.fd_table.specs.Views.{class_seen};
+ghost use Rattle.file_tree.specs.Nodes.{Node};
 ghost use Rattle.prog_asm.specs.Programs as programs;
-ghost use Rattle.syscalls.specs.CallViews.{paired_as, result_of};
-ghost use Rattle.syscalls.specs.MayCall.{CallComes, MayCall};
-ghost use Rattle.syscalls.specs.Views.{effects_of, event_of, world_of};
+ghost use Rattle.syscalls.specs.AnswerViews.{Calls};
 
-use crate::events::Event;
-use crate::outcomes::Outcome;
-use crate::world::{Called, World, fail};
-use fd_table::{Class, Entry};
-use file_tree::Tree;
+use crate::descriptors::Caller;
+use crate::outcomes::{Besides, Refusal, Success};
+use fd_table::{Class, Entry, Files};
 use process::Process;
-use rights::{Cause, Errno, Memory};
+use rights::{Cause, Errno};
 use std::alloc::Global;
-
-/// The call made a pair: registers 0 and 1 have its numbers, and the process goes on.
-fn pair_up(process: &mut Process, first: u32, second: u32)
-    requires { process.old.point + 1 < 256 }
-    ensures { process.new ≡ paired_as process.old first second }
-{
-    process.registers[0] = first;
-    process.registers[1] = second;
-    process.point += 1;
-}
 
 /// Where the pair is made.
 fn class_of(process: &Process) -> Class
@@ -39,26 +27,24 @@ fn class_of(process: &Process) -> Class
 
 /// Makes a pair of connected sockets with all rights, its ends under the two lowest free numbers. Register 1 has the
 /// second. (socketpair(2))
-pub(crate) fn make_pair<T: Tree>(
+#[tactic(auto, unfolding(kernel::specs::Calls::answer, kernel::specs::Answers::unless))]
+pub(crate) fn make_pair(
     alloc: Global,
-    world: &mut World<T>,
-    number: u8,
-    otherwise: u8,
-    event: Event,
-) -> Result<Called, Memory>
-    requires may { MayCall (world_of T.nodes world.old) number }
-    ensures { IfOk result (λ called. CallComes (world_of T.nodes world.old) number (event_of event) (programs.Invoke programs.Socketpair otherwise)
-        (result_of called.outcome) (effects_of called.effects.items) (world_of T.nodes world.new)) }
+    files: &mut Files,
+    caller: &Caller<'_>,
+) -> Result<Success, Refusal>
+    requires { caller.now.number < 16 }
+    ensures { (t : List Node) → Calls t (open_files files.old) caller.now t (open_files files.new) result programs.Socketpair }
 {
-    let process = &mut world.processes[number as usize];
-    let Some(first) = world.files.lowest_free(number) else {
-        return Ok(fail(alloc, process, otherwise, Errno::EMFILE, Cause::Full));
+    let number = caller.number;
+    let Some(first) = files.lowest_free(number) else {
+        return Err(Refusal::Fails(Errno::EMFILE, Cause::Full));
     };
-    let Some(second) = world.files.next_free(number, first) else {
-        return Ok(fail(alloc, process, otherwise, Errno::EMFILE, Cause::Full));
+    let Some(second) = files.next_free(number, first) else {
+        return Err(Refusal::Fails(Errno::EMFILE, Cause::Full));
     };
-    if event.refuse {
-        return Ok(fail(alloc, process, otherwise, Errno::ENFILE, Cause::Refused));
+    if caller.refuse {
+        return Err(Refusal::Fails(Errno::ENFILE, Cause::Refused));
     }
     let a = Entry {
         process: number,
@@ -68,10 +54,10 @@ pub(crate) fn make_pair<T: Tree>(
         process: number,
         number: second,
     };
-    world.files.open_pair(class_of(process), Some(a), Some(b))?;
-    pair_up(process, first as u32, second as u32);
-    Ok(Called {
-        outcome: Outcome::Value(first as u32),
+    files.open_pair(class_of(caller.process), Some(a), Some(b))?;
+    Ok(Success {
+        value: first as u32,
+        besides: Besides::Second(second as u32),
         effects: Vec::new(alloc),
     })
 }

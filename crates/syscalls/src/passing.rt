@@ -13,7 +13,7 @@ ghost use Rattle.kernel.specs.Calls as model;
 ghost use Rattle.syscalls.specs.AnswerViews.{Calls, Does, HasNumbers, need};
 
 use crate::descriptors::{Caller, Target, byte_of, held, need_of, target_of, through};
-use crate::outcomes::{Refusal, Success};
+use crate::outcomes::{Besides, Refusal, Success};
 use crate::sockets::{blocked, is_nonblocking, write_end};
 use crate::tables::free_number;
 use fd_table::{DescriptionId, Descriptor, End, Files, PairId, Side};
@@ -101,6 +101,7 @@ fn receive_end(
     files.receive_to(End { pair, side }, caller.number, number);
     Ok(Success {
         value: number as u32,
+        besides: Besides::Nothing,
         effects: Vec::new(alloc),
     })
 }

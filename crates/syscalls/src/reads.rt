@@ -20,7 +20,7 @@ ghost use Rattle.syscalls.specs.AnswerViews.{Calls, Does, IsIdle, IsReady, IsRea
 
 use crate::descriptors::{Caller, Target, file_through, reach, value_of};
 use crate::directories::is_directory;
-use crate::outcomes::{Refusal, Success, effects_at};
+use crate::outcomes::{Besides, Refusal, Success, effects_at};
 use crate::sockets::read_end;
 use fd_table::{Access, DescriptionId, Files};
 use file_tree::{NodeId, Tree};
@@ -69,12 +69,14 @@ pub(crate) fn read_node<T: Tree>(
     match tree.byte_at(node, offset as usize) {
         None => Ok(Success {
             value: END,
+            besides: Besides::Nothing,
             effects,
         }),
         Some(byte) => {
             files.set_offset(description, offset + 1);
             Ok(Success {
                 value: byte as u32,
+                besides: Besides::Nothing,
                 effects,
             })
         }
@@ -101,6 +103,7 @@ fn move_to(
     files.set_offset(description, offset as u16);
     Ok(Success {
         value: offset,
+        besides: Besides::Nothing,
         effects: Vec::new(alloc),
     })
 }

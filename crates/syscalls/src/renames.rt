@@ -14,7 +14,7 @@ ghost use Rattle.syscalls.specs.AnswerViews.{MayReplace, OnTree};
 ghost use Rattle.syscalls.specs.Views.{effect_of, effects_of};
 
 use crate::directories::is_directory;
-use crate::outcomes::{Effect, Refusal, Success, effect_at, place_of};
+use crate::outcomes::{Besides, Effect, Refusal, Success, effect_at, place_of};
 use file_tree::{NodeId, Tree, TreeFault};
 use lookup::{Found, last_name};
 use rights::{Cause, Errno, Op};
@@ -77,7 +77,11 @@ pub(crate) fn rename_free<T: Tree>(
         Ok(()) => {
             let to = effect_at(alloc, tree, Op::Create, n)?;
             let effects = two_effects(alloc, from, to)?;
-            Ok(Success { value: 0, effects })
+            Ok(Success {
+                value: 0,
+                besides: Besides::Nothing,
+                effects,
+            })
         }
     }
 }
@@ -141,7 +145,11 @@ pub(crate) fn rename_over<T: Tree>(
         Ok(()) => {
             let to = effect_at(alloc, tree, Op::Create, n)?;
             let effects = three_effects(alloc, replaced, from, to)?;
-            Ok(Success { value: 0, effects })
+            Ok(Success {
+                value: 0,
+                besides: Besides::Nothing,
+                effects,
+            })
         }
     }
 }
@@ -175,6 +183,7 @@ pub(crate) fn rename_to<T: Tree>(
     if n.number() == over.number() {
         return Ok(Success {
             value: 0,
+            besides: Besides::Nothing,
             effects: Vec::new(alloc),
         });
     }

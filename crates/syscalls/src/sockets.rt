@@ -12,7 +12,7 @@ ghost use Rattle.kernel.specs.Calls as model;
 ghost use Rattle.syscalls.specs.AnswerViews.{Does, IsIdle, Refuses};
 
 use crate::descriptors::Caller;
-use crate::outcomes::{Refusal, Success};
+use crate::outcomes::{Besides, Refusal, Success};
 use crate::reads::END;
 use fd_table::{DescriptionId, Descriptor, End, Files, PairId, SendFault, Side};
 use rights::{Cause, Errno};
@@ -60,6 +60,7 @@ pub(crate) fn read_end(
             }
             Ok(Success {
                 value: END,
+                besides: Besides::Nothing,
                 effects: Vec::new(alloc),
             })
         }
@@ -67,6 +68,7 @@ pub(crate) fn read_end(
             files.receive(End { pair, side });
             Ok(Success {
                 value: front.byte as u32,
+                besides: Besides::Nothing,
                 effects: Vec::new(alloc),
             })
         }
@@ -94,6 +96,7 @@ pub(crate) fn write_end(
     match files.send(End { pair, side }, byte, passed) {
         Ok(()) => Ok(Success {
             value: 1,
+            besides: Besides::Nothing,
             effects: Vec::new(alloc),
         }),
         Err(SendFault::Closed) => Err(Refusal::Fails(Errno::EPIPE, Cause::Refused)),

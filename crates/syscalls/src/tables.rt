@@ -11,7 +11,7 @@ ghost use Rattle.kernel.specs.Answers as answers;
 ghost use Rattle.syscalls.specs.AnswerViews.{Calls, HasNumbers, IsIdle, Passes, number_seen};
 
 use crate::descriptors::{Caller, held};
-use crate::outcomes::{Refusal, Success};
+use crate::outcomes::{Besides, Refusal, Success};
 use fd_table::Files;
 use prog_asm::Operand;
 use rights::{Cause, Errno, Fcntls, Rights};
@@ -52,6 +52,7 @@ pub(crate) fn duplicate(
     files.share(caller.number, held.number, caller.number, number);
     Ok(Success {
         value: number as u32,
+        besides: Besides::Nothing,
         effects: Vec::new(alloc),
     })
 }
@@ -73,6 +74,7 @@ pub(crate) fn close(
     files.close(caller.number, held.number);
     Ok(Success {
         value: 0,
+        besides: Besides::Nothing,
         effects: Vec::new(alloc),
     })
 }
@@ -98,6 +100,7 @@ pub(crate) fn limit_rights(
     files.limit(caller.number, held.number, rights, held.fcntls);
     Ok(Success {
         value: 0,
+        besides: Besides::Nothing,
         effects: Vec::new(alloc),
     })
 }
@@ -123,6 +126,7 @@ pub(crate) fn limit_fcntls(
     files.limit(caller.number, held.number, held.rights, commands);
     Ok(Success {
         value: 0,
+        besides: Besides::Nothing,
         effects: Vec::new(alloc),
     })
 }

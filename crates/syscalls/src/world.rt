@@ -1,20 +1,19 @@
 //! The state of a run, and a system call of one of its processes.
 
-ghost use Rattle.std.specs.Prelude.{◌≡◌, ◌<◌, ◌+◌, [], IfOk, true, false};
+ghost use Rattle.std.specs.Prelude.{◌≡◌, ◌<◌, ◌+◌, IfOk, OnOk, Some, length};
+ghost use Rattle.std.specs.List.{slice_get};
+ghost use Rattle.process.specs.State.{ProcessState};
 ghost use Rattle.rights.specs.Views.{cause_of, errno_of};
 ghost use Rattle.prog_asm.specs.Programs as programs;
 ghost use Rattle.prog_asm.specs.Views.{instruction_of, syscall_of};
-ghost use Rattle.kernel.specs.Steps as steps;
-ghost use Rattle.syscalls.specs.CallViews.{FailsAs, result_of, succeeded_as};
-ghost use Rattle.syscalls.specs.MayCall.{CallComes, IsCall, MayCall, is_entering, is_making, is_pairing};
+ghost use Rattle.syscalls.specs.CallViews.{FailsAs, processes_as, result_of, succeeded_as};
+ghost use Rattle.syscalls.specs.MayCall.{CallComes, IsCall, MayCall};
 ghost use Rattle.syscalls.specs.Views.{effects_of, event_of, world_of};
 
 use crate::calls::perform;
 use crate::descriptors::Caller;
 use crate::events::Event;
-use crate::forks::fork;
-use crate::outcomes::{Effect, Outcome, Refusal};
-use crate::pairs::make_pair;
+use crate::outcomes::{Besides, Effect, Outcome, Refusal};
 use fd_table::Files;
 use file_tree::Tree;
 use process::Process;
@@ -30,81 +29,56 @@ pub struct World<T: Tree> {
     pub processes: Vec<Process>,
 }
 
-/// A call succeeds: register 0 has the value, and the process goes on.
-pub(crate) fn succeed(process: &mut Process, value: u32)
+/// What a call came to, with its effects.
+#[derive(Drop)]
+struct Called {
+    outcome: Outcome,
+    effects: Vec<Effect>,
+}
+
+/// A call succeeds: register 0 has the value, register 1 the second number of a pair, and the process goes on.
+fn succeed(process: &mut Process, value: u32, besides: Besides)
     requires { process.old.point + 1 < 256 }
-    ensures { process.new ≡ succeeded_as process.old value false }
+    ensures { process.new ≡ succeeded_as process.old value besides }
 {
     process.registers[0] = value;
     process.point += 1;
+    match besides {
+        Besides::Nothing | Besides::Child => {}
+        Besides::Second(second) => process.registers[1] = second,
+        Besides::Mode => process.enter(),
+    }
+}
+
+/// What a success makes of the processes: of the one that calls, and a child.
+fn go_on(
+    processes: &mut Vec<Process>,
+    number: u8,
+    value: u32,
+    besides: Besides,
+) -> Result<(), Memory>
+    requires made { number < length processes.old.items }
+    requires next { (s : ProcessState) → slice_get processes.old.items number ≡ Some s → s.point + 1 < 256 }
+    ensures { OnOk result ((s : ProcessState) → slice_get processes.old.items number ≡ Some s
+        → processes.new.items ≡ processes_as processes.old.items number s value besides) }
+{
+    let process = &mut processes[number as usize];
+    succeed(process, value, besides);
+    if let Besides::Child = besides {
+        let child = process.fork_of();
+        processes.push(child)?;
+    }
+    Ok(())
 }
 
 /// A call fails: register 7 has the error's number, and the process goes to the label.
-pub(crate) fn fail(
-    alloc: Global,
-    process: &mut Process,
-    otherwise: u8,
-    errno: Errno,
-    cause: Cause,
-) -> Called
+fn fail(alloc: Global, process: &mut Process, otherwise: u8, errno: Errno, cause: Cause) -> Called
     ensures { FailsAs process.old otherwise (errno_of errno) (cause_of cause) (result_of result.outcome) (effects_of result.effects.items) process.new }
 {
     process.registers[7] = u32::from(errno.number());
     process.point = otherwise;
     Called {
         outcome: Outcome::Error(errno, cause),
-        effects: Vec::new(alloc),
-    }
-}
-
-/// Whether the call enters capability mode.
-fn is_cap_enter(call: &Syscall) -> bool
-    ensures { result ≡ is_entering (syscall_of call.now) }
-{
-    match call {
-        Syscall::CapEnter => true,
-        _ => false,
-    }
-}
-
-/// Whether the call makes a process.
-fn is_fork(call: &Syscall) -> bool
-    ensures { result ≡ is_making (syscall_of call.now) }
-{
-    match call {
-        Syscall::Fork => true,
-        _ => false,
-    }
-}
-
-/// Whether the call makes a pair of sockets.
-fn is_socketpair(call: &Syscall) -> bool
-    ensures { result ≡ is_pairing (syscall_of call.now) }
-{
-    match call {
-        Syscall::Socketpair => true,
-        _ => false,
-    }
-}
-
-/// What a call came to, with its effects.
-#[derive(Drop)]
-pub(crate) struct Called {
-    pub outcome: Outcome,
-    pub effects: Vec<Effect>,
-}
-
-/// Puts the calling process into capability mode. (cap_enter(2))
-fn enter(alloc: Global, process: &mut Process) -> Called
-    requires { process.old.point + 1 < 256 }
-    ensures process { process.new ≡ succeeded_as process.old 0 true }
-    ensures value { result_of result.outcome ≡ steps.Value 0 }
-    ensures effects { effects_of result.effects.items ≡ [] }
-{
-    succeed(process, 0);
-    process.enter();
-    Called {
-        outcome: Outcome::Value(0),
         effects: Vec::new(alloc),
     }
 }
@@ -122,24 +96,16 @@ fn invoke<T: Tree>(
     ensures { IfOk result (λ called. CallComes (world_of T.nodes world.old) number (event_of event) (programs.Invoke (syscall_of call.now) otherwise)
         (result_of called.outcome) (effects_of called.effects.items) (world_of T.nodes world.new)) }
 {
-    if is_fork(call) {
-        return fork(alloc, world, number, otherwise, event);
-    }
-    if is_socketpair(call) {
-        return make_pair(alloc, world, number, otherwise, event);
-    }
-    if is_cap_enter(call) {
-        return Ok(enter(alloc, &mut world.processes[number as usize]));
-    }
     let caller = Caller {
         number,
         process: &world.processes[number as usize],
+        made: world.processes.len(),
         refuse: event.refuse,
     };
     let came = perform(alloc, &mut world.tree, &mut world.files, &caller, call);
     match came {
         Ok(success) => {
-            succeed(&mut world.processes[number as usize], success.value);
+            go_on(&mut world.processes, number, success.value, success.besides)?;
             Ok(Called {
                 outcome: Outcome::Value(success.value),
                 effects: success.effects,

@@ -16,7 +16,7 @@ ghost use Rattle.syscalls.specs.AnswerViews.{Calls, Does, IsReady, OnTree};
 
 use crate::descriptors::{Caller, Target, byte_of, file_through, reach, value_of};
 use crate::directories::is_directory;
-use crate::outcomes::{Refusal, Success, effects_at, want_of_memory};
+use crate::outcomes::{Besides, Refusal, Success, effects_at, want_of_memory};
 use crate::sockets::write_end;
 use fd_table::{Access, DescriptionId, Files, PairId, Side};
 use file_tree::{NodeId, Tree};
@@ -76,7 +76,11 @@ pub(crate) fn write_node<T: Tree>(
         Err(fault) => Err(want_of_memory(fault)),
         Ok(()) => {
             files.set_offset(description, offset as u16 + 1);
-            Ok(Success { value: 1, effects })
+            Ok(Success {
+                value: 1,
+                besides: Besides::Nothing,
+                effects,
+            })
         }
     }
 }
@@ -106,7 +110,11 @@ fn cut<T: Tree>(
     let effects = effects_at(alloc, tree, Op::Write, node)?;
     match tree.truncate(node, len) {
         Err(fault) => Err(want_of_memory(fault)),
-        Ok(()) => Ok(Success { value: 0, effects }),
+        Ok(()) => Ok(Success {
+            value: 0,
+            besides: Besides::Nothing,
+            effects,
+        }),
     }
 }
 

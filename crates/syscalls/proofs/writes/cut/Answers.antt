@@ -8,6 +8,7 @@ use Rattle.syscalls.specs.AnswerViews.{Succeeds}
 use Rattle.syscalls.specs.Views.{world_with, effects_of}
 use Rattle.syscalls.proofs.Tests.{passes, kept, at_most}
 use Rattle.syscalls.proofs.Keeping.{tree_succeeds}
+use Rattle.syscalls.specs.declared.outcomes.Besides.TheVariants as besides
 use Rattle.syscalls.proofs.writes.cut.Goals as goal
 
 pub returns-in-Ok : goal.returns-in-Ok
@@ -17,7 +18,7 @@ returns-in-Ok g c = λ f processes p s e refuse idle.
     let n = c.args.node in
     let access = access_seen c.args.access in
     let len = c.value_of-len.result in
-    subst (λ v. Succeeds w p (g.T.Tree.nodes c.truncate.new.self) f 0 (effects_of c.in_ok-effects.effects.items) (resizes w p s e n access v)) c.value_of-len.ensures
+    subst (λ v. Succeeds w p (g.T.Tree.nodes c.truncate.new.self) f 0 besides.Nothing (effects_of c.in_ok-effects.effects.items) (resizes w p s e n access v)) c.value_of-len.ensures
     (tree_succeeds w p _ 0 _ _ (Fill n (resized (node t n).content len)) _ idle
     (passes _ _ _ _ (kept _ c.if-not-access.false) ∙ passes _ _ _ _ (at_most len 4096 (omega arith)))
     (sym c.in_ok-effects.ensures.effects) c.in-Ok.ensures.ok)
