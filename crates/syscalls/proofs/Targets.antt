@@ -7,9 +7,9 @@ use Rattle.fd_table.specs.OpenFiles.{OpenFiles}
 use Rattle.fd_table.specs.Views.{access_seen, side_seen}
 use Rattle.fd_table.specs.declared.ends.End.{End}
 use Rattle.kernel.specs.Answers.{Answer, at_object}
-use Rattle.syscalls.specs.declared.descriptors.OpenNode.{OpenNode}
-use Rattle.syscalls.specs.declared.descriptors.Target.{Target}
-use Rattle.syscalls.specs.declared.descriptors.Target.TheVariants as target
+use Rattle.syscalls.specs.declared.operands.OpenNode.{OpenNode}
+use Rattle.syscalls.specs.declared.operands.Target.{Target}
+use Rattle.syscalls.specs.declared.operands.Target.TheVariants as target
 use Rattle.syscalls.specs.AnswerViews.{IsReadyObject, IsTarget, IsTargetThere}
 
 at_node_there : (o : Object) (found : OpenNode) → IsTarget (target.Node found) o → (on_node : ℕ → Access → Answer) (on_end : ℕ → ℕ → Answer) →

@@ -26,13 +26,13 @@ use Rattle.fd_table.specs.Views.{access_seen, side_seen}
 use Rattle.prog_asm.specs.Programs.{Syscall, called}
 use Rattle.kernel.specs.Calls.{answer, no_request}
 use Rattle.syscalls.specs.declared.paths.Beneath.{Beneath}
-use Rattle.syscalls.specs.declared.descriptors.Caller.{Caller}
-use Rattle.syscalls.specs.declared.descriptors.OpenNode.{OpenNode}
-use Rattle.syscalls.specs.declared.descriptors.Opened.{Opened}
-use Rattle.syscalls.specs.declared.descriptors.Reached.{Reached}
-use Rattle.syscalls.specs.declared.descriptors.Target.{Target}
-use Rattle.syscalls.specs.declared.descriptors.Target.TheVariants as target
-use Rattle.syscalls.specs.declared.descriptors.Numbered.{Numbered}
+use Rattle.syscalls.specs.declared.operands.Caller.{Caller}
+use Rattle.syscalls.specs.declared.operands.OpenNode.{OpenNode}
+use Rattle.syscalls.specs.declared.operands.Opened.{Opened}
+use Rattle.syscalls.specs.declared.operands.Reached.{Reached}
+use Rattle.syscalls.specs.declared.operands.Target.{Target}
+use Rattle.syscalls.specs.declared.operands.Target.TheVariants as target
+use Rattle.syscalls.specs.declared.operands.Numbered.{Numbered}
 use Rattle.syscalls.specs.Shows.{Shown, shown}
 use Rattle.syscalls.specs.Views.{change_of, effects_of, world_with}
 
@@ -43,7 +43,7 @@ Suits f choice (New_pair first second class) =
     IsUnnamed f choice.first × IsUnnamed f choice.second × (choice.first ≢ choice.second) × IsUnused f choice.pair
 Suits f choice _ = Unit {0}
 
--- The change makes this of its process, and such children.
+-- The change makes this of its process besides giving it the value, and such children.
 pub record IsBesides (besides : Besides) (change : Change) : Type 0 where
   pub process : (s : ProcessState) (value : ℕ) → given s value change ≡ given s value (change_of besides)
   pub children : (s : ProcessState) → children change.table s ≡ children (change_of besides).table s

@@ -24,7 +24,7 @@ effect_of e = record { operation = operation_of e.op; place = e.place.items }
 abbrev pub effects_of : List EffectCode → List Shown
 effects_of effects = map effect_of effects
 
--- a change that makes no more of the processes than this (the first number of a pair and its class make nothing of them)
+-- The least change that makes this of the processes. (Of a pair only its second number counts there.)
 abbrev pub change_of : Besides → Change
 change_of besides.Nothing = same
 change_of besides.Mode = record same { enters = true }

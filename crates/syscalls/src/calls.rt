@@ -5,20 +5,18 @@ ghost use Rattle.fd_table.specs.Kept.{open_files};
 ghost use Rattle.prog_asm.specs.Views.{syscall_of};
 ghost use Rattle.syscalls.specs.AnswerViews.{IsReady, Performs};
 
-use crate::asks::{get_flags, set_status, stat_descriptor, sync};
-use crate::descriptors::Caller;
-use crate::forks::fork;
-use crate::modes::{enter_mode, get_mode};
+use crate::bytes::{read, seek, truncate, write};
+use crate::descriptors::{
+    close, duplicate, get_flags, limit_fcntls, limit_rights, set_status, stat_descriptor, sync,
+};
+use crate::operands::Caller;
 use crate::outcomes::{Refusal, Success};
-use crate::pairs::make_pair;
-use crate::passing::{receive_descriptor, send_descriptor};
 use crate::paths::{
     make_beneath, make_path, open_beneath, open_path, remove_beneath, remove_path, rename_beneath,
     stat_beneath, stat_path,
 };
-use crate::reads::{read, seek};
-use crate::tables::{close, duplicate, limit_fcntls, limit_rights};
-use crate::writes::{truncate, write};
+use crate::processes::{enter_mode, fork, get_mode};
+use crate::sockets::{make_pair, receive_descriptor, send_descriptor};
 use fd_table::Files;
 use file_tree::Tree;
 use prog_asm::Syscall;

@@ -1,25 +1,19 @@
 //! The system calls: what each answers, does and leaves, in code.
 #![tactic(auto)]
 
-mod asks;
+mod bytes;
 mod calls;
 mod changes;
 mod descriptors;
-mod directories;
 pub mod events;
-mod forks;
-mod modes;
-mod opens;
+mod names;
+mod opening;
+mod operands;
 pub mod outcomes;
-mod pairs;
-mod passing;
 mod paths;
-mod reads;
-mod renames;
+mod processes;
 mod sockets;
-mod tables;
 pub mod world;
-mod writes;
 
 pub use events::Event;
 pub use outcomes::{Effect, Outcome};

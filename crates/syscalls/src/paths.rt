@@ -23,13 +23,12 @@ ghost use Rattle.kernel.specs.Answers.{Answer, unless};
 ghost use Rattle.kernel.specs.Calls as model;
 ghost use Rattle.syscalls.specs.AnswerViews.{Calls, Finds, HasNumbers, IsReady, IsReadyDescription, LeadsIn, MayReplace, OnTree, Passes, Refuses, beneath_seen, need};
 
-use crate::descriptors::{
+use crate::names::{make_directory, remove, rename_to, stat_found};
+use crate::opening::{Opening, open_found};
+use crate::operands::{
     Caller, directory_of, directory_through, held, need_of, second_need, through_rights,
 };
-use crate::directories::{make_directory, remove, stat_found};
-use crate::opens::{Opening, open_found};
 use crate::outcomes::{Refusal, Success};
-use crate::renames::rename_to;
 use fd_table::{DescriptionId, Files};
 use file_tree::{NodeId, Tree};
 use lookup::{Found, Last, PathFault, Way, find};

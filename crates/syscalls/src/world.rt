@@ -11,8 +11,8 @@ ghost use Rattle.syscalls.specs.MayCall.{CallComes, IsCall, MayCall};
 ghost use Rattle.syscalls.specs.Views.{effects_of, event_of, world_of};
 
 use crate::calls::perform;
-use crate::descriptors::Caller;
 use crate::events::Event;
+use crate::operands::Caller;
 use crate::outcomes::{Besides, Effect, Outcome, Refusal};
 use fd_table::Files;
 use file_tree::Tree;
