@@ -35,6 +35,7 @@ pub mod OwnTables
 pub mod Owing
 pub mod OwedCalls
 pub mod QuietCalls
+pub mod Findings
 pub mod FoundIn
 pub mod OpenedPaths
 pub mod OwedChanges

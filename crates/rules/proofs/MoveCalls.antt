@@ -1,5 +1,5 @@
 -- `renameat` owes what it should.
-use Rattle.std.proofs.Common.{◌≡◌, ℕ, Bool, true, false, List, [], ◌∷◌, inl, inr, refl, ap, subst}
+use Rattle.std.proofs.Common.{◌≡◌, ℕ, Bool, true, false, List, [], ◌∷◌, inl, inr, refl, ap}
 use Rattle.std.specs.Prelude.{◌==◌, ◌&&◌, not, Some, if◌then◌else◌}
 use Rattle.std.specs.Option.{option_map}
 use Rattle.rights.specs.Errors.{ENOENT, EINVAL, ENOTDIR, EISDIR, ENOTEMPTY}
@@ -12,9 +12,8 @@ use Rattle.process.specs.State.{ProcessState}
 use Rattle.certificate.specs.Bounds.{Certificate}
 use Rattle.certificate.specs.Describes.{Node_at}
 use Rattle.fd_table.specs.Descriptions.{Access, At_node, Descriptor}
-use Rattle.lookup.specs.Answers.{Beneath, Keep, Found_node, Found_free, Not_found}
+use Rattle.lookup.specs.Answers.{Keep, Found_node, Found_free, Not_found}
 use Rattle.lookup.specs.Answers as lookups
-use Rattle.lookup.specs.Looks.{find_of}
 use Rattle.lookup.specs.Paths.{last_component}
 use Rattle.prog_asm.specs.Programs.{Operand, Renameat, Invoke, called}
 use Rattle.kernel.specs.World.{World, Choice}
@@ -33,7 +32,7 @@ use Rattle.rules.proofs.Outcomes.{GoesOn, subject_is}
 use Rattle.rules.proofs.TakenOutcomes.{leads_rename}
 use Rattle.rules.proofs.KeptTrees.{IsDeepMove}
 use Rattle.rules.proofs.GrantPlaces.{IsDeepIn, deep_move, deep_held}
-use Rattle.rules.proofs.FoundIn.{IsFoundDeep, found_deep}
+use Rattle.rules.proofs.Findings.{FoundBeneath}
 use Rattle.rules.proofs.Known.{allowed_where, OneGrant, renames_in}
 use Rattle.rules.proofs.Uses.{Through, through_second, second_rights}
 use Rattle.rules.proofs.Owing.{Standing}
@@ -71,22 +70,18 @@ module _ (plan : Plan) (certificate : Certificate) (w : World) (e : Event) (s : 
         (node w.tree n).place (node w.tree m).place both.opened.there (ap (subject_of plan w.tree) both.is_first) both.there
         (ap (subject_of plan w.tree) both.is_second)
 
-    -- what is found beneath the two
-    source_deep : (k : ℕ) (name : List ℕ) → find_of w.tree n from Beneath Keep ≡ Found_node k → grant_holds plan.grants name (node w.tree n).place ≡ true
-        → IsDeepIn plan.grants name (node w.tree k).place
-    source_deep k name found held =
-        subst (IsFoundDeep plan.grants name w.tree from) found (found_deep plan.grants name w.tree n from held known.acts.formed.world.tree)
+    -- what the two paths lead to
+    abbrev Source : lookups.Finding → Type 0
+    Source a = FoundBeneath plan.grants w.tree n from Keep a
 
-    target_deep : (a : lookups.Finding) (name : List ℕ) → find_of w.tree m to Beneath Keep ≡ a → grant_holds plan.grants name (node w.tree m).place ≡ true
-        → IsFoundDeep plan.grants name w.tree to a
-    target_deep a name found held =
-        subst (IsFoundDeep plan.grants name w.tree to) found (found_deep plan.grants name w.tree m to held known.acts.formed.world.tree)
+    abbrev Target : lookups.Finding → Type 0
+    Target a = FoundBeneath plan.grants w.tree m to Keep a
 
-    removes_source : (k : ℕ) → find_of w.tree n from Beneath Keep ≡ Found_node k → s.mode ≡ true → Allowed plan.grants Remove (node w.tree k).place
+    removes_source : (k : ℕ) → Source (Found_node k) → s.mode ≡ true → Allowed plan.grants Remove (node w.tree k).place
     removes_source k found on =
         (allowed_through plan certificate w e s choice (Renameat x from y to) otherwise known x d both.opened n both.first_access both.is_first (λ slot. refl) Remove
         (λ slot. inl refl) (λ slot. refl) (node w.tree k).place
-        (λ name held. deep_held plan.grants name (node w.tree k).place (source_deep k name found held)) on).0
+        (λ name held. deep_held plan.grants name (node w.tree k).place (found.deep refl name held)) on).0
 
     at_target : (operation : Operation) → Among operation (Create ∷ Remove ∷ []) → (place : List (List ℕ))
         → ((name : List ℕ) → grant_holds plan.grants name (node w.tree m).place ≡ true → IsDeepIn plan.grants name place) → s.mode ≡ true
@@ -99,22 +94,22 @@ module _ (plan : Plan) (certificate : Certificate) (w : World) (e : Event) (s : 
         (λ name held. deep_held plan.grants name place (deep name held))
 
     -- the node goes to a place in the same grant
-    owed_move : (k : ℕ) (place : List (List ℕ)) (effects : List Effect) → find_of w.tree n from Beneath Keep ≡ Found_node k
+    owed_move : (k : ℕ) (place : List (List ℕ)) (effects : List Effect) → Source (Found_node k)
         → ((name : List ℕ) → grant_holds plan.grants name (node w.tree m).place ≡ true → IsDeepIn plan.grants name place)
         → (s.mode ≡ true → AreAllowed plan.grants effects) → OwesMove (Gives 0 (moves w e.process s e k place) effects)
     owed_move k place effects found deep allowed =
         let inside : IsDeepMove plan.grants (node w.tree k).place place =
-        deep_move plan.grants one.name (node w.tree k).place place (source_deep k one.name found one.holds_source) (deep one.name one.holds_target) in
+        deep_move plan.grants one.name (node w.tree k).place place (found.deep refl one.name one.holds_source) (deep one.name one.holds_target) in
         owed_value plan certificate w e.process s choice (Renameat x from y to) otherwise known 0 (Move k place) Same_queue Same_state effects (only 0) inside allowed tt leads (only_fits 0)
 
-    to_free : (k : ℕ) (place : List (List ℕ)) → find_of w.tree n from Beneath Keep ≡ Found_node k
+    to_free : (k : ℕ) (place : List (List ℕ)) → Source (Found_node k)
         → ((name : List ℕ) → grant_holds plan.grants name (node w.tree m).place ≡ true → IsDeepIn plan.grants name place)
         → OwesMove (renamed_free w e.process s e k place)
     to_free k place found deep =
         owed_unless plan certificate w e.process s choice (Renameat x from y to) otherwise known refl (not (begins (node w.tree k).place place)) EINVAL errors.Path _ tt (λ apart.
         owed_move k place _ found deep (λ on. (removes_source k found on, (at_target Create (inl refl) place deep on, tt))))
 
-    to_node : (k j : ℕ) → find_of w.tree n from Beneath Keep ≡ Found_node k
+    to_node : (k j : ℕ) → Source (Found_node k)
         → ((name : List ℕ) → grant_holds plan.grants name (node w.tree m).place ≡ true → IsDeepIn plan.grants name (node w.tree j).place)
         → OwesMove (renamed_over w e.process s e k j)
     to_node k j found deep =
@@ -128,22 +123,19 @@ module _ (plan : Plan) (certificate : Certificate) (w : World) (e : Event) (s : 
         owed_move k place _ found deep
         (λ on. (at_target Remove (inr (inl refl)) place deep on, (removes_source k found on, (at_target Create (inl refl) place deep on, tt))))))))
 
-    unless_same : (k j : ℕ) (same : Bool) → find_of w.tree n from Beneath Keep ≡ Found_node k → find_of w.tree m to Beneath Keep ≡ Found_node j
+    unless_same : (k j : ℕ) (same : Bool) → Source (Found_node k) → Target (Found_node j)
         → OwesMove (if same then gives 0 else granted (needs_of (called (Renameat x from y to)) no_request Second true) target (renamed_over w e.process s e k j))
     unless_same k j true found place =
         owed_value plan certificate w e.process s choice (Renameat x from y to) otherwise known 0 Same_tree Same_queue Same_state [] (only 0) tt (λ on. tt) tt leads (only_fits 0)
     unless_same k j false found place =
-        owed_passed plan certificate w e.process s choice (Renameat x from y to) otherwise known _ _ _ _ second.has.rights
-        (to_node k j found (λ name held. target_deep (Found_node j) name place held))
+        owed_passed plan certificate w e.process s choice (Renameat x from y to) otherwise known _ _ _ _ second.has.rights (to_node k j found (place.deep refl))
 
-    goes_to : (k : ℕ) → find_of w.tree n from Beneath Keep ≡ Found_node k → (b : lookups.Finding) → find_of w.tree m to Beneath Keep ≡ b
-        → OwesMove (renamed_to w e.process s e (Renameat x from y to) target k to b)
+    goes_to : (k : ℕ) → Source (Found_node k) → (b : lookups.Finding) → Target b → OwesMove (renamed_to w e.process s e (Renameat x from y to) target k to b)
     goes_to k found (Not_found fault) place = owed_lost plan certificate w e s choice (Renameat x from y to) otherwise known refl fault
-    goes_to k found (Found_free j) place =
-        to_free k (at_name (node w.tree j).place (last_component to)) found (λ name held. target_deep (Found_free j) name place held)
+    goes_to k found (Found_free j) place = to_free k (at_name (node w.tree j).place (last_component to)) found (place.deep refl)
     goes_to k found (Found_node j) place = unless_same k j (k == j) found place
 
-    comes_from : (a b : lookups.Finding) → find_of w.tree n from Beneath Keep ≡ a → find_of w.tree m to Beneath Keep ≡ b
+    comes_from : (a b : lookups.Finding) → Source a → Target b
         → OwesMove (renamed_from w e.process s e a (λ k. renamed_to w e.process s e (Renameat x from y to) target k to b))
     comes_from (Not_found fault) b found place = owed_lost plan certificate w e s choice (Renameat x from y to) otherwise known refl fault
     comes_from (Found_free k) b found place = owed_fails plan certificate w e.process s choice (Renameat x from y to) otherwise known refl ENOENT errors.Path tt
@@ -162,7 +154,7 @@ module _ (plan : Plan) (certificate : Certificate) (w : World) (e : Event) (s : 
       (second_rights plan certificate s (table_of plan w e.process) x y from to otherwise known.stands (seen_of plan w target) there)
       (owed_directory plan certificate w e s choice (Renameat x from y to) otherwise known refl d.description _ (λ n first_access is_first dir.
       owed_directory plan certificate w e s choice (Renameat x from y to) otherwise known refl target.description _ (λ m second_access is_second also.
-      owed_twice plan certificate w e s choice (Renameat x from y to) otherwise known n from m to _
+      owed_twice plan certificate w e s choice (Renameat x from y to) otherwise known n dir from m also to _
       (comes_from d target n m (record {
         opened = record { held = here; there = first; way = way };
         there = there;

@@ -1,5 +1,5 @@
 -- Calls that make and remove names owe what they should.
-use Rattle.std.proofs.Common.{◌≡◌, ℕ, Bool, true, false, List, inl, refl, ap, sym, ◌∙◌, subst}
+use Rattle.std.proofs.Common.{◌≡◌, ℕ, Bool, true, false, List, inl, refl, ap, sym, ◌∙◌}
 use Rattle.std.specs.Prelude.{not, nat_lt, length}
 use Rattle.rights.specs.Errors.{EPERM, ENOENT, EEXIST, ENOTDIR, ENOSPC, ENOTEMPTY, Full}
 use Rattle.rights.specs.Errors as errors
@@ -11,9 +11,8 @@ use Rattle.process.specs.State.{ProcessState}
 use Rattle.certificate.specs.Bounds.{Certificate}
 use Rattle.certificate.specs.Describes.{Node_at}
 use Rattle.fd_table.specs.Descriptions.{Access, At_node, Descriptor}
-use Rattle.lookup.specs.Answers.{Beneath, Keep, Found_node, Found_free, Not_found}
+use Rattle.lookup.specs.Answers.{Keep, Found_node, Found_free, Not_found}
 use Rattle.lookup.specs.Answers as lookups
-use Rattle.lookup.specs.Looks.{find_of}
 use Rattle.lookup.specs.Paths.{last_component}
 use Rattle.prog_asm.specs.Programs.{Operand, Syscall, Mkdirat, Mkdir, Unlinkat, Unlink, Invoke}
 use Rattle.kernel.specs.World.{World, Choice}
@@ -28,12 +27,12 @@ use Rattle.rules.proofs.IntervalLaws.{only_fits}
 use Rattle.rules.proofs.Outcomes.{subject_is}
 use Rattle.rules.proofs.CallOutcomes.{leads_mkdirat, leads_unlinkat}
 use Rattle.rules.proofs.GrantPlaces.{deep_of, deep_held}
-use Rattle.rules.proofs.FoundIn.{IsFoundDeep, found_deep}
+use Rattle.rules.proofs.Findings.{FoundBeneath}
 use Rattle.rules.proofs.Known.{InGrant, known_node}
 use Rattle.rules.proofs.Uses.{said}
 use Rattle.rules.proofs.Owing.{Standing}
 use Rattle.rules.proofs.OwedCalls.{OwedBy, owed_fails, owed_unless, owed_value}
-use Rattle.rules.proofs.OwedTests.{Opened, owed_through, allowed_through, owed_unrefused, owed_directory, owed_lost, owed_looks}
+use Rattle.rules.proofs.OwedTests.{Opened, owed_through, allowed_through, owed_unrefused, owed_directory, owed_lost, owed_beneath}
 
 module _ (plan : Plan) (certificate : Certificate) (w : World) (e : Event) (s : ProcessState) (choice : Choice) where
   -- no name is made or removed in a global name space
@@ -46,7 +45,7 @@ module _ (plan : Plan) (certificate : Certificate) (w : World) (e : Event) (s : 
   module _ (x : Operand) (path : List ℕ) (otherwise : ℕ) (known : Standing plan certificate w e.process s choice (Invoke (Mkdirat x path) otherwise))
       (d : Descriptor) (opened : Opened plan certificate w e s choice (Mkdirat x path) otherwise known x d) (n : ℕ) (access : Access)
       (is : w.files.objects d.description ≡ At_node n access) where
-    made_beneath : (a : lookups.Finding) → find_of w.tree n path Beneath Keep ≡ a
+    made_beneath : (a : lookups.Finding) → FoundBeneath plan.grants w.tree n path Keep a
         → OwedBy plan certificate w e.process s choice (Mkdirat x path) otherwise known (made_directory w e.process s e path a)
     made_beneath (Not_found fault) found = owed_lost plan certificate w e s choice (Mkdirat x path) otherwise known refl fault
     made_beneath (Found_node m) found = owed_fails plan certificate w e.process s choice (Mkdirat x path) otherwise known refl EEXIST errors.Path tt
@@ -57,9 +56,7 @@ module _ (plan : Plan) (certificate : Certificate) (w : World) (e : Event) (s : 
         (owed_value plan certificate w e.process s choice (Mkdirat x path) otherwise known 0 (Make place Dir) Same_queue Same_state _ (only 0) tt
         (allowed_through plan certificate w e s choice (Mkdirat x path) otherwise known x d opened n access is (λ slot. refl) operations.Create (λ slot. inl refl)
         (λ slot. refl) place
-        (λ name held.
-        deep_held plan.grants name place
-        (subst (IsFoundDeep plan.grants name w.tree path) found (found_deep plan.grants name w.tree n path held known.acts.formed.world.tree)))) tt
+        (λ name held. deep_held plan.grants name place (found.deep refl name held))) tt
         (leads_mkdirat plan certificate s (table_of plan w e.process) x path otherwise known.stands (seen_of plan w d) (node w.tree n).place opened.there (ap (subject_of plan w.tree) is))
         (only_fits 0)))
 
@@ -69,7 +66,7 @@ module _ (plan : Plan) (certificate : Certificate) (w : World) (e : Event) (s : 
   owed_mkdirat x path otherwise known =
       owed_through plan certificate w e s choice (Mkdirat x path) otherwise known x refl refl _ (λ slot. refl) _ (λ d opened.
       owed_directory plan certificate w e s choice (Mkdirat x path) otherwise known refl d.description _ (λ n access is dir.
-      owed_looks plan certificate w e s choice (Mkdirat x path) otherwise known n Beneath path Keep _
+      owed_beneath plan certificate w e s choice (Mkdirat x path) otherwise known n dir path Keep _
       (made_beneath x path otherwise known d opened n access is)))
 
   pub owed_mkdir : (path : List ℕ) (otherwise : ℕ) (known : Standing plan certificate w e.process s choice (Invoke (Mkdir path) otherwise))
@@ -93,12 +90,7 @@ module _ (plan : Plan) (certificate : Certificate) (w : World) (e : Event) (s : 
         owed_unless plan certificate w e.process s choice (Unlinkat x path directory) otherwise known refl (not (is_dir (node w.tree m).kind)) EPERM errors.Path rest tt
         (λ no_dir. owed)
 
-    deep_found : (m : ℕ) (name : List ℕ) → find_of w.tree n path Beneath Keep ≡ Found_node m → grant_holds plan.grants name (node w.tree n).place ≡ true
-        → IsFoundDeep plan.grants name w.tree path (Found_node m)
-    deep_found m name found held =
-        subst (IsFoundDeep plan.grants name w.tree path) found (found_deep plan.grants name w.tree n path held known.acts.formed.world.tree)
-
-    removed_beneath : (a : lookups.Finding) → find_of w.tree n path Beneath Keep ≡ a → OwesUnlinkat (unlinks w e.process s e directory a)
+    removed_beneath : (a : lookups.Finding) → FoundBeneath plan.grants w.tree n path Keep a → OwesUnlinkat (unlinks w e.process s e directory a)
     removed_beneath (Not_found fault) found = owed_lost plan certificate w e s choice (Unlinkat x path directory) otherwise known refl fault
     removed_beneath (Found_free k) found = owed_fails plan certificate w e.process s choice (Unlinkat x path directory) otherwise known refl ENOENT errors.Path tt
     removed_beneath (Found_node m) found =
@@ -110,9 +102,9 @@ module _ (plan : Plan) (certificate : Certificate) (w : World) (e : Event) (s : 
         known_node plan.grants g.held.target from (subject_is (grant_holds plan.grants) g.held (seen_of plan w d) (Node_at from) g.facts seen) (opened.way.has.names refl) in
         kind_asked directory m _
         (owed_value plan certificate w e.process s choice (Unlinkat x path directory) otherwise known 0 (Remove m) Same_queue Same_state _ (only 0)
-        (deep_of plan.grants in_grant.name place (deep_found m in_grant.name found in_grant.holds))
+        (deep_of plan.grants in_grant.name place (found.deep refl in_grant.name in_grant.holds))
         (allowed_through plan certificate w e s choice (Unlinkat x path directory) otherwise known x d opened n access is (λ slot. refl) operations.Remove (λ slot. inl refl)
-        (λ slot. refl) place (λ name held. deep_held plan.grants name place (deep_found m name found held))) tt
+        (λ slot. refl) place (λ name held. deep_held plan.grants name place (found.deep refl name held))) tt
         (leads_unlinkat plan certificate s (table_of plan w e.process) x path directory otherwise known.stands (seen_of plan w d) from opened.there seen)
         (only_fits 0))
 
@@ -123,7 +115,7 @@ module _ (plan : Plan) (certificate : Certificate) (w : World) (e : Event) (s : 
   owed_unlinkat x path directory otherwise known =
       owed_through plan certificate w e s choice (Unlinkat x path directory) otherwise known x refl refl _ (λ slot. refl) _ (λ d opened.
       owed_directory plan certificate w e s choice (Unlinkat x path directory) otherwise known refl d.description _ (λ n access is dir.
-      owed_looks plan certificate w e s choice (Unlinkat x path directory) otherwise known n Beneath path Keep _
+      owed_beneath plan certificate w e s choice (Unlinkat x path directory) otherwise known n dir path Keep _
       (removed_beneath x path directory otherwise known d opened n access is)))
 
   pub owed_unlink : (path : List ℕ) (directory : Bool) (otherwise : ℕ) (known : Standing plan certificate w e.process s choice (Invoke (Unlink path directory) otherwise))

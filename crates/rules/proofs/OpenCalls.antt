@@ -1,32 +1,27 @@
 -- `open` and `openat` owe what they should.
 use Rattle.std.proofs.Common.{◌≡◌, ℕ, ◌<◌, Bool, true, false, List, [], ◌∷◌, ◌++◌, length, inl, inr, refl, ap, sym, ◌∙◌, subst}
-use Rattle.std.specs.Prelude.{Some, not}
-use Rattle.std.specs.Option.{option_map}
+use Rattle.std.specs.Prelude.{Some}
 use Rattle.rights.specs.Opens.{OpenRequest}
 use Rattle.rights.specs.Sets.{all_rights, all_commands}
 use Rattle.rights.specs.Operations.{Write as Writes, Create as Creates}
-use Rattle.file_tree.specs.Nodes.{Kind, File, Dir, Link, Node, node, is_dir, is_link}
+use Rattle.file_tree.specs.Nodes.{Kind, File, Dir, Link, Node, node}
 use Rattle.file_tree.specs.Places.{at_name}
-use Rattle.file_tree.specs.WellFormed.{IsTree}
 use Rattle.file_tree.proofs.PlaceLaws.{begins_append}
 use Rattle.file_tree.proofs.TreeLaws.{filled_same}
-use Rattle.lookup.specs.Answers.{Way, Beneath, Global, Last, Follow, Keep, LookupFault, Finding, Found_node, Found_free, Not_found, Escape, No_entry, Not_dir, Loop, Too_long, Bad_last}
+use Rattle.lookup.specs.Answers.{Follow, Finding, Found_node, Found_free, Not_found}
 use Rattle.lookup.specs.Answers as lookups
-use Rattle.lookup.specs.Looks.{find_of}
 use Rattle.lookup.specs.Paths.{last_component}
-use Rattle.lookup.specs.Promises.{IsFindingThere, IsFollowed}
-use Rattle.lookup.proofs.LookLaws.{find_looks}
-use Rattle.lookup.proofs.PlaceLaws.{looks_there, followed_good}
+use Rattle.lookup.specs.Promises.{IsFollowed}
 use Rattle.process.specs.State.{ProcessState}
 use Rattle.fd_table.specs.Descriptions.{Access}
 use Rattle.fd_table.specs.OpenFiles.{lowest_free}
 use Rattle.prog_asm.specs.Programs.{Operand, Syscall, Open, Openat, Invoke}
-use Rattle.certificate.specs.Bounds.{Held, with_slot, Bound, Certificate}
+use Rattle.certificate.specs.Bounds.{with_slot, Certificate}
 use Rattle.certificate.specs.Bounds as slots
 use Rattle.certificate.specs.Describes.{Seen, Node_at, held_describes, target_describes}
 use Rattle.kernel.specs.World.{World, Choice}
-use Rattle.kernel.specs.Answers.{Event, Effect, TreeChange, Same_tree, Make, New_file, Same_queue, Same_state, Change, Gives, does, value_of}
-use Rattle.kernel.specs.Calls.{answer, looks, last_if, opened, opened_as, truncated, truncates, access_for}
+use Rattle.kernel.specs.Answers.{Event, Effect, TreeChange, Same_tree, Make, New_file, Same_queue, Same_state, Change, Gives, does}
+use Rattle.kernel.specs.Calls.{answer, last_if, opened, opened_as, truncated, truncates, access_for}
 use Rattle.kernel.specs.Changes.{tree_after, given}
 use Rattle.task.specs.Plans.{Grant, Plan}
 use Rattle.task.specs.Policies.{grant_holds}
@@ -41,17 +36,14 @@ use Rattle.rules.proofs.IntervalLaws.{only_fits}
 use Rattle.rules.proofs.KeptTrees.{IsDeepChange}
 use Rattle.rules.proofs.OwnTables.{file_slots}
 use Rattle.rules.proofs.GrantPlaces.{holds_on}
-use Rattle.rules.proofs.FoundIn.{IsFoundIn, found_in}
-use Rattle.rules.proofs.OpenedPaths.{IsTargeted, opened_in}
-use Rattle.rules.proofs.Known.{allowed_where}
-use Rattle.rules.proofs.Failing.{outside_mode}
+use Rattle.rules.proofs.Findings.{FoundBeneath, FoundOpened}
 use Rattle.rules.proofs.Outcomes.{Takes}
 use Rattle.rules.proofs.TakenOutcomes.{leads_open, leads_openat}
 use Rattle.rules.proofs.Taken.{number_taken}
-use Rattle.rules.proofs.Uses.{Through, first_use, said, through}
+use Rattle.rules.proofs.Uses.{said}
 use Rattle.rules.proofs.Owing.{Standing}
-use Rattle.rules.proofs.OwedCalls.{OwedBy, owed_fails, owed_passed, owed_unless, owed_held, owed_object, owed_number}
-use Rattle.rules.proofs.OwedTests.{owed_lost}
+use Rattle.rules.proofs.OwedCalls.{OwedBy, owed_fails, owed_unless, owed_number}
+use Rattle.rules.proofs.OwedTests.{owed_through, allowed_through, owed_outside, never_on, owed_directory, owed_lost, owed_beneath, owed_opening}
 use Rattle.rules.proofs.OwedChanges.{owed_change, own_described}
 
 abbrev opening : TreeChange → ℕ → ℕ → Access → Bool → ℕ → ℕ → Change
@@ -80,11 +72,6 @@ last_node (x ∷ t) m = last_node t m
 deep_truncated : (plan : Plan) (t : List Node) (b : Bool) (n : ℕ) → IsDeepChange plan.grants t (truncated b n)
 deep_truncated plan t true n = tt
 deep_truncated plan t false n = tt
-
-directory_opened : (k : Kind) → is_dir k ≡ true → is_link k ≡ false
-directory_opened File is = absurd cc
-directory_opened Dir is = refl
-directory_opened Link is = absurd cc
 
 module _ (plan : Plan) (certificate : Certificate) (w : World) (e : Event) (s : ProcessState) (choice : Choice) (call : Syscall) (otherwise : ℕ)
     (known : Standing plan certificate w e.process s choice (Invoke call otherwise)) where
@@ -161,42 +148,34 @@ module _ (plan : Plan) (certificate : Certificate) (w : World) (e : Event) (s : 
 
 -- ## What lookups reach
 -- A name is found free only by a call that may create it.
-free_made : (t : List Node) (start : ℕ) (path : List ℕ) (way : Way) → IsTree t → is_link (node t start).kind ≡ false → (create : Bool)
-    → (Reaches : List (List ℕ) → Type 0)
-    → ((n : ℕ) → find_of t start path way (last_if create) ≡ Found_node n → Reaches (node t n).place)
-    → ((d : ℕ) → create ≡ true → find_of t start path way (last_if create) ≡ Found_free d → Reaches (at_name (node t d).place (last_component path)))
-    → IsReached t path create Reaches (find_of t start path way (last_if create))
-free_made t start path way tree no_link create Reaches node_there name_there =
-    go create node_there name_there
-  where
-    found : (last : Last) (made : Bool) (a : lookups.Finding) → IsFindingThere t a → (last ≡ Follow → IsFollowed t a) → (made ≡ false → last ≡ Follow)
-        → ((n : ℕ) → a ≡ Found_node n → Reaches (node t n).place)
-        → ((d : ℕ) → made ≡ true → a ≡ Found_free d → Reaches (at_name (node t d).place (last_component path)))
-        → IsReached t path made Reaches a
-    found last made (Found_node n) there followed follows nodes names = (there.there, nodes n refl)
-    found last true (Found_free d) there followed follows nodes names = (refl, names d refl refl)
-    found last false (Found_free d) there followed follows nodes names = absurd (followed (follows refl))
-    found last made (Not_found fault) there followed follows nodes names = tt
-
-    there_at : (last : Last) → IsFindingThere t (find_of t start path way last)
-    there_at last = looks_there t start path way last (find_of t start path way last) (find_looks t start path way last)
-
-    go : (made : Bool)
-        → ((n : ℕ) → find_of t start path way (last_if made) ≡ Found_node n → Reaches (node t n).place)
-        → ((d : ℕ) → made ≡ true → find_of t start path way (last_if made) ≡ Found_free d → Reaches (at_name (node t d).place (last_component path)))
-        → IsReached t path made Reaches (find_of t start path way (last_if made))
-    go true nodes names = found Keep true (find_of t start path way Keep) (there_at Keep) (λ is. absurd cc) (λ is. absurd cc) nodes names
-    go false nodes names =
-        found Follow false (find_of t start path way Follow) (there_at Follow)
-        (λ is. followed_good t start path way tree no_link (find_of t start path way Follow) (find_looks t start path way Follow)) (λ is. refl) nodes names
+free_made : (t : List Node) (d : ℕ) (create : Bool) → (last_if create ≡ Follow → IsFollowed t (Found_free d)) → create ≡ true
+free_made t d true followed = refl
+free_made t d false followed = absurd (followed refl)
 
 -- in each grant that a place is in
 abbrev IsBeside : List Grant → List (List ℕ) → List (List ℕ) → Type 0
 IsBeside grants from place = (name : List ℕ) → grant_holds grants name from ≡ true → grant_holds grants name place ≡ true
 
-not_on : (on : Bool) → not on ≡ true → on ≡ true → ⊥
-not_on true off is = cc
-not_on false off is = cc
+reached_beneath : (grants : List Grant) (t : List Node) (start : ℕ) (path : List ℕ) (create : Bool) (a : lookups.Finding)
+    → FoundBeneath grants t start path (last_if create) a → IsReached t path create (IsBeside grants (node t start).place) a
+reached_beneath grants t start path create (Found_node n) found = (found.found.there.there, found.within)
+reached_beneath grants t start path create (Found_free d) found =
+    let place = (node t d).place in (
+      free_made t d create found.found.followed,
+      λ name held. holds_on grants name place (at_name place (last_component path)) (found.within name held) (begins_append place (last_component path ∷ [])),
+    )
+reached_beneath grants t start path create (Not_found fault) found = tt
+
+-- in the grant of the path
+abbrev IsOpened : List Grant → List ℕ → List (List ℕ) → Type 0
+IsOpened grants path place = target_describes (grant_holds grants) (target_of_path grants path) (Node_at place) ≡ true
+
+reached_opened : (grants : List Grant) (t : List Node) (path : List ℕ) (create : Bool) → create ≡ false → (a : lookups.Finding)
+    → FoundOpened grants t path (last_if create) a → IsReached t path create (IsOpened grants path) a
+reached_opened grants t path create none (Found_node n) found = (found.found.there.there, found.targeted)
+reached_opened grants t path create none (Found_free d) found =
+    absurd (let both : true ≡ false = sym (free_made t d create found.found.followed) ∙ none in cc)
+reached_opened grants t path create none (Not_found fault) found = tt
 
 among_create : (create trunc : Bool) → create ≡ true → Among Creates (operation_if create Creates ++ operation_if trunc Writes)
 among_create true trunc is = inl refl
@@ -210,61 +189,42 @@ among_write false true is = inl refl
 module _ (plan : Plan) (certificate : Certificate) (w : World) (e : Event) (s : ProcessState) (choice : Choice) where
   pub owed_openat : (x : Operand) (path : List ℕ) (f : OpenRequest) (otherwise : ℕ) (known : Standing plan certificate w e.process s choice (Invoke (Openat x path f) otherwise))
       → OwedBy plan certificate w e.process s choice (Openat x path f) otherwise known (answer w e.process s e (Openat x path f))
-  unfolding answer looks
+  unfolding answer
   owed_openat x path f otherwise known =
       let call = Openat x path f in
       let p = e.process in
-      let grants = plan.grants in
-      let tree = known.acts.formed.world.tree in
-      owed_held plan certificate w p s choice call otherwise known refl (w.files.table p (value_of s x)) _ (λ d here.
-      let there = ap (option_map (seen_of plan w)) here in
-      let way : Through plan certificate known.stands.bound s.mode x (value_of s x) (first_use known.stands.bound call) (seen_of plan w d) =
-      through plan certificate s (table_of plan w p) call otherwise known.stands x (seen_of plan w d) refl there in
-      owed_passed plan certificate w p s choice call otherwise known _ _ _ _ way.has.rights
-      (owed_object plan certificate w p s choice call otherwise known (w.files.objects d.description) _ _
-      (λ n access is.
+      owed_through plan certificate w e s choice call otherwise known x refl refl _ (λ slot. refl) _ (λ d opened.
+      owed_directory plan certificate w e s choice call otherwise known refl d.description _ (λ n access is dir.
       let from : List (List ℕ) = (node w.tree n).place in
       let node_is : (seen_of plan w d).subject ≡ Node_at from = ap (subject_of plan w.tree) is in
-      let target : target_describes (grant_holds grants) way.slot.held.target (Node_at from) ≡ true =
-      subst (λ y. target_describes (grant_holds grants) way.slot.held.target y ≡ true) node_is way.slot.facts.target in
-      owed_unless plan certificate w p s choice call otherwise known refl _ _ _ _ tt (λ directory.
-      owed_opened plan certificate w e s choice call otherwise known refl d.rights d.fcntls (IsBeside grants from)
+      owed_beneath plan certificate w e s choice call otherwise known n dir path (last_if f.create) _ (λ a found.
+      owed_opened plan certificate w e s choice call otherwise known refl d.rights d.fcntls (IsBeside plan.grants from)
       (λ place number reaches free.
-      leads_openat plan certificate s (table_of plan w p) x path f otherwise known.stands (seen_of plan w d) from place number there node_is reaches
+      leads_openat plan certificate s (table_of plan w p) x path f otherwise known.stands (seen_of plan w d) from place number opened.there node_is reaches
       (number_taken plan certificate s (seen_of plan w) (w.files.table p) call otherwise known.stands refl number free))
       f
       (λ on made place reaches.
-      allowed_where plan certificate s.mode _ (seen_of plan w d) way.has on refl Creates (among_create f.create f.trunc made) from place target reaches)
+      (allowed_through plan certificate w e s choice call otherwise known x d opened n access is (λ slot. refl) Creates (λ slot. among_create f.create f.trunc made)
+      (λ slot. refl) place reaches on).0)
       (λ on made place reaches.
-      allowed_where plan certificate s.mode _ (seen_of plan w d) way.has on refl Writes (among_write f.create f.trunc made) from place target reaches)
-      path (find_of w.tree n path Beneath (last_if f.create))
-      (free_made w.tree n path Beneath tree (directory_opened (node w.tree n).kind directory) f.create (IsBeside grants from)
-      (λ m found name held. subst (IsFoundIn grants name w.tree) found (found_in grants name w.tree n path held (last_if f.create)))
-      (λ k made found name held.
-      holds_on grants name (node w.tree k).place (at_name (node w.tree k).place (last_component path))
-      (subst (IsFoundIn grants name w.tree) found (found_in grants name w.tree n path held (last_if f.create)))
-      (begins_append (node w.tree k).place (last_component path ∷ []))))))
-      (λ pair side class is. owed_fails plan certificate w p s choice call otherwise known refl _ _ tt)))
+      (allowed_through plan certificate w e s choice call otherwise known x d opened n access is (λ slot. refl) Writes (λ slot. among_write f.create f.trunc made)
+      (λ slot. refl) place reaches on).0)
+      path a (reached_beneath plan.grants w.tree n path f.create a found))))
 
   pub owed_open : (path : List ℕ) (f : OpenRequest) (otherwise : ℕ) (known : Standing plan certificate w e.process s choice (Invoke (Open path f) otherwise))
       → OwedBy plan certificate w e.process s choice (Open path f) otherwise known (answer w e.process s e (Open path f))
-  unfolding answer looks
+  unfolding answer
   owed_open path f otherwise known =
       let call = Open path f in
       let p = e.process in
-      let tree = known.acts.formed.world.tree in
-      let off : not s.mode ≡ true = outside_mode plan certificate s (table_of plan w p) call otherwise known.stands refl in
       let none_made : f.create ≡ false = (said plan certificate s (table_of plan w p) call otherwise known.stands).global_names in
-      let Reaches : List (List ℕ) → Type 0 = λ place. target_describes (grant_holds plan.grants) (target_of_path plan.grants path) (Node_at place) ≡ true in
-      owed_passed plan certificate w p s choice call otherwise known _ _ _ _ off
-      (owed_opened plan certificate w e s choice call otherwise known refl all_rights all_commands Reaches
+      owed_outside plan certificate w e s choice call otherwise known refl _
+      (owed_opening plan certificate w e s choice call otherwise known path (last_if f.create) _ (λ a found.
+      owed_opened plan certificate w e s choice call otherwise known refl all_rights all_commands (IsOpened plan.grants path)
       (λ place number reaches free.
       leads_open plan certificate s (table_of plan w p) path f otherwise known.stands place number reaches
       (number_taken plan certificate s (seen_of plan w) (w.files.table p) call otherwise known.stands refl number free))
       f
-      (λ on made place reaches. absurd (not_on s.mode off on))
-      (λ on made place reaches. absurd (not_on s.mode off on))
-      path (find_of w.tree 0 path Global (last_if f.create))
-      (free_made w.tree 0 path Global tree (ap is_link tree.root_kind) f.create Reaches
-      (λ m found. subst (IsTargeted plan w.tree (target_of_path plan.grants path)) found (opened_in plan known.acts.grants w tree known.inv.clear (last_if f.create) path))
-      (λ k made found. absurd (let both : true ≡ false = sym made ∙ none_made in cc))))
+      (λ on made place reaches. absurd (never_on plan certificate w e s choice call otherwise known refl on))
+      (λ on made place reaches. absurd (never_on plan certificate w e s choice call otherwise known refl on))
+      path a (reached_opened plan.grants w.tree path f.create none_made a found)))

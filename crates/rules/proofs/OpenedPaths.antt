@@ -1,11 +1,11 @@
 -- What `open` leads to lies in the grant whose path it is given.
-use Rattle.std.proofs.Common.{◌≡◌, ℕ, zero, suc, Bool, true, false, List, [], ◌∷◌, refl, ap, sym, ◌∙◌, subst, cond}
+use Rattle.std.proofs.Common.{◌≡◌, ℕ, zero, suc, Bool, true, false, List, [], ◌∷◌, refl, sym, ◌∙◌, subst, cond}
 use Rattle.std.specs.Prelude.{Option, Some, None, MatchOption}
 use Rattle.std.specs.List.{slice_get, list_all}
 use Rattle.std.specs.Str.{bytes_eq}
 use Rattle.rights.proofs.Words.{same_bytes}
 use Rattle.file_tree.specs.Places.{begins, is_file_name, place_text}
-use Rattle.file_tree.specs.Nodes.{Node, node}
+use Rattle.file_tree.specs.Nodes.{node}
 use Rattle.file_tree.specs.WellFormed.{IsTree}
 use Rattle.file_tree.proofs.KeptByCreate.{names_kept}
 use Rattle.file_tree.proofs.NodeLaws.{Directory, directory}
@@ -14,12 +14,12 @@ use Rattle.file_tree.proofs.PlaceTexts.{components_of_text}
 use Rattle.lookup.specs.Answers.{Global, Last, LookupFault, Finding, Found_node, Found_free, Not_found}
 use Rattle.lookup.specs.ByPlaces.{by_places}
 use Rattle.lookup.specs.Leads.{Leads}
-use Rattle.lookup.specs.Looks.{lookup_fault, first_stand, Looks, find_of}
+use Rattle.lookup.specs.Looks.{lookup_fault, first_stand, Looks}
 use Rattle.lookup.specs.Promises.{Spells}
 use Rattle.lookup.proofs.AlongLaws.{looks_along}
-use Rattle.lookup.proofs.LookLaws.{find_only, find_led}
+use Rattle.lookup.proofs.LookLaws.{find_only}
 use Rattle.lookup.proofs.PlaceLaws.{no_directory_link}
-use Rattle.certificate.specs.Bounds.{Target, In_grant}
+use Rattle.certificate.specs.Bounds.{In_grant}
 use Rattle.certificate.specs.Describes.{Node_at, target_describes}
 use Rattle.kernel.specs.World.{World}
 use Rattle.task.specs.Plans.{Grant, Plan}
@@ -27,12 +27,7 @@ use Rattle.task.specs.Policies.{holds_in, grant_holds}
 use Rattle.task.specs.KeptLimits.{KeepsGrants}
 use Rattle.rules.specs.Outcomes.{target_of_path}
 use Rattle.rules.proofs.Invariant.{AreClear}
-
--- the target that a path has describes the node that is found
-abbrev pub IsTargeted : Plan → List Node → Target → Finding → Type 0
-IsTargeted plan t target (Found_node n) = target_describes (grant_holds plan.grants) target (Node_at (node t n).place) ≡ true
-IsTargeted plan t target (Found_free d) = Unit {0}
-IsTargeted plan t target (Not_found fault) = Unit {0}
+use Rattle.rules.proofs.Findings.{IsTargeted}
 
 module _ (plan : Plan) (grants : KeepsGrants plan) (w : World) (tree : IsTree w.tree) (clear : AreClear plan w) (last : Last) where
   -- what is found was looked up
@@ -47,7 +42,7 @@ module _ (plan : Plan) (grants : KeepsGrants plan) (w : World) (tree : IsTree w.
       go (Some fault) is led = absurd cc
 
   -- a grant's path leads to its directory
-  spelled : (j : ℕ) (g : Grant) → slice_get plan.grants j ≡ Some g → (n : ℕ) → find_of w.tree 0 (place_text g.path) Global last ≡ Found_node n → (node w.tree n).place ≡ g.path
+  spelled : (j : ℕ) (g : Grant) → slice_get plan.grants j ≡ Some g → (n : ℕ) → Looks w.tree 0 (place_text g.path) Global last (Found_node n) → (node w.tree n).place ≡ g.path
   spelled j g there n found =
       let d : Directory w.tree g.path = directory w.tree g.path (clear j g there) in
       let names : list_all is_file_name g.path ≡ true = subst (λ p. list_all is_file_name p ≡ true) d.place (names_kept w.tree tree d.number d.linked) in
@@ -56,9 +51,9 @@ module _ (plan : Plan) (grants : KeepsGrants plan) (w : World) (tree : IsTree w.
         opened = no_directory_link (node w.tree d.number).kind d.kind;
         place = d.place ∙ sym (components_of_text g.path names);
       } in
-      let none = no_fault (place_text g.path) n (find_led w.tree 0 (place_text g.path) Global last (Found_node n) found) in
-      let led : Looks w.tree 0 (place_text g.path) Global last (Found_node d.number) = looks_along w.tree 0 (place_text g.path) Global last d.number tree none spells in
-      let same : Found_node d.number ≡ Found_node n = find_only w.tree 0 (place_text g.path) Global last (Found_node d.number) led ∙ found in
+      let led = looks_along w.tree 0 (place_text g.path) Global last d.number tree (no_fault (place_text g.path) n found) spells in
+      let only = find_only w.tree 0 (place_text g.path) Global last in
+      let same : Found_node d.number ≡ Found_node n = only (Found_node d.number) led ∙ sym (only (Found_node n) found) in
       let one : d.number ≡ n = cc in
       subst (λ k. (node w.tree k).place ≡ g.path) one d.place
 
@@ -67,7 +62,7 @@ module _ (plan : Plan) (grants : KeepsGrants plan) (w : World) (tree : IsTree w.
       subst (λ o. holds_in o (node w.tree n).place ≡ true) (sym (grants.found j g there)) (subst (λ p. begins g.path p ≡ true) (sym place) (begins_refl g.path))
 
   targeted : (path : List ℕ) (gs : List Grant) → ((i : ℕ) (g : Grant) → slice_get gs i ≡ Some g → (j : ℕ) × (slice_get plan.grants j ≡ Some g))
-      → (a : Finding) → find_of w.tree 0 path Global last ≡ a → IsTargeted plan w.tree (target_of_path gs path) a
+      → (a : Finding) → Looks w.tree 0 path Global last a → IsTargeted plan.grants w.tree (target_of_path gs path) a
   targeted path gs among (Found_free d) found = tt
   targeted path gs among (Not_found fault) found = tt
   targeted path [] among (Found_node n) found = refl
@@ -81,7 +76,7 @@ module _ (plan : Plan) (grants : KeepsGrants plan) (w : World) (tree : IsTree w.
       go true is rest =
           let own = among zero g refl in
           let same : place_text g.path ≡ path = same_bytes (place_text g.path) path is in
-          in_grant own.0 g own.1 n (spelled own.0 g own.1 n (ap (λ text. find_of w.tree 0 text Global last) same ∙ found))
+          in_grant own.0 g own.1 n (spelled own.0 g own.1 n (subst (λ text. Looks w.tree 0 text Global last (Found_node n)) (sym same) found))
 
-  pub opened_in : (path : List ℕ) → IsTargeted plan w.tree (target_of_path plan.grants path) (find_of w.tree 0 path Global last)
-  opened_in path = targeted path plan.grants (λ i g at. (i, at)) (find_of w.tree 0 path Global last) refl
+  pub opened_in : (path : List ℕ) (a : Finding) → Looks w.tree 0 path Global last a → IsTargeted plan.grants w.tree (target_of_path plan.grants path) a
+  opened_in path = targeted path plan.grants (λ i g at. (i, at))

@@ -12,7 +12,7 @@ use Rattle.prog_asm.specs.Programs.{Operand, Syscall, Invoke}
 use Rattle.kernel.specs.Answers.{value_of}
 use Rattle.task.specs.Plans.{Grant, Plan, program_name}
 use Rattle.task.specs.Policies.{grant_holds}
-use Rattle.certificate.specs.Bounds.{ModeBound, Off, On, Either, Interval, with_interval, Target, In_grant, Any_node, Socket, Unknown, Held, Closed, with_slot, Bound, Certificate}
+use Rattle.certificate.specs.Bounds.{Interval, with_interval, Target, In_grant, Any_node, Socket, Unknown, Held, with_slot, Bound, Certificate}
 use Rattle.certificate.specs.Bounds as bounds
 use Rattle.certificate.specs.Describes.{Subject, Node_at, End_of, Seen, Holds, target_describes, held_describes}
 use Rattle.certificate.proofs.Smaller.{Between, from_between}

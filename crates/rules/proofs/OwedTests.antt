@@ -1,9 +1,9 @@
 -- Tests that many calls ask: each goes on, or the call fails or waits, and that owes what it should.
-use Rattle.std.proofs.Common.{◌≡◌, ℕ, Bool, true, false, List, refl, ap, sym, ◌∙◌, subst}
+use Rattle.std.proofs.Common.{◌≡◌, ℕ, Bool, true, false, List, ap, sym, ◌∙◌, subst}
 use Rattle.std.specs.Prelude.{not, Some}
 use Rattle.std.specs.Option.{option_map}
 use Rattle.rights.specs.Sets.{is_within}
-use Rattle.rights.specs.Errors.{Errno, EINVAL, ENOTDIR, EISDIR, EAGAIN, ENOENT, ELOOP, ENAMETOOLONG, ENOTCAPABLE, ECAPMODE, CapMode, MissingRight, Refused}
+use Rattle.rights.specs.Errors.{Errno, EINVAL, ENOTDIR, EAGAIN, ENOENT, ELOOP, ENAMETOOLONG, ENOTCAPABLE, ECAPMODE, CapMode, MissingRight, Refused}
 use Rattle.rights.specs.Errors as errors
 use Rattle.rights.specs.Operations.{Operation}
 use Rattle.file_tree.specs.Nodes.{node, is_dir, is_file, is_link}
@@ -11,9 +11,8 @@ use Rattle.process.specs.State.{ProcessState}
 use Rattle.certificate.specs.Bounds.{Certificate}
 use Rattle.certificate.specs.Describes.{Node_at, target_describes}
 use Rattle.fd_table.specs.Descriptions.{Access, At_node, Descriptor, IfHeld}
-use Rattle.lookup.specs.Answers.{Way, Beneath, Last, Keep, LookupFault, Escape, No_entry, Not_dir, Loop, Too_long, Bad_last}
+use Rattle.lookup.specs.Answers.{Beneath, Global, Last, Keep, LookupFault, Escape, No_entry, Not_dir, Loop, Too_long, Bad_last}
 use Rattle.lookup.specs.Answers as lookups
-use Rattle.lookup.specs.Looks.{find_of}
 use Rattle.prog_asm.specs.Programs.{Operand, Syscall, Invoke}
 use Rattle.kernel.specs.World.{World, Choice}
 use Rattle.kernel.specs.Answers.{Event, Answer, does, granted, through, lookup_fails, value_of}
@@ -31,6 +30,8 @@ use Rattle.rules.proofs.Outcomes.{subject_is}
 use Rattle.rules.proofs.Uses.{Through, first_operand, first_use}
 use Rattle.rules.proofs.Uses as through_slots
 use Rattle.rules.proofs.Known.{allowed_where}
+use Rattle.rules.proofs.Findings.{Found, FoundBeneath, FoundOpened}
+use Rattle.rules.proofs.FoundIn.{found_beneath, found_globally, found_opened}
 use Rattle.rules.proofs.Owing.{Standing}
 use Rattle.rules.proofs.OwedCalls.{OwedBy, owed_fails, owed_wait, owed_unless, owed_passed, owed_held, owed_object}
 
@@ -141,15 +142,32 @@ module _ (plan : Plan) (certificate : Certificate) (w : World) (e : Event) (s : 
   owed_lost may Too_long = owed_fails plan certificate w e.process s choice call otherwise known may ENAMETOOLONG errors.Path tt
   owed_lost may Bad_last = owed_fails plan certificate w e.process s choice call otherwise known may EINVAL errors.Path tt
 
-  pub owed_looks :
-      (start : ℕ) (way : Way) (path : List ℕ) (last : Last) (rest : lookups.Finding → Answer)
-      → ((a : lookups.Finding) → find_of w.tree start path way last ≡ a → Owes (rest a)) → Owes (looks w e.process s e start way path last rest)
+  -- beneath a directory
+  pub owed_beneath :
+      (start : ℕ) → is_dir (node w.tree start).kind ≡ true → (path : List ℕ) (last : Last) (rest : lookups.Finding → Answer)
+      → ((a : lookups.Finding) → FoundBeneath plan.grants w.tree start path last a → Owes (rest a)) → Owes (looks w e.process s e start Beneath path last rest)
   unfolding looks
-  owed_looks start way path last rest owed = owed (find_of w.tree start path way last) refl
+  owed_beneath start dir path last rest owed = owed _ (found_beneath plan.grants w.tree start path known.acts.formed.world.tree dir last)
 
+  -- in the global name space, and what `open` knows of it
+  pub owed_globally :
+      (path : List ℕ) (last : Last) (rest : lookups.Finding → Answer) → ((a : lookups.Finding) → Found w.tree last a → Owes (rest a)) → Owes (looks w e.process s e 0 Global path last rest)
+  unfolding looks
+  owed_globally path last rest owed = owed _ (found_globally w.tree path last known.acts.formed.world.tree)
+
+  pub owed_opening :
+      (path : List ℕ) (last : Last) (rest : lookups.Finding → Answer) → ((a : lookups.Finding) → FoundOpened plan.grants w.tree path last a → Owes (rest a))
+      → Owes (looks w e.process s e 0 Global path last rest)
+  unfolding looks
+  owed_opening path last rest owed = owed _ (found_opened plan known.acts.grants w known.acts.formed.world.tree known.inv.clear path last)
+
+  -- beneath two directories
   pub owed_twice :
-      (n : ℕ) (from : List ℕ) (m : ℕ) (to : List ℕ) (rest : lookups.Finding → lookups.Finding → Answer)
-      → ((a b : lookups.Finding) → find_of w.tree n from Beneath Keep ≡ a → find_of w.tree m to Beneath Keep ≡ b → Owes (rest a b))
+      (n : ℕ) → is_dir (node w.tree n).kind ≡ true → (from : List ℕ) (m : ℕ) → is_dir (node w.tree m).kind ≡ true → (to : List ℕ)
+      (rest : lookups.Finding → lookups.Finding → Answer)
+      → ((a b : lookups.Finding) → FoundBeneath plan.grants w.tree n from Keep a → FoundBeneath plan.grants w.tree m to Keep b → Owes (rest a b))
       → Owes (looks_twice w e.process s e n from m to rest)
   unfolding looks_twice
-  owed_twice n from m to rest owed = owed (find_of w.tree n from Beneath Keep) (find_of w.tree m to Beneath Keep) refl refl
+  owed_twice n dir from m also to rest owed =
+      let tree = known.acts.formed.world.tree in
+      owed _ _ (found_beneath plan.grants w.tree n from tree dir Keep) (found_beneath plan.grants w.tree m to tree also Keep)

@@ -10,7 +10,7 @@ use Rattle.process.specs.State.{ProcessState, forked}
 use Rattle.fd_table.specs.Descriptions.{PairClass, Made_at, At_end, Descriptor, Message, IfHeld, other_side}
 use Rattle.fd_table.specs.OpenFiles.{lowest_from, lowest_free}
 use Rattle.prog_asm.specs.Programs.{Operand, Syscall, Sendfd, Recvfd, Socketpair, Fork, Invoke}
-use Rattle.certificate.specs.Bounds.{Interval, with_interval, Socket, Held, with_slot, Bound, Certificate}
+use Rattle.certificate.specs.Bounds.{with_interval, Socket, Held, with_slot, Bound, Certificate}
 use Rattle.certificate.specs.Bounds as slots
 use Rattle.certificate.specs.Describes.{Seen, Holds, interval_describes}
 use Rattle.kernel.specs.World.{World, Choice}

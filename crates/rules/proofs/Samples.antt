@@ -5,7 +5,7 @@ use Rattle.rights.specs.Classes.{Initial}
 use Rattle.rights.specs.Opens.{OpenRequest, open_request}
 use Rattle.rights.specs.Operations.{Operation, Look, Read as Reads, Write as Writes, Create as Creates, Remove as Removes}
 use Rattle.prog_asm.specs.Programs.{Instruction, Halt, Invoke, Jmp, Jeq, Number, Cap_enter, Open, Openat, Read, Renameat, Sendfd, Recvfd, Fork, Cap_rights_limit}
-use Rattle.certificate.specs.Bounds.{ModeBound, Off, On, Target, In_grant, Any_node, Socket, Held, Slot, Closed, Maybe, Bound, with_interval, PointBound, ChannelBound, One, Certificate}
+use Rattle.certificate.specs.Bounds.{ModeBound, Off, On, In_grant, Any_node, Socket, Held, Slot, Maybe, Bound, with_interval, PointBound, ChannelBound, One, Certificate}
 use Rattle.certificate.specs.Bounds as bounds
 use Rattle.kernel.proofs.Samples.{base}
 use Rattle.task.specs.Plans.{Grant, NamedProgram, FirstObject, On_node, On_end, FirstDescriptor, Start, Plan}

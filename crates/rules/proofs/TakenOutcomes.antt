@@ -15,7 +15,7 @@ use Rattle.rights.specs.Opens.{OpenRequest}
 use Rattle.kernel.specs.Answers.{value_of}
 use Rattle.task.specs.Plans.{Plan, program_name}
 use Rattle.task.specs.Policies.{grant_holds}
-use Rattle.certificate.specs.Bounds.{ModeBound, Off, On, Either, Interval, with_interval, Target, In_grant, Any_node, Socket, Unknown, Held, Closed, with_slot, Bound, Certificate}
+use Rattle.certificate.specs.Bounds.{Target, In_grant, Any_node, Socket, Unknown, Held, Closed, with_slot, Certificate}
 use Rattle.certificate.specs.Bounds as bounds
 use Rattle.certificate.specs.OrderLaws.{class_is, target-refl}
 use Rattle.certificate.specs.Describes.{Subject, Node_at, End_of, Seen, Holds, target_describes, held_describes, sends_describes}

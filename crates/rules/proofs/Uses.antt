@@ -1,6 +1,6 @@
 -- What a call needs of a descriptor that it goes through, it has.
-use Rattle.std.proofs.Common.{◌≡◌, false, ℕ, Bool, true, List, [], ◌∷◌, refl, ap, sym, subst}
-use Rattle.std.specs.Prelude.{map, Option, Some, None}
+use Rattle.std.proofs.Common.{◌≡◌, false, ℕ, Bool, true, List, refl, sym, subst}
+use Rattle.std.specs.Prelude.{Option, Some, None}
 use Rattle.rights.specs.Sets.{is_within}
 use Rattle.rights.specs.Needs.{Second, needs_of}
 use Rattle.rights.specs.Operations.{Operation}

@@ -1,5 +1,5 @@
 -- What comes through socket pairs, by the channels of a certificate. (own, after sendmsg(2) and recvmsg(2))
-use Rattle.std.specs.Prelude.{◌==◌, ◌&&◌, ℕ, Bool, true, false, List, [], ◌∷◌, Option, Some, None, is_some, if◌then◌else◌}
+use Rattle.std.specs.Prelude.{◌==◌, ◌&&◌, Bool, true, false, List, [], ◌∷◌, Option, Some, None, is_some, if◌then◌else◌}
 use Rattle.std.specs.List.{list_all}
 use Rattle.rights.specs.Values.{SideNumber}
 use Rattle.rights.specs.Classes.{Class}
