@@ -16,7 +16,7 @@ use Rattle.certificate.specs.Growth.{IsCertificate, empty}
 use Rattle.certificate.specs.Lines.{Bounds_channel, block_lines, lines_of}
 use Rattle.certificate.proofs.Growths.{by_append, grown_append}
 use Rattle.task.specs.Plans.{Plan}
-use Rattle.rules.proofs.GrownExpansions.{expansion_grown}
+use Rattle.rules.proofs.expansions.GrownExpansions.{expansion_grown}
 use Rattle.rules.specs.Verdicts.{MeetsRules, IsFirstFound}
 use Rattle.checker.specs.Verdicts.{Verdict, Yes, No, IsVerdict}
 use Rattle.rules.specs.Expansions.{bound_with, carried_past, expanded, expansion, points_along, programs_behind, programs_given, with_bound}

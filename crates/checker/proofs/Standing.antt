@@ -12,7 +12,7 @@ use Rattle.rules.specs.Expansions.{or_carried, code_named, may_carry, carried_by
 use Rattle.rules.specs.Points.{instruction_at}
 use Rattle.rules.specs.Rules.{is_started, least_broken, tests_without}
 use Rattle.rules.specs.Verdicts.{found_at, found_with}
-use Rattle.rules.proofs.Arriving.{code_is, expansion_bounds}
+use Rattle.rules.proofs.expansions.Arriving.{code_is, expansion_bounds}
 
 nothing_both : (a : Bool) → (a && false) ≡ false
 nothing_both true = refl

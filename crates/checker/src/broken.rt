@@ -54,7 +54,7 @@ fn broken_in_needs(site: &Site<'_>, call: &Syscall) -> Option<u8>
 }
 
 /// The least of the rules 10 to 15 that it breaks.
-#[tactic(auto, unfolding(rules::specs::Rules::tests), using(rules::proofs::Channelled::expansion_channels))]
+#[tactic(auto, unfolding(rules::specs::Rules::tests), using(rules::proofs::expansions::Channelled::expansion_channels))]
 fn broken_in_targets(site: &Site<'_>, call: &Syscall) -> Option<u8>
     ensures { result ≡ least_broken (drop 6 (call_tests site.now (syscall_of call.now))) }
 {

@@ -204,7 +204,7 @@ pub(crate) struct KeepsChannelBound<'a> {
 impl<'a> UseTest for KeepsChannelBound<'a> {
     ghost passes = { λ t u. keeps_channel_bound (expansion t.task.now t.cert.now) u u.passing };
 
-    #[tactic(auto, using(rules::proofs::Channelled::expansion_keeps))]
+    #[tactic(auto, using(rules::proofs::expansions::Channelled::expansion_keeps))]
     fn asks(&self, bound: &Bound, need: &Need, _number: u8, held: &Held) -> bool {
         match need.passed {
             Passed::Nothing | Passed::Received => true,

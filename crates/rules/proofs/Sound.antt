@@ -23,11 +23,11 @@ use Rattle.task.proofs.FirstWorlds.{first_well_formed}
 use Rattle.task.proofs.KeptLimits.{plans_keep_limits}
 use Rattle.rules.specs.Points.{instruction_at}
 use Rattle.rules.specs.Verdicts.{MeetsRules}
-use Rattle.rules.proofs.Seen.{seen_of, table_of}
-use Rattle.rules.proofs.Invariant.{IfAlive, Invariant, IsDescribed, bounds}
-use Rattle.rules.proofs.FirstStates.{first_invariant}
-use Rattle.rules.proofs.Stands.{stands}
-use Rattle.rules.proofs.Owing.{Standing, Owed, invariant_after}
+use Rattle.rules.proofs.worlds.Seen.{seen_of, table_of}
+use Rattle.rules.proofs.worlds.Invariant.{IfAlive, Invariant, IsDescribed, bounds}
+use Rattle.rules.proofs.worlds.FirstStates.{first_invariant}
+use Rattle.rules.proofs.points.Stands.{stands}
+use Rattle.rules.proofs.calls.Owing.{Standing, Owed, invariant_after}
 use Rattle.rules.proofs.Step.{owed_executed}
 
 -- a step that is safe, and after which the invariant holds

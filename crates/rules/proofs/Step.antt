@@ -10,18 +10,18 @@ use Rattle.kernel.specs.Answers.{Event, IsEvent}
 use Rattle.kernel.specs.Calls.{answer}
 use Rattle.kernel.specs.Steps.{executed}
 use Rattle.task.specs.Plans.{Plan}
-use Rattle.rules.proofs.Seen.{table_of}
-use Rattle.rules.proofs.Plain.{plain_moves}
-use Rattle.rules.proofs.Owing.{Standing, Owed, owed_halt}
-use Rattle.rules.proofs.OwedCalls.{OwedBy, owed_of, plain_owed}
-use Rattle.rules.proofs.QuietCalls.{owed_cap_getmode, owed_cap_enter, owed_getfl, owed_fsync}
-use Rattle.rules.proofs.FileCalls.{owed_read, owed_write, owed_lseek, owed_ftruncate, owed_setfl, owed_fstat}
-use Rattle.rules.proofs.LookCalls.{owed_fstatat, owed_stat}
-use Rattle.rules.proofs.NameCalls.{owed_mkdirat, owed_mkdir, owed_unlinkat, owed_unlink}
-use Rattle.rules.proofs.MoveCalls.{owed_renameat}
-use Rattle.rules.proofs.TableCalls.{owed_close, owed_rights, owed_commands, owed_dup}
-use Rattle.rules.proofs.OpenCalls.{owed_open, owed_openat}
-use Rattle.rules.proofs.PassingCalls.{owed_recvfd, owed_sendfd, owed_socketpair, owed_fork}
+use Rattle.rules.proofs.worlds.Seen.{table_of}
+use Rattle.rules.proofs.outcomes.Plain.{plain_moves}
+use Rattle.rules.proofs.calls.Owing.{Standing, Owed, owed_halt}
+use Rattle.rules.proofs.calls.OwedCalls.{OwedBy, owed_of, plain_owed}
+use Rattle.rules.proofs.calls.QuietCalls.{owed_cap_getmode, owed_cap_enter, owed_getfl, owed_fsync}
+use Rattle.rules.proofs.calls.FileCalls.{owed_read, owed_write, owed_lseek, owed_ftruncate, owed_setfl, owed_fstat}
+use Rattle.rules.proofs.calls.LookCalls.{owed_fstatat, owed_stat}
+use Rattle.rules.proofs.calls.NameCalls.{owed_mkdirat, owed_mkdir, owed_unlinkat, owed_unlink}
+use Rattle.rules.proofs.calls.MoveCalls.{owed_renameat}
+use Rattle.rules.proofs.calls.TableCalls.{owed_close, owed_rights, owed_commands, owed_dup}
+use Rattle.rules.proofs.calls.OpenCalls.{owed_open, owed_openat}
+use Rattle.rules.proofs.calls.PassingCalls.{owed_recvfd, owed_sendfd, owed_socketpair, owed_fork}
 
 module _ (plan : Plan) (certificate : Certificate) (w : World) (e : Event) (s : ProcessState) (choice : Choice) where
   abbrev pub OwesCall : Syscall → Type 0

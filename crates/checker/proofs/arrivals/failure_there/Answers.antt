@@ -5,7 +5,7 @@ use Rattle.certificate.specs.Views.{bound_of, name_of}
 use Rattle.prog_asm.specs.Views.{instruction_of}
 use Rattle.rules.specs.Expansions.{bound_met}
 use Rattle.rules.specs.Outcomes.{Outcome, error_outcomes}
-use Rattle.rules.proofs.Arriving.{errors_there}
+use Rattle.rules.proofs.expansions.Arriving.{errors_there}
 use Rattle.transfer.specs.OutcomeViews.{outcome_of, outcomes_of}
 use Rattle.checker.proofs.Standing.{alone}
 use Rattle.checker.proofs.arrivals.failure_there.Goals as goal

@@ -6,7 +6,7 @@ use Rattle.prog_asm.specs.Views.{instruction_of}
 use Rattle.rules.specs.Expansions.{bound_met}
 use Rattle.rules.specs.Outcomes.{Outcome, error_outcomes}
 use Rattle.rules.specs.Rules.{within_if_there}
-use Rattle.rules.proofs.Arriving.{errors_within}
+use Rattle.rules.proofs.expansions.Arriving.{errors_within}
 use Rattle.transfer.specs.OutcomeViews.{outcome_of, outcomes_of}
 use Rattle.checker.proofs.Standing.{alone}
 use Rattle.checker.proofs.arrivals.failure_within.Goals as goal

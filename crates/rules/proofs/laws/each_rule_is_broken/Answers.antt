@@ -1,4 +1,4 @@
-use Rattle.rules.proofs.Probed.{each_is_broken}
+use Rattle.rules.proofs.rows.Probed.{each_is_broken}
 use Rattle.rules.proofs.laws.each_rule_is_broken.Goals as goal
 
 pub returns : goal.returns

@@ -1,4 +1,4 @@
-use Rattle.rules.proofs.Probed.{each_is_kept}
+use Rattle.rules.proofs.rows.Probed.{each_is_kept}
 use Rattle.rules.proofs.laws.each_rule_is_kept.Goals as goal
 
 pub returns : goal.returns

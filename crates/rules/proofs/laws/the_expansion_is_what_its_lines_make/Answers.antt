@@ -1,4 +1,4 @@
-use Rattle.rules.proofs.GrownExpansions.{expansion_grown}
+use Rattle.rules.proofs.expansions.GrownExpansions.{expansion_grown}
 use Rattle.rules.proofs.laws.the_expansion_is_what_its_lines_make.Goals as goal
 
 pub returns : goal.returns

@@ -1,0 +1,8 @@
+-- Worked rows, by computation.
+pub mod Samples
+pub mod Rows
+pub mod UseRows
+pub mod OutcomeRows
+pub mod SettledRows
+pub mod Probed
+pub mod ExpansionRows

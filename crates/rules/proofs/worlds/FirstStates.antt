@@ -1,0 +1,179 @@
+-- The invariant holds of a task's first world.
+use Rattle.std.proofs.Common.{◌≡◌, ℕ, zero, suc, Bool, true, false, List, [], ◌∷◌, refl, ap, sym, ◌∙◌, subst, replicate, cond}
+use Rattle.std.specs.Prelude.{◌==◌, ◌||◌, not, Option, Some, None}
+use Rattle.std.specs.List.{slice_get, list_any}
+use Rattle.std.specs.Option.{option_map}
+use Rattle.std.proofs.lemmas.Bool.{eq-eqb}
+use Rattle.rights.specs.Limits.{register_count}
+use Rattle.rights.proofs.Lists.{list_all-slice_get}
+use Rattle.rights.proofs.Tests.{not_true}
+use Rattle.file_tree.specs.Nodes.{Node}
+use Rattle.file_tree.specs.WellFormed.{has_directory}
+use Rattle.process.specs.State.{ProcessState, new_process}
+use Rattle.certificate.specs.Bounds.{Bound, Certificate, bound_at}
+use Rattle.certificate.specs.Describes.{Seen, describes}
+use Rattle.fd_table.specs.Descriptions.{Object, At_node, At_end, Descriptor, IfHeld, EachPassed}
+use Rattle.prog_asm.specs.Programs.{Instruction}
+use Rattle.kernel.specs.World.{World}
+use Rattle.kernel.specs.WellFormed.{Numbering, IsObject, IsDescriptor, IsProcessIfMade, IsPoint, IsWellFormed}
+use Rattle.task.specs.Plans.{FirstObject, On_node, On_end, FirstDescriptor, Start, Plan, program_name, programs_of_plan}
+use Rattle.task.specs.Limits.{is_plan}
+use Rattle.task.specs.Policies.{grant_holds}
+use Rattle.task.specs.Begins.{first_object, first_world, given_to, with_number}
+use Rattle.task.specs.Laws.{IsFirstProcess, IsFirstEntry, IsFirstWorld}
+use Rattle.task.proofs.AsGiven.{first_is_first}
+use Rattle.task.proofs.FirstWorlds.{first_well_formed}
+use Rattle.task.proofs.KeptLimits.{plans_keep_limits}
+use Rattle.rules.specs.Points.{instruction_at}
+use Rattle.rules.specs.Rules.{Test, first_subject, first_seen, first_table, start_within, starts_within, is_started, tests, tests_without, least_broken}
+use Rattle.rules.specs.Verdicts.{MeetsRules, found_with, found_at}
+use Rattle.rules.proofs.worlds.Seen.{subject_of, seen_of, table_of}
+use Rattle.rules.proofs.worlds.Invariant.{IfAlive, IsOfClass, HasClass, IsCarried, Invariant, IsDescribed, bounds}
+
+-- ## What the rules say at point 0
+abbrev IsFirstKept : List Test → Type 0
+IsFirstKept [] = Unit {0}
+IsFirstKept (t ∷ ts) = t.kept ≡ true
+
+first_kept : (ts : List Test) → least_broken ts ≡ None → IsFirstKept ts
+first_kept [] none = tt
+first_kept (t ∷ ts) none = go t.kept none
+  where
+    go : (b : Bool) → cond b (least_broken ts) (Some t.rule) ≡ None → b ≡ true
+    go true is = refl
+    go false is = absurd cc
+
+starts_kept : (plan : Plan) (certificate : Certificate) (program : ℕ) (i : Instruction) (b : Bound)
+    → least_broken (tests plan certificate program 0 i b) ≡ None → starts_within plan program 0 b ≡ true
+unfolding tests
+starts_kept plan certificate program i b none = first_kept (tests plan certificate program 0 i b) none
+
+not_started : (plan : Plan) (program : ℕ) → least_broken (tests_without plan program 0) ≡ None → is_started plan program ≡ false
+unfolding tests_without
+not_started plan program none = not_true (is_started plan program) (first_kept (tests_without plan program 0) none)
+
+-- an element that passes the test
+any_at : {A : Type 0} (test : A → Bool) (xs : List A) (j : ℕ) (x : A) → slice_get xs j ≡ Some x → test x ≡ true → list_any test xs ≡ true
+any_at test [] j x here passes = absurd cc
+any_at test (y ∷ xs) zero x here passes =
+    let same : y ≡ x = cc in
+    let passed : test y ≡ true = ap test same ∙ passes in
+    either_left (test y) (list_any test xs) passed
+  where
+    either_left : (a b : Bool) → a ≡ true → (a || b) ≡ true
+    either_left true b h = refl
+    either_left false b h = absurd cc
+any_at test (y ∷ xs) (suc j) x here passes = either_right (test y) (list_any test xs) (any_at test xs j x here passes)
+  where
+    either_right : (a b : Bool) → b ≡ true → (a || b) ≡ true
+    either_right true b h = refl
+    either_right false b h = h
+
+-- what a first descriptor is of, as a bound sees it, and an entry
+object_seen : (plan : Plan) (x : FirstObject) → first_subject plan.nodes x ≡ subject_of plan plan.nodes (first_object x)
+object_seen plan (On_node n access) = refl
+object_seen plan (On_end pair side) = refl
+
+entry_seen : (plan : Plan) (w : World) → w.tree ≡ plan.nodes → (given : Option FirstDescriptor) (entry : Option Descriptor)
+    → IsFirstEntry w.files given entry → option_map (first_seen plan.nodes) given ≡ option_map (seen_of plan w) entry
+entry_seen plan w tree None None is = refl
+entry_seen plan w tree None (Some d) is = absurd is
+entry_seen plan w tree (Some given) None is = absurd is
+entry_seen plan w tree (Some given) (Some d) is =
+    (λ i. Some (record { subject = object_seen plan given.object i; rights = given.rights; fcntls = given.fcntls }))
+    ∙ (λ i.
+    Some (record {
+      subject = subject_of plan (sym tree i) (sym is.object i);
+      rights = sym is.rights i;
+      fcntls = sym is.fcntls i;
+    }))
+
+module _ (plan : Plan) (certificate : Certificate) (valid : is_plan plan ≡ true) (meets : MeetsRules plan certificate) where
+  abbrev first : World
+  first = first_world plan
+
+  -- a program that a process starts has a bound at point 0, which describes each first process of it
+  record IsBounded (program : ℕ) : Type 0 where
+    bound : Bound
+    at : bound_at certificate (program_name plan program) 0 ≡ Some bound
+    starts : starts_within plan program 0 bound ≡ true
+
+  bounded : (program : ℕ) (i : Instruction) → instruction_at plan program 0 ≡ Some i → is_started plan program ≡ true → IsBounded program
+  unfolding found_at found_with
+  bounded program i here is = go (bound_at certificate (program_name plan program) 0) refl
+    where
+      at_instruction : found_with plan certificate program 0 (Some i) (bound_at certificate (program_name plan program) 0) ≡ None
+      at_instruction = subst (λ o. found_with plan certificate program 0 o (bound_at certificate (program_name plan program) 0) ≡ None) here (meets program 0)
+
+      go : (o : Option Bound) → bound_at certificate (program_name plan program) 0 ≡ o → IsBounded program
+      go None none =
+          let without : found_with plan certificate program 0 (Some i) None ≡ None = subst (λ o. found_with plan certificate program 0 (Some i) o ≡ None) none at_instruction in
+          let clash : true ≡ false = sym is ∙ not_started plan program without in absurd cc
+      go (Some b) some =
+          let kept : found_with plan certificate program 0 (Some i) (Some b) ≡ None = subst (λ o. found_with plan certificate program 0 (Some i) o ≡ None) some at_instruction in
+          record { bound = b; at = some; starts = starts_kept plan certificate program i b kept }
+
+  -- ## A first process
+  module _ (p : ℕ) (st : Start) (here : slice_get plan.starts p ≡ Some st) where
+    own_start : (b : Bound) → starts_within plan st.program 0 b ≡ true → start_within plan b st ≡ true
+    own_start b within =
+        own (st.program == st.program) (eq-eqb st.program st.program refl)
+        (list_all-slice_get (λ (s : Start). not (s.program == st.program) || start_within plan b s) plan.starts p st within here)
+      where
+        own : (a : Bool) → a ≡ true → (not a || start_within plan b st) ≡ true → start_within plan b st ≡ true
+        own true is h = h
+        own false is h = absurd cc
+
+    first_is : (m : ℕ) → first_table plan.nodes st m ≡ table_of plan (first_world plan) p m
+    first_is m =
+        let is = first_is_first plan valid in
+        entry_seen plan (first_world plan) is.tree (with_number m st.descriptors) ((first_world plan).files.table p m)
+        (subst (λ o. IsFirstEntry (first_world plan).files (given_to o m) ((first_world plan).files.table p m)) here (is.entries p m))
+
+    first_described : (b : Bound) → start_within plan b st ≡ true
+        → describes (grant_holds plan.grants) b st.mode (replicate register_count 0) (table_of plan (first_world plan) p) ≡ true
+    first_described b within =
+        subst (λ (table : ℕ → Option Seen). describes (grant_holds plan.grants) b st.mode (replicate register_count 0) table ≡ true) (λ i m. first_is m i) within
+
+    first_inside : IsPoint (instruction_at plan st.program 0) → IsDescribed plan certificate (first_world plan) p (new_process st.program st.mode)
+    first_inside point = go (instruction_at plan st.program 0) refl point
+      where
+        go : (o : Option Instruction) → instruction_at plan st.program 0 ≡ o → IsPoint o → IsDescribed plan certificate (first_world plan) p (new_process st.program st.mode)
+        go None at none = absurd none
+        go (Some i) at some =
+            let is : is_started plan st.program ≡ true = any_at (λ (s : Start). s.program == st.program) plan.starts p st here (eq-eqb st.program st.program refl) in
+            let b = bounded st.program i at is in
+            record { bound = b.bound; at = b.at; is = first_described b.bound (own_start b.bound b.starts) }
+
+  inside : (p : ℕ) (start : Option Start) → slice_get plan.starts p ≡ start → (o : Option ProcessState) → IsProcessIfMade (programs_of_plan plan) o
+      → IsFirstProcess start o → IfAlive (IsDescribed plan certificate (first_world plan) p) o
+  inside p start here None made is = tt
+  inside p None here (Some s) made is = absurd is
+  inside p (Some st) here (Some s) made is = λ alive.
+      let placed : IsPoint (instruction_at plan s.program s.point) = made.placed alive in
+      subst (IsDescribed plan certificate (first_world plan) p) (sym is)
+      (first_inside p st here (subst (λ (t : ProcessState). IsPoint (instruction_at plan t.program t.point)) is placed))
+
+  -- ## Ends
+  class_given : (tree : List Node) (numbering : Numbering) (description : ℕ) (o : Object) → IsObject tree numbering description o → IsOfClass numbering.class o
+  class_given tree numbering description (At_node n access) is = tt
+  class_given tree numbering description (At_end pair side class) is = is.3
+
+  end_given : (numbering : Numbering) (o : Option Descriptor)
+      → IfHeld (IsDescriptor (first_world plan).tree numbering (first_world plan).files.objects (first_world plan).files.states) o
+      → IfHeld (HasClass (first_world plan).files.objects numbering.class) o
+  end_given numbering None is = tt
+  end_given numbering (Some d) is = class_given (first_world plan).tree numbering d.description ((first_world plan).files.objects d.description) is.object
+
+  pub first_invariant : Invariant plan (bounds plan certificate) (first_world plan)
+  first_invariant =
+      let formed : IsWellFormed (programs_of_plan plan) (first_world plan) = (first_well_formed plan valid).1 in
+      let is : IsFirstWorld plan (first_world plan) = first_is_first plan valid in
+      record {
+        formed = formed;
+        classes = formed.numbering.class;
+        living = λ p. inside p (slice_get plan.starts p) refl (slice_get (first_world plan).processes p) (formed.world.processes p) (is.processes p);
+        ends = λ p n. end_given formed.numbering ((first_world plan).files.table p n) (formed.world.entries p n);
+        carried = λ pair side. subst (EachPassed (IsCarried (bounds plan certificate) (first_world plan) formed.numbering.class pair side)) (sym (is.queues pair side)) tt;
+        clear = λ i g there. subst (λ t. has_directory t g.path ≡ true) (sym is.tree) ((plans_keep_limits plan valid).grants.directory i g there);
+      }

@@ -1,0 +1,69 @@
+-- What holds of each world of each run of a task whose certificate meets the rules.
+use Rattle.std.proofs.Common.{◌≡◌, ℕ, Bool, true, false}
+use Rattle.std.specs.Prelude.{Option, Some, None}
+use Rattle.std.specs.List.{slice_get}
+use Rattle.process.specs.State.{ProcessState}
+use Rattle.file_tree.specs.WellFormed.{has_directory}
+use Rattle.certificate.specs.Bounds.{Held, Bound, Certificate, bound_at}
+use Rattle.certificate.specs.Describes.{Seen, Holds, describes, sends_describes}
+use Rattle.fd_table.specs.Descriptions.{PairClass, Object, At_node, At_end, Descriptor, IfHeld, EachPassed}
+use Rattle.kernel.specs.World.{World}
+use Rattle.kernel.specs.WellFormed.{IsWellFormed}
+use Rattle.task.specs.Plans.{Grant, Plan, program_name, programs_of_plan}
+use Rattle.task.specs.Policies.{grant_holds}
+use Rattle.rules.specs.Channels.{channel_at}
+use Rattle.rules.proofs.worlds.Seen.{class_of, seen_of, table_of}
+
+-- What is asked of each living process, by its number, and of each descriptor that one side of a pair of a class has
+-- sent.
+pub record Asks : Type 1 where
+  pub Lives : World → ℕ → ProcessState → Type 0
+  pub Carries : World → PairClass → ℕ → Descriptor → Type 0
+
+abbrev pub IfAlive : (ProcessState → Type 0) → Option ProcessState → Type 0
+IfAlive Lives None = Unit {0}
+IfAlive Lives (Some s) = s.alive ≡ true → Lives s
+
+-- each end is of the class of its pair
+abbrev pub IsOfClass : (ℕ → PairClass) → Object → Type 0
+IsOfClass classes (At_node n access) = Unit {0}
+IsOfClass classes (At_end pair side class) = classes pair ≡ class
+
+abbrev pub HasClass : (ℕ → Object) → (ℕ → PairClass) → Descriptor → Type 0
+HasClass objects classes d = IsOfClass classes (objects d.description)
+
+-- a descriptor on its way
+abbrev pub IsCarried : Asks → World → (ℕ → PairClass) → ℕ → ℕ → Descriptor → Type 0
+IsCarried asks w classes pair side d = HasClass w.files.objects classes d × asks.Carries w (classes pair) side d
+
+-- A linked directory stands at each grant's path.
+abbrev pub AreClear : Plan → World → Type 0
+AreClear plan w = (i : ℕ) (g : Grant) → slice_get plan.grants i ≡ Some g → has_directory w.tree g.path ≡ true
+
+-- The world is well formed, both ends of a pair are of one class, and what is asked holds.
+pub record Invariant (plan : Plan) (asks : Asks) (w : World) : Type 0 where
+  pub formed : IsWellFormed (programs_of_plan plan) w
+  pub classes : ℕ → PairClass
+  pub living : (p : ℕ) → IfAlive (asks.Lives w p) (slice_get w.processes p)
+  pub ends : (p n : ℕ) → IfHeld (HasClass w.files.objects classes) (w.files.table p n)
+  pub carried : (pair side : ℕ) → EachPassed (IsCarried asks w classes pair side) (w.files.queue pair side)
+  pub clear : AreClear plan w
+
+-- ## What a certificate asks
+-- A process lies in the bound of its point.
+pub record IsDescribed (plan : Plan) (certificate : Certificate) (w : World) (p : ℕ) (s : ProcessState) : Type 0 where
+  pub bound : Bound
+  pub at : bound_at certificate (program_name plan s.program) s.point ≡ Some bound
+  pub is : describes (grant_holds plan.grants) bound s.mode s.registers (table_of plan w p) ≡ true
+
+-- A descriptor that is sent lies in its channel's line: without one, or with one of nothing, none is sent.
+abbrev pub line_describes : Holds → Option (Option Held) → Seen → Bool
+line_describes holds None d = false
+line_describes holds (Some line) d = sends_describes holds line d
+
+abbrev pub IsInLine : Plan → Certificate → World → PairClass → ℕ → Descriptor → Type 0
+IsInLine plan certificate w class side d =
+    line_describes (grant_holds plan.grants) (channel_at certificate (class_of plan class) side) (seen_of plan w d) ≡ true
+
+abbrev pub bounds : Plan → Certificate → Asks
+bounds plan certificate = record { Lives = IsDescribed plan certificate; Carries = IsInLine plan certificate }
