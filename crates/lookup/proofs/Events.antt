@@ -12,7 +12,7 @@ use Rattle.lookup.specs.Leads.{Stand, Next, Goes, Ends, followed_from, onward, n
 use Rattle.lookup.specs.Steps.{Rules, Move, Moves, Meets, Stops, target_spot}
 use Rattle.lookup.specs.ByNodes.{Walked}
 use Rattle.lookup.specs.Walks.{WalkState, Progress, Done, More, handled, AreInTree, IsInTree, IsNear, IsNearFinding}
-use Rattle.lookup.specs.Views.{stand_of, rules_of, walk_state, SameRules, IsEvent, IsSettled, StaysNear}
+use Rattle.lookup.specs.Views.{stand_of, rules_of, walk_state, SameRules, IsHandled, IsSettled, StaysNear}
 use Rattle.lookup.specs.declared.trail.Trail.{Trail}
 use Rattle.lookup.specs.declared.ways.Progress.{Progress as ProgressCode}
 use Rattle.lookup.specs.declared.ways.Progress.TheVariants as progress
@@ -26,11 +26,11 @@ new_state old new same = rw (same.0, same.1) refl
 module _ (t : List Node) (walk : WalkState) (old : Trail) (view : walk_state old ≡ walk) where
   -- it went on, and is settled
   pub event_more : (new : Trail) (p : ProgressCode) → SameRules old new → next (rules_of t old) (stand_of old) ≡ Goes (stand_of new) →
-      IsSettled p (stand_of new) → IsEvent (Ok p) (handled t walk) (walk_state new)
+      IsSettled p (stand_of new) → IsHandled (Ok p) (handled t walk) (walk_state new)
   unfolding handled
   event_more new p same goes settles =
-      let event : IsEvent (Ok p) (handled t (walk_state old)) (walk_state new) = rw (goes, new_state old new same) (settles (walk_state old)) in
-      subst (λ (w : WalkState). IsEvent (Ok p) (handled t w) (walk_state new)) view event
+      let event : IsHandled (Ok p) (handled t (walk_state old)) (walk_state new) = rw (goes, new_state old new same) (settles (walk_state old)) in
+      subst (λ (w : WalkState). IsHandled (Ok p) (handled t w) (walk_state new)) view event
 
   -- it ended
   pub event_done : (finding : Finding) → next (rules_of t old) (stand_of old) ≡ Ends finding → handled t walk ≡ Done finding
@@ -104,7 +104,7 @@ handled_near t walk tree beneath = by_event (handled t walk) (handled_good t Ben
     by_event (More after) h = h
 
 -- the same of what the code's event gives
-pub stays_near : (t : List Node) (walk new : WalkState) (r : Result ProgressCode PathFault) → IsTree t → walk.way ≡ Beneath → IsEvent r (handled t walk) new → StaysNear t walk.stand.spot r new
+pub stays_near : (t : List Node) (walk new : WalkState) (r : Result ProgressCode PathFault) → IsTree t → walk.way ≡ Beneath → IsHandled r (handled t walk) new → StaysNear t walk.stand.spot r new
 stays_near t walk new (Ok progress.More) tree beneath event = let near = handled_near t walk tree beneath in rw event at near
 stays_near t walk new (Ok (progress.Done found)) tree beneath event = let near = handled_near t walk tree beneath in rw event at near
 stays_near t walk new (Err error) tree beneath event = tt

@@ -106,15 +106,15 @@ StepsAlong (Ok (progress.Done found)) next stand = next ≡ Ends (found_of found
 StepsAlong (Err error) next stand = IfSome (fault_of error) (λ fault. next ≡ Ends (Not_found fault))
 
 -- The same of a whole event.
-abbrev pub IsEvent : Result ProgressCode PathFault → Progress → WalkState → Type 0
-IsEvent (Ok progress.More) event walk = event ≡ More walk
-IsEvent (Ok (progress.Done found)) event walk = event ≡ Done (found_of found)
-IsEvent (Err error) event walk = IfSome (fault_of error) (λ fault. event ≡ Done (Not_found fault))
+abbrev pub IsHandled : Result ProgressCode PathFault → Progress → WalkState → Type 0
+IsHandled (Ok progress.More) event walk = event ≡ More walk
+IsHandled (Ok (progress.Done found)) event walk = event ≡ Done (found_of found)
+IsHandled (Err error) event walk = IfSome (fault_of error) (λ fault. event ≡ Done (Not_found fault))
 
 -- what no name left, or some, makes of a walk that goes on
 abbrev pub IsSettled : ProgressCode → Stand Walked → Type 0
 IsSettled result stand =
-    (walk : WalkState) → IsEvent (Ok result) (settled_at walk stand stand.left) (record walk { stand = stand })
+    (walk : WalkState) → IsHandled (Ok result) (settled_at walk stand stand.left) (record walk { stand = stand })
 
 -- what an event gave, or where the walk stands after it, is near where it stood
 abbrev pub StaysNear : List Node → Walked → Result ProgressCode PathFault → WalkState → Type 0

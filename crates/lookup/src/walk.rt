@@ -5,7 +5,7 @@ ghost use Rattle.file_tree.specs.WellFormed.{IsTree};
 ghost use Rattle.lookup.specs.Answers.{Beneath};
 ghost use Rattle.lookup.specs.Looks.{lookup_fault};
 ghost use Rattle.lookup.specs.Walks.{IsInTree, begun, handled, work_left};
-ghost use Rattle.lookup.specs.Views.{IsEvent, StaysNear, Told, last_of, way_of};
+ghost use Rattle.lookup.specs.Views.{IsHandled, StaysNear, Told, last_of, way_of};
 
 use crate::faults::PathFault;
 use crate::trail::Trail;
@@ -67,7 +67,7 @@ impl Walk {
     /// is good for nothing. `Memory` may come in place of any other answer, and only where a growth was refused.
     pub fn step<T: Tree>(&mut self, tree: &T) -> Result<Progress, PathFault>
         requires { IsInTree (T.nodes tree.now) self.old }
-        ensures event { IsEvent result (handled (T.nodes tree.now) self.old) self.new }
+        ensures event { IsHandled result (handled (T.nodes tree.now) self.old) self.new }
 
         // Its nodes are of the tree, and it comes to an end where it finds the tree as it was.
         ensures in_tree { result ≡ Ok Progress.More → IsInTree (T.nodes tree.now) self.new }

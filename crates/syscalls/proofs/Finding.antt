@@ -9,7 +9,7 @@ use Rattle.kernel.specs.World.{World}
 use Rattle.kernel.specs.Answers.{Answer}
 use Rattle.syscalls.specs.declared.outcomes.Refusal.{Refusal}
 use Rattle.syscalls.specs.declared.outcomes.Refusal.TheVariants as refusal
-use Rattle.syscalls.specs.AnswerViews.{Refuses, RefusesAlone, Passes, DoesNothing, Finds, Leads, TellsFaults}
+use Rattle.syscalls.specs.AnswerViews.{Refuses, RefusesAlone, Passes, DoesNothing, Finds, LooksUp, TellsFaults}
 
 -- a refusal with nothing done
 pub refused_alone : (refused : Refusal) (w : World) (t : List Node) (f : OpenFiles) (a : Answer) → Refuses refused a → DoesNothing w t f → RefusesAlone refused w t f a
@@ -33,6 +33,6 @@ refused_look refusal.Waits found rest tells finds =
 refused_look refusal.Memory found rest tells finds = tt
 
 -- tests that go on to a lookup
-pub leads_on : (look : (Finding → Answer) → Answer) (r : Result Found Refusal) (found : Finding) → ((rest : Finding → Answer) → look rest ≡ rest found) → Finds found r → Leads look r
+pub leads_on : (look : (Finding → Answer) → Answer) (r : Result Found Refusal) (found : Finding) → ((rest : Finding → Answer) → look rest ≡ rest found) → Finds found r → LooksUp look r
 leads_on look (Ok code) found same finds = λ rest. same rest ∙ ap rest (sym finds)
 leads_on look (Err refused) found same finds = λ rest tells. subst (Refuses refused) (sym (same rest)) (refused_look refused found rest tells finds)

@@ -102,12 +102,12 @@ TellsFaults rest = (fault : lookups.LookupFault) → rest (lookups.Not_found fau
 
 -- A lookup of the model, with the tests before it, goes on with what the code found, or is refused as the code is,
 -- whoever calls.
-abbrev pub Leads : ((lookups.Finding → Answer) → Answer) → Result Found Refusal → Type 0
-Leads look (Ok found) = (rest : lookups.Finding → Answer) → look rest ≡ rest (found_of found)
-Leads look (Err refused) = (rest : lookups.Finding → Answer) → TellsFaults rest → Refuses refused (look rest)
+abbrev pub LooksUp : ((lookups.Finding → Answer) → Answer) → Result Found Refusal → Type 0
+LooksUp look (Ok found) = (rest : lookups.Finding → Answer) → look rest ≡ rest (found_of found)
+LooksUp look (Err refused) = (rest : lookups.Finding → Answer) → TellsFaults rest → Refuses refused (look rest)
 
-abbrev pub LeadsIn : List Node → OpenFiles → (World → ℕ → ProcessState → Event → (lookups.Finding → Answer) → Answer) → Result Found Refusal → Type 0
-LeadsIn t f look r = (processes : List ProcessState) (p : ℕ) (s : ProcessState) (e : Event) → Leads (look (world_with t f processes) p s e) r
+abbrev pub LooksUpIn : List Node → OpenFiles → (World → ℕ → ProcessState → Event → (lookups.Finding → Answer) → Answer) → Result Found Refusal → Type 0
+LooksUpIn t f look r = (processes : List ProcessState) (p : ℕ) (s : ProcessState) (e : Event) → LooksUp (look (world_with t f processes) p s e) r
 
 -- queues are only where pairs are
 abbrev pub IsIdle : OpenFiles → Type 0

@@ -21,7 +21,7 @@ ghost use Rattle.rights.specs.Needs.{First, needs_of};
 ghost use Rattle.kernel.specs.Answers as answers;
 ghost use Rattle.kernel.specs.Answers.{Answer, unless};
 ghost use Rattle.kernel.specs.Calls as model;
-ghost use Rattle.syscalls.specs.AnswerViews.{Calls, Finds, HasNumbers, IsReady, IsReadyDescription, LeadsIn, MayReplace, OnTree, Passes, Refuses, beneath_seen, need};
+ghost use Rattle.syscalls.specs.AnswerViews.{Calls, Finds, HasNumbers, IsReady, IsReadyDescription, LooksUpIn, MayReplace, OnTree, Passes, Refuses, beneath_seen, need};
 
 use crate::names::{make_directory, remove, rename_to, stat_found};
 use crate::opening::{Opening, open_found};
@@ -99,7 +99,7 @@ fn find_beneath<T: Tree>(
     last: Last,
 ) -> Result<Found, Refusal>
     requires { IsReady (T.nodes tree.now) (open_files files.now) caller.now.number }
-    ensures leads { LeadsIn (T.nodes tree.now) (open_files files.now) (λ w p s e rest.
+    ensures leads { LooksUpIn (T.nodes tree.now) (open_files files.now) (λ w p s e rest.
         answers.through (need call) ((open_files files.now).table caller.now.number (answers.value_of caller.now.process.now (operand_of operand)))
         (λ d. model.in_directory w p s e d.description (λ n. model.looks w p s e n lookups.Beneath path.now (last_of last) rest))) result }
     ensures there { IfOk result (λ found. IsFindingThere (T.nodes tree.now) (found_of found)) }
@@ -121,7 +121,7 @@ fn find_from_root<T: Tree>(
     path: &[u8],
     last: Last,
 ) -> Result<Found, Refusal>
-    ensures leads { (f : OpenFiles) → LeadsIn (T.nodes tree.now) f (λ w p s e rest.
+    ensures leads { (f : OpenFiles) → LooksUpIn (T.nodes tree.now) f (λ w p s e rest.
         model.outside_mode w p caller.now.process.now e (model.looks w p s e 0 lookups.Global path.now (last_of last) rest)) result }
     ensures there { IfOk result (λ found. IsFindingThere (T.nodes tree.now) (found_of found)) }
     ensures named { last ≡ Last.Keep → IfOk result (λ found. IsUnderName (T.nodes tree.now) path.now (found_of found)) }
