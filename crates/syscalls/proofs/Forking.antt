@@ -56,7 +56,8 @@ module _ (w : World) (p : ℕ) (s : ProcessState) (e : Event) (n : ℕ) (counts 
 -- nobody has the child's number yet
 pub unmade : (programs : Programs) (t : List Node) (f : OpenFiles) (processes : List ProcessState) → IsWellFormed programs (world_with t f processes) →
     (n : ℕ) → f.table (length processes) n ≡ None
-unmade programs t f processes good = subst (λ o. HasNone o (f.table (length processes))) (slice_get_past processes (length processes) (at_most (length processes))) (good.world.gone (length processes))
+unmade programs t f processes good =
+    subst (λ o. HasNone o (f.table (length processes))) (slice_get_past processes (length processes) (at_most (length processes))) (good.world.gone (length processes))
   where
     at_most : (n : ℕ) → n ≤ n
     at_most n = grind (arith)
