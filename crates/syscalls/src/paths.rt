@@ -147,16 +147,8 @@ pub(crate) fn stat_beneath<T: Tree>(
     ensures { Calls (T.nodes tree.now) (open_files files.now) caller.now (T.nodes tree.now) (open_files files.now) result (programs.Fstatat (operand_of operand) path.now) }
 {
     let call = Call::Fstatat;
-    match find_beneath(
-        alloc,
-        tree,
-        files,
-        caller,
-        operand,
-        path,
-        call,
-        Last::Follow,
-    ) {
+    let last = Last::Follow;
+    match find_beneath(alloc, tree, files, caller, operand, path, call, last) {
         Err(refused) => Err(refused),
         Ok(found) => stat_found(alloc, tree, found),
     }
