@@ -8,7 +8,7 @@ use Rattle.rights.specs.Errors as errors
 use Rattle.rights.specs.Operations.{Operation}
 use Rattle.file_tree.specs.Nodes.{Kind}
 use Rattle.lookup.specs.Answers.{LookupFault, Escape, No_entry, Not_dir, Loop, Too_long, Bad_last}
-use Rattle.process.specs.State.{ProcessState}
+use Rattle.process.specs.State.{Walking, ProcessState}
 use Rattle.prog_asm.specs.Programs.{Operand, Register, Number}
 use Rattle.fd_table.specs.Descriptions.{Access, PairClass, Object, At_node, At_end, State, Descriptor, Message}
 
@@ -68,6 +68,7 @@ pub data Answer : Type 0 where
   Fails : (errno : Errno) (cause : Cause) → Answer
   Waits : Answer
   Gives : (value : ℕ) (change : Change) (effects : List Effect) → Answer
+  Walks : (walking : Walking) → Answer  -- names are left for later events
 
 abbrev pub same : Change
 same = record { tree = Same_tree; table = Same_table; queue = Same_queue; state = Same_state; enters = false }

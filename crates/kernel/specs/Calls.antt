@@ -1,6 +1,6 @@
 -- What each system call answers: its tests in the order in which they are asked, and what a success
 -- gives, changes and does. An error sets r7 and has no change; a call that waits changes nothing.
-use Rattle.std.specs.Prelude.{ℕ, ◌+◌, ◌-◌, ◌%◌, ◌==◌, Bool, true, false, ◌&&◌, ◌||◌, not, nat_lt, nat_le, List, [], ◌∷◌, length, Option, Some, None, if◌then◌else◌}
+use Rattle.std.specs.Prelude.{ℕ, ◌+◌, ◌-◌, ◌%◌, ◌==◌, Bool, true, false, ◌&&◌, ◌||◌, not, nat_eq, nat_lt, nat_le, List, [], ◌∷◌, length, Option, Some, None, if◌then◌else◌}
 use Rattle.std.specs.List.{slice_get}
 use Rattle.rights.specs.Values.{Place, PathText, Content, NodeNumber, DescriptionNumber, DescriptorNumber, PairNumber, SideNumber, RightSet, CommandSet}
 use Rattle.rights.specs.Sets.{is_within, all_rights, all_commands, getfl_command, setfl_command}
@@ -14,18 +14,19 @@ use Rattle.file_tree.specs.Places.{begins, at_name}
 use Rattle.file_tree.specs.Nodes.{Kind, File, Dir, Link, Node, node, is_dir, is_file, has_below}
 use Rattle.rights.specs.Limits.{most_nodes, most_bytes, most_messages, most_processes, most_descriptors}
 use Rattle.file_tree.specs.Changes.{resized, written}
-use Rattle.lookup.specs.Answers.{Way, Beneath, Global, Last, Follow, Keep, Found_node, Found_free, Not_found}
+use Rattle.lookup.specs.Answers.{Way, Beneath, Global, Last, Follow, Keep, LookupFault, No_entry, Found_node, Found_free, Not_found}
 use Rattle.lookup.specs.Answers as lookups
 use Rattle.lookup.specs.Paths.{last_component}
-use Rattle.lookup.specs.Looks.{find_of}
-use Rattle.process.specs.State.{ProcessState}
+use Rattle.lookup.specs.Looks.{lookup_fault}
+use Rattle.lookup.specs.Walks.{WalkState, Progress, Done, More, begun, first_handled, handled}
+use Rattle.process.specs.State.{ProcessState, Walking, One, Two}
 use Rattle.prog_asm.specs.Programs.{Operand, Syscall, Open, Openat, Read, Write, Sendfd, Recvfd, Lseek, Ftruncate, Fsync, Fstat, Fcntl_getfl, Fcntl_setfl, Fstatat, Stat, Mkdirat}
 use Rattle.prog_asm.specs.Programs.{Mkdir, Unlinkat, Unlink, Renameat, Dup, Close, Cap_rights_limit, Cap_fcntls_limit, Cap_enter, Cap_getmode, Socketpair, Fork, called}
 use Rattle.fd_table.specs.Descriptions.{Access, Made_at, State, Descriptor, Message, other_side, bit_of, status_number, with_status}
 use Rattle.fd_table.specs.OpenFiles.{is_open, lowest_from, lowest_free}
 use Rattle.kernel.specs.World.{World}
 use Rattle.kernel.specs.Answers.{Event, Effect, Make, Remove, Move, Fill, TreeChange, Same_tree, Set_entry, Clear_entry, New_file, New_pair, New_process, Push, Pop, Set_state}
-use Rattle.kernel.specs.Answers.{Change, Answer, Fails, Waits, Gives, same, gives, does, unless, held, granted, commanded, through, at_object, at_number, lookup_fails, value_of}
+use Rattle.kernel.specs.Answers.{Change, Answer, Fails, Waits, Gives, Walks, same, gives, does, unless, held, granted, commanded, through, at_object, at_number, lookup_fails, value_of}
 
 -- the flags of a call that opens nothing
 abbrev pub no_request : OpenRequest
@@ -54,6 +55,48 @@ truncates false place = []
 -- where a write goes: to the end with append, else to the offset
 abbrev pub write_offset : State → Content → ℕ
 write_offset state content = if state.append then length content else state.offset
+
+-- the event of a call that has nothing under way yet, or the one that goes on with what it has
+abbrev pub resumed : Option Walking → Progress → (WalkState → Progress) → Progress
+resumed (Some (One walk)) first later = later walk
+resumed _ first later = first
+
+abbrev pub resumed_twice : Option Walking → Answer → (WalkState → WalkState → Answer) → Answer
+resumed_twice (Some (Two one other)) first later = later one other
+resumed_twice _ first later = first
+
+-- The call ends with what is found, or has names left.
+abbrev pub walked : (lookups.Finding → Answer) → Progress → Answer
+walked rest (Done finding) = rest finding
+walked rest (More walk) = Walks (One walk)
+
+-- why a call with two paths ends before both are found
+abbrev pub unless_lost : Option LookupFault → Answer → Answer
+unless_lost None rest = rest
+unless_lost (Some fault) rest = lookup_fails fault
+
+-- A lookup that has names left ends in a fault alone; the other two never come.
+abbrev pub lost : lookups.Finding → Answer
+lost (Not_found fault) = lookup_fails fault
+lost (Found_node n) = Fails ENOENT Path
+lost (Found_free d) = Fails ENOENT Path
+
+abbrev pub walked_first : WalkState → Progress → Answer
+walked_first other (Done finding) = lost finding
+walked_first other (More walk) = Walks (Two walk other)
+
+abbrev pub walked_second : WalkState → Progress → Answer
+walked_second one (Done finding) = lost finding
+walked_second one (More walk) = Walks (Two one walk)
+
+-- whether one name is left, the last one
+abbrev pub is_at_last : WalkState → Bool
+is_at_last walk = nat_eq (length walk.stand.left) 1
+
+-- A last name that is kept always ends its lookup; names that are left never come.
+abbrev pub found_last : Progress → lookups.Finding
+found_last (Done finding) = finding
+found_last (More walk) = Not_found No_entry
 
 -- In this world, process p, which stands at s, makes its call at this event.
 module _ (w : World) (p : ℕ) (s : ProcessState) (e : Event) where
@@ -104,12 +147,25 @@ module _ (w : World) (p : ℕ) (s : ProcessState) (e : Event) where
   blocked nonblock = if nonblock then Fails EAGAIN Refused else Waits
 
   -- ## Lookups
-  -- Every lookup of a call is one of these two: what is found goes to the rest of the call.
+  -- Every lookup of a call is one of these two. An event looks one name up: the first event of the call begins, and a later one goes
+  -- on with what the process has under way. What is found at the end goes to the rest of the call.
   unfoldable pub looks : NodeNumber → Way → PathText → Last → (lookups.Finding → Answer) → Answer
-  looks start way path last rest = rest (find_of w.tree start path way last)
+  looks start way path last rest = walked rest (resumed s.walk (first_handled w.tree start path way last) (handled w.tree))
+
+  -- The old path is walked until one name is left, then the new one. Both last names are looked up in one event. What is wrong with
+  -- the text or the start of either is told in the first event, the old one's first. (own)
+  abbrev pub walked_both : (lookups.Finding → lookups.Finding → Answer) → WalkState → WalkState → Answer
+  walked_both rest one other =
+      if not (is_at_last one) then walked_first other (handled w.tree one)
+      else (if not (is_at_last other) then walked_second one (handled w.tree other)
+      else rest (found_last (handled w.tree one)) (found_last (handled w.tree other)))
 
   unfoldable pub looks_twice : NodeNumber → PathText → NodeNumber → PathText → (lookups.Finding → lookups.Finding → Answer) → Answer
-  looks_twice n from m to rest = rest (find_of w.tree n from Beneath Keep) (find_of w.tree m to Beneath Keep)
+  looks_twice n from m to rest =
+      resumed_twice s.walk
+      (unless_lost (lookup_fault w.tree n from Beneath Keep)
+      (unless_lost (lookup_fault w.tree m to Beneath Keep) (walked_both rest (begun n from Beneath Keep) (begun m to Beneath Keep))))
+      (walked_both rest)
 
   -- ## open and openat (open(2))
   -- What is found is opened with these rights and commands: all of them by `open`, those of the directory's

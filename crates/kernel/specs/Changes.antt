@@ -77,6 +77,7 @@ given s value change = record s {
   registers = second_number change.table (slice_set s.registers 0 value);
   point = s.point + 1;
   mode = s.mode || change.enters;
+  walk = None;
 }
 
 -- a child is a copy of its parent, to which the call answers 0

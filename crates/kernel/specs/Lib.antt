@@ -3,6 +3,7 @@ pub mod Answers
 pub mod Calls
 pub mod Changes
 pub mod Steps
+pub mod Walks
 pub mod Origins
 pub mod WellFormed
 pub mod Runs

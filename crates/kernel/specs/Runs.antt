@@ -1,12 +1,11 @@
 -- Runs: any list of events, one step after another.
 use Rattle.std.specs.Prelude.{◌≡◌, ◌≢◌, ℕ, List, [], ◌∷◌, Option, Some, None}
-use Rattle.file_tree.specs.Nodes.{Dir, node}
-use Rattle.fd_table.specs.Descriptions.{Object, At_node, At_end, Descriptor}
 use Rattle.fd_table.specs.OpenFiles.{OpenFiles, IsUnnamed, IsUnused}
 use Rattle.kernel.specs.World.{World, Choice, IsFresh}
 use Rattle.kernel.specs.Answers.{Event, IsEvent, AreEvents}
 use Rattle.kernel.specs.Steps.{Programs, Acted, step}
 use Rattle.kernel.specs.Origins.{front_of, IsEnd}
+use Rattle.kernel.specs.Walks.{IsDirectory}
 use Rattle.kernel.specs.WellFormed.{ArePrograms, IsWellFormed}
 use Rattle.kernel.specs.Renamings.{DiffersInNumbers}
 use Rattle.kernel.specs.Alike.{AlikeWorlds}
@@ -86,22 +85,13 @@ AlikeWorldsRunAlike =
     → AreEvents events
     → SameRuns programs w v events
 
--- the descriptor is of a directory
-abbrev pub IsDirectoryOf : World → Object → Type 0
-IsDirectoryOf w (At_node n access) = (node w.tree n).kind ≡ Dir
-IsDirectoryOf w (At_end pair side class) = ⊥
-
-abbrev pub IsDirectory : World → Option Descriptor → Type 0
-IsDirectory w None = ⊥
-IsDirectory w (Some d) = IsDirectoryOf w (w.files.objects d.description)
-
 -- Some world is well formed, in which a process holds a directory and both ends of a pair, through which a directory is
 -- on its way.
 pub record HoldsEach (w : World) : Type 0 where
-  pub directory : IsDirectory w (w.files.table 0 0)
+  pub directory : IsDirectory w.tree w.files.objects (w.files.table 0 0)
   pub first_end : IsEnd w (w.files.table 0 1) 0 0
   pub second_end : IsEnd w (w.files.table 0 2) 0 1
-  pub under_way : IsDirectory w (front_of (w.files.queue 0 0))
+  pub under_way : IsDirectory w.tree w.files.objects (front_of (w.files.queue 0 0))
 
 abbrev pub WellFormedWorldExists : Type 0
 WellFormedWorldExists = (programs : Programs) × ArePrograms programs × (w : World) × IsWellFormed programs w × HoldsEach w

@@ -4,10 +4,10 @@ use Rattle.std.specs.List.{slice_get}
 use Rattle.rights.specs.Values.{ProcessNumber}
 use Rattle.rights.specs.Errors.{Errno, errno_number, Cause}
 use Rattle.rights.specs.Maps.{put}
-use Rattle.process.specs.State.{ProcessState}
+use Rattle.process.specs.State.{ProcessState, ended, moved_to}
 use Rattle.prog_asm.specs.Programs.{Instruction, Set, Mov, Add, In, Jmp, Jeq, Jlt, Halt, Invoke}
 use Rattle.kernel.specs.World.{World, Choice}
-use Rattle.kernel.specs.Answers.{Event, Effect, Answer, Fails, Waits, Gives}
+use Rattle.kernel.specs.Answers.{Event, Effect, Answer, Fails, Waits, Gives, Walks}
 use Rattle.kernel.specs.Calls.{answer}
 use Rattle.kernel.specs.Changes.{given, changed}
 
@@ -18,6 +18,7 @@ pub data LineResult : Type 0 where
   Value : ℕ → LineResult  -- the call's, in the caller
   Failed : (errno : Errno) (cause : Cause) → LineResult
   Waiting : LineResult
+  Walks_on : LineResult  -- the call has names of its path left to look up
   Ended : LineResult  -- the process had ended before
 
 -- What an instruction does: the world after it, with the process in it.
@@ -31,9 +32,6 @@ register s r = slice_index_or s.registers r 0
 
 abbrev pub with_register : ProcessState → ℕ → ℕ → ProcessState
 with_register s r value = record s { registers = slice_set s.registers r value }
-
-abbrev pub moved_to : ProcessState → ℕ → ProcessState
-moved_to s point = record s { point = point }
 
 -- the process goes on to the next point
 abbrev pub goes_on : ProcessState → ProcessState
@@ -50,14 +48,14 @@ plain w p s = record { world = with_process w p s; outcome = Done; effects = [] 
 -- `halt` ends the process and closes its table.
 abbrev pub halted : World → ProcessNumber → ProcessState → World
 halted w p s = record w {
-  processes = slice_set w.processes p (record s { alive = false });
+  processes = slice_set w.processes p (ended s);
   files = record w.files { table = put w.files.table p (λ n. None) };
 }
 
 -- An error sets register 7 and goes to its label, and changes nothing else; a success sets register 0 and
--- goes on; a call that waits changes nothing.
+-- goes on; a call that waits changes nothing. A call that walks keeps what it has under way, and stays.
 abbrev pub failed : ProcessState → Errno → ℕ → ProcessState
-failed s errno otherwise = record s { registers = slice_set s.registers 7 (errno_number errno); point = otherwise }
+failed s errno otherwise = record s { registers = slice_set s.registers 7 (errno_number errno); point = otherwise; walk = None }
 
 unfoldable pub answered : World → ProcessNumber → ProcessState → Choice → ℕ → Answer → Executed
 answered w p s choice otherwise (Fails errno cause) =
@@ -65,6 +63,8 @@ answered w p s choice otherwise (Fails errno cause) =
 answered w p s choice otherwise Waits = record { world = w; outcome = Waiting; effects = [] }
 answered w p s choice otherwise (Gives value change effects) =
     record { world = changed w p (given s value change) choice change; outcome = Value value; effects = effects }
+answered w p s choice otherwise (Walks walking) =
+    record { world = with_process w p (record s { walk = Some walking }); outcome = Walks_on; effects = [] }
 
 unfoldable pub jumped : ProcessState → Bool → ℕ → ProcessState
 jumped s true target = moved_to s target

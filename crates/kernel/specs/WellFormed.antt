@@ -10,6 +10,7 @@ use Rattle.prog_asm.specs.Programs.{Instruction, is_program}
 use Rattle.fd_table.specs.Descriptions.{PairClass, Object, At_node, At_end, State, Descriptor, Message, IfHeld}
 use Rattle.kernel.specs.World.{World}
 use Rattle.kernel.specs.Steps.{Programs}
+use Rattle.kernel.specs.Walks.{IsWalkerIfMade}
 
 -- Each program of a task is valid. Where a task has none, there is the empty list.
 abbrev pub IsCode : List Instruction → Type 0
@@ -85,7 +86,8 @@ pub record IsWorld (programs : Programs) (numbering : Numbering) (w : World) : T
   pub idle : (pair side : ℕ) → w.files.pairs ≤ pair → w.files.queue pair side ≡ []
   pub sides : (pair side : ℕ) → 2 ≤ side → w.files.queue pair side ≡ []
 
--- A world is well formed if it is so for some numbering.
+-- A world is well formed if it is so for some numbering, and what its processes have under way is of their calls.
 pub record IsWellFormed (programs : Programs) (w : World) : Type 0 where
   pub numbering : Numbering
   pub world : IsWorld programs numbering w
+  pub walks : (p : ℕ) → IsWalkerIfMade programs w.tree w.files.objects (w.files.table p) (slice_get w.processes p)

@@ -48,12 +48,12 @@ in_tree_handles : (t : List Node) (way : Way) (last : Last) → IsTree t →
 in_tree_handles t way last tree = record {
   arrives = λ at h. tt;
   settles = λ at h. tt;
-  stays = λ at name left h. h;
-  up = λ n d before name left h held. h.1;
-  top = λ n name left global h. h;
+  stays = λ at name left h linked dot. h;
+  up = λ n d before name left h held dots. h.1;
+  top = λ n name left global h linked dots. h;
   down = λ at name left n h child kind. (child_there t at.current name n child, h);
-  link = λ at name left n h child kept. h;
-  link_root = λ at name left n global h child kept. (root_there t tree, tt);
+  link = λ at name left n h child is_link kept. h;
+  link_root = λ at name left n global h child is_link kept. (root_there t tree, tt);
   free = λ at name left h dir linked none kept. tt;
   not_found = λ fault. tt;
 }
@@ -81,12 +81,12 @@ near_handles : (t : List Node) (last : Last) (stood : Walked) → IsTree t →
 near_handles t last stood tree = record {
   arrives = λ at h. inl (ap (λ (w : Walked). w.current) h);
   settles = λ at h. h;
-  stays = λ at name left h. inl (ap (λ (w : Walked). w.current) h);
-  up = λ n d before name left h held. back_near t n d before stood h held;
-  top = λ n name left global h. absurd cc;
+  stays = λ at name left h linked dot. inl (ap (λ (w : Walked). w.current) h);
+  up = λ n d before name left h held dots. back_near t n d before stood h held;
+  top = λ n name left global h linked dots. absurd cc;
   down = λ at name left n h child kind. held_near t n at stood h (child_parent t at.current name n tree child);
-  link = λ at name left n h child kept. inl (ap (λ (w : Walked). w.current) h);
-  link_root = λ at name left n global h child kept. absurd cc;
+  link = λ at name left n h child is_link kept. inl (ap (λ (w : Walked). w.current) h);
+  link_root = λ at name left n global h child is_link kept. absurd cc;
   free = λ at name left h dir linked none kept. ap (λ (w : Walked). w.current) h;
   not_found = λ fault. tt;
 }

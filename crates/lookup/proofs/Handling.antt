@@ -17,16 +17,17 @@ use Rattle.lookup.specs.Walks.{WalkState, Progress, Done, More, settled_at, sett
 pub record Handles (t : List Node) (way : Way) (last : Last) (From To : Walked → List (List ℕ) → Type 0) (Good : Finding → Type 0) : Type 0 where
   pub arrives : (at : Walked) → From at [] → Good (Found_node at.current)
   pub settles : (at : Walked) → To at [] → Good (Found_node at.current)
-  pub stays : (at : Walked) (name : List ℕ) (left : List (List ℕ)) → From at (name ∷ left) → To at left
+  pub stays : (at : Walked) (name : List ℕ) (left : List (List ℕ)) → From at (name ∷ left) → (node t at.current).linked ≡ true → is_dot name ≡ true → To at left
   pub up : (n d : ℕ) (before : List ℕ) (name : List ℕ) (left : List (List ℕ)) → From (record { current = n; before = d ∷ before }) (name ∷ left) →
-      parent_of t n ≡ Some d → To (record { current = d; before = before }) left
-  pub top : (n : ℕ) (name : List ℕ) (left : List (List ℕ)) → way ≡ Global → From (from_node n) (name ∷ left) → To (from_node n) left
+      parent_of t n ≡ Some d → is_dot_dot name ≡ true → To (record { current = d; before = before }) left
+  pub top : (n : ℕ) (name : List ℕ) (left : List (List ℕ)) → way ≡ Global → From (from_node n) (name ∷ left) → (node t n).linked ≡ true →
+      is_dot_dot name ≡ true → To (from_node n) left
   pub down : (at : Walked) (name : List ℕ) (left : List (List ℕ)) (n : ℕ) → From at (name ∷ left) → child_of t at.current name ≡ Some n →
       (is_link (node t n).kind && not (is_kept last left)) ≡ false → To (record { current = n; before = at.current ∷ at.before }) left
   pub link : (at : Walked) (name : List ℕ) (left : List (List ℕ)) (n : ℕ) → From at (name ∷ left) → child_of t at.current name ≡ Some n →
-      is_kept last left ≡ false → To at (path_components (node t n).content ++ left)
+      is_link (node t n).kind ≡ true → is_kept last left ≡ false → To at (path_components (node t n).content ++ left)
   pub link_root : (at : Walked) (name : List ℕ) (left : List (List ℕ)) (n : ℕ) → way ≡ Global → From at (name ∷ left) →
-      child_of t at.current name ≡ Some n → is_kept last left ≡ false → To (from_node 0) (path_components (node t n).content ++ left)
+      child_of t at.current name ≡ Some n → is_link (node t n).kind ≡ true → is_kept last left ≡ false → To (from_node 0) (path_components (node t n).content ++ left)
   pub free : (at : Walked) (name : List ℕ) (left : List (List ℕ)) → From at (name ∷ left) → is_dir (node t at.current).kind ≡ true →
       (node t at.current).linked ≡ true → child_of t at.current name ≡ None → is_kept last left ≡ true → Good (Found_free at.current)
   pub not_found : (fault : LookupFault) → Good (Not_found fault)
@@ -65,20 +66,20 @@ module _ (t : List Node) (way : Way) (last : Last) (From To : Walked → List (L
   lost_fits Global at left = handles.not_found No_entry
 
   held_fits : (n d : ℕ) (before : List ℕ) (name : List ℕ) (left : List (List ℕ)) (o : Option ℕ) → From (record { current = n; before = d ∷ before }) (name ∷ left) →
-      parent_of t n ≡ o → FitsMove (record { current = n; before = d ∷ before }) left
+      is_dot_dot name ≡ true → parent_of t n ≡ o → FitsMove (record { current = n; before = d ∷ before }) left
       (cond (is_holder d o) (Moves (record { current = d; before = before })) (no_way_back way))
-  held_fits n d before name left None h is = lost_fits way (record { current = n; before = d ∷ before }) left
-  held_fits n d before name left (Some e) h is = by_number (nat_eq d e) refl
+  held_fits n d before name left None h dots is = lost_fits way (record { current = n; before = d ∷ before }) left
+  held_fits n d before name left (Some e) h dots is = by_number (nat_eq d e) refl
     where
       by_number : (b : Bool) → nat_eq d e ≡ b → FitsMove (record { current = n; before = d ∷ before }) left (cond b (Moves (record { current = d; before = before })) (no_way_back way))
-      by_number true same = let e_is : e ≡ d = same_number d e same in handles.up n d before name left h (rw e_is at is)
+      by_number true same = let e_is : e ≡ d = same_number d e same in handles.up n d before name left h (rw e_is at is) dots
       by_number false other = lost_fits way (record { current = n; before = d ∷ before }) left
 
   up_fits : (way' : Way) (n : ℕ) (before : List ℕ) (name : List ℕ) (left : List (List ℕ)) → way' ≡ way → From (record { current = n; before = before }) (name ∷ left) →
-      FitsMove (record { current = n; before = before }) left (back t way' n before)
-  up_fits Beneath n [] name left same h = handles.not_found Escape
-  up_fits Global n [] name left same h = handles.top n name left (sym same) h
-  up_fits way' n (d ∷ before) name left same h = rw same (held_fits n d before name left (parent_of t n) h refl)
+      (node t n).linked ≡ true → is_dot_dot name ≡ true → FitsMove (record { current = n; before = before }) left (back t way' n before)
+  up_fits Beneath n [] name left same h linked dots = handles.not_found Escape
+  up_fits Global n [] name left same h linked dots = handles.top n name left (sym same) h linked dots
+  up_fits way' n (d ∷ before) name left same h linked dots = rw same (held_fits n d before name left (parent_of t n) h dots refl)
 
   down_fits : (at : Walked) (name : List ℕ) (left : List (List ℕ)) (o : Option ℕ) → From at (name ∷ left) → is_dir (node t at.current).kind ≡ true →
       (node t at.current).linked ≡ true → child_of t at.current name ≡ o → FitsMove at left (into t last at.current at.before left o)
@@ -91,7 +92,7 @@ module _ (t : List Node) (way : Way) (last : Last) (From To : Walked → List (L
     where
       by_kind : (b k : Bool) → is_link (node t n).kind ≡ b → is_kept last left ≡ k →
           FitsMove at left (cond (b && not k) (Meets (node t n).content) (Moves (record { current = n; before = at.current ∷ at.before })))
-      by_kind true false link kept = (handles.link at name left n h is kept, λ global. handles.link_root at name left n global h is kept)
+      by_kind true false link kept = (handles.link at name left n h is link kept, λ global. handles.link_root at name left n global h is link kept)
       by_kind true true link kept = handles.down at name left n h is (rw (link, kept) refl)
       by_kind false k link kept = handles.down at name left n h is (rw link refl)
 
@@ -100,13 +101,13 @@ module _ (t : List Node) (way : Way) (last : Last) (From To : Walked → List (L
     where
       by_dots : (b : Bool) → is_dir (node t at.current).kind ≡ true → (node t at.current).linked ≡ true → is_dot_dot name ≡ b →
           FitsMove at left (cond b (back t way at.current at.before) (into t last at.current at.before left (child_of t at.current name)))
-      by_dots true dir linked dots = up_fits way at.current at.before name left refl h
+      by_dots true dir linked dots = up_fits way at.current at.before name left refl h linked dots
       by_dots false dir linked dots = down_fits at name left (child_of t at.current name) h dir linked refl
 
       by_dot : (b : Bool) → is_dir (node t at.current).kind ≡ true → (node t at.current).linked ≡ true → is_dot name ≡ b →
           FitsMove at left (cond b (Moves at)
           (cond (is_dot_dot name) (back t way at.current at.before) (into t last at.current at.before left (child_of t at.current name))))
-      by_dot true dir linked dot = handles.stays at name left h
+      by_dot true dir linked dot = handles.stays at name left h linked dot
       by_dot false dir linked dot = by_dots (is_dot_dot name) dir linked refl
 
       by_link : (b : Bool) → is_dir (node t at.current).kind ≡ true → (node t at.current).linked ≡ b →

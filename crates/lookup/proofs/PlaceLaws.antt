@@ -25,7 +25,7 @@ below_begins start (name ∷ below) = begins_trans start (place_below start belo
 below_length : (start below : List (List ℕ)) → length start ≤ length (place_below start below)
 below_length start below = begins_length start (place_below start below) (below_begins start below)
 
-directory_kind : (k : Kind) → is_dir k ≡ true → k ≡ Dir
+pub directory_kind : (k : Kind) → is_dir k ≡ true → k ≡ Dir
 directory_kind File h = cc
 directory_kind Dir h = refl
 directory_kind Link h = cc
@@ -91,7 +91,7 @@ Aims final [] [] = ⊥
 Aims final (name ∷ below) [] = name ≡ final
 Aims final below (name ∷ left) = last_or name left ≡ final
 
-last_or-append : (other : List ℕ) (names : List (List ℕ)) (name : List ℕ) (more : List (List ℕ)) → last_or other (names ++ name ∷ more) ≡ last_or name more
+pub last_or-append : (other : List ℕ) (names : List (List ℕ)) (name : List ℕ) (more : List (List ℕ)) → last_or other (names ++ name ∷ more) ≡ last_or name more
 last_or-append other [] name more = refl
 last_or-append other (x ∷ names) name more = last_or-append x names name more
 
@@ -151,7 +151,7 @@ arrives_under : (t : List Node) (start : List (List ℕ)) (final : List ℕ) (be
 arrives_under t start final [] n tree aims at = absurd aims
 arrives_under t start final (name ∷ below) n tree aims at = found_under t start final below n tree (ap (λ (x : List ℕ). node_at t (at_name (place_below start below) x)) (sym aims) ∙ at)
 
-not_dot : (name final : List ℕ) → is_dot name ≡ true → is_bad_last final ≡ false → name ≢ final
+pub not_dot : (name final : List ℕ) → is_dot name ≡ true → is_bad_last final ≡ false → name ≢ final
 not_dot name final dot good same = let bad : is_dot final ≡ true = ap is_dot (sym same) ∙ dot in bad_dot (nat_eq (length final) 0) (is_dot final) (is_dot_dot final) bad good
   where
     bad_dot : (a b c : Bool) → b ≡ true → (a || b || c) ≡ false → ⊥
@@ -159,7 +159,7 @@ not_dot name final dot good same = let bad : is_dot final ≡ true = ap is_dot (
     bad_dot false true c h g = cc
     bad_dot false false c h g = cc
 
-not_dot_dot : (name final : List ℕ) → is_dot_dot name ≡ true → is_bad_last final ≡ false → name ≢ final
+pub not_dot_dot : (name final : List ℕ) → is_dot_dot name ≡ true → is_bad_last final ≡ false → name ≢ final
 not_dot_dot name final dots good same = let bad : is_dot_dot final ≡ true = ap is_dot_dot (sym same) ∙ dots in bad_dots (nat_eq (length final) 0) (is_dot final) (is_dot_dot final) bad good
   where
     bad_dots : (a b c : Bool) → c ≡ true → (a || b || c) ≡ false → ⊥

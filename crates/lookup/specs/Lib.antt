@@ -7,4 +7,5 @@ pub mod ByNodes
 pub mod Looks
 pub mod Promises
 pub mod Walks
+pub mod UnderWay
 pub mod Views

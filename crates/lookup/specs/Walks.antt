@@ -1,11 +1,11 @@
 -- A lookup under way, one event after the other. The tree may be another at each event. (own)
-use Rattle.std.specs.Prelude.{◌≡◌, ◌⊎◌, ◌<◌, ℕ, ◌+◌, ◌-◌, ◌*◌, ◌^◌, List, [], ◌∷◌, length, Some}
+use Rattle.std.specs.Prelude.{◌≡◌, ◌⊎◌, ◌<◌, ℕ, ◌+◌, ◌-◌, ◌*◌, ◌^◌, List, [], ◌∷◌, length, Option, Some, None}
 use Rattle.rights.specs.Values.{Name, NodeNumber, PathText}
 use Rattle.file_tree.specs.Nodes.{Node, parent_of}
-use Rattle.lookup.specs.Answers.{Way, Last, Finding, Found_node, Found_free, Not_found}
+use Rattle.lookup.specs.Answers.{Way, Last, LookupFault, Finding, Found_node, Found_free, Not_found}
 use Rattle.lookup.specs.Leads.{Stand, Next, Goes, Ends, next}
 use Rattle.lookup.specs.ByNodes.{Walked, from_node, by_nodes}
-use Rattle.lookup.specs.Looks.{first_stand, start_node}
+use Rattle.lookup.specs.Looks.{first_stand, start_node, lookup_fault}
 
 -- where it stands, and the rules by which it goes
 pub record WalkState : Type 0 where
@@ -34,6 +34,14 @@ settled walk (Ends finding) = Done finding
 -- One event: the next name is looked up in the tree as it is now.
 unfoldable pub handled : List Node → WalkState → Progress
 handled t walk = settled walk (next (by_nodes t walk.way walk.last) walk.stand)
+
+-- The first event: what is wrong with the path's text or its start is told before the first name.
+abbrev pub unless_faulty : Option LookupFault → Progress → Progress
+unless_faulty None progress = progress
+unless_faulty (Some fault) progress = Done (Not_found fault)
+
+unfoldable pub first_handled : List Node → NodeNumber → PathText → Way → Last → Progress
+first_handled t start path way last = unless_faulty (lookup_fault t start path way last) (handled t (begun start path way last))
 
 -- What a lookup comes to, event after event, on a tree that stays as it is.
 pub data Arrives (t : List Node) : WalkState → Finding → Type 0 where

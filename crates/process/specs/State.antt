@@ -1,5 +1,5 @@
 -- One process. (capsicum(4), cap_enter(2), fork(2); the registers and the walk are own)
-use Rattle.std.specs.Prelude.{ℕ, Bool, true, false, List, replicate, slice_set, Option, Some, None}
+use Rattle.std.specs.Prelude.{ℕ, Bool, true, false, List, replicate, slice_set, Option, None}
 use Rattle.rights.specs.Limits.{register_count}
 use Rattle.lookup.specs.Walks.{WalkState}
 
@@ -32,8 +32,8 @@ abbrev pub forked : ProcessState → ProcessState
 forked parent = record parent { registers = slice_set parent.registers 0 0 }
 
 -- at another point no call is under way yet
-abbrev pub at_point : ProcessState → ℕ → ProcessState
-at_point s point = record s { point = point; walk = None }
+abbrev pub moved_to : ProcessState → ℕ → ProcessState
+moved_to s point = record s { point = point; walk = None }
 
 -- an ended process has no call under way
 abbrev pub ended : ProcessState → ProcessState

@@ -3,7 +3,7 @@
 #![tactic(auto)]
 
 ghost use Rattle.std.specs.Prelude.{◌≡◌, true, None, Some, is_some};
-ghost use Rattle.process.specs.State.{at_point, ended, forked, new_process};
+ghost use Rattle.process.specs.State.{moved_to, ended, forked, new_process};
 ghost use Rattle.process.specs.Views.{walk_of, walking_of};
 
 pub mod walking;
@@ -69,7 +69,7 @@ impl Process {
 
     /// Goes to another point, where no call is under way yet.
     pub fn move_to(&mut self, point: u8)
-        ensures { self.new ≡ at_point self.old point }
+        ensures { self.new ≡ moved_to self.old point }
     {
         self.point = point;
         self.walk = None;
