@@ -8,11 +8,12 @@ use Rattle.file_tree.specs.Nodes.{Kind, File, Dir, Link, Node, node, is_dir, is_
 use Rattle.rights.specs.Limits.{most_bytes, most_messages, most_processes}
 use Rattle.file_tree.specs.WellFormed.{IsTree}
 use Rattle.lookup.specs.Answers.{LookupFault, Escape, No_entry, Not_dir, Loop, Too_long, Bad_last}
+use Rattle.process.specs.State.{Walking}
 use Rattle.fd_table.specs.Descriptions.{Access, Object, At_node, At_end, Descriptor, Message, IfHeld}
 use Rattle.fd_table.specs.OpenFiles.{lowest_from, lowest_free}
 use Rattle.kernel.specs.World.{World}
 use Rattle.kernel.specs.Answers.{TableChange, Same_table, Set_entry, Clear_entry, New_file, New_pair, New_process, QueueChange, Same_queue, Push, Pop, StateChange, Same_state}
-use Rattle.kernel.specs.Answers.{Set_state, Change, Answer, Fails, Waits, Gives, unless, held, at_object, at_number, lookup_fails}
+use Rattle.kernel.specs.Answers.{Set_state, Change, Answer, Fails, Waits, Gives, Walks, unless, held, at_object, at_number, lookup_fails}
 use Rattle.kernel.specs.Changes.{tree_after}
 use Rattle.kernel.specs.WellFormed.{Numbering, IsObject, IsDescriptor}
 
@@ -37,14 +38,16 @@ abbrev pub BringsState : StateChange → Type 0
 BringsState Same_state = Unit {0}
 BringsState (Set_state description state) = state.offset ≤ most_bytes
 
--- What a call stands on: a world with its numbering, and what else holds of each description that is named in it.
+-- What a call stands on: a world with its numbering, what else holds of each description that is named in it, and what is to hold of
+-- what the call leaves under way.
 pub record Ground : Type 1 where
   pub numbering : Numbering
   pub world : World
   pub Named : ℕ → Type 0
+  pub Left : Walking → Type 0
 
 abbrev pub ground : Numbering → World → (ℕ → Type 0) → Ground
-ground numbering w Named = record { numbering = numbering; world = w; Named = Named }
+ground numbering w Named = record { numbering = numbering; world = w; Named = Named; Left = λ walking. Unit {0} }
 
 -- a descriptor that is known: it is well formed, and its description has what each has that is named
 abbrev pub Known : Ground → Descriptor → Type 0
@@ -61,6 +64,7 @@ unfoldable pub Sound : Ground → Answer → Type 0
 Sound g (Fails errno cause) = Unit {0}
 Sound g Waits = Unit {0}
 Sound g (Gives value change effects) = Brings g value change
+Sound g (Walks walking) = g.Left walking
 
 -- numbers that are free are below 16
 lowest_low : (count n : ℕ) (row : ℕ → Option Descriptor) (k : ℕ) → lowest_from count n row ≡ Some k → k < n + count
@@ -106,6 +110,10 @@ module _ (g : Ground) where
   pub sound-gives : (value : ℕ) (change : Change) (effects : _) → Brings g value change → Sound g (Gives value change effects)
   unfolding Sound
   sound-gives value change effects brings = brings
+
+  pub sound-walks : (walking : Walking) → g.Left walking → Sound g (Walks walking)
+  unfolding Sound
+  sound-walks walking left = left
 
   pub sound-unless : (test : Bool) (errno : Errno) (cause : Cause) (rest : Answer) → (test ≡ true → Sound g rest) → Sound g (unless test errno cause rest)
   unfolding unless

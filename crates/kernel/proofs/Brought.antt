@@ -22,20 +22,28 @@ use Rattle.lookup.specs.Paths.{last_component}
 use Rattle.lookup.specs.Promises.{IsLinked, IsFindingThere, HasName, IsUnderName}
 use Rattle.process.specs.State.{ProcessState}
 use Rattle.prog_asm.specs.Programs.{Syscall, Open, Openat, Read, Write, Sendfd, Recvfd, Lseek, Ftruncate, Fsync, Fstat, Fcntl_getfl, Fcntl_setfl, Fstatat, Stat, Mkdirat, Mkdir}
-use Rattle.prog_asm.specs.Programs.{Unlinkat, Unlink, Renameat, Dup, Close, Cap_rights_limit, Cap_fcntls_limit, Cap_enter, Cap_getmode, Socketpair, Fork, is_syscall, is_operand}
-use Rattle.prog_asm.specs.Programs.{is_path}
-use Rattle.fd_table.specs.Descriptions.{Access, State, Descriptor, Message, other_side, bit_of, status_number, IfHeld}
+use Rattle.prog_asm.specs.Programs.{Unlinkat, Unlink, Renameat, Dup, Close, Cap_rights_limit, Cap_fcntls_limit, Cap_enter, Cap_getmode, Socketpair, Fork, Operand, is_syscall, is_operand}
+use Rattle.fd_table.specs.Descriptions.{Access, Object, At_node, At_end, State, Descriptor, Message, other_side, bit_of, status_number, IfHeld}
 use Rattle.fd_table.specs.OpenFiles.{is_open, lowest_from, lowest_free}
 use Rattle.kernel.specs.World.{World}
-use Rattle.kernel.specs.Answers.{Event, TreeChange, Answer, same, held, value_of}
-use Rattle.kernel.specs.Calls.{looks, looks_twice, answer, truncated, opened, opened_as, read_byte, read_node, read_end, write_node, write_at, sent_end, received, receive_end}
+use Rattle.rights.specs.Errors.{ENOTDIR}
+use Rattle.rights.specs.Errors as errors
+use Rattle.kernel.specs.Answers.{Event, TreeChange, Answer, Fails, same, unless, held, at_object, value_of}
+use Rattle.kernel.specs.Calls.{last_if, looks, looks_twice, answer, truncated, opened, opened_as, read_byte, read_node, read_end, write_node, write_at, sent_end, received, receive_end}
 use Rattle.kernel.specs.Calls.{stats, stats_at, kind_number, made_directory, unlinks, renamed_to, renamed_from, pair_at, blocked, in_directory, at_file, at_socket}
 use Rattle.kernel.specs.Changes.{tree_after}
 use Rattle.kernel.specs.Steps.{Programs}
-use Rattle.kernel.specs.WellFormed.{EachMessage, IsWorld}
-use Rattle.kernel.proofs.Trees.{made_is_tree, emptied_is_tree, unlinked_is_tree, moved_to_free, there_if_opened, opened_kept}
-use Rattle.kernel.proofs.Lookups.{MayMake, Sure, find_sure, moved_over}
-use Rattle.kernel.proofs.Brings.{Ground, Known, Brings, Sound, free_low, second_low, file_kind, no_directory, sound-fails, sound-waits, sound-gives, sound-unless, sound-if}
+use Rattle.kernel.specs.WellFormed.{EachMessage, IsObject, IsWorld}
+use Rattle.kernel.proofs.Trees.{made_is_tree, emptied_is_tree, unlinked_is_tree, moved_to_free, opened_kept}
+use Rattle.lookup.specs.Paths.{has_path_bytes}
+use Rattle.lookup.specs.UnderWay.{IsUnderWay}
+use Rattle.lookup.specs.Walks.{WalkState, Progress, Done, More, first_handled, handled}
+use Rattle.lookup.proofs.UnderWay.{IsSureProgress, MayMake, Sure, begun_sure, begun_under_way, sure_fault, there_if_opened, under_way_sure}
+use Rattle.process.specs.State.{Walking, One, Two}
+use Rattle.kernel.specs.Walks.{Fits, FitsIfWalking, From_directories, From_directory, From_root, IsDirectory, IsDirectoryOf, lookups_of}
+use Rattle.kernel.proofs.Looking.{IfOne, IfTwo, IsEvent, looks_any, looks_twice_any}
+use Rattle.kernel.proofs.Lookups.{moved_over, path_bytes}
+use Rattle.kernel.proofs.Brings.{Ground, Known, Brings, Sound, free_low, second_low, directory_kind, file_kind, no_directory, sound-fails, sound-waits, sound-gives, sound-walks, sound-unless, sound-if}
 use Rattle.kernel.proofs.Brings.{sound-held, sound-object, sound-number, sound-lookup_fails}
 
 dir_opened : (kind : Kind) → is_dir kind ≡ true → is_link kind ≡ false
@@ -115,11 +123,17 @@ module _ (programs : Programs) (g : Ground) (standing : Standing programs g) (p 
   sound-entry : (n : ℕ) (rest : Descriptor → Answer) → ((d : Descriptor) → n < 16 → Known g d → Sound g (rest d)) → Sound g (held (w.files.table p n) rest)
   sound-entry n rest sound = sound-held g (w.files.table p n) rest (standing.entries p n) (λ d is fine. sound d (entry_low n d is) fine)
 
-  sound-directory : (d : Descriptor) (rest : ℕ → Answer) → Known g d → ((n : ℕ) → is_link (node w.tree n).kind ≡ false → Sound g (rest n)) → Sound g (in_directory w p s e d.description rest)
-  sound-directory d rest fine sound =
-      sound-object g d.description (w.files.objects d.description) _ _ fine.0.object
-      (λ n access opened. sound-unless g _ _ _ _ (λ dir. sound n opened))
-      (λ pair side low. sound-fails g _ _)
+  sound-directory : (d : Descriptor) (rest : ℕ → Answer) → Known g d →
+      ((n : ℕ) → is_link (node w.tree n).kind ≡ false → IsDirectoryOf w.tree (w.files.objects d.description) → Sound g (rest n)) →
+      Sound g (in_directory w p s e d.description rest)
+  unfolding at_object
+  sound-directory d rest fine sound = by_object (w.files.objects d.description) refl fine.0.object
+    where
+      by_object : (o : Object) → w.files.objects d.description ≡ o → IsObject w.tree g.numbering d.description o →
+          Sound g (at_object o (λ n access. unless (is_dir (node w.tree n).kind) ENOTDIR errors.Kind (rest n)) (λ pair side. Fails ENOTDIR errors.Kind))
+      by_object (At_node n access) is opened =
+          sound-unless g _ _ _ _ (λ dir. sound n opened (subst (IsDirectoryOf w.tree) (sym is) (directory_kind (node w.tree n).kind dir)))
+      by_object (At_end pair side class) is opened = sound-fails g _ _
 
   sound-file : (d : Descriptor) (rest : ℕ → Access → Answer) → Known g d →
       ((n : ℕ) (access : Access) → (node w.tree n).kind ≡ File → Sound g (rest n access)) → Sound g (at_file w p s e d.description rest)
@@ -216,19 +230,63 @@ module _ (programs : Programs) (g : Ground) (standing : Standing programs g) (p 
   sound-receive_end d pair side number (m ∷ messages) low fine = sound-received pair side number m.passed low fine.1
 
   -- ## Lookups
+  sure_event : (path : List ℕ) (way : Way) (last : Last) (event : Progress) → IsSureProgress w.tree path way last event →
+      IsEvent (Sure w.tree path last) (IsUnderWay w.tree path way last) event
+  sure_event path way last (Done found) sure = sure
+  sure_event path way last (More walk) sure = sure
+
   sound-looks : (start : ℕ) (way : Way) (path : List ℕ) (last : Last) (rest : lookups.Finding → Answer) → is_link (node w.tree start).kind ≡ false →
-      is_path path ≡ true → ((found : lookups.Finding) → Sure w.tree path last found → Sound g (rest found)) →
-      Sound g (looks w p s e start way path last rest)
-  unfolding looks
-  sound-looks start way path last rest opened valid sound = sound _ (find_sure w.tree start path way last standing.good.tree opened valid)
+      IfOne (IsUnderWay w.tree path way last) s.walk → ((walk : WalkState) → IsUnderWay w.tree path way last walk → g.Left (One walk)) →
+      ((found : lookups.Finding) → Sure w.tree path last found → Sound g (rest found)) → Sound g (looks w p s e start way path last rest)
+  sound-looks start way path last rest opened under left sound =
+      looks_any (Sound g) w p s e start way path last rest (Sure w.tree path last) (IsUnderWay w.tree path way last) under
+      (sure_event path way last (first_handled w.tree start path way last) (begun_sure w.tree path way last standing.good.tree start opened))
+      (λ walk is. sure_event path way last (handled w.tree walk) (under_way_sure w.tree path way last standing.good.tree walk is))
+      sound (λ walk is. sound-walks g (One walk) (left walk is))
 
   sound-looks_twice : (n : ℕ) (from : List ℕ) (m : ℕ) (to : List ℕ) (rest : lookups.Finding → lookups.Finding → Answer) →
-      is_link (node w.tree n).kind ≡ false → is_path from ≡ true → is_link (node w.tree m).kind ≡ false → is_path to ≡ true →
+      is_link (node w.tree n).kind ≡ false → is_link (node w.tree m).kind ≡ false →
+      IfTwo (IsUnderWay w.tree from Beneath Keep) (IsUnderWay w.tree to Beneath Keep) s.walk →
+      ((one other : WalkState) → IsUnderWay w.tree from Beneath Keep one → IsUnderWay w.tree to Beneath Keep other → g.Left (Two one other)) →
       ((found place : lookups.Finding) → Sure w.tree from Keep found → Sure w.tree to Keep place → Sound g (rest found place)) →
       Sound g (looks_twice w p s e n from m to rest)
-  unfolding looks_twice
-  sound-looks_twice n from m to rest opened valid also other sound =
-      sound _ _ (find_sure w.tree n from Beneath Keep standing.good.tree opened valid) (find_sure w.tree m to Beneath Keep standing.good.tree also other)
+  sound-looks_twice n from m to rest opened also under left sound =
+      looks_twice_any (Sound g) w p s e (sound-fails g) n from m to rest (Sure w.tree from Keep) (Sure w.tree to Keep)
+      (IsUnderWay w.tree from Beneath Keep) (IsUnderWay w.tree to Beneath Keep) under
+      (begun_under_way w.tree from Beneath Keep standing.good.tree n opened refl)
+      (begun_under_way w.tree to Beneath Keep standing.good.tree m also refl)
+      (sure_fault w.tree from Beneath Keep standing.good.tree lookups.No_entry) (sure_fault w.tree to Beneath Keep standing.good.tree lookups.No_entry)
+      (λ walk is. sure_event from Beneath Keep (handled w.tree walk) (under_way_sure w.tree from Beneath Keep standing.good.tree walk is))
+      (λ walk is. sure_event to Beneath Keep (handled w.tree walk) (under_way_sure w.tree to Beneath Keep standing.good.tree walk is))
+      sound (λ one other first second. sound-walks g (Two one other) (left one other first second))
+
+  -- What fits the call is under way.
+  abbrev IsFit : Syscall → Option Walking → Type 0
+  IsFit call o = FitsIfWalking w.tree w.files.objects (w.files.table p) s (Some call) o
+
+  root_under : (call : Syscall) (path : List ℕ) (last : Last) (o : Option Walking) → lookups_of call ≡ From_root path last → IsFit call o → IfOne (IsUnderWay w.tree path Global last) o
+  root_under call path last None is fits = tt
+  root_under call path last (Some (One walk)) is fits = rw is at fits
+  root_under call path last (Some (Two one other)) is fits = tt
+
+  directory_under : (call : Syscall) (x : Operand) (path : List ℕ) (last : Last) (o : Option Walking) → lookups_of call ≡ From_directory x path last → IsFit call o →
+      IfOne (IsUnderWay w.tree path Beneath last) o
+  directory_under call x path last None is fits = tt
+  directory_under call x path last (Some (One walk)) is fits = let both = rw is at fits in both.1
+  directory_under call x path last (Some (Two one other)) is fits = tt
+
+  both_under : (call : Syscall) (x : Operand) (from : List ℕ) (y : Operand) (to : List ℕ) (o : Option Walking) → lookups_of call ≡ From_directories x from y to → IsFit call o →
+      IfTwo (IsUnderWay w.tree from Beneath Keep) (IsUnderWay w.tree to Beneath Keep) o
+  both_under call x from y to None is fits = tt
+  both_under call x from y to (Some (One walk)) is fits = tt
+  both_under call x from y to (Some (Two one other)) is fits = let all = rw is at fits in (all.2, all.3)
+
+  -- a directory's descriptor that is open
+  sound-start : (n : ℕ) (rest : Descriptor → Answer) → ((d : Descriptor) → w.files.table p n ≡ Some d → Known g d → Sound g (rest d)) → Sound g (held (w.files.table p n) rest)
+  sound-start n rest sound = sound-held g (w.files.table p n) rest (standing.entries p n) (λ d is fine. sound d is fine)
+
+  is_start : (o : Option Descriptor) (d : Descriptor) → o ≡ Some d → IsDirectoryOf w.tree (w.files.objects d.description) → IsDirectory w.tree w.files.objects o
+  is_start o d is dir = rw is dir
 
   sound-opened_as : (f : OpenRequest) (rights fcntls n : ℕ) (kind : Kind) → is_within rights all_rights ≡ true →
       is_within fcntls all_commands ≡ true → (node w.tree n).kind ≡ kind → Sound g (opened_as w p s e f rights fcntls n kind)
@@ -251,20 +309,20 @@ module _ (programs : Programs) (g : Ground) (standing : Standing programs g) (p 
       })))
 
   sound-opened : (f : OpenRequest) (rights fcntls : ℕ) (path : List ℕ) (found : lookups.Finding) → is_within rights all_rights ≡ true →
-      is_within fcntls all_commands ≡ true → MayMake w.tree path found → Sound g (opened w p s e f rights fcntls path found)
-  sound-opened f rights fcntls path (Not_found fault) all also may = sound-lookup_fails g fault
-  sound-opened f rights fcntls path (Found_free d) all also may =
+      is_within fcntls all_commands ≡ true → has_path_bytes path ≡ true → MayMake w.tree path found → Sound g (opened w p s e f rights fcntls path found)
+  sound-opened f rights fcntls path (Not_found fault) all also bytes may = sound-lookup_fails g fault
+  sound-opened f rights fcntls path (Found_free d) all also bytes may =
       sound-number g (lowest_free (w.files.table p)) _ (λ number free.
       sound-unless g _ _ _ _ (λ room. sound-unless g _ _ _ _ (λ allowed.
       let low : number < 16 = free_low (w.files.table p) number free in
       sound-gives g _ _ _ (record {
         small = low_small number low;
-        tree = made_is_tree w.tree d (last_component path) File standing.good.tree may.linked may.directory may.absent may.named refl (below _ _ room);
+        tree = made_is_tree w.tree d (last_component path) File standing.good.tree may.linked may.directory may.absent (may.named bytes) refl (below _ _ room);
         table = (low, ap (λ (m : Node). is_link m.kind) (new_node w.tree _), all, also);
         queue = tt;
         state = tt;
       }))))
-  sound-opened f rights fcntls path (Found_node n) all also may = sound-opened_as f rights fcntls n (node w.tree n).kind all also refl
+  sound-opened f rights fcntls path (Found_node n) all also bytes may = sound-opened_as f rights fcntls n (node w.tree n).kind all also refl
 
   sound-looked : (n : ℕ) → Sound g (stats w p s e n)
   sound-looked n = sound-gives g _ _ _ (nothing (kind_number (node w.tree n).kind) (small_kind (node w.tree n).kind))
@@ -274,13 +332,13 @@ module _ (programs : Programs) (g : Ground) (standing : Standing programs g) (p 
   sound-looked_at (Found_free d) = sound-fails g _ _
   sound-looked_at (Found_node n) = sound-looked n
 
-  sound-made_directory : (path : List ℕ) (found : lookups.Finding) → MayMake w.tree path found → Sound g (made_directory w p s e path found)
-  sound-made_directory path (Not_found fault) may = sound-lookup_fails g fault
-  sound-made_directory path (Found_node n) may = sound-fails g _ _
-  sound-made_directory path (Found_free d) may =
+  sound-made_directory : (path : List ℕ) (found : lookups.Finding) → has_path_bytes path ≡ true → MayMake w.tree path found → Sound g (made_directory w p s e path found)
+  sound-made_directory path (Not_found fault) bytes may = sound-lookup_fails g fault
+  sound-made_directory path (Found_node n) bytes may = sound-fails g _ _
+  sound-made_directory path (Found_free d) bytes may =
       sound-unless g _ _ _ _ (λ room. sound-unless g _ _ _ _ (λ allowed.
       sound-gives g _ _ _ (alters 0 _ zero_small
-      (made_is_tree w.tree d (last_component path) Dir standing.good.tree may.linked may.directory may.absent may.named refl (below _ _ room)))))
+      (made_is_tree w.tree d (last_component path) Dir standing.good.tree may.linked may.directory may.absent (may.named bytes) refl (below _ _ room)))))
 
   under_name : (n : ℕ) (name : List ℕ) → HasName w.tree n name → 0 < length (node w.tree n).place
   under_name n name named = subst (λ place. 0 < length place) (sym named.place) (longer (node w.tree named.parent).place name)
@@ -297,14 +355,14 @@ module _ (programs : Programs) (g : Ground) (standing : Standing programs g) (p 
       sound-unless g _ _ _ _ (λ leaf.
       sound-gives g _ _ _ (alters 0 _ zero_small (unlinked_is_tree w.tree n standing.good.tree there.linked some (not_true _ leaf))))
 
-  sound-renamed_to : (call : Syscall) (target : Descriptor) (n : ℕ) (path : List ℕ) (found : lookups.Finding) → IsLinked w.tree n →
+  sound-renamed_to : (call : Syscall) (target : Descriptor) (n : ℕ) (path : List ℕ) (found : lookups.Finding) → has_path_bytes path ≡ true → IsLinked w.tree n →
       IsFindingThere w.tree found → MayMake w.tree path found → IsUnderName w.tree path found → Sound g (renamed_to w p s e call target n path found)
-  sound-renamed_to call target n path (Not_found fault) linked there may named = sound-lookup_fails g fault
-  sound-renamed_to call target n path (Found_free d) linked there may named =
+  sound-renamed_to call target n path (Not_found fault) bytes linked there may named = sound-lookup_fails g fault
+  sound-renamed_to call target n path (Found_free d) bytes linked there may named =
       sound-unless g _ _ _ _ (λ outside.
       sound-gives g _ _ _ (alters 0 _ zero_small
-      (moved_to_free w.tree n d (last_component path) standing.good.tree linked.linked may.linked may.directory may.absent may.named (not_true _ outside))))
-  sound-renamed_to call target n path (Found_node m) linked there may named =
+      (moved_to_free w.tree n d (last_component path) standing.good.tree linked.linked may.linked may.directory may.absent (may.named bytes) (not_true _ outside))))
+  sound-renamed_to call target n path (Found_node m) bytes linked there may named =
       sound-if g (n == m) _ _ (λ _. sound-gives g _ _ _ (nothing 0 zero_small))
       (sound-unless g _ _ _ _ (λ granted.
       sound-unless g _ _ _ _ (λ outside. sound-unless g _ _ _ _ (λ kinds. sound-unless g _ _ _ _ (λ also. sound-unless g _ _ _ _ (λ empty.
@@ -337,104 +395,113 @@ module _ (programs : Programs) (g : Ground) (standing : Standing programs g) (p 
   within_all set = is_within-refl set
 
   -- ## Every call
-  pub sound : (call : Syscall) → is_syscall call ≡ true → Sound g (answer w p s e call)
-  unfolding answer
-  sound (Open path f) valid =
+  -- What a call leaves under way fits it.
+  abbrev Leaves : Syscall → Type 0
+  Leaves call = (walking : Walking) → Fits w.tree w.files.objects (w.files.table p) s (lookups_of call) walking → g.Left walking
+
+  pub sound : (call : Syscall) → is_syscall call ≡ true → IsFit call s.walk → Leaves call → Sound g (answer w p s e call)
+  unfolding answer lookups_of
+  sound (Open path f) valid fits left =
       sound-unless g _ _ _ _ (λ outside.
-      sound-looks _ _ _ _ _ root_opened (both_left _ _ valid) (λ found sure.
-      sound-opened f all_rights all_commands path found (within_all all_rights) (within_all all_commands) sure.vacant))
-  sound (Openat x path f) valid =
-      sound-entry (value_of s x) _ (λ d low fine. sound-unless g _ _ _ _ (λ has.
-      sound-directory d _ fine (λ n opened.
-      sound-looks _ _ _ _ _ opened (both_right (is_operand x) _ (both_left _ _ valid)) (λ found sure.
-      sound-opened f d.rights d.fcntls path found fine.0.rights fine.0.fcntls sure.vacant))))
-  sound (Read x) valid =
+      sound-looks _ _ _ _ _ root_opened (root_under (Open path f) path (last_if f.create) s.walk refl fits) (λ walk is. left (One walk) is) (λ found sure.
+      sound-opened f all_rights all_commands path found (within_all all_rights) (within_all all_commands) (path_bytes path (both_left _ _ valid)) sure.vacant))
+  sound (Openat x path f) valid fits left =
+      sound-start (value_of s x) _ (λ d is fine. sound-unless g _ _ _ _ (λ has.
+      sound-directory d _ fine (λ n opened dir.
+      sound-looks _ _ _ _ _ opened (directory_under (Openat x path f) x path (last_if f.create) s.walk refl fits) (λ walk under. left (One walk) (is_start _ d is dir, under)) (λ found sure.
+      sound-opened f d.rights d.fcntls path found fine.0.rights fine.0.fcntls (path_bytes path (both_right (is_operand x) _ (both_left _ _ valid))) sure.vacant))))
+  sound (Read x) valid fits left =
       sound-entry (value_of s x) _ (λ d low fine. sound-unless g _ _ _ _ (λ has.
       sound-object g d.description (w.files.objects d.description) _ _ fine.0.object
       (λ n access opened. sound-read_node d n access opened)
       (λ pair side low. sound-read_end d pair side (w.files.queue pair (other_side side)) (standing.messages pair (other_side side)))))
-  sound (Write x v) valid =
+  sound (Write x v) valid fits left =
       let byte : value_of s v % 256 < 256 = omega arith in
       sound-entry (value_of s x) _ (λ d low fine. sound-unless g _ _ _ _ (λ has.
       sound-object g d.description (w.files.objects d.description) _ _ fine.0.object
       (λ n access opened. sound-write_node d n access (value_of s v % 256) opened byte)
       (λ pair side low. sound-unless g _ _ _ _ (λ allowed. sound-sent d pair side _ low byte tt))))
-  sound (Sendfd x y v) valid =
+  sound (Sendfd x y v) valid fits left =
       let byte : value_of s v % 256 < 256 = omega arith in
       sound-entry (value_of s x) _ (λ d low fine.
       sound-entry (value_of s y) _ (λ passed low also. sound-unless g _ _ _ _ (λ has.
       sound-socket d _ fine (λ pair side low. sound-sent d pair side _ low byte also))))
-  sound (Recvfd x) valid =
+  sound (Recvfd x) valid fits left =
       sound-entry (value_of s x) _ (λ d low fine. sound-unless g _ _ _ _ (λ has.
       sound-socket d _ fine (λ pair side low.
       sound-number g (lowest_free (w.files.table p)) _ (λ number free.
       sound-receive_end d pair side number (w.files.queue pair (other_side side)) (free_low (w.files.table p) number free) (standing.messages pair (other_side side))))))
-  sound (Lseek x v) valid =
+  sound (Lseek x v) valid fits left =
       sound-entry (value_of s x) _ (λ d low fine. sound-unless g _ _ _ _ (λ has.
       sound-file d _ fine (λ n access file. sound-unless g _ _ _ _ (λ low.
       let within : value_of s v ≤ most_bytes = leb-true _ _ low in
       let small : value_of s v < 2 ^ 32 = omega arith in
       sound-gives g _ _ _ (record { small = small; tree = standing.good.tree; table = tt; queue = tt; state = within })))))
-  sound (Ftruncate x v) valid =
+  sound (Ftruncate x v) valid fits left =
       sound-entry (value_of s x) _ (λ d low fine. sound-unless g _ _ _ _ (λ has.
       sound-file d _ fine (λ n access file. sound-unless g _ _ _ _ (λ writable. sound-unless g _ _ _ _ (λ low.
       sound-gives g _ _ _ (alters 0 _ zero_small
       (resized_is_tree w.tree n (value_of s v) standing.good.tree file (file_there n file) (no_truncate_fault (value_of s v) low))))))))
-  sound (Fsync x) valid =
+  sound (Fsync x) valid fits left =
       sound-entry (value_of s x) _ (λ d low fine. sound-unless g _ _ _ _ (λ has.
       sound-object g d.description (w.files.objects d.description) _ _ fine.0.object
       (λ n access opened. sound-gives g _ _ _ (nothing 0 zero_small)) (λ pair side low. sound-fails g _ _)))
-  sound (Fstat x) valid =
+  sound (Fstat x) valid fits left =
       sound-entry (value_of s x) _ (λ d low fine. sound-unless g _ _ _ _ (λ has.
       sound-object g d.description (w.files.objects d.description) _ _ fine.0.object
       (λ n access opened. sound-looked n) (λ pair side low. sound-gives g _ _ _ (nothing 3 (omega arith)))))
-  sound (Fcntl_getfl x) valid =
+  sound (Fcntl_getfl x) valid fits left =
       sound-entry (value_of s x) _ (λ d low fine. sound-unless g _ _ _ _ (λ has. sound-unless g _ _ _ _ (λ also.
       let state : State = w.files.states d.description in
       sound-gives g _ _ _ (nothing (status_number state) (small_bits state.append state.nonblock)))))
-  sound (Fcntl_setfl x v) valid =
+  sound (Fcntl_setfl x v) valid fits left =
       sound-entry (value_of s x) _ (λ d low fine. sound-unless g _ _ _ _ (λ has. sound-unless g _ _ _ _ (λ also.
       sound-unless g _ _ _ _ (λ flags.
       sound-gives g _ _ _ (record { small = zero_small; tree = standing.good.tree; table = tt; queue = tt; state = fine.0.offset })))))
-  sound (Fstatat x path) valid =
-      sound-entry (value_of s x) _ (λ d low fine. sound-unless g _ _ _ _ (λ has.
-      sound-directory d _ fine (λ n opened.
-      sound-looks _ _ _ _ _ opened (both_right (is_operand x) _ valid) (λ found sure. sound-looked_at found))))
-  sound (Stat path) valid =
+  sound (Fstatat x path) valid fits left =
+      sound-start (value_of s x) _ (λ d is fine. sound-unless g _ _ _ _ (λ has.
+      sound-directory d _ fine (λ n opened dir.
+      sound-looks _ _ _ _ _ opened (directory_under (Fstatat x path) x path Follow s.walk refl fits) (λ walk under. left (One walk) (is_start _ d is dir, under)) (λ found sure. sound-looked_at found))))
+  sound (Stat path) valid fits left =
       sound-unless g _ _ _ _ (λ outside.
-      sound-looks _ _ _ _ _ root_opened valid (λ found sure. sound-looked_at found))
-  sound (Mkdirat x path) valid =
-      sound-entry (value_of s x) _ (λ d low fine. sound-unless g _ _ _ _ (λ has.
-      sound-directory d _ fine (λ n opened.
-      sound-looks _ _ _ _ _ opened (both_right (is_operand x) _ valid) (λ found sure. sound-made_directory path found sure.vacant))))
-  sound (Mkdir path) valid =
+      sound-looks _ _ _ _ _ root_opened (root_under (Stat path) path Follow s.walk refl fits) (λ walk is. left (One walk) is) (λ found sure. sound-looked_at found))
+  sound (Mkdirat x path) valid fits left =
+      sound-start (value_of s x) _ (λ d is fine. sound-unless g _ _ _ _ (λ has.
+      sound-directory d _ fine (λ n opened dir.
+      sound-looks _ _ _ _ _ opened (directory_under (Mkdirat x path) x path Keep s.walk refl fits) (λ walk under. left (One walk) (is_start _ d is dir, under)) (λ found sure.
+      sound-made_directory path found (path_bytes path (both_right (is_operand x) _ valid)) sure.vacant))))
+  sound (Mkdir path) valid fits left =
       sound-unless g _ _ _ _ (λ outside.
-      sound-looks _ _ _ _ _ root_opened valid (λ found sure. sound-made_directory path found sure.vacant))
-  sound (Unlinkat x path directory) valid =
-      sound-entry (value_of s x) _ (λ d low fine. sound-unless g _ _ _ _ (λ has.
-      sound-directory d _ fine (λ n opened.
-      sound-looks _ _ _ _ _ opened (both_right (is_operand x) _ valid) (λ found sure. sound-unlinked directory path found sure.there (sure.named refl)))))
-  sound (Unlink path directory) valid =
+      sound-looks _ _ _ _ _ root_opened (root_under (Mkdir path) path Keep s.walk refl fits) (λ walk is. left (One walk) is) (λ found sure.
+      sound-made_directory path found (path_bytes path valid) sure.vacant))
+  sound (Unlinkat x path directory) valid fits left =
+      sound-start (value_of s x) _ (λ d is fine. sound-unless g _ _ _ _ (λ has.
+      sound-directory d _ fine (λ n opened dir.
+      sound-looks _ _ _ _ _ opened (directory_under (Unlinkat x path directory) x path Keep s.walk refl fits) (λ walk under. left (One walk) (is_start _ d is dir, under)) (λ found sure.
+      sound-unlinked directory path found sure.there (sure.named refl)))))
+  sound (Unlink path directory) valid fits left =
       sound-unless g _ _ _ _ (λ outside.
-      sound-looks _ _ _ _ _ root_opened valid (λ found sure. sound-unlinked directory path found sure.there (sure.named refl)))
-  sound (Renameat x from y target) valid =
-      sound-entry (value_of s x) _ (λ d low fine.
-      sound-entry (value_of s y) _ (λ into low also.
+      sound-looks _ _ _ _ _ root_opened (root_under (Unlink path directory) path Keep s.walk refl fits) (λ walk is. left (One walk) is) (λ found sure.
+      sound-unlinked directory path found sure.there (sure.named refl)))
+  sound (Renameat x from y target) valid fits left =
+      sound-start (value_of s x) _ (λ d is fine.
+      sound-start (value_of s y) _ (λ into into_is also.
       sound-unless g _ _ _ _ (λ has. sound-unless g _ _ _ _ (λ may.
-      sound-directory d _ fine (λ n opened.
-      sound-directory into _ also (λ m other.
-      sound-looks_twice _ _ _ _ _ opened (both_right (is_operand x) _ (both_left _ _ (both_left _ _ valid))) other (both_right _ _ valid) (λ source place sure into_place.
+      sound-directory d _ fine (λ n opened dir.
+      sound-directory into _ also (λ m other into_dir.
+      sound-looks_twice _ _ _ _ _ opened other (both_under (Renameat x from y target) x from y target s.walk refl fits)
+      (λ one two first second. left (Two one two) (is_start _ d is dir, is_start _ into into_is into_dir, first, second)) (λ source place sure into_place.
       sound-renamed_from source _ sure.there (λ k linked.
-      sound-renamed_to (Renameat x from y target) into k target place linked into_place.there into_place.vacant (into_place.named refl)))))))))
-  sound (Dup x) valid =
+      sound-renamed_to (Renameat x from y target) into k target place (path_bytes target (both_right _ _ valid)) linked into_place.there into_place.vacant (into_place.named refl)))))))))
+  sound (Dup x) valid fits left =
       sound-entry (value_of s x) _ (λ d low fine.
       sound-number g (lowest_free (w.files.table p)) _ (λ number free.
       let there : number < 16 = free_low (w.files.table p) number free in
       sound-gives g _ _ _ (record { small = low_small number there; tree = standing.good.tree; table = (there, fine); queue = tt; state = tt })))
-  sound (Close x) valid =
+  sound (Close x) valid fits left =
       sound-entry (value_of s x) _ (λ d low fine.
       sound-gives g _ _ _ (record { small = zero_small; tree = standing.good.tree; table = tt; queue = tt; state = tt }))
-  sound (Cap_rights_limit x rights) valid =
+  sound (Cap_rights_limit x rights) valid fits left =
       sound-entry (value_of s x) _ (λ d low fine. sound-unless g _ _ _ _ (λ within.
       let narrowed : Known g (record d { rights = rights }) = (
         record {
@@ -448,7 +515,7 @@ module _ (programs : Programs) (g : Ground) (standing : Standing programs g) (p 
         fine.1,
       ) in
       sound-gives g _ _ _ (record { small = zero_small; tree = standing.good.tree; table = (low, narrowed); queue = tt; state = tt })))
-  sound (Cap_fcntls_limit x commands) valid =
+  sound (Cap_fcntls_limit x commands) valid fits left =
       sound-entry (value_of s x) _ (λ d low fine. sound-unless g _ _ _ _ (λ within.
       let narrowed : Known g (record d { fcntls = commands }) = (
         record {
@@ -461,10 +528,10 @@ module _ (programs : Programs) (g : Ground) (standing : Standing programs g) (p 
         fine.1,
       ) in
       sound-gives g _ _ _ (record { small = zero_small; tree = standing.good.tree; table = (low, narrowed); queue = tt; state = tt })))
-  sound Cap_enter valid = sound-gives g _ _ _ (record { small = zero_small; tree = standing.good.tree; table = tt; queue = tt; state = tt })
-  sound Cap_getmode valid = sound-gives g _ _ _ (nothing (bit_of s.mode 1) (small_bit s.mode))
-  sound Socketpair valid = sound-pair_at (lowest_free (w.files.table p)) refl
-  sound Fork valid =
+  sound Cap_enter valid fits left = sound-gives g _ _ _ (record { small = zero_small; tree = standing.good.tree; table = tt; queue = tt; state = tt })
+  sound Cap_getmode valid fits left = sound-gives g _ _ _ (nothing (bit_of s.mode 1) (small_bit s.mode))
+  sound Socketpair valid fits left = sound-pair_at (lowest_free (w.files.table p)) refl
+  sound Fork valid fits left =
       sound-unless g _ _ _ _ (λ room. sound-unless g _ _ _ _ (λ allowed.
       let few : length w.processes < 16 = below _ _ room in
       sound-gives g _ _ _ (record { small = low_small (length w.processes) few; tree = standing.good.tree; table = few; queue = tt; state = tt })))

@@ -12,30 +12,24 @@ use Rattle.rights.proofs.Changes.{put-cases, put-other}
 use Rattle.rights.proofs.Lists.{slice_get-set_cases}
 use Rattle.rights.proofs.Tests.{both_left, both_right}
 use Rattle.file_tree.specs.Nodes.{Node}
-use Rattle.process.specs.State.{ProcessState, forked}
-use Rattle.prog_asm.specs.Programs.{Instruction, Set, Mov, Add, In, Jmp, Jeq, Jlt, Halt, Invoke, is_register, is_syscall}
+use Rattle.process.specs.State.{ProcessState, ended, forked, moved_to}
+use Rattle.prog_asm.specs.Programs.{Instruction, Set, Mov, Add, In, Jmp, Jeq, Jlt, Halt, Invoke, Syscall, is_register, is_syscall}
 use Rattle.fd_table.specs.Descriptions.{Descriptor, descriptor_of, IfHeld}
 use Rattle.kernel.specs.World.{World, Choice, IsFresh}
-use Rattle.kernel.specs.Answers.{Event, TableChange, Same_table, Set_entry, Clear_entry, New_file, New_pair, New_process, Change, Answer, Fails, Waits, Gives, IsEvent}
+use Rattle.kernel.specs.Answers.{Event, TableChange, Same_table, Set_entry, Clear_entry, New_file, New_pair, New_process, Change, Answer, Fails, Waits, Gives, Walks, IsEvent}
 use Rattle.rights.specs.Limits.{most_processes}
 use Rattle.kernel.specs.Calls.{answer}
 use Rattle.kernel.specs.Changes.{table_after, second_number, given, processes_after, files_after, changed}
-use Rattle.kernel.specs.Steps.{Programs, register, with_register, moved_to, goes_on, with_process, halted, failed, answered, jumped, executed, stepped_at, stepped_by, stepped, step}
+use Rattle.kernel.specs.Steps.{Programs, register, with_register, goes_on, with_process, halted, failed, answered, jumped, executed, stepped_at, stepped_by, stepped, step}
 use Rattle.kernel.specs.WellFormed.{ArePrograms, Numbering, HasNone, IsDescriptor, IsProcessIfMade, IsPoint, IsProcess, IsWorld, IsWellFormed}
 use Rattle.kernel.specs.Runs.{NextWorldExists, FreshNumbersExist}
-use Rattle.kernel.proofs.Brings.{ground, Known, BringsTable, Brings, Sound}
+use Rattle.kernel.specs.Walks.{Fits, FitsIfWalking, IsWalker, IsWalkerIfMade, call_in, lookups_of, under_way}
+use Rattle.kernel.proofs.Brings.{Ground, ground, Known, BringsTable, Brings, Sound}
+use Rattle.kernel.proofs.KeptWalks.{AreWalkers, slice_get-more_cases, walkers_changed, walkers_halted, walkers_moved, walkers_on}
 use Rattle.kernel.proofs.Brought.{sound}
 use Rattle.kernel.proofs.Fresh.{IsApart, known_entries, known_messages, fresh_with, fresh_some}
 use Rattle.kernel.proofs.Later.{numbering_after, entries_later, numbers_later, messages_later, short_later, idle_later, sides_later}
-use Rattle.kernel.proofs.Points.{Placed, placed, register_small, process_at, process_moved, process_ended, process_with}
-
--- one more element
-pub slice_get-more_cases : {A : Type 0} (Q : Option A → Type 0) (xs : List A) (c : A) (m : ℕ) → (m ≡ length xs → Q (Some c)) → (m ≢ length xs → Q (slice_get xs m)) → Q (slice_get (xs ++ c ∷ []) m)
-slice_get-more_cases Q [] c zero here there = here refl
-slice_get-more_cases Q [] c (suc m) here there = there (λ same. absurd (omega (arith, same)))
-slice_get-more_cases Q (x ∷ xs) c zero here there = there (λ same. absurd (omega (arith, same)))
-slice_get-more_cases Q (x ∷ xs) c (suc m) here there =
-    slice_get-more_cases Q xs c m (λ same. here (ap suc same)) (λ other. there (λ same. other (omega (arith, same))))
+use Rattle.kernel.proofs.Points.{Placed, placed, register_small, process_at, process_moved, process_ended, process_walking, process_with}
 
 alive_has : (s : ProcessState) (row : ℕ → Option Descriptor) → s.alive ≡ true → HasNone (Some s) row
 alive_has s row alive = λ ended. absurd (let clash : true ≡ false = sym alive ∙ ended in cc)
@@ -61,19 +55,18 @@ module _ (programs : Programs) (numbering : Numbering) (w : World) (good : IsWor
   -- an ended process, with its table closed
   kept-halted : IsProcess programs t → IsWorld programs numbering (halted w p t)
   kept-halted made =
-      let ended : ProcessState = record t { alive = false } in
       let closed : ℕ → Option Descriptor = λ n. None in
       record {
         tree = good.tree;
-        some = omega (arith, length-set w.processes p ended, good.some);
-        few = omega (arith, length-set w.processes p ended, good.few);
-        processes = λ m. slice_get-set_cases (IsProcessIfMade programs) w.processes p ended m (λ _. process_ended programs t made) (good.processes m);
+        some = omega (arith, length-set w.processes p (ended t), good.some);
+        few = omega (arith, length-set w.processes p (ended t), good.few);
+        processes = λ m. slice_get-set_cases (IsProcessIfMade programs) w.processes p (ended t) m (λ _. process_ended programs t made) (good.processes m);
         entries = λ q n. put-cases (λ row. IfHeld (IsDescriptor w.tree numbering w.files.objects w.files.states) (row n)) w.files.table p closed q (λ _. tt) (λ _. good.entries q n);
         numbers = λ q n far. put-cases (λ row. row n ≡ None) w.files.table p closed q (λ _. refl) (λ _. good.numbers q n far);
         gone = λ q.
-            put-cases (λ row. HasNone (slice_get (slice_set w.processes p ended) q) row) w.files.table p closed q
-            (λ _. none_at_all (slice_get (slice_set w.processes p ended) q))
-            (λ other. slice_get-set_cases (λ o. HasNone o (w.files.table q)) w.processes p ended q (λ same. absurd (other same)) (good.gone q));
+            put-cases (λ row. HasNone (slice_get (slice_set w.processes p (ended t)) q) row) w.files.table p closed q
+            (λ _. none_at_all (slice_get (slice_set w.processes p (ended t)) q))
+            (λ other. slice_get-set_cases (λ o. HasNone o (w.files.table q)) w.processes p (ended t) q (λ same. absurd (other same)) (good.gone q));
         messages = good.messages;
         short = good.short;
         idle = good.idle;
@@ -162,14 +155,14 @@ module _ (programs : Programs) (numbering : Numbering) (w : World) (good : IsWor
   -- the process goes on, with the value and a pair's second number
   given_process : (Good : Descriptor → Type 0) (tree : List Node) (made : ℕ) (value : ℕ) (mode : Bool) (table : TableChange) →
       BringsTable Good tree made table → IsProcess programs s → value < 2 ^ 32 → IsPoint (slice_get (programs s.program) (s.point + 1)) →
-      IsProcess programs (record s { registers = second_number table (slice_set s.registers 0 value); point = s.point + 1; mode = mode })
+      IsProcess programs (record s { registers = second_number table (slice_set s.registers 0 value); point = s.point + 1; mode = mode; walk = None })
   given_process Good tree made value mode Same_table brings fine small next = process_at programs s 0 value (s.point + 1) mode fine small next
   given_process Good tree made value mode (Set_entry number d) brings fine small next = process_at programs s 0 value (s.point + 1) mode fine small next
   given_process Good tree made value mode (Clear_entry number) brings fine small next = process_at programs s 0 value (s.point + 1) mode fine small next
   given_process Good tree made value mode (New_file number n access append rights fcntls) brings fine small next = process_at programs s 0 value (s.point + 1) mode fine small next
   given_process Good tree made value mode (New_pair first second class) brings fine small next =
       let low : second < 2 ^ 32 = omega (arith, brings.1) in
-      process_with programs (record s { registers = slice_set s.registers 0 value; point = s.point + 1; mode = mode }) 1 second
+      process_with programs (record s { registers = slice_set s.registers 0 value; point = s.point + 1; mode = mode; walk = None }) 1 second
       (process_at programs s 0 value (s.point + 1) mode fine small next) low
   given_process Good tree made value mode New_process brings fine small next = process_at programs s 0 value (s.point + 1) mode fine small next
 
@@ -200,77 +193,107 @@ module _ (programs : Programs) (numbering : Numbering) (w : World) (good : IsWor
 number_small : (errno : Errno) → errno_number errno < 2 ^ 32
 number_small errno = let low : errno_number errno ≤ 94 = errno_number-le errno in omega arith
 
-module _ (programs : Programs) (valid : ArePrograms programs) (numbering : Numbering) (w : World) (good : IsWorld programs numbering w) (e : Event)
-    (byte : IsEvent e) (choice : Choice) (fresh : IsFresh w.files choice) where
-  well : (v : World) → IsWorld programs numbering v → IsWellFormed programs v
-  well v is = record { numbering = numbering; world = is }
+module _ (programs : Programs) (valid : ArePrograms programs) (numbering : Numbering) (w : World) (good : IsWorld programs numbering w)
+    (walkers : AreWalkers programs w) (e : Event) (byte : IsEvent e) (choice : Choice) (fresh : IsFresh w.files choice) where
+  well : (v : World) → IsWorld programs numbering v → AreWalkers programs v → IsWellFormed programs v
+  well v is walk = record { numbering = numbering; world = is; walks = walk }
 
-  kept-answered : (s : ProcessState) (otherwise : ℕ) (a : Answer) → slice_get w.processes e.process ≡ Some s → IsProcess programs s → s.alive ≡ true →
-      IsPoint (slice_get (programs s.program) otherwise) → IsPoint (slice_get (programs s.program) (s.point + 1)) →
-      Sound (ground numbering w (IsApart w.files choice)) a → IsWellFormed programs (answered w e.process s choice otherwise a).world
-  unfolding answered Sound
-  kept-answered s otherwise (Fails errno cause) made fine alive label next brings =
-      well _ (kept-process programs numbering w good e.process (failed s errno otherwise) (process_at programs s 7 (errno_number errno) otherwise s.mode fine (number_small errno) label) alive)
-  kept-answered s otherwise Waits made fine alive label next brings = well w good
-  kept-answered s otherwise (Gives value change effects) made fine alive label next brings = record {
+  -- nothing changed, or the process alone, which has nothing under way then
+  well_same : IsWellFormed programs w
+  well_same = well w good walkers
+
+  well_moved : (t : ProcessState) → IsProcess programs t → t.alive ≡ true → t.walk ≡ None → IsWellFormed programs (with_process w e.process t)
+  well_moved t fine alive none = well (with_process w e.process t) (kept-process programs numbering w good e.process t fine alive) (walkers_moved programs w walkers e.process t none)
+
+  abbrev left : ProcessState → Syscall → Ground
+  left s call = record (ground numbering w (IsApart w.files choice)) { Left = Fits w.tree w.files.objects (w.files.table e.process) s (lookups_of call) }
+
+  kept-answered : (s : ProcessState) (call : Syscall) (otherwise : ℕ) (a : Answer) → slice_get w.processes e.process ≡ Some s → IsProcess programs s → s.alive ≡ true →
+      under_way programs s ≡ Some call → IsPoint (slice_get (programs s.program) otherwise) → IsPoint (slice_get (programs s.program) (s.point + 1)) →
+      Sound (left s call) a → IsWellFormed programs (answered w e.process s choice otherwise a).world
+  unfolding answered Sound changed files_after
+  kept-answered s call otherwise (Fails errno cause) made fine alive here label next brings =
+      well_moved (failed s errno otherwise) (process_at programs s 7 (errno_number errno) otherwise s.mode fine (number_small errno) label) alive refl
+  kept-answered s call otherwise Waits made fine alive here label next brings = well_same
+  kept-answered s call otherwise (Gives value change effects) made fine alive here label next brings = record {
     numbering = numbering_after numbering choice change.table;
-    world = kept-changed programs numbering w good e.process s made alive choice fresh fine next value change brings;
+    world = kept-changed programs numbering w good e.process s made alive choice fresh fine next value change (same_brings value change brings);
+    walks = walkers_changed programs numbering w good walkers choice fresh e.process (given s value change) refl change.tree change.table;
   }
+    where
+      same_brings : (value : ℕ) (change : Change) → Brings (left s call) value change → Brings (ground numbering w (IsApart w.files choice)) value change
+      same_brings value change brings = record { small = brings.small; tree = brings.tree; table = brings.table; queue = brings.queue; state = brings.state }
+  kept-answered s call otherwise (Walks walking) made fine alive here label next fits =
+      well (with_process w e.process (record s { walk = Some walking }))
+      (kept-process programs numbering w good e.process (record s { walk = Some walking }) (process_walking programs s (Some walking) fine) alive)
+      (walkers_on programs w walkers e.process s walking call alive here fits)
 
   -- the process with a register set goes on
   kept-set : (s : ProcessState) (i : Instruction) (r value : ℕ) → IsProcess programs s → s.alive ≡ true →
       IsPoint (slice_get (programs s.program) (s.point + 1)) → value < 2 ^ 32 →
       IsWellFormed programs (with_process w e.process (goes_on (with_register s r value)))
   kept-set s i r value fine alive next small =
-      well _ (kept-process programs numbering w good e.process (goes_on (with_register s r value)) (process_at programs s r value (s.point + 1) s.mode fine small next) alive)
+      well_moved (goes_on (with_register s r value)) (process_at programs s r value (s.point + 1) s.mode fine small next) alive refl
 
   kept-jump : (s : ProcessState) (taken : Bool) (target : ℕ) → IsProcess programs s → s.alive ≡ true →
       IsPoint (slice_get (programs s.program) target) → IsPoint (slice_get (programs s.program) (s.point + 1)) →
       IsWellFormed programs (with_process w e.process (jumped s taken target))
   unfolding jumped
-  kept-jump s true target fine alive there next = well _ (kept-process programs numbering w good e.process (moved_to s target) (process_moved programs s target fine there) alive)
-  kept-jump s false target fine alive there next = well _ (kept-process programs numbering w good e.process (goes_on s) (process_moved programs s (s.point + 1) fine next) alive)
+  kept-jump s true target fine alive there next = well_moved (moved_to s target) (process_moved programs s target fine there) alive refl
+  kept-jump s false target fine alive there next = well_moved (goes_on s) (process_moved programs s (s.point + 1) fine next) alive refl
+
+  -- what the process has under way is of the call that it makes
+  walk_fits : (s : ProcessState) (call : Syscall) → slice_get w.processes e.process ≡ Some s → under_way programs s ≡ Some call →
+      FitsIfWalking w.tree w.files.objects (w.files.table e.process) s (Some call) s.walk
+  walk_fits s call made here =
+      let is : IsWalker programs w.tree w.files.objects (w.files.table e.process) s =
+        subst (IsWalkerIfMade programs w.tree w.files.objects (w.files.table e.process)) made (walkers e.process) in
+      subst (λ o. FitsIfWalking w.tree w.files.objects (w.files.table e.process) s o s.walk) here is.fits
+
+  call_here : (s : ProcessState) (call : Syscall) (otherwise : ℕ) → slice_get (programs s.program) s.point ≡ Some (Invoke call otherwise) → under_way programs s ≡ Some call
+  unfolding under_way
+  call_here s call otherwise here = ap call_in here
 
   kept-executed : (s : ProcessState) (i : Instruction) → slice_get w.processes e.process ≡ Some s → IsProcess programs s → s.alive ≡ true →
-      Placed (programs s.program) s.point i → IsWellFormed programs (executed w e choice s i).world
+      slice_get (programs s.program) s.point ≡ Some i → Placed (programs s.program) s.point i → IsWellFormed programs (executed w e choice s i).world
   unfolding executed
-  kept-executed s (Set r value) made fine alive at =
+  kept-executed s (Set r value) made fine alive here at =
       kept-set s (Set r value) r value fine alive (at.next refl) (ltb-true value (2 ^ 32) (both_right (is_register r) _ at.fits))
-  kept-executed s (Mov r source) made fine alive at =
+  kept-executed s (Mov r source) made fine alive here at =
       kept-set s (Mov r source) r (register s source) fine alive (at.next refl) (register_small s.registers source fine.small)
-  kept-executed s (Add r addend) made fine alive at =
+  kept-executed s (Add r addend) made fine alive here at =
       let small : (register s r + register s addend) % 2 ^ 32 < 2 ^ 32 = omega arith in
       kept-set s (Add r addend) r ((register s r + register s addend) % 2 ^ 32) fine alive (at.next refl) small
-  kept-executed s (In r) made fine alive at =
+  kept-executed s (In r) made fine alive here at =
       let small : e.input < 2 ^ 32 = omega (arith, byte) in kept-set s (In r) r e.input fine alive (at.next refl) small
-  kept-executed s (Jmp target) made fine alive at =
-      well _ (kept-process programs numbering w good e.process (moved_to s target) (process_moved programs s target fine (at.target target (ltb-true target _ at.fits))) alive)
-  kept-executed s (Jeq r value target) made fine alive at =
+  kept-executed s (Jmp target) made fine alive here at =
+      well_moved (moved_to s target) (process_moved programs s target fine (at.target target (ltb-true target _ at.fits))) alive refl
+  kept-executed s (Jeq r value target) made fine alive here at =
       kept-jump s (register s r == value) target fine alive (at.target target (ltb-true target _ (both_right (is_register r && nat_lt value (2 ^ 32)) _ at.fits))) (at.next refl)
-  kept-executed s (Jlt r value target) made fine alive at =
+  kept-executed s (Jlt r value target) made fine alive here at =
       kept-jump s (nat_lt (register s r) value) target fine alive (at.target target (ltb-true target _ (both_right (is_register r && nat_lt value (2 ^ 32)) _ at.fits))) (at.next refl)
-  kept-executed s Halt made fine alive at = well _ (kept-halted programs numbering w good e.process s fine)
-  kept-executed s (Invoke call otherwise) made fine alive at =
-      kept-answered s otherwise (answer w e.process s e call) made fine alive
+  kept-executed s Halt made fine alive here at = well (halted w e.process s) (kept-halted programs numbering w good e.process s fine) (walkers_halted programs w walkers e.process s)
+  kept-executed s (Invoke call otherwise) made fine alive here at =
+      kept-answered s call otherwise (answer w e.process s e call) made fine alive (call_here s call otherwise here)
       (at.target otherwise (ltb-true otherwise _ (both_right (is_syscall call) _ at.fits))) (at.next refl)
-      (sound programs (ground numbering w (IsApart w.files choice))
+      (sound programs (left s call)
       (record {
         good = good;
         entries = known_entries programs numbering w good choice fresh;
         messages =
             known_messages programs numbering w good choice fresh;
-      }) e.process s e call (both_left _ _ at.fits))
+      }) e.process s e call (both_left _ _ at.fits) (walk_fits s call made (call_here s call otherwise here)) (λ walking fits. fits))
 
   kept-at : (s : ProcessState) → slice_get w.processes e.process ≡ Some s → IsProcess programs s → s.alive ≡ true → (o : Option Instruction) →
       slice_get (programs s.program) s.point ≡ o → IsWellFormed programs (stepped_at w e choice s o).world
   unfolding stepped_at
-  kept-at s made fine alive None here = well w good
-  kept-at s made fine alive (Some i) here = kept-executed s i made fine alive (placed (programs s.program) s.point i (valid s.program) here)
+  kept-at s made fine alive None here = well_same
+  kept-at s made fine alive (Some i) here = kept-executed s i made fine alive here (placed (programs s.program) s.point i (valid s.program) here)
 
   kept-by : (s : ProcessState) → slice_get w.processes e.process ≡ Some s → IsProcess programs s → (alive : Bool) → s.alive ≡ alive →
       IsWellFormed programs (stepped_by programs w e choice s alive).world
   unfolding stepped_by
-  kept-by s made fine false is = well w good
+  kept-by s made fine false is = well_same
   kept-by s made fine true is = kept-at s made fine is (slice_get (programs s.program) s.point) refl
 
   -- Each step, whatever numbers are chosen, keeps the world well formed.
@@ -279,14 +302,14 @@ module _ (programs : Programs) (valid : ArePrograms programs) (numbering : Numbe
   kept = go (slice_get w.processes e.process) refl (good.processes e.process)
     where
       go : (o : Option ProcessState) → slice_get w.processes e.process ≡ o → IsProcessIfMade programs o → IsWellFormed programs (stepped programs w e choice o).world
-      go None made fine = well w good
+      go None made fine = well_same
       go (Some s) made fine = kept-by s made fine s.alive refl
 
 -- There is a next world, and each is well formed.
 pub next_world : NextWorldExists
 next_world programs w e valid good byte = record {
   some = fresh_some programs good.numbering w good.world;
-  each = λ choice fresh. kept programs valid good.numbering w good.world e byte choice fresh;
+  each = λ choice fresh. kept programs valid good.numbering w good.world good.walks e byte choice fresh;
 }
 
 pub fresh_numbers : FreshNumbersExist

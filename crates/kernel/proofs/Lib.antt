@@ -6,12 +6,14 @@ pub mod CauseRows
 pub mod NameCauseRows
 pub mod Origins
 pub mod Trees
+pub mod Looking
 pub mod Lookups
 pub mod Brings
 pub mod Brought
 pub mod Fresh
 pub mod Points
 pub mod Later
+pub mod KeptWalks
 pub mod Keeping
 pub mod Opens
 pub mod Renamed

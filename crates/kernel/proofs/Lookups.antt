@@ -1,4 +1,4 @@
--- What a call may rely on of what it looks up.
+-- What a call may rely on of its paths, and of what is found.
 use Rattle.std.proofs.Common.{◌≡◌, ℕ, List, [], ◌∷◌, Bool, true, false, None, ap, sym, ◌∙◌, subst, refl}
 use Rattle.std.specs.Prelude.{◌&&◌, ◌||◌, not, nat_eq, nat_le}
 use Rattle.std.specs.List.{list_all}
@@ -34,66 +34,11 @@ path_byte b good = by (nat_le 33 b) (nat_le b 126) (nat_eq b 34) (nat_eq b 92) (
     by true true true g h good = absurd cc
     by true true false true h good = absurd cc
 
-path_bytes : (path : List ℕ) → is_path path ≡ true → has_path_bytes path ≡ true
+pub path_bytes : (path : List ℕ) → is_path path ≡ true → has_path_bytes path ≡ true
 path_bytes [] good = refl
 path_bytes (b ∷ path) good =
     let parts = and_parts (is_path_byte b) (is_path path) good in
     both_true (path_byte b parts.0) (path_bytes path parts.1)
-
--- a free name is one in a linked directory that lacks it
-pub record Vacant (t : List Node) (d : ℕ) (name : List ℕ) : Type 0 where
-  pub linked : (node t d).linked ≡ true
-  pub directory : (node t d).kind ≡ Dir
-  pub absent : child_of t d name ≡ None
-  pub named : is_file_name name ≡ true
-
-abbrev pub MayMake : List Node → List ℕ → Finding → Type 0
-MayMake t path (Found_node n) = Unit {0}
-MayMake t path (Found_free d) = Vacant t d (last_component path)
-MayMake t path (Not_found fault) = Unit {0}
-
-module _ (t : List Node) (start : ℕ) (path : List ℕ) (way : Way) (tree : IsTree t) where
-  find_there : (last : Last) → IsFindingThere t (find_of t start path way last)
-  find_there last = looks_there t start path way last (find_of t start path way last) (find_looks t start path way last)
-
-  may_make : (a : Finding) → IsFindingThere t a → IsFreeName t path a → MayBeMade path a → has_path_bytes path ≡ true → MayMake t path a
-  may_make (Found_node n) there free name bytes = tt
-  may_make (Found_free d) there free name bytes = record { linked = there.linked; directory = free.directory; absent = free.absent; named = name bytes }
-  may_make (Not_found fault) there free name bytes = tt
-
-  vacant : has_path_bytes path ≡ true → MayMake t path (find_of t start path way Keep)
-  vacant bytes =
-      may_make (find_of t start path way Keep) (find_there Keep)
-      (kept_free t start path way tree (find_of t start path way Keep) (find_looks t start path way Keep))
-      (kept_may_be_made t start path way (find_of t start path way Keep) (find_looks t start path way Keep)) bytes
-
-  never_free : (a : Finding) → IsFollowed t a → MayMake t path a
-  never_free (Found_node n) followed = tt
-  never_free (Found_free d) followed = absurd followed
-  never_free (Not_found fault) followed = tt
-
-  find_vacant : is_link (node t start).kind ≡ false → has_path_bytes path ≡ true → (last : Last) → MayMake t path (find_of t start path way last)
-  find_vacant opened bytes Keep = vacant bytes
-  find_vacant opened bytes Follow =
-      never_free (find_of t start path way Follow) (followed_good t start path way tree opened (find_of t start path way Follow) (find_looks t start path way Follow))
-
-  find_named : (last : Last) → last ≡ Keep → IsUnderName t path (find_of t start path way last)
-  find_named Keep is = kept_named t start path way tree (find_of t start path way Keep) (find_looks t start path way Keep)
-  find_named Follow is = absurd cc
-
--- What is known of whatever a search finds in a tree. It doesn't name the start.
-pub record Sure (t : List Node) (path : List ℕ) (last : Last) (found : Finding) : Type 0 where
-  pub there : IsFindingThere t found
-  pub vacant : MayMake t path found
-  pub named : last ≡ Keep → IsUnderName t path found
-
-pub find_sure : (t : List Node) (start : ℕ) (path : List ℕ) (way : Way) (last : Last) → IsTree t → is_link (node t start).kind ≡ false →
-    is_path path ≡ true → Sure t path last (find_of t start path way last)
-find_sure t start path way last tree opened valid = record {
-  there = find_there t start path way tree last;
-  vacant = find_vacant t start path way tree opened (path_bytes path valid) last;
-  named = find_named t start path way tree last;
-}
 
 -- A linked node moves over another that is found under its name.
 name_of_place : (t : List Node) → IsTree t → (m d : ℕ) (name : List ℕ) → (node t m).linked ≡ true → (node t m).place ≡ at_name (node t d).place name → is_file_name name ≡ true

@@ -1,11 +1,11 @@
 -- Points of a valid program, and processes that go on in it.
 use Rattle.std.proofs.Common.{◌≡◌, ℕ, zero, suc, ◌+◌, ◌<◌, ◌^◌, Bool, true, false, List, [], ◌∷◌, length, arith, ◌∙◌}
-use Rattle.std.specs.Prelude.{◌&&◌, Some, nat_le, slice_set}
+use Rattle.std.specs.Prelude.{◌&&◌, Option, Some, None, nat_le, slice_set}
 use Rattle.std.specs.List.{slice_get, slice_index_or, list_all}
 use Rattle.std.proofs.Math.ListN.{length-set}
 use Rattle.rights.proofs.Lists.{list_all-slice_get, slice_get-set_cases}
 use Rattle.rights.proofs.Tests.{both_left, both_right}
-use Rattle.process.specs.State.{ProcessState}
+use Rattle.process.specs.State.{ProcessState, Walking, ended, moved_to}
 use Rattle.prog_asm.specs.Programs.{Instruction, is_instruction, is_last, ends_well}
 use Rattle.kernel.specs.Steps.{Programs}
 use Rattle.kernel.specs.WellFormed.{IsCode, IsPoint, FitsRegister, IsProcess}
@@ -56,7 +56,7 @@ small-set registers r value small all k = slice_get-set_cases FitsRegister regis
 -- the process with a register set, at another point of its program, in either mode
 pub process_at : (programs : Programs) (s : ProcessState) (r value point : ℕ) (mode : Bool) → IsProcess programs s → value < 2 ^ 32 →
     IsPoint (slice_get (programs s.program) point) →
-    IsProcess programs (record s { registers = slice_set s.registers r value; point = point; mode = mode })
+    IsProcess programs (record s { registers = slice_set s.registers r value; point = point; mode = mode; walk = None })
 process_at programs s r value point mode good small there = record {
   placed = λ alive. there;
   eight = length-set s.registers r value ∙ good.eight;
@@ -64,11 +64,11 @@ process_at programs s r value point mode good small there = record {
 }
 
 -- the process at another point
-pub process_moved : (programs : Programs) (s : ProcessState) (point : ℕ) → IsProcess programs s → IsPoint (slice_get (programs s.program) point) → IsProcess programs (record s { point = point })
+pub process_moved : (programs : Programs) (s : ProcessState) (point : ℕ) → IsProcess programs s → IsPoint (slice_get (programs s.program) point) → IsProcess programs (moved_to s point)
 process_moved programs s point good there = record { placed = λ alive. there; eight = good.eight; small = good.small }
 
 -- the process, ended
-pub process_ended : (programs : Programs) (s : ProcessState) → IsProcess programs s → IsProcess programs (record s { alive = false })
+pub process_ended : (programs : Programs) (s : ProcessState) → IsProcess programs s → IsProcess programs (ended s)
 process_ended programs s good = record { placed = λ alive. absurd cc; eight = good.eight; small = good.small }
 
 -- the process with a register set
@@ -78,3 +78,7 @@ process_with programs s r value good small = record {
   eight = length-set s.registers r value ∙ good.eight;
   small = small-set s.registers r value small good.small;
 }
+
+-- the process with something under way, or nothing
+pub process_walking : (programs : Programs) (s : ProcessState) (walk : Option Walking) → IsProcess programs s → IsProcess programs (record s { walk = walk })
+process_walking programs s walk good = record { placed = good.placed; eight = good.eight; small = good.small }

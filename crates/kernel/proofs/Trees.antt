@@ -15,6 +15,7 @@ use Rattle.file_tree.proofs.TreeLaws.{child_by_place}
 use Rattle.file_tree.proofs.KeptByCreate.{old_node, created_is_tree}
 use Rattle.file_tree.proofs.KeptByRemove.{removed_is_tree}
 use Rattle.file_tree.proofs.KeptByRename.{renamed_is_tree}
+use Rattle.lookup.proofs.UnderWay.{there_if_opened}
 use Rattle.kernel.specs.Answers.{TreeChange, Same_tree, Make, Remove, Move, Fill}
 use Rattle.kernel.specs.Changes.{tree_after}
 
@@ -115,12 +116,6 @@ pub moved_to_free : (t : List Node) (n d : ℕ) (name : List ℕ) → IsTree t �
 moved_to_free t n d name tree linked holder dir absent named outside =
     moved_is_tree t n d name tree linked holder dir named outside
     (nothing_below_free t tree (at_name (node t d).place name) (sym (child_by_place t d name holder) ∙ absent))
-
--- a number that isn't a link's is in the list
-pub there_if_opened : (t : List Node) (n : ℕ) → is_link (node t n).kind ≡ false → n < length t
-there_if_opened [] n opened = absurd cc
-there_if_opened (m ∷ t) zero opened = omega arith
-there_if_opened (m ∷ t) (suc n) opened = let rest : n < length t = there_if_opened t n opened in omega arith
 
 kind-set : (t : List Node) (n k : ℕ) (x : Node) → x.kind ≡ (node t n).kind → (node (slice_set t n x) k).kind ≡ (node t k).kind
 kind-set [] n k x same = refl

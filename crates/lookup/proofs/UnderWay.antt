@@ -246,7 +246,7 @@ module _ (t : List Node) (path : List ℕ) (way : Way) (last : Last) (tree : IsT
   pub under_way_sure : (walk : WalkState) → IsUnderWay t path way last walk → IsSureProgress t path way last (handled t walk)
   under_way_sure walk is = progress_sure is.text walk is.same_way is.same_last (under_way_stood walk is)
 
-  sure_fault : (fault : LookupFault) → Sure t path last (Not_found fault)
+  pub sure_fault : (fault : LookupFault) → Sure t path last (Not_found fault)
   sure_fault fault = record { there = tt; vacant = tt; named = λ keep. tt; followed = λ follow. tt }
 
   module _ (start : ℕ) (opened : is_link (node t start).kind ≡ false) where
@@ -274,6 +274,25 @@ module _ (t : List Node) (path : List ℕ) (way : Way) (last : Last) (tree : IsT
         by_names [] is = sure_node t path way last tree text (start_node start way) (start_linked way stays)
             (λ keep. no_names (path_components path) is keep (good_last t path way last tree text keep)) (start_opened way)
         by_names (name ∷ names) is = ((start_opened way, tt), λ keep. ap (last_or []) (sym is))
+
+    -- Before its first name it is under way, if the last one is to be kept.
+    pub begun_under_way : last ≡ Keep → lookup_fault t start path way last ≡ None → IsUnderWay t path way last (begun start path way last)
+    unfolding last_component
+    begun_under_way keep none = record {
+          same_way = refl;
+          same_last = refl;
+          text = good.0;
+          opened = (start_opened way, tt);
+          left = some_names (path_components path) refl;
+        }
+      where
+        good : (path_fault path way last ≡ None) × (is_start_gone t start way ≡ false)
+        good = no_fault t start path way last none
+
+        some_names : (names : List (List ℕ)) → path_components path ≡ names → HasNamesLeft path last names
+        some_names [] is = let bad : true ≡ false = rw is at (good_last t path way last tree good.0 keep) in absurd cc
+        some_names (name ∷ names) is = λ keep. ap (last_or []) (sym is)
+
 
     -- So does its first event.
     pub begun_sure : IsSureProgress t path way last (first_handled t start path way last)

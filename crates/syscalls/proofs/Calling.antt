@@ -24,7 +24,7 @@ use Rattle.kernel.specs.Calls.{answer}
 use Rattle.kernel.specs.Changes.{files_after, changed, given, children, processes_after}
 use Rattle.kernel.specs.Steps.{LineResult, Value, Failed, Waiting, Programs, answered, failed}
 use Rattle.kernel.specs.WellFormed.{IsWellFormed, Numbering, IsObject, IsDescriptor}
-use Rattle.kernel.proofs.Trees.{there_if_opened}
+use Rattle.lookup.proofs.UnderWay.{there_if_opened}
 use Rattle.kernel.specs.Runs.{MayChoose}
 use Rattle.kernel.specs.Alike.{AlikeWorlds}
 use Rattle.kernel.proofs.Fresh.{fresh_some}

@@ -22,7 +22,7 @@ use Rattle.kernel.specs.World.{World, Choice}
 use Rattle.kernel.specs.Answers.{Event, Same_tree, Fill, Same_queue, Push, Pop, Same_state, Set_state, Gives, same, gives, value_of}
 use Rattle.kernel.specs.Calls.{answer, blocked, kind_number, write_offset, read_byte, read_node, read_end, write_node, sent_end}
 use Rattle.kernel.specs.WellFormed.{EachMessage}
-use Rattle.kernel.proofs.Trees.{there_if_opened}
+use Rattle.lookup.proofs.UnderWay.{there_if_opened}
 use Rattle.task.specs.Plans.{Plan}
 use Rattle.rules.specs.Intervals.{only}
 use Rattle.rules.specs.Outcomes.{from_to}

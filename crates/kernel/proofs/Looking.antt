@@ -1,0 +1,126 @@
+-- What holds of a call that looks paths up: by what holds of each finding, and of what it leaves under way.
+use Rattle.std.proofs.Common.{◌≡◌, ℕ, Bool, true, false, List, Option, Some, None, refl, cond}
+use Rattle.std.specs.Prelude.{not}
+use Rattle.rights.specs.Errors.{Errno, Cause}
+use Rattle.file_tree.specs.Nodes.{Node}
+use Rattle.lookup.specs.Answers.{Way, Beneath, Last, Keep, LookupFault, Escape, No_entry, Not_dir, Loop, Too_long, Bad_last, Finding, Found_node, Found_free, Not_found}
+use Rattle.lookup.specs.Looks.{lookup_fault}
+use Rattle.lookup.specs.Walks.{WalkState, Progress, Done, More, begun, first_handled, handled}
+use Rattle.process.specs.State.{ProcessState, Walking, One, Two}
+use Rattle.kernel.specs.World.{World}
+use Rattle.kernel.specs.Answers.{Event, Answer, Fails, Walks, lookup_fails}
+use Rattle.kernel.specs.Calls.{found_last, is_at_last, looks, looks_twice, lost, resumed, resumed_twice, unless_lost, walked, walked_both, walked_first, walked_second}
+
+-- an event ends in a finding that is good, or leaves names, and what is under way is good
+abbrev pub IsEvent : (Finding → Type 0) → (WalkState → Type 0) → Progress → Type 0
+IsEvent Good Under (Done finding) = Good finding
+IsEvent Good Under (More walk) = Under walk
+
+-- what holds of the lookup that is under way, and of the two, if they are
+abbrev pub IfOne : (WalkState → Type 0) → Option Walking → Type 0
+IfOne Under None = Unit {0}
+IfOne Under (Some (One walk)) = Under walk
+IfOne Under (Some (Two one other)) = Unit {0}
+
+abbrev pub IfTwo : (WalkState → Type 0) → (WalkState → Type 0) → Option Walking → Type 0
+IfTwo First Second None = Unit {0}
+IfTwo First Second (Some (One walk)) = Unit {0}
+IfTwo First Second (Some (Two one other)) = First one × Second other
+
+module _ (P : Answer → Type 0) (w : World) (p : ℕ) (s : ProcessState) (e : Event) where
+  -- ## One path
+  module _ (start : ℕ) (way : Way) (path : List ℕ) (last : Last) (rest : Finding → Answer) (Good : Finding → Type 0) (Under : WalkState → Type 0) where
+    walked_any : (event : Progress) → IsEvent Good Under event → ((found : Finding) → Good found → P (rest found)) →
+        ((walk : WalkState) → Under walk → P (Walks (One walk))) → P (walked rest event)
+    walked_any (Done finding) good found walks = found finding good
+    walked_any (More walk) good found walks = walks walk good
+
+    event_is : (o : Option Walking) → IfOne Under o → IsEvent Good Under (first_handled w.tree start path way last) →
+        ((walk : WalkState) → Under walk → IsEvent Good Under (handled w.tree walk)) →
+        IsEvent Good Under (resumed o (first_handled w.tree start path way last) (handled w.tree))
+    event_is None under first later = first
+    event_is (Some (One walk)) under first later = later walk under
+    event_is (Some (Two one other)) under first later = first
+
+    pub looks_any : IfOne Under s.walk → IsEvent Good Under (first_handled w.tree start path way last) →
+        ((walk : WalkState) → Under walk → IsEvent Good Under (handled w.tree walk)) →
+        ((found : Finding) → Good found → P (rest found)) → ((walk : WalkState) → Under walk → P (Walks (One walk))) →
+        P (looks w p s e start way path last rest)
+    unfolding looks
+    looks_any under first later found walks =
+        walked_any (resumed s.walk (first_handled w.tree start path way last) (handled w.tree)) (event_is s.walk under first later) found walks
+
+  -- ## Two paths
+  module _ (fails : (errno : Errno) (cause : Cause) → P (Fails errno cause)) where
+    pub fault_any : (fault : LookupFault) → P (lookup_fails fault)
+    fault_any Escape = fails _ _
+    fault_any No_entry = fails _ _
+    fault_any Not_dir = fails _ _
+    fault_any Loop = fails _ _
+    fault_any Too_long = fails _ _
+    fault_any Bad_last = fails _ _
+
+    lost_any : (finding : Finding) → P (lost finding)
+    lost_any (Not_found fault) = fault_any fault
+    lost_any (Found_node n) = fails _ _
+    lost_any (Found_free d) = fails _ _
+
+    unless_lost_any : (fault : Option LookupFault) (rest : Answer) → (fault ≡ None → P rest) → P (unless_lost fault rest)
+    unless_lost_any None rest good = good refl
+    unless_lost_any (Some fault) rest good = fault_any fault
+
+    module _ (n : ℕ) (from : List ℕ) (m : ℕ) (to : List ℕ) (rest : Finding → Finding → Answer) (Good Also : Finding → Type 0) (First Second : WalkState → Type 0) where
+      walked_first_any : (other : WalkState) → Second other → (event : Progress) → IsEvent Good First event →
+          ((one other : WalkState) → First one → Second other → P (Walks (Two one other))) → P (walked_first other event)
+      walked_first_any other second (Done finding) good walks = lost_any finding
+      walked_first_any other second (More walk) good walks = walks walk other good second
+
+      walked_second_any : (one : WalkState) → First one → (event : Progress) → IsEvent Also Second event →
+          ((one other : WalkState) → First one → Second other → P (Walks (Two one other))) → P (walked_second one event)
+      walked_second_any one first (Done finding) good walks = lost_any finding
+      walked_second_any one first (More walk) good walks = walks one walk first good
+
+      last_any : (Best : Finding → Type 0) (Under : WalkState → Type 0) (event : Progress) → Best (Not_found No_entry) → IsEvent Best Under event → Best (found_last event)
+      last_any Best Under (Done finding) none good = good
+      last_any Best Under (More walk) none good = none
+
+      walked_both_any : (one other : WalkState) → First one → Second other → Good (Not_found No_entry) → Also (Not_found No_entry) →
+          ((walk : WalkState) → First walk → IsEvent Good First (handled w.tree walk)) → ((walk : WalkState) → Second walk → IsEvent Also Second (handled w.tree walk)) →
+          ((found place : Finding) → Good found → Also place → P (rest found place)) →
+          ((one other : WalkState) → First one → Second other → P (Walks (Two one other))) → P (walked_both w p s e rest one other)
+      walked_both_any one other first second none nor one_event other_event found walks = by_first (is_at_last one)
+        where
+          by_second : (b : Bool) → P (cond (not b) (walked_second one (handled w.tree other)) (rest (found_last (handled w.tree one)) (found_last (handled w.tree other))))
+          by_second true =
+              found _ _ (last_any Good First (handled w.tree one) none (one_event one first)) (last_any Also Second (handled w.tree other) nor (other_event other second))
+          by_second false = walked_second_any one first (handled w.tree other) (other_event other second) walks
+
+          by_first : (b : Bool) → P (cond (not b) (walked_first other (handled w.tree one))
+              (cond (not (is_at_last other)) (walked_second one (handled w.tree other)) (rest (found_last (handled w.tree one)) (found_last (handled w.tree other)))))
+          by_first true = by_second (is_at_last other)
+          by_first false = walked_first_any other second (handled w.tree one) (one_event one first) walks
+
+      pub looks_twice_any : IfTwo First Second s.walk →
+          (lookup_fault w.tree n from Beneath Keep ≡ None → First (begun n from Beneath Keep)) →
+          (lookup_fault w.tree m to Beneath Keep ≡ None → Second (begun m to Beneath Keep)) →
+          Good (Not_found No_entry) → Also (Not_found No_entry) →
+          ((walk : WalkState) → First walk → IsEvent Good First (handled w.tree walk)) → ((walk : WalkState) → Second walk → IsEvent Also Second (handled w.tree walk)) →
+          ((found place : Finding) → Good found → Also place → P (rest found place)) →
+          ((one other : WalkState) → First one → Second other → P (Walks (Two one other))) →
+          P (looks_twice w p s e n from m to rest)
+      unfolding looks_twice
+      looks_twice_any under begun_one begun_other none nor one_event other_event found walks = by_walk s.walk under
+        where
+          first_event : P (unless_lost (lookup_fault w.tree n from Beneath Keep)
+              (unless_lost (lookup_fault w.tree m to Beneath Keep) (walked_both w p s e rest (begun n from Beneath Keep) (begun m to Beneath Keep))))
+          first_event =
+              unless_lost_any _ _ (λ one. unless_lost_any _ _ (λ other.
+              walked_both_any (begun n from Beneath Keep) (begun m to Beneath Keep) (begun_one one) (begun_other other) none nor one_event other_event found walks))
+
+          by_walk : (o : Option Walking) → IfTwo First Second o → P (resumed_twice o
+              (unless_lost (lookup_fault w.tree n from Beneath Keep)
+              (unless_lost (lookup_fault w.tree m to Beneath Keep) (walked_both w p s e rest (begun n from Beneath Keep) (begun m to Beneath Keep))))
+              (walked_both w p s e rest))
+          by_walk None under = first_event
+          by_walk (Some (One walk)) under = first_event
+          by_walk (Some (Two one other)) under = walked_both_any one other under.0 under.1 none nor one_event other_event found walks
