@@ -17,6 +17,7 @@ use Rattle.kernel.specs.WellFormed.{ArePrograms, Numbering, IsObject, IsDescript
 use Rattle.kernel.specs.Renamings.{Renaming, SameObject, EachNamed, SameFiles, renamed_object, renamed_entry, renamed_messages}
 use Rattle.kernel.specs.Alike.{AlikeWorldsTwice, StepsAsOne, ActsAs, AlikeWorldsActAlike}
 use Rattle.kernel.proofs.Keeping.{kept}
+use Rattle.kernel.proofs.KeptWalks.{AreWalkers, walkers_alike}
 use Rattle.kernel.proofs.Opens.{same_open}
 use Rattle.kernel.proofs.Renamed.{renamed_table, renamed_queue, renamed_state, renamed_answer, same_answer}
 use Rattle.kernel.proofs.ChangedAlike.{Aims}
@@ -141,7 +142,8 @@ alike_files f g same idle = record {
 }
 
 -- ## Well formed
-module _ (programs : Programs) (numbering : Numbering) (w : World) (good : IsWorld programs numbering w) (g : OpenFiles) (alike : Alike w.files g) where
+module _ (programs : Programs) (numbering : Numbering) (w : World) (good : IsWorld programs numbering w) (walkers : AreWalkers programs w) (g : OpenFiles)
+    (alike : Alike w.files g) where
   descriptor_alike : (o : Option Descriptor) → open_files.SameDescription w.files g o →
       IfHeld (IsDescriptor w.tree numbering w.files.objects w.files.states) o → IfHeld (IsDescriptor w.tree numbering g.objects g.states) o
   descriptor_alike None same fine = tt
@@ -226,9 +228,9 @@ module _ (programs : Programs) (numbering : Numbering) (w : World) (good : IsWor
   steps valid e choice byte fresh =
       let v : World = record { tree = w.tree; files = g; processes = w.processes } in
       let both : SameStep own_numbers (step programs w e choice) (step programs v e choice) =
-      steps_same own_numbers programs valid numbering w v good (record { tree = refl; processes = refl; files = same_files w.files g alike }) alike.idle choice choice (aims_own choice) e
+      steps_same own_numbers programs valid numbering w v good walkers (record { tree = refl; processes = refl; files = same_files w.files g alike }) alike.idle choice choice (aims_own choice) e
       in
-      let after : IsWellFormed programs (step programs v e choice).world = kept programs valid numbering v well_formed e byte choice (fresh_there choice fresh) in
+      let after : IsWellFormed programs (step programs v e choice).world = kept programs valid numbering v well_formed (walkers_alike programs w walkers g alike) e byte choice (fresh_there choice fresh) in
       record {
         line = both.line;
         next = record {
@@ -240,7 +242,7 @@ module _ (programs : Programs) (numbering : Numbering) (w : World) (good : IsWor
 
   acts : ArePrograms programs → ActsAs programs w (record { tree = w.tree; files = g; processes = w.processes })
   acts valid = record {
-    well_formed = record { numbering = numbering; world = well_formed };
+    well_formed = record { numbering = numbering; world = well_formed; walks = walkers_alike programs w walkers g alike };
     answers = answers;
     fresh_there = fresh_there;
     fresh_here = fresh_here;
@@ -250,7 +252,7 @@ module _ (programs : Programs) (numbering : Numbering) (w : World) (good : IsWor
 pub act_alike : AlikeWorldsActAlike
 act_alike programs w v valid good alike =
     let path : v ≡ record { tree = w.tree; files = v.files; processes = w.processes } = λ i. record { tree = alike.tree i; files = v.files; processes = alike.processes i } in
-    subst (ActsAs programs w) (sym path) (acts programs good.numbering w good.world v.files alike.files valid)
+    subst (ActsAs programs w) (sym path) (acts programs good.numbering w good.world good.walks v.files alike.files valid)
 
 -- ## Alike twice
 named_twice : (f g h : OpenFiles) (o : Option Descriptor) → open_files.SameDescription f g o → open_files.SameDescription g h o → open_files.SameDescription f h o

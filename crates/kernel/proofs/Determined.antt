@@ -86,7 +86,7 @@ pub run_exists : RunExists
 run_exists programs w [] valid good events = ([], tt)
 run_exists programs w (e ∷ events) valid good bytes =
     let some = fresh_some programs good.numbering w good.world in
-    let next = kept programs valid good.numbering w good.world e bytes.0 some.0 some.1 in
+    let next = kept programs valid good.numbering w good.world good.walks e bytes.0 some.0 some.1 in
     let rest = run_exists programs (step programs w e some.0).world events valid next bytes.1 in
     ((step programs w e some.0).acted ∷ rest.0, (some.0, some.1, refl, rest.1))
 
@@ -101,7 +101,7 @@ same_lines programs w v (e ∷ events) (l ∷ lines) (m ∷ others) valid good f
     let line : l ≡ m = sym here ∙ sym both.line ∙ there in
     let tails : lines ≡ others =
     same_lines programs (step programs w e j).world (step programs v e k).world events lines others valid
-    (kept programs valid good.numbering w good.world e bytes.0 j fresh) (kept programs valid fine.numbering v fine.world e bytes.0 k also)
+    (kept programs valid good.numbering w good.world good.walks e bytes.0 j fresh) (kept programs valid fine.numbering v fine.world fine.walks e bytes.0 k also)
     both.next bytes.1 rest more
     in
     cc
@@ -129,7 +129,7 @@ same_runs programs w v events valid good alike bytes = record {
           acts.fresh_there choice fresh,
           both.line ∙ here,
           runs_there programs (step programs w e choice).world (step programs v e choice).world events valid
-              (kept programs valid good.numbering w good.world e bytes.0 choice fresh) both.next bytes.1 lines rest,
+              (kept programs valid good.numbering w good.world good.walks e bytes.0 choice fresh) both.next bytes.1 lines rest,
         )
 
     runs_here : (programs : Programs) (w v : World) (events : List Event) → ArePrograms programs → IsWellFormed programs w → AlikeWorlds w v →
@@ -145,5 +145,5 @@ same_runs programs w v events valid good alike bytes = record {
           fresh,
           sym both.line ∙ there,
           runs_here programs (step programs w e choice).world (step programs v e choice).world events valid
-              (kept programs valid good.numbering w good.world e bytes.0 choice fresh) both.next bytes.1 lines rest,
+              (kept programs valid good.numbering w good.world good.walks e bytes.0 choice fresh) both.next bytes.1 lines rest,
         )

@@ -12,7 +12,9 @@ use Rattle.fd_table.specs.Descriptions.{Initial, Object, At_node, At_end, Descri
 use Rattle.kernel.specs.World.{World}
 use Rattle.kernel.specs.Steps.{Programs}
 use Rattle.kernel.specs.WellFormed.{Numbering, IsDescriptor, EachMessage, FitsRegister, IsProcessIfMade, HasNone}
+use Rattle.kernel.specs.Walks.{IsWalkerIfMade}
 use Rattle.kernel.specs.Runs.{WellFormedWorldExists}
+use Rattle.kernel.proofs.KeptWalks.{no_walker}
 
 objects : ℕ → Object
 objects zero = At_node 0 (record { readable = true; writable = false })
@@ -129,6 +131,10 @@ unfolding table
 gone zero = λ ended n. absurd cc
 gone (suc p) = λ n. refl
 
+walks : (p : ℕ) → IsWalkerIfMade programs new_tree objects (table p) (slice_get (new_process 0 false ∷ []) p)
+walks zero = no_walker programs new_tree objects (table zero) (new_process 0 false) refl
+walks (suc p) = tt
+
 pub first_world : WellFormedWorldExists
 unfolding first programs table row queue objects
 first_world = (
@@ -150,6 +156,7 @@ first_world = (
       idle = idle;
       sides = sides;
     };
+    walks = walks;
   },
   record { directory = refl; first_end = (refl, refl); second_end = (refl, refl); under_way = refl },
 )

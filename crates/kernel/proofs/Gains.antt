@@ -7,18 +7,18 @@ use Rattle.rights.specs.Sets.{all_rights, all_commands}
 use Rattle.rights.specs.Maps.{put, put2}
 use Rattle.rights.proofs.Changes.{put-cases}
 use Rattle.rights.proofs.Lists.{slice_get-set_cases}
-use Rattle.process.specs.State.{ProcessState, forked}
+use Rattle.process.specs.State.{ProcessState, ended, forked}
 use Rattle.prog_asm.specs.Programs.{Syscall, Fork, Instruction, Set, Mov, Add, In, Jmp, Jeq, Jlt, Halt, Invoke}
 use Rattle.fd_table.specs.Descriptions.{Descriptor, Message, descriptor_of, IfHeld, EachPassed}
 use Rattle.kernel.specs.World.{World, Choice}
-use Rattle.kernel.specs.Answers.{Event, TableChange, Same_table, Set_entry, Clear_entry, New_file, New_pair, New_process, QueueChange, Same_queue, Push, Pop, Change, Answer, Fails, Waits, Gives}
+use Rattle.kernel.specs.Answers.{Event, TableChange, Same_table, Set_entry, Clear_entry, New_file, New_pair, New_process, QueueChange, Same_queue, Push, Pop, Change, Answer, Fails, Waits, Gives, Walks}
 use Rattle.kernel.specs.Calls.{answer}
 use Rattle.kernel.specs.Changes.{table_after, queue_after, given, processes_after, files_after, changed}
 use Rattle.kernel.specs.Origins.{Caller, calls, calls_at, calls_by, caller_of, IsMade, ComesFrom, stood, was_made, was_copied, IsSent, QueuedFrom, had_waited, was_sent, origin}
 use Rattle.kernel.specs.Steps.{Programs, register, with_process, halted, failed, answered, jumped, executed, stepped_at, stepped_by, stepped, step}
 use Rattle.kernel.specs.Gains.{StaysIn, GainsNothing, NoRunGains}
 use Rattle.kernel.proofs.Origins.{MayTable, MayQueue, may_table, may_queue}
-use Rattle.kernel.proofs.Keeping.{slice_get-more_cases}
+use Rattle.kernel.proofs.KeptWalks.{slice_get-more_cases}
 
 -- a table or the queues, changed at one place
 at-place : {A : Type 0} (Q : ℕ → ℕ → A → Type 0) (f : ℕ → ℕ → A) (p n : ℕ) (v : A) → Q p n v → ((q m : ℕ) → Q q m (f q m)) → (q m : ℕ) → Q q m (put2 f p n v q m)
@@ -158,9 +158,8 @@ module _ (w : World) (e : Event) (choice : Choice) (caller : Option Caller) wher
     halt_gains : GainsNothing w e.process caller (halted w e.process s)
     halt_gains =
         let none : ℕ → Option Descriptor = λ n. None in
-        let ended : ProcessState = record s { alive = false } in
         record {
-          modes = λ m. subst (λ o. StaysIn o (slice_get w.processes m) (slice_get (slice_set w.processes e.process ended) m)) (sym there) (modes_set w.processes e.process s ended there (λ on. on) m);
+          modes = λ m. subst (λ o. StaysIn o (slice_get w.processes m) (slice_get (slice_set w.processes e.process (ended s)) m)) (sym there) (modes_set w.processes e.process s (ended s) there (λ on. on) m);
           entries = λ q n. put-cases (λ (row : ℕ → Option Descriptor). IfHeld (ComesFrom w caller q n) (row n)) w.files.table e.process none q (λ _. tt) (λ _. entry_stays w caller q n);
           messages = queue_waits w caller;
         }
@@ -182,6 +181,7 @@ module _ (w : World) (e : Event) (choice : Choice) (caller : Option Caller) wher
     unfolding answered
     answered_gains otherwise call (Fails errno cause) calls is = set_gains (failed s errno otherwise) (λ on. on)
     answered_gains otherwise call Waits calls is = same
+    answered_gains otherwise call (Walks walking) calls is = set_gains (record s { walk = Some walking }) (λ on. on)
     answered_gains otherwise call (Gives value change effects) calls is =
         changed_gains call value change calls (may_table w e.process s e call value change effects is) (may_queue w e.process s e call value change effects is)
 

@@ -23,9 +23,9 @@ use Rattle.kernel.specs.Changes.{table_after, second_number, given, processes_af
 use Rattle.kernel.specs.Steps.{Programs, register, with_register, goes_on, with_process, halted, failed, answered, jumped, executed, stepped_at, stepped_by, stepped, step}
 use Rattle.kernel.specs.WellFormed.{ArePrograms, Numbering, HasNone, IsDescriptor, IsProcessIfMade, IsPoint, IsProcess, IsWorld, IsWellFormed}
 use Rattle.kernel.specs.Runs.{NextWorldExists, FreshNumbersExist}
-use Rattle.kernel.specs.Walks.{Fits, FitsIfWalking, IsWalker, IsWalkerIfMade, call_in, lookups_of, under_way}
+use Rattle.kernel.specs.Walks.{Fits, lookups_of, under_way}
 use Rattle.kernel.proofs.Brings.{Ground, ground, Known, BringsTable, Brings, Sound}
-use Rattle.kernel.proofs.KeptWalks.{AreWalkers, slice_get-more_cases, walkers_changed, walkers_halted, walkers_moved, walkers_on}
+use Rattle.kernel.proofs.KeptWalks.{AreWalkers, call_here, slice_get-more_cases, walk_fits, walkers_changed, walkers_halted, walkers_moved, walkers_on}
 use Rattle.kernel.proofs.Brought.{sound}
 use Rattle.kernel.proofs.Fresh.{IsApart, known_entries, known_messages, fresh_with, fresh_some}
 use Rattle.kernel.proofs.Later.{numbering_after, entries_later, numbers_later, messages_later, short_later, idle_later, sides_later}
@@ -242,18 +242,6 @@ module _ (programs : Programs) (valid : ArePrograms programs) (numbering : Numbe
   kept-jump s true target fine alive there next = well_moved (moved_to s target) (process_moved programs s target fine there) alive refl
   kept-jump s false target fine alive there next = well_moved (goes_on s) (process_moved programs s (s.point + 1) fine next) alive refl
 
-  -- what the process has under way is of the call that it makes
-  walk_fits : (s : ProcessState) (call : Syscall) → slice_get w.processes e.process ≡ Some s → under_way programs s ≡ Some call →
-      FitsIfWalking w.tree w.files.objects (w.files.table e.process) s (Some call) s.walk
-  walk_fits s call made here =
-      let is : IsWalker programs w.tree w.files.objects (w.files.table e.process) s =
-        subst (IsWalkerIfMade programs w.tree w.files.objects (w.files.table e.process)) made (walkers e.process) in
-      subst (λ o. FitsIfWalking w.tree w.files.objects (w.files.table e.process) s o s.walk) here is.fits
-
-  call_here : (s : ProcessState) (call : Syscall) (otherwise : ℕ) → slice_get (programs s.program) s.point ≡ Some (Invoke call otherwise) → under_way programs s ≡ Some call
-  unfolding under_way
-  call_here s call otherwise here = ap call_in here
-
   kept-executed : (s : ProcessState) (i : Instruction) → slice_get w.processes e.process ≡ Some s → IsProcess programs s → s.alive ≡ true →
       slice_get (programs s.program) s.point ≡ Some i → Placed (programs s.program) s.point i → IsWellFormed programs (executed w e choice s i).world
   unfolding executed
@@ -274,7 +262,7 @@ module _ (programs : Programs) (valid : ArePrograms programs) (numbering : Numbe
       kept-jump s (nat_lt (register s r) value) target fine alive (at.target target (ltb-true target _ (both_right (is_register r && nat_lt value (2 ^ 32)) _ at.fits))) (at.next refl)
   kept-executed s Halt made fine alive here at = well (halted w e.process s) (kept-halted programs numbering w good e.process s fine) (walkers_halted programs w walkers e.process s)
   kept-executed s (Invoke call otherwise) made fine alive here at =
-      kept-answered s call otherwise (answer w e.process s e call) made fine alive (call_here s call otherwise here)
+      kept-answered s call otherwise (answer w e.process s e call) made fine alive (call_here programs s call otherwise here)
       (at.target otherwise (ltb-true otherwise _ (both_right (is_syscall call) _ at.fits))) (at.next refl)
       (sound programs (left s call)
       (record {
@@ -282,7 +270,7 @@ module _ (programs : Programs) (valid : ArePrograms programs) (numbering : Numbe
         entries = known_entries programs numbering w good choice fresh;
         messages =
             known_messages programs numbering w good choice fresh;
-      }) e.process s e call (both_left _ _ at.fits) (walk_fits s call made (call_here s call otherwise here)) (λ walking fits. fits))
+      }) e.process s e call (both_left _ _ at.fits) (walk_fits programs w walkers e.process s call otherwise made here) (λ walking fits. fits))
 
   kept-at : (s : ProcessState) → slice_get w.processes e.process ≡ Some s → IsProcess programs s → s.alive ≡ true → (o : Option Instruction) →
       slice_get (programs s.program) s.point ≡ o → IsWellFormed programs (stepped_at w e choice s o).world

@@ -10,13 +10,15 @@ use Rattle.lookup.specs.Answers.{Way, Last}
 use Rattle.lookup.specs.UnderWay.{AreOpened, IsUnderWay}
 use Rattle.lookup.specs.Walks.{WalkState}
 use Rattle.process.specs.State.{ProcessState, Walking, One, Two, ended, forked}
-use Rattle.prog_asm.specs.Programs.{Operand, Register, Number, Syscall}
+use Rattle.prog_asm.specs.Programs.{Invoke, Operand, Register, Number, Syscall}
 use Rattle.fd_table.specs.Descriptions.{At_node, At_end, Object, Descriptor, IfHeld}
+use Rattle.fd_table.specs.OpenFiles as open_files
+use Rattle.fd_table.specs.OpenFiles.{OpenFiles, Alike}
 use Rattle.kernel.specs.World.{World, Choice, IsFresh}
 use Rattle.kernel.specs.Answers.{TreeChange, TableChange, Same_table, Set_entry, Clear_entry, New_file, New_pair, New_process, value_of}
 use Rattle.kernel.specs.Changes.{tree_after, objects_after, table_after, processes_after}
 use Rattle.kernel.specs.Steps.{Programs, with_process, halted}
-use Rattle.kernel.specs.Walks.{Fits, FitsIfWalking, From_directories, From_directory, From_root, IsDirectory, IsDirectoryOf, IsWalker, IsWalkerIfMade, Lookups, No_path, lookups_of, under_way}
+use Rattle.kernel.specs.Walks.{Fits, FitsIfWalking, From_directories, From_directory, From_root, IsDirectory, IsDirectoryOf, IsWalker, IsWalkerIfMade, Lookups, No_path, call_in, lookups_of, under_way}
 use Rattle.kernel.specs.WellFormed.{Numbering, IsWorld}
 use Rattle.kernel.proofs.Brings.{ground, Known}
 use Rattle.kernel.proofs.Fresh.{IsApart, known_entries}
@@ -46,9 +48,10 @@ same_value : (s t : ProcessState) → t.registers ≡ s.registers → (x : Opera
 same_value s t same (Register r) = ap (λ (registers : List ℕ). slice_index_or registers r 0) same
 same_value s t same (Number n) = refl
 
-module _ (t u : List Node) (objects later : ℕ → Object) (row : ℕ → Option Descriptor) (s v : ProcessState)
+module _ (t u : List Node) (objects later : ℕ → Object) (row new : ℕ → Option Descriptor) (s v : ProcessState)
     (kinds : (n : ℕ) → is_link (node t n).kind ≡ false → (node u n).kind ≡ (node t n).kind)
-    (same : (n : ℕ) (d : Descriptor) → row n ≡ Some d → later d.description ≡ objects d.description) (registers : v.registers ≡ s.registers) where
+    (same : (n : ℕ) (d : Descriptor) → row n ≡ Some d → later d.description ≡ objects d.description) (rows : (n : ℕ) → new n ≡ row n)
+    (registers : v.registers ≡ s.registers) where
   opened_later : (nodes : List ℕ) → AreOpened t nodes → AreOpened u nodes
   opened_later [] opened = tt
   opened_later (n ∷ nodes) opened = (ap is_link (kinds n opened.0) ∙ opened.0, opened_later nodes opened.1)
@@ -73,10 +76,11 @@ module _ (t u : List Node) (objects later : ℕ → Object) (row : ℕ → Optio
       by_entry None is dir = absurd dir
       by_entry (Some d) is dir = subst (IsDirectoryOf u) (sym (same n d is)) (object_later (objects d.description) dir)
 
-  operand_later : (x : Operand) → IsDirectory t objects (row (value_of s x)) → IsDirectory u later (row (value_of v x))
-  operand_later x dir = subst (λ n. IsDirectory u later (row n)) (sym (same_value s v registers x)) (start_later (value_of s x) dir)
+  operand_later : (x : Operand) → IsDirectory t objects (row (value_of s x)) → IsDirectory u later (new (value_of v x))
+  operand_later x dir =
+      subst (λ n. IsDirectory u later (new n)) (sym (same_value s v registers x)) (subst (IsDirectory u later) (sym (rows (value_of s x))) (start_later (value_of s x) dir))
 
-  fits_later : (looks : Lookups) (walking : Walking) → Fits t objects row s looks walking → Fits u later row v looks walking
+  fits_later : (looks : Lookups) (walking : Walking) → Fits t objects row s looks walking → Fits u later new v looks walking
   fits_later No_path walking fits = absurd fits
   fits_later (From_root path last) (One walk) fits = under_later path _ last walk fits
   fits_later (From_root path last) (Two one other) fits = absurd fits
@@ -86,7 +90,7 @@ module _ (t u : List Node) (objects later : ℕ → Object) (row : ℕ → Optio
   fits_later (From_directories x from y to) (Two one other) fits =
       (operand_later x fits.0, operand_later y fits.1, under_later from _ _ one fits.2, under_later to _ _ other fits.3)
 
-  pub if_walking_later : (call : Option Syscall) (o : Option Walking) → FitsIfWalking t objects row s call o → FitsIfWalking u later row v call o
+  pub if_walking_later : (call : Option Syscall) (o : Option Walking) → FitsIfWalking t objects row s call o → FitsIfWalking u later new v call o
   if_walking_later call None fits = tt
   if_walking_later None (Some walking) fits = absurd fits
   if_walking_later (Some call) (Some walking) fits = fits_later (lookups_of call) walking fits
@@ -123,7 +127,7 @@ module _ (programs : Programs) (w : World) (walkers : AreWalkers programs w) (p 
       fits_on : FitsIfWalking w.tree w.files.objects (w.files.table p) (record t { walk = Some walking }) (under_way programs t) (Some walking)
       fits_on =
           subst (λ o. FitsIfWalking w.tree w.files.objects (w.files.table p) (record t { walk = Some walking }) o (Some walking)) (sym here)
-          (fits_later w.tree w.tree w.files.objects w.files.objects (w.files.table p) t (record t { walk = Some walking }) (λ n opened. refl) (λ n d is. refl) refl (lookups_of call) walking fits)
+          (fits_later w.tree w.tree w.files.objects w.files.objects (w.files.table p) (w.files.table p) t (record t { walk = Some walking }) (λ n opened. refl) (λ n d is. refl) (λ n. refl) refl (lookups_of call) walking fits)
 
       is : IsWalker programs w.tree w.files.objects (w.files.table p) (record t { walk = Some walking })
       is = record { lives = λ gone. absurd (let clash : true ≡ false = sym alive ∙ gone in cc); fits = fits_on }
@@ -158,8 +162,8 @@ module _ (programs : Programs) (numbering : Numbering) (w : World) (good : IsWor
   other_later q None is = tt
   other_later q (Some s) is = record {
     lives = is.lives;
-    fits = if_walking_later w.tree (tree_after w.tree tree) w.files.objects (objects_after w.files.objects choice table) (w.files.table q) s s
-        (kinds_kept w.tree tree) (same_objects q) refl (under_way programs s) s.walk is.fits;
+    fits = if_walking_later w.tree (tree_after w.tree tree) w.files.objects (objects_after w.files.objects choice table) (w.files.table q) (w.files.table q) s s
+        (kinds_kept w.tree tree) (same_objects q) (λ n. refl) refl (under_way programs s) s.walk is.fits;
   }
 
   resting : (row : ℕ → Option Descriptor) (s : ProcessState) → s.walk ≡ None → Later row (Some s)
@@ -200,3 +204,32 @@ walkers_changed programs numbering w good walkers choice fresh p t none tree New
     (slice_set w.processes p t) (forked t) q
     (λ _. resting programs numbering w good walkers choice fresh p t none tree New_process (table_after w.files.table p (length w.processes) choice New_process q) (forked t) none)
     (λ _. set_later programs numbering w good walkers choice fresh p t none tree New_process q)
+
+-- what the process of the next instruction has under way is of its call
+pub walk_fits : (programs : Programs) (w : World) → AreWalkers programs w → (p : ℕ) (s : ProcessState) (call : Syscall) (otherwise : ℕ) → slice_get w.processes p ≡ Some s →
+    slice_get (programs s.program) s.point ≡ Some (Invoke call otherwise) → FitsIfWalking w.tree w.files.objects (w.files.table p) s (Some call) s.walk
+unfolding under_way
+walk_fits programs w walkers p s call otherwise made here =
+    let is : IsWalker programs w.tree w.files.objects (w.files.table p) s =
+      subst (IsWalkerIfMade programs w.tree w.files.objects (w.files.table p)) made (walkers p) in
+    subst (λ o. FitsIfWalking w.tree w.files.objects (w.files.table p) s (call_in o) s.walk) here is.fits
+
+pub call_here : (programs : Programs) (s : ProcessState) (call : Syscall) (otherwise : ℕ) → slice_get (programs s.program) s.point ≡ Some (Invoke call otherwise) → under_way programs s ≡ Some call
+unfolding under_way
+call_here programs s call otherwise here = ap call_in here
+
+-- the same in a world that says the same of all that is named
+module _ (programs : Programs) (w : World) (walkers : AreWalkers programs w) (g : OpenFiles) (alike : Alike w.files g) where
+  pub walkers_alike : AreWalkers programs (record { tree = w.tree; files = g; processes = w.processes })
+  walkers_alike p = by_process (slice_get w.processes p) (walkers p)
+    where
+      named : (n : ℕ) (d : Descriptor) → w.files.table p n ≡ Some d → g.objects d.description ≡ w.files.objects d.description
+      named n d is = let both : open_files.SameDescription w.files g (Some d) = subst (open_files.SameDescription w.files g) is (alike.entries p n) in both.0
+
+      by_process : (o : Option ProcessState) → IsWalkerIfMade programs w.tree w.files.objects (w.files.table p) o → IsWalkerIfMade programs w.tree g.objects (g.table p) o
+      by_process None is = tt
+      by_process (Some s) is = record {
+        lives = is.lives;
+        fits = if_walking_later w.tree w.tree w.files.objects g.objects (w.files.table p) (g.table p) s s (λ n opened. refl) named (λ n. alike.table p n) refl
+            (under_way programs s) s.walk is.fits;
+      }

@@ -58,7 +58,7 @@ class-kept of choice (New_file number n access append rights fcntls) pair other 
 class-kept of choice (New_pair first second class) pair other = put-other of choice.pair class pair other
 class-kept of choice New_process pair other = refl
 
-object-kept : (objects : ℕ → Object) (choice : Choice) (table : TableChange) (n : ℕ) → n ≢ choice.first → n ≢ choice.second → objects_after objects choice table n ≡ objects n
+pub object-kept : (objects : ℕ → Object) (choice : Choice) (table : TableChange) (n : ℕ) → n ≢ choice.first → n ≢ choice.second → objects_after objects choice table n ≡ objects n
 object-kept objects choice Same_table n one two = refl
 object-kept objects choice (Set_entry number d) n one two = refl
 object-kept objects choice (Clear_entry number) n one two = refl

@@ -9,17 +9,34 @@ use Rattle.rights.specs.Opens.{OpenRequest}
 use Rattle.file_tree.specs.Nodes.{Kind, File, Dir, Link, node}
 use Rattle.lookup.specs.Answers.{Way, Last, LookupFault, Escape, No_entry, Not_dir, Loop, Too_long, Bad_last, Beneath, Keep, Found_node, Found_free, Not_found}
 use Rattle.lookup.specs.Answers as lookups
-use Rattle.process.specs.State.{ProcessState}
+use Rattle.lookup.specs.Walks.{Progress, Done, More, first_handled, handled}
+use Rattle.process.specs.State.{ProcessState, Walking, One, Two}
 use Rattle.prog_asm.specs.Programs.{Syscall, Open, Openat, Read, Write, Sendfd, Recvfd, Lseek, Ftruncate, Fsync, Fstat, Fcntl_getfl, Fcntl_setfl, Fstatat, Stat, Mkdirat, Mkdir}
 use Rattle.prog_asm.specs.Programs.{Unlinkat, Unlink, Renameat, Dup, Close, Cap_rights_limit, Cap_fcntls_limit, Cap_enter, Cap_getmode, Socketpair, Fork}
 use Rattle.fd_table.specs.Descriptions.{Access, PairClass, Object, At_node, At_end, Descriptor, Message, other_side, descriptor_of, IfHeld}
 use Rattle.fd_table.specs.OpenFiles.{lowest_from, lowest_free}
 use Rattle.kernel.specs.World.{World}
 use Rattle.kernel.specs.Answers.{Event, Effect, TableChange, Same_table, Set_entry, Clear_entry, New_file, New_pair, New_process, QueueChange, Same_queue, Push, Pop, Change}
-use Rattle.kernel.specs.Answers.{Answer, Fails, Waits, Gives, unless, held, at_object, at_number, lookup_fails}
+use Rattle.kernel.specs.Answers.{Answer, Fails, Waits, Gives, Walks, unless, held, at_object, at_number, lookup_fails}
 use Rattle.kernel.specs.Calls.{looks, looks_twice, answer, opened, opened_as, read_byte, read_end, write_node, sent_end, received, receive_end, stats_at, made_directory}
 use Rattle.kernel.specs.Calls.{unlinks_as, unlinks, renamed_over, renamed_to, renamed_from, pair_at, blocked, in_directory, at_file}
+use Rattle.kernel.proofs.Looking.{IfOne, IfTwo, IsEvent, looks_any, looks_twice_any}
 use Rattle.kernel.specs.Origins.{Caller, front_of, arriving_at, arriving, origin, IsNoWider, IsOwn, IsMade, IsEndOf, IsEnd, IsSent}
+
+-- of what is under way nothing is asked
+any_event : (event : Progress) → IsEvent (λ found. Unit {0}) (λ walk. Unit {0}) event
+any_event (Done found) = tt
+any_event (More walk) = tt
+
+any_one : (o : Option Walking) → IfOne (λ walk. Unit {0}) o
+any_one None = tt
+any_one (Some (One walk)) = tt
+any_one (Some (Two one other)) = tt
+
+any_two : (o : Option Walking) → IfTwo (λ walk. Unit {0}) (λ walk. Unit {0}) o
+any_two None = tt
+any_two (Some (One walk)) = tt
+any_two (Some (Two one other)) = (tt, tt)
 
 -- a number that is found free is
 unheld : (o : Option Descriptor) → is_some o ≡ false → o ≡ None
@@ -63,6 +80,7 @@ module _ (w : World) (p : ℕ) (s : ProcessState) where
   Fair call (Fails errno cause) = Unit {0}
   Fair call Waits = Unit {0}
   Fair call (Gives value change effects) = MayTable call change.table × MayQueue call change.queue
+  Fair call (Walks walking) = Unit {0}
 
   fails : (call : Syscall) (errno : Errno) (cause : Cause) → Fair call (Fails errno cause)
   unfolding Fair
@@ -71,6 +89,10 @@ module _ (w : World) (p : ℕ) (s : ProcessState) where
   waits : (call : Syscall) → Fair call Waits
   unfolding Fair
   waits call = tt
+
+  walks : (call : Syscall) (walking : Walking) → Fair call (Walks walking)
+  unfolding Fair
+  walks call walking = tt
 
   gives : (call : Syscall) (value : ℕ) (change : Change) (effects : List Effect) → MayTable call change.table → MayQueue call change.queue → Fair call (Gives value change effects)
   unfolding Fair
@@ -164,13 +186,16 @@ module _ (w : World) (p : ℕ) (s : ProcessState) where
 
     fair-looks : (call : Syscall) (start : ℕ) (way : Way) (path : List ℕ) (last : Last) (rest : lookups.Finding → Answer) →
         ((found : lookups.Finding) → Fair call (rest found)) → Fair call (looks w p s e start way path last rest)
-    unfolding looks
-    fair-looks call start way path last rest fair = fair _
+    fair-looks call start way path last rest fair =
+        looks_any (Fair call) w p s e start way path last rest (λ found. Unit {0}) (λ walk. Unit {0}) (any_one s.walk) (any_event (first_handled w.tree start path way last))
+        (λ walk is. any_event (handled w.tree walk)) (λ found is. fair found) (λ walk is. walks call (One walk))
 
     fair-looks_twice : (call : Syscall) (n : ℕ) (from : List ℕ) (m : ℕ) (to : List ℕ) (rest : lookups.Finding → lookups.Finding → Answer) →
         ((found place : lookups.Finding) → Fair call (rest found place)) → Fair call (looks_twice w p s e n from m to rest)
-    unfolding looks_twice
-    fair-looks_twice call n from m to rest fair = fair _ _
+    fair-looks_twice call n from m to rest fair =
+        looks_twice_any (Fair call) w p s e (fails call) n from m to rest (λ found. Unit {0}) (λ found. Unit {0}) (λ walk. Unit {0}) (λ walk. Unit {0}) (any_two s.walk)
+        (λ none. tt) (λ none. tt) tt tt (λ walk is. any_event (handled w.tree walk)) (λ walk is. any_event (handled w.tree walk)) (λ found place is also. fair found place)
+        (λ one other first second. walks call (Two one other))
 
     fair-looked_at : (call : Syscall) (found : lookups.Finding) → Fair call (stats_at w p s e found)
     fair-looked_at call (Not_found fault) = fair-lookup_fails call fault

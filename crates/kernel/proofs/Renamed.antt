@@ -9,16 +9,19 @@ use Rattle.file_tree.specs.Nodes.{Kind, File, Dir, Link, node}
 use Rattle.file_tree.specs.Changes.{written}
 use Rattle.lookup.specs.Answers.{Way, Last, LookupFault, Escape, No_entry, Not_dir, Loop, Too_long, Bad_last, Beneath, Global, Follow, Keep, Found_node, Found_free, Not_found}
 use Rattle.lookup.specs.Answers as lookups
-use Rattle.process.specs.State.{ProcessState}
+use Rattle.lookup.specs.Looks.{lookup_fault}
+use Rattle.lookup.specs.Walks.{WalkState, Progress, Done, More, begun, first_handled, handled}
+use Rattle.process.specs.State.{ProcessState, Walking, One, Two}
 use Rattle.prog_asm.specs.Programs.{Syscall, Open, Openat, Read, Write, Sendfd, Recvfd, Lseek, Ftruncate, Fsync, Fstat, Fcntl_getfl, Fcntl_setfl, Fstatat, Stat, Mkdirat, Mkdir}
 use Rattle.prog_asm.specs.Programs.{Unlinkat, Unlink, Renameat, Dup, Close, Cap_rights_limit, Cap_fcntls_limit, Cap_enter, Cap_getmode, Socketpair, Fork}
 use Rattle.fd_table.specs.Descriptions.{Access, Made_at, Object, At_node, At_end, State, Descriptor, Message, other_side, status_number, with_status, IfHeld}
 use Rattle.fd_table.specs.OpenFiles.{OpenFiles, is_open, lowest_from, lowest_free}
 use Rattle.kernel.specs.World.{World}
 use Rattle.kernel.specs.Answers.{Event, Effect, TableChange, Same_table, Set_entry, Clear_entry, New_file, New_pair, New_process, QueueChange, Same_queue, Push, Pop, StateChange}
-use Rattle.kernel.specs.Answers.{Same_state, Set_state, Fill, Change, Answer, Fails, Waits, Gives, same, gives, does, unless, held, at_object, at_number, lookup_fails, value_of}
+use Rattle.kernel.specs.Answers.{Same_state, Set_state, Fill, Change, Answer, Fails, Waits, Gives, Walks, same, gives, does, unless, held, at_object, at_number, lookup_fails, value_of}
 use Rattle.rights.specs.Limits.{most_messages}
 use Rattle.kernel.specs.Calls.{looks, looks_twice, answer, opened, opened_as, read_byte, read_node, read_end, write_node, write_at, write_offset, sent_end, received, receive_end}
+use Rattle.kernel.specs.Calls.{found_last, is_at_last, lost, resumed, resumed_twice, unless_lost, walked, walked_both, walked_first, walked_second}
 use Rattle.kernel.specs.Calls.{stats_at, made_directory, unlinks, renamed_to, renamed_from, pair_at, blocked, in_directory, at_file, at_socket}
 use Rattle.kernel.specs.Renamings.{Renaming, SameObject, SameFiles, renamed_object, renamed_descriptor, renamed_entry, renamed_message, renamed_messages}
 
@@ -53,6 +56,7 @@ abbrev pub renamed_answer : Renaming → Answer → Answer
 renamed_answer r (Fails errno cause) = Fails errno cause
 renamed_answer r Waits = Waits
 renamed_answer r (Gives value change effects) = Gives value (renamed_change r change) effects
+renamed_answer r (Walks walking) = Walks walking
 
 -- the second answer is the first under the other numbers
 unfoldable pub Matches : Renaming → Answer → Answer → Type 0
@@ -67,6 +71,10 @@ module _ (r : Renaming) where
   waits : Matches r Waits Waits
   unfolding Matches
   waits = refl
+
+  walks : (walking : Walking) → Matches r (Walks walking) (Walks walking)
+  unfolding Matches
+  walks walking = refl
 
   -- a success whose change is the first's under the other numbers
   given : (value : ℕ) (change : Change) (effects : List Effect) → Matches r (Gives value change effects) (Gives value (renamed_change r change) effects)
@@ -263,13 +271,55 @@ module _ (r : Renaming) (w : World) (g : OpenFiles) (alike : SameFiles r w.files
       ((found : lookups.Finding) → Matches r (rest found) (more found)) →
       Matches r (looks w p s e start way path last rest) (looks other p s e start way path last more)
   unfolding looks
-  both-looks start way path last rest more is = is _
+  both-looks start way path last rest more is = by_event (resumed s.walk (first_handled w.tree start path way last) (handled w.tree))
+    where
+      by_event : (event : Progress) → Matches r (walked rest event) (walked more event)
+      by_event (Done found) = is found
+      by_event (More walk) = walks r (One walk)
 
   both-looks_twice : (n : ℕ) (from : List ℕ) (m : ℕ) (to : List ℕ) (rest more : lookups.Finding → lookups.Finding → Answer) →
       ((found place : lookups.Finding) → Matches r (rest found place) (more found place)) →
       Matches r (looks_twice w p s e n from m to rest) (looks_twice other p s e n from m to more)
   unfolding looks_twice
-  both-looks_twice n from m to rest more is = is _ _
+  both-looks_twice n from m to rest more is = by_walk s.walk
+    where
+      both-lost : (found : lookups.Finding) → Matches r (lost found) (lost found)
+      both-lost (Not_found fault) = both-lookup_fails r fault
+      both-lost (Found_node k) = fails r _ _
+      both-lost (Found_free k) = fails r _ _
+
+      both-first : (two : WalkState) (event : Progress) → Matches r (walked_first two event) (walked_first two event)
+      both-first two (Done found) = both-lost found
+      both-first two (More walk) = walks r (Two walk two)
+
+      both-second : (one : WalkState) (event : Progress) → Matches r (walked_second one event) (walked_second one event)
+      both-second one (Done found) = both-lost found
+      both-second one (More walk) = walks r (Two one walk)
+
+      both-walked : (one two : WalkState) → Matches r (walked_both w p s e rest one two) (walked_both other p s e more one two)
+      both-walked one two =
+          both-if r (not (is_at_last one)) _ _ _ _ (both-first two (handled w.tree one))
+          (both-if r (not (is_at_last two)) _ _ _ _ (both-second one (handled w.tree two)) (is (found_last (handled w.tree one)) (found_last (handled w.tree two))))
+
+      both-unlost : (fault : Option LookupFault) (a b : Answer) → Matches r a b → Matches r (unless_lost fault a) (unless_lost fault b)
+      both-unlost None a b same = same
+      both-unlost (Some fault) a b same = both-lookup_fails r fault
+
+      first_event : Matches r
+          (unless_lost (lookup_fault w.tree n from Beneath Keep) (unless_lost (lookup_fault w.tree m to Beneath Keep) (walked_both w p s e rest (begun n from Beneath Keep) (begun m to Beneath Keep))))
+          (unless_lost (lookup_fault w.tree n from Beneath Keep) (unless_lost (lookup_fault w.tree m to Beneath Keep) (walked_both other p s e more (begun n from Beneath Keep) (begun m to Beneath Keep))))
+      first_event = both-unlost _ _ _ (both-unlost _ _ _ (both-walked (begun n from Beneath Keep) (begun m to Beneath Keep)))
+
+      by_walk : (o : Option Walking) → Matches r
+          (resumed_twice o
+          (unless_lost (lookup_fault w.tree n from Beneath Keep) (unless_lost (lookup_fault w.tree m to Beneath Keep) (walked_both w p s e rest (begun n from Beneath Keep) (begun m to Beneath Keep))))
+          (walked_both w p s e rest))
+          (resumed_twice o
+          (unless_lost (lookup_fault w.tree n from Beneath Keep) (unless_lost (lookup_fault w.tree m to Beneath Keep) (walked_both other p s e more (begun n from Beneath Keep) (begun m to Beneath Keep))))
+          (walked_both other p s e more))
+      by_walk None = first_event
+      by_walk (Some (One walk)) = first_event
+      by_walk (Some (Two one two)) = both-walked one two
 
   both-looked_at : (found : lookups.Finding) → Matches r (stats_at w p s e found) (stats_at other p s e found)
   both-looked_at (Not_found fault) = both-lookup_fails r fault

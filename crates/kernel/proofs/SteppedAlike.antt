@@ -10,7 +10,7 @@ use Rattle.prog_asm.specs.Programs.{Instruction, Set, Mov, Add, In, Jmp, Jeq, Jl
 use Rattle.fd_table.specs.Descriptions.{Descriptor, Message, IfHeld}
 use Rattle.fd_table.specs.OpenFiles.{OpenFiles, is_open}
 use Rattle.kernel.specs.World.{World, Choice}
-use Rattle.kernel.specs.Answers.{Event, TableChange, Same_table, Set_entry, Clear_entry, New_file, New_pair, New_process, Change, Answer, Fails, Waits, Gives}
+use Rattle.kernel.specs.Answers.{Event, TableChange, Same_table, Set_entry, Clear_entry, New_file, New_pair, New_process, Change, Answer, Fails, Waits, Gives, Walks}
 use Rattle.kernel.specs.Calls.{answer}
 use Rattle.kernel.specs.Changes.{given, processes_after, changed}
 use Rattle.kernel.specs.Steps.{Programs, Executed, Stepped, with_process, plain, halted, failed, answered, executed, register, acted_as, stepped_at, stepped_by, stepped, step}
@@ -18,6 +18,7 @@ use Rattle.kernel.specs.WellFormed.{ArePrograms, Numbering, IsDescriptor, EachMe
 use Rattle.kernel.specs.Renamings.{Renaming, SameObject, EachNamed, SameFiles, renamed_entry}
 use Rattle.kernel.proofs.Brings.{ground, Known, Brings, Sound}
 use Rattle.kernel.proofs.Brought.{sound}
+use Rattle.kernel.proofs.KeptWalks.{AreWalkers, walk_fits}
 use Rattle.kernel.proofs.Fresh.{held_map}
 use Rattle.kernel.proofs.Opens.{same_open}
 use Rattle.kernel.proofs.Points.{placed}
@@ -53,7 +54,7 @@ processes-same r processes p s value change (New_pair first second class) = refl
 processes-same r processes p s value change New_process = refl
 
 module _ (r : Renaming) (programs : Programs) (valid : ArePrograms programs) (numbering : Numbering) (w : World) (good : IsWorld programs numbering w)
-    (g : OpenFiles) (alike : SameFiles r w.files g) (idle : (pair side : ℕ) → g.pairs ≤ pair → g.queue pair side ≡ []) (j k : Choice)
+    (walkers : AreWalkers programs w) (g : OpenFiles) (alike : SameFiles r w.files g) (idle : (pair side : ℕ) → g.pairs ≤ pair → g.queue pair side ≡ []) (j k : Choice)
     (aims : Aims r j k) (e : Event) where
   abbrev other : World
   other = record { tree = w.tree; files = g; processes = w.processes }
@@ -125,18 +126,19 @@ module _ (r : Renaming) (programs : Programs) (valid : ArePrograms programs) (nu
   answered_alike s otherwise (Fails errno cause) brings = record { world = process_alike (failed s errno otherwise); outcome = refl; effects = refl }
   answered_alike s otherwise Waits brings = record { world = same_world; outcome = refl; effects = refl }
   answered_alike s otherwise (Gives value change effects) brings = record { world = changed_alike s value change brings; outcome = refl; effects = refl }
+  answered_alike s otherwise (Walks walking) brings = record { world = process_alike (record s { walk = Some walking }); outcome = refl; effects = refl }
 
-  executed_alike : (s : ProcessState) (i : Instruction) → slice_get (programs s.program) s.point ≡ Some i → SameDone r (executed w e j s i) (executed other e k s i)
+  executed_alike : (s : ProcessState) (i : Instruction) → slice_get w.processes e.process ≡ Some s → slice_get (programs s.program) s.point ≡ Some i → SameDone r (executed w e j s i) (executed other e k s i)
   unfolding executed
-  executed_alike s (Set register value) here = plain_alike _
-  executed_alike s (Mov register source) here = plain_alike _
-  executed_alike s (Add register addend) here = plain_alike _
-  executed_alike s (In register) here = plain_alike _
-  executed_alike s (Jmp target) here = plain_alike _
-  executed_alike s (Jeq register value target) here = plain_alike _
-  executed_alike s (Jlt register value target) here = plain_alike _
-  executed_alike s Halt here = record { world = halted_alike s; outcome = refl; effects = refl }
-  executed_alike s (Invoke call otherwise) here =
+  executed_alike s (Set register value) made here = plain_alike _
+  executed_alike s (Mov register source) made here = plain_alike _
+  executed_alike s (Add register addend) made here = plain_alike _
+  executed_alike s (In register) made here = plain_alike _
+  executed_alike s (Jmp target) made here = plain_alike _
+  executed_alike s (Jeq register value target) made here = plain_alike _
+  executed_alike s (Jlt register value target) made here = plain_alike _
+  executed_alike s Halt made here = record { world = halted_alike s; outcome = refl; effects = refl }
+  executed_alike s (Invoke call otherwise) made here =
       subst (λ a. SameDone r (answered w e.process s j otherwise (answer w e.process s e call)) (answered other e.process s k otherwise a))
       (sym (same_answer r w g alike opens e.process s e call))
       (answered_alike s otherwise (answer w e.process s e call)
@@ -146,34 +148,35 @@ module _ (r : Renaming) (programs : Programs) (valid : ArePrograms programs) (nu
         entries = λ p n. known_one (w.files.table p n) (good.entries p n) (alike.entries p n);
         messages = λ pair side. known_each (w.files.queue pair side) (good.messages pair side) (alike.messages pair side);
       })
-      e.process s e call (both_left _ _ (placed (programs s.program) s.point (Invoke call otherwise) (valid s.program) here).fits)))
+      e.process s e call (both_left _ _ (placed (programs s.program) s.point (Invoke call otherwise) (valid s.program) here).fits)
+      (walk_fits programs w walkers e.process s call otherwise made here) (λ walking fits. tt)))
 
-  at_alike : (s : ProcessState) (o : Option Instruction) → slice_get (programs s.program) s.point ≡ o → SameStep r (stepped_at w e j s o) (stepped_at other e k s o)
+  at_alike : (s : ProcessState) (o : Option Instruction) → slice_get w.processes e.process ≡ Some s → slice_get (programs s.program) s.point ≡ o → SameStep r (stepped_at w e j s o) (stepped_at other e k s o)
   unfolding stepped_at
-  at_alike s None here = record { line = refl; world = same_world }
-  at_alike s (Some i) here =
-      let both = executed_alike s i here in
+  at_alike s None made here = record { line = refl; world = same_world }
+  at_alike s (Some i) made here =
+      let both = executed_alike s i made here in
       record { line = λ t. acted_as s (both.outcome t) (both.effects t); world = both.world }
 
-  by_alike : (s : ProcessState) (alive : Bool) → SameStep r (stepped_by programs w e j s alive) (stepped_by programs other e k s alive)
+  by_alike : (s : ProcessState) (alive : Bool) → slice_get w.processes e.process ≡ Some s → SameStep r (stepped_by programs w e j s alive) (stepped_by programs other e k s alive)
   unfolding stepped_by
-  by_alike s false = record { line = refl; world = same_world }
-  by_alike s true = at_alike s (slice_get (programs s.program) s.point) refl
+  by_alike s false made = record { line = refl; world = same_world }
+  by_alike s true made = at_alike s (slice_get (programs s.program) s.point) made refl
 
-  of_alike : (o : Option ProcessState) → SameStep r (stepped programs w e j o) (stepped programs other e k o)
+  of_alike : (o : Option ProcessState) → slice_get w.processes e.process ≡ o → SameStep r (stepped programs w e j o) (stepped programs other e k o)
   unfolding stepped
-  of_alike None = record { line = refl; world = same_world }
-  of_alike (Some s) = by_alike s s.alive
+  of_alike None made = record { line = refl; world = same_world }
+  of_alike (Some s) made = by_alike s s.alive made
 
   step_alike : SameStep r (step programs w e j) (step programs other e k)
   unfolding step
-  step_alike = of_alike (slice_get w.processes e.process)
+  step_alike = of_alike (slice_get w.processes e.process) refl
 
 -- the same of any world that is the first but for its numbers
 pub steps_same : (r : Renaming) (programs : Programs) → ArePrograms programs → (numbering : Numbering) (w v : World) → IsWorld programs numbering w →
-    SameWorlds r w v → ((pair side : ℕ) → v.files.pairs ≤ pair → v.files.queue pair side ≡ []) → (j k : Choice) → Aims r j k → (e : Event) →
+    AreWalkers programs w → SameWorlds r w v → ((pair side : ℕ) → v.files.pairs ≤ pair → v.files.queue pair side ≡ []) → (j k : Choice) → Aims r j k → (e : Event) →
     SameStep r (step programs w e j) (step programs v e k)
-steps_same r programs valid numbering w v good alike idle j k aims e =
+steps_same r programs valid numbering w v good walkers alike idle j k aims e =
     let path : v ≡ record { tree = w.tree; files = v.files; processes = w.processes } = λ i. record { tree = alike.tree i; files = v.files; processes = alike.processes i } in
     subst (λ u. SameStep r (step programs w e j) (step programs u e k)) (sym path)
-    (step_alike r programs valid numbering w good v.files alike.files idle j k aims e)
+    (step_alike r programs valid numbering w good walkers v.files alike.files idle j k aims e)

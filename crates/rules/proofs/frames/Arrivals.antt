@@ -14,7 +14,7 @@ use Rattle.kernel.specs.Answers.{TableChange, Same_table, Set_entry, Clear_entry
 use Rattle.kernel.specs.Changes.{processes_after, changed}
 use Rattle.kernel.specs.Steps.{with_process, halted}
 use Rattle.kernel.specs.WellFormed.{IsWellFormed}
-use Rattle.kernel.proofs.Keeping.{slice_get-more_cases}
+use Rattle.kernel.proofs.KeptWalks.{slice_get-more_cases}
 use Rattle.task.specs.Plans.{Plan, programs_of_plan}
 use Rattle.rules.proofs.worlds.Invariant.{Asks, IfAlive, IsOfClass, HasClass, IsCarried, Invariant}
 use Rattle.rules.proofs.frames.KeptTrees.{IsDeepChange}
