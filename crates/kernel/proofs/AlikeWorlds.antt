@@ -75,6 +75,7 @@ module _ where
   answer_own : (a : Answer) → renamed_answer own_numbers a ≡ a
   answer_own (Fails errno cause) = refl
   answer_own Waits = refl
+  answer_own (Walks walking) = refl
   answer_own (Gives value change effects) =
       λ i. Gives value (record { tree = change.tree; table = table_own change.table i; queue = queue_own change.queue i; state = state_own change.state i; enters = change.enters }) effects
 
