@@ -15,7 +15,7 @@ use Rattle.prog_asm.specs.Assembly.{Fault}
 use Rattle.fd_table.specs.Descriptions.{Object, At_node, At_end, Initial, Descriptor, new_state}
 use Rattle.kernel.specs.World.{World, Choice}
 use Rattle.kernel.specs.Answers.{Event, Effect}
-use Rattle.kernel.specs.Steps.{LineResult, Done, Halted, Value, Failed, Waiting, Ended, Acted, Programs, step}
+use Rattle.kernel.specs.Steps.{LineResult, Done, Halted, Value, Failed, Waiting, Walks_on, Ended, Acted, Programs, step}
 
 -- Directories `/work` with `in`, `out` and three links, `/workshop` with `x`, `/log`, and `/etc` with
 -- `passwd`: eleven nodes after the root.
@@ -83,6 +83,7 @@ result_text Halted = codes "halt"
 result_text (Value n) = codes "= " ++ decimal n
 result_text (Failed errno cause) = codes "! " ++ errno_name errno ++ codes " " ++ cause_name cause
 result_text Waiting = codes "wait"
+result_text Walks_on = codes "walk"
 result_text Ended = codes "ended"
 
 abbrev pub effect_text : Effect → List ℕ
@@ -100,6 +101,11 @@ acted_text (Some a) =
 
 abbrev pub line_text : ℕ → Option Acted → List ℕ
 line_text process acted = decimal process ++ acted_text acted ++ codes "\n"
+
+-- a line that comes so often
+abbrev pub repeated : ℕ → List ℕ → List ℕ
+repeated zero line = []
+repeated (suc n) line = line ++ repeated n line
 
 -- numbers that nobody names at the n-th step
 abbrev pub choice_at : ℕ → Choice
