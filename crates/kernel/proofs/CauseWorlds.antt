@@ -1,12 +1,16 @@
 -- The worlds, events and processes of the rows of causes.
 use Rattle.std.proofs.Common.{[], ℕ, true, false, List, ◌∷◌, ◌++◌, codes}
 use Rattle.std.specs.Prelude.{Option, Some, None, replicate, bit_or}
+use Rattle.rights.specs.Values.{Name}
 use Rattle.rights.specs.Maps.{put}
 use Rattle.rights.specs.Opens.{OpenRequest, open_request}
 use Rattle.rights.specs.Sets.{all_commands, lookup_right, renameat_target_right}
 use Rattle.file_tree.specs.Nodes.{File, nowhere}
+use Rattle.file_tree.specs.Changes.{removed}
 use Rattle.file_tree.specs.Refusals.{created}
-use Rattle.process.specs.State.{ProcessState, new_process}
+use Rattle.lookup.specs.Answers.{Way, Global, Last}
+use Rattle.lookup.specs.Walks.{WalkState}
+use Rattle.process.specs.State.{Walking, One, ProcessState, new_process}
 use Rattle.fd_table.specs.Descriptions.{Access, Object, At_end, Initial, Descriptor, descriptor_of}
 use Rattle.kernel.specs.World.{World}
 use Rattle.kernel.specs.Answers.{Event}
@@ -32,7 +36,7 @@ no_free = replicate 16 (all 0)
 abbrev pub writing : Access
 writing = record { readable = false; writable = true }
 
--- `/work`, the root, `/work/in`, and the two ends of a pair
+-- `/work`, the root, `/work/in`, `/work/out`, and the two ends of a pair
 abbrev pub dir : Object
 dir = reading 1
 
@@ -41,6 +45,9 @@ root = reading 0
 
 abbrev pub file : Object
 file = reading 2
+
+abbrev pub out : Object
+out = reading 3
 
 abbrev pub end_a : Object
 end_a = At_end 0 0 (Initial 0)
@@ -58,7 +65,7 @@ queued n w = record w { files = record w.files { queue = λ pair side. replicate
 abbrev pub crowded : World → World
 crowded w = record w { processes = replicate 16 (new_process 0 false) }
 
--- with sockets that don't block, with as many nodes as there may be, and with a file in `/work/out`
+-- with sockets that don't block, with as many nodes as there may be, with a file in `/work/out`, and without `/work/out`
 abbrev pub unblocked : World → World
 unblocked w = record w { files = record w.files { states = λ n. record { offset = 0; append = false; nonblock = true } } }
 
@@ -67,6 +74,9 @@ full w = record w { tree = w.tree ++ replicate 1012 nowhere }
 
 abbrev pub deep : World → World
 deep w = record w { tree = created w.tree 3 (codes "y") File [] }
+
+abbrev pub without_out : World → World
+without_out w = record w { tree = removed w.tree 3 }
 
 abbrev pub quiet : Event
 quiet = record { process = 0; input = 0; refuse = false }
@@ -88,3 +98,18 @@ free_process = new_process 0 false
 
 abbrev pub in_mode : ProcessState
 in_mode = new_process 0 true
+
+-- lookups that have come to a node by some directories, the latest first, and have one name left
+abbrev pub at_last : Way → Last → ℕ → List ℕ → Name → WalkState
+at_last way last n before name = record {
+  way = way;
+  last = last;
+  stand = record { spot = record { current = n; before = before }; left = name ∷ []; followed = 0 };
+}
+
+abbrev pub walking : Walking → ProcessState
+walking w = record free_process { walk = Some w }
+
+-- from the root into `/work`, for the last name there
+abbrev pub in_work : Last → Name → ProcessState
+in_work last name = walking (One (at_last Global last 1 (0 ∷ []) name))

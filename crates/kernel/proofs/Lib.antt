@@ -4,6 +4,7 @@ pub mod ProcessRows
 pub mod CauseWorlds
 pub mod CauseRows
 pub mod NameCauseRows
+pub mod WalkRows
 pub mod Origins
 pub mod Trees
 pub mod Looking

@@ -15,7 +15,7 @@ use Rattle.prog_asm.specs.Assembly.{Fault}
 use Rattle.fd_table.specs.Descriptions.{Object, At_node, At_end, Initial, Descriptor, new_state}
 use Rattle.kernel.specs.World.{World, Choice}
 use Rattle.kernel.specs.Answers.{Event, Effect}
-use Rattle.kernel.specs.Steps.{LineResult, Done, Halted, Value, Failed, Waiting, Ended, Acted, Programs, step}
+use Rattle.kernel.specs.Steps.{LineResult, Done, Halted, Value, Failed, Waiting, Walks_on, Ended, Acted, Programs, step}
 
 -- Directories `/work` with `in`, `out` and three links, `/workshop` with `x`, `/log`, and `/etc` with
 -- `passwd`: eleven nodes after the root.
@@ -83,6 +83,7 @@ result_text Halted = codes "halt"
 result_text (Value n) = codes "= " ++ decimal n
 result_text (Failed errno cause) = codes "! " ++ errno_name errno ++ codes " " ++ cause_name cause
 result_text Waiting = codes "wait"
+result_text Walks_on = codes "walk"
 result_text Ended = codes "ended"
 
 abbrev pub effect_text : Effect → List ℕ
@@ -92,24 +93,32 @@ abbrev pub program_name : ℕ → List ℕ
 program_name zero = codes "main"
 program_name (suc n) = codes "child"
 
-abbrev pub acted_text : Option Acted → List ℕ
-acted_text None = codes " - none"
-acted_text (Some a) =
-    codes " " ++ program_name a.program ++ codes ":" ++ decimal a.point ++ codes " " ++ result_text a.outcome
+abbrev pub acted_text : (ℕ → List ℕ) → Option Acted → List ℕ
+acted_text name None = codes " - none"
+acted_text name (Some a) =
+    codes " " ++ name a.program ++ codes ":" ++ decimal a.point ++ codes " " ++ result_text a.outcome
     ++ flat_map effect_text a.effects
 
-abbrev pub line_text : ℕ → Option Acted → List ℕ
-line_text process acted = decimal process ++ acted_text acted ++ codes "\n"
+abbrev pub line_text : (ℕ → List ℕ) → ℕ → Option Acted → List ℕ
+line_text name process acted = decimal process ++ acted_text name acted ++ codes "\n"
+
+-- a line that comes so often
+abbrev pub repeated : ℕ → List ℕ → List ℕ
+repeated zero line = []
+repeated (suc n) line = line ++ repeated n line
 
 -- numbers that nobody names at the n-th step
 abbrev pub choice_at : ℕ → Choice
 choice_at n = record { first = 100 + 2 * n; second = 101 + 2 * n; pair = 1 + n }
 
-abbrev pub trace : Programs → World → ℕ → List Event → List ℕ
-trace programs w n [] = []
-trace programs w n (e ∷ events) =
+abbrev pub trace_by : (ℕ → List ℕ) → Programs → World → ℕ → List Event → List ℕ
+trace_by name programs w n [] = []
+trace_by name programs w n (e ∷ events) =
     let s = step programs w e (choice_at n) in
-    line_text e.process s.acted ++ trace programs s.world (n + 1) events
+    line_text name e.process s.acted ++ trace_by name programs s.world (n + 1) events
+
+abbrev pub trace : Programs → World → ℕ → List Event → List ℕ
+trace = trace_by program_name
 
 -- one program, or two
 abbrev pub code_of : Result (List Instruction) Fault → List Instruction
