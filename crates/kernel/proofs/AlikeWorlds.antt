@@ -10,7 +10,7 @@ use Rattle.fd_table.specs.OpenFiles.{OpenFiles, Alike, SameDescriptions, IsOther
 use Rattle.fd_table.specs.OpenFiles as open_files
 use Rattle.kernel.specs.World.{World, Choice, IsFresh}
 use Rattle.kernel.specs.Answers.{Event, TableChange, Same_table, Set_entry, Clear_entry, New_file, New_pair, New_process, QueueChange, Same_queue, Push, Pop, StateChange}
-use Rattle.kernel.specs.Answers.{Same_state, Set_state, Answer, Fails, Waits, Gives, IsEvent}
+use Rattle.kernel.specs.Answers.{Same_state, Set_state, Answer, Fails, Waits, Gives, Walks, IsEvent}
 use Rattle.kernel.specs.Calls.{answer}
 use Rattle.kernel.specs.Steps.{Programs, step}
 use Rattle.kernel.specs.WellFormed.{ArePrograms, Numbering, IsObject, IsDescriptor, EachMessage, HasNone, IsWorld, IsWellFormed}
