@@ -1,5 +1,5 @@
 -- When what a call came to is what the model answers.
-use Rattle.std.specs.Prelude.{◌≡◌, ◌≤◌, ◌<◌, ◌≢◌, ℕ, Bool, true, false, List, [], length, map, Some, None, Result, Ok, Err}
+use Rattle.std.specs.Prelude.{◌≡◌, ◌≤◌, ◌<◌, ◌≢◌, ℕ, Bool, true, false, List, [], length, map, Option, Some, None, Result, Ok, Err}
 use Rattle.rights.specs.Limits.{most_descriptors, most_processes}
 use Rattle.rights.specs.declared.calls.Call.{Call}
 use Rattle.rights.specs.Needs.{First, Second, needs_of}
@@ -14,9 +14,15 @@ use Rattle.fd_table.specs.Filled.{IsNamed, IsEndThere}
 use Rattle.fd_table.specs.OpenFiles.{OpenFiles, IsUnnamed, IsUnused, Alike}
 use Rattle.lookup.specs.declared.ways.Found.{Found}
 use Rattle.lookup.specs.Views.{found_of}
+use Rattle.lookup.specs.Walks.{WalkState, Progress, Done, More}
+use Rattle.process.specs.declared.walking.Walking.{Walking as WalkingCode}
+use Rattle.process.specs.State.{One}
+use Rattle.process.specs.Views.{walk_of, walking_of}
 use Rattle.lookup.specs.Answers as lookups
+use Rattle.lookup.specs.Promises.{IsFindingThere, IsFreeName, IsLinked, IsUnderName, MayBeMade}
+use Rattle.rights.specs.Values.{PathText}
 use Rattle.kernel.specs.World.{World, Choice}
-use Rattle.kernel.specs.Answers.{Event, Effect, TableChange, New_file, New_pair, Change, Answer, Fails, Waits, Gives, lookup_fails}
+use Rattle.kernel.specs.Answers.{Event, Effect, TableChange, New_file, New_pair, Change, Answer, Fails, Waits, Gives, Walks, lookup_fails}
 use Rattle.kernel.specs.Changes.{tree_after, files_after, given, children}
 use Rattle.syscalls.specs.declared.outcomes.Besides.{Besides}
 use Rattle.syscalls.specs.declared.outcomes.Success.{Success}
@@ -24,8 +30,9 @@ use Rattle.syscalls.specs.declared.outcomes.Refusal.{Refusal}
 use Rattle.syscalls.specs.declared.outcomes.Refusal.TheVariants as refusal
 use Rattle.fd_table.specs.Views.{access_seen, side_seen}
 use Rattle.prog_asm.specs.Programs.{Syscall, called}
-use Rattle.kernel.specs.Calls.{answer, no_request}
+use Rattle.kernel.specs.Calls.{answer, lost, no_request, renamed_from}
 use Rattle.syscalls.specs.declared.paths.Beneath.{Beneath}
+use Rattle.syscalls.specs.declared.lookups.Both.{Both}
 use Rattle.syscalls.specs.declared.operands.Caller.{Caller}
 use Rattle.syscalls.specs.declared.operands.OpenNode.{OpenNode}
 use Rattle.syscalls.specs.declared.operands.Opened.{Opened}
@@ -69,11 +76,13 @@ pub record DoesNothing (w : World) (t : List Node) (f : OpenFiles) : Type 0 wher
 abbrev pub Refuses : Refusal → Answer → Type 0
 Refuses (refusal.Fails errno cause) a = a ≡ Fails (errno_of errno) (cause_of cause)
 Refuses refusal.Waits a = a ≡ Waits
+Refuses (refusal.Walks walking) a = a ≡ Walks (walking_of walking)
 Refuses refusal.Memory a = Unit {0}
 
 abbrev pub RefusesAlone : Refusal → World → List Node → OpenFiles → Answer → Type 0
 RefusesAlone (refusal.Fails errno cause) w t f a = (a ≡ Fails (errno_of errno) (cause_of cause)) × DoesNothing w t f
 RefusesAlone refusal.Waits w t f a = (a ≡ Waits) × DoesNothing w t f
+RefusesAlone (refusal.Walks walking) w t f a = (a ≡ Walks (walking_of walking)) × DoesNothing w t f
 RefusesAlone refusal.Memory w t f a = Unit {0}
 
 -- What the code came to, with the tree and what is open after it, is what the model answers.
@@ -86,28 +95,31 @@ abbrev pub Passes : {A B : Type 0} → (A → B) → ((B → Answer) → Answer)
 Passes {B = B} view test (Ok found) = (rest : B → Answer) → test rest ≡ rest (view found)
 Passes {B = B} view test (Err refused) = (rest : B → Answer) → Refuses refused (test rest)
 
--- What a lookup found, or the fault that it is refused for.
+-- What an event of a lookup found, or why its call doesn't go on: the fault that it is refused for, or the names that are left.
 pub record IsNotFound (refused : Refusal) (found : lookups.Finding) : Type 0 where
   pub fault : lookups.LookupFault
   pub is : found ≡ lookups.Not_found fault
   pub refuses : Refuses refused (lookup_fails fault)
 
-abbrev pub Finds : lookups.Finding → Result Found Refusal → Type 0
-Finds answer (Ok found) = found_of found ≡ answer
-Finds answer (Err refused) = refused ≢ refusal.Memory → IsNotFound refused answer
+abbrev pub IsLeft : Refusal → Progress → Type 0
+IsLeft refused (Done finding) = IsNotFound refused finding
+IsLeft refused (More walk) = Refuses refused (Walks (One walk))
+
+abbrev pub Finds : Progress → Result Found Refusal → Type 0
+Finds event (Ok found) = event ≡ Done (found_of found)
+Finds event (Err refused) = refused ≢ refusal.Memory → IsLeft refused event
 
 -- What goes on from a lookup fails as the lookup does.
 abbrev pub TellsFaults : (lookups.Finding → Answer) → Type 0
 TellsFaults rest = (fault : lookups.LookupFault) → rest (lookups.Not_found fault) ≡ lookup_fails fault
 
--- A lookup of the model, with the tests before it, goes on with what the code found, or is refused as the code is,
--- whoever calls.
+-- A lookup of the model, with the tests before it, goes on with what the code found, or is refused as the code is.
 abbrev pub LooksUp : ((lookups.Finding → Answer) → Answer) → Result Found Refusal → Type 0
 LooksUp look (Ok found) = (rest : lookups.Finding → Answer) → look rest ≡ rest (found_of found)
 LooksUp look (Err refused) = (rest : lookups.Finding → Answer) → TellsFaults rest → Refuses refused (look rest)
 
-abbrev pub LooksUpIn : List Node → OpenFiles → (World → ℕ → ProcessState → Event → (lookups.Finding → Answer) → Answer) → Result Found Refusal → Type 0
-LooksUpIn t f look r = (processes : List ProcessState) (p : ℕ) (s : ProcessState) (e : Event) → LooksUp (look (world_with t f processes) p s e) r
+abbrev pub LooksUpIn : List Node → OpenFiles → ProcessState → (World → ℕ → ProcessState → Event → (lookups.Finding → Answer) → Answer) → Result Found Refusal → Type 0
+LooksUpIn t f s look r = (processes : List ProcessState) (p : ℕ) (e : Event) → LooksUp (look (world_with t f processes) p s e) r
 
 -- queues are only where pairs are
 abbrev pub IsIdle : OpenFiles → Type 0
@@ -196,13 +208,55 @@ abbrev pub Calls : List Node → OpenFiles → Caller → List Node → OpenFile
 Calls t f caller after left r call =
     Does t f caller after left r (λ w e. answer w caller.number caller.process.now e call)
 
+-- The process that calls, with what its call has under way.
+abbrev pub state_with : Caller → Option WalkingCode → ProcessState
+state_with caller walk = record caller.process.now { walk = walk_of walk }
+
+-- The same of a call with a path, which goes on with that.
+abbrev pub GoesOn : List Node → OpenFiles → Caller → Option WalkingCode → List Node → OpenFiles → Result Success Refusal → Syscall → Type 0
+GoesOn t f caller walk after left r call =
+    Does t f caller after left r (λ w e. answer w caller.number (state_with caller walk) e call)
+
+-- A rename of the model goes on with the node and with what was found in its place, or is refused as the code is.
+abbrev pub RenamesOn : ((lookups.Finding → lookups.Finding → Answer) → Answer) → (lookups.Finding → (ℕ → Answer) → Answer) → Result Both Refusal → Type 0
+RenamesOn look from (Ok both) = (rest : ℕ → lookups.Finding → Answer) → look (λ source place. from source (λ n. rest n place)) ≡ rest both.node (found_of both.place)
+RenamesOn look from (Err refused) =
+    (rest : ℕ → lookups.Finding → Answer) → ((n : ℕ) → TellsFaults (rest n)) → Refuses refused (look (λ source place. from source (λ n. rest n place)))
+
+abbrev pub RenamesIn : List Node → ProcessState → (World → ℕ → ProcessState → Event → (lookups.Finding → lookups.Finding → Answer) → Answer) → Result Both Refusal → Type 0
+RenamesIn t s look r =
+    (f : OpenFiles) (processes : List ProcessState) (p : ℕ) (e : Event)
+    → RenamesOn (look (world_with t f processes) p s e) (renamed_from (world_with t f processes) p s e) r
+
+-- What is known of what both paths lead to.
+pub record AreFound (t : List Node) (path new_path : PathText) (both : Both) : Type 0 where
+  pub node : IsLinked t both.node
+  pub place : IsFindingThere t (found_of both.place)
+  pub named : IsUnderName t new_path (found_of both.place)
+  pub free : IsFreeName t new_path (found_of both.place)
+  pub may_be_made : MayBeMade new_path (found_of both.place)
+
+-- The last name of a path is found, or the fault that the call is refused for.
+abbrev pub FindsLast : lookups.Finding → Result Found Refusal → Type 0
+FindsLast finding (Ok found) = finding ≡ found_of found
+FindsLast finding (Err refused) = refused ≢ refusal.Memory → IsNotFound refused finding
+
+-- A lookup goes on to a name behind this one, or the call is refused.
+abbrev pub IsLost : Refusal → Progress → Type 0
+IsLost refused (Done finding) = Refuses refused (lost finding)
+IsLost refused (More walk) = ⊥
+
+abbrev pub LeavesNames : Progress → Result WalkState Refusal → Type 0
+LeavesNames event (Ok walk) = event ≡ More walk
+LeavesNames event (Err refused) = refused ≢ refusal.Memory → IsLost refused event
+
 -- The same where so many processes were made, which fork alone looks at.
-abbrev pub Performs : List Node → OpenFiles → Caller → List Node → OpenFiles → Result Success Refusal → Syscall → Type 0
-Performs t f caller after left r call =
+abbrev pub Performs : List Node → OpenFiles → Caller → ProcessState → List Node → OpenFiles → Result Success Refusal → Syscall → Type 0
+Performs t f caller s after left r call =
     (processes : List ProcessState) (e : Event)
     → e.refuse ≡ caller.refuse
     → length processes ≡ caller.made
-    → Meets (world_with t f processes) caller.number after left r (answer (world_with t f processes) caller.number caller.process.now e call)
+    → Meets (world_with t f processes) caller.number after left r (answer (world_with t f processes) caller.number s e call)
 
 -- what a call that opens nothing needs of its first descriptor
 abbrev pub need : Call → ℕ

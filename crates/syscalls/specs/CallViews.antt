@@ -8,7 +8,7 @@ use Rattle.kernel.specs.World.{World, Choice, IsFresh}
 use Rattle.kernel.specs.Answers.{Event}
 use Rattle.kernel.specs.Calls.{answer}
 use Rattle.kernel.specs.Changes.{given, processes_after}
-use Rattle.kernel.specs.Steps.{LineResult, Value, Failed, Waiting, answered, failed}
+use Rattle.kernel.specs.Steps.{LineResult, Value, Failed, Waiting, Walks_on, answered, failed}
 use Rattle.kernel.specs.Alike.{AlikeWorlds}
 use Rattle.syscalls.specs.declared.outcomes.Besides.{Besides}
 use Rattle.syscalls.specs.declared.outcomes.Outcome.{Outcome}
@@ -20,6 +20,7 @@ abbrev pub result_of : Outcome → LineResult
 result_of (outcome.Value value) = Value value
 result_of (outcome.Error errno cause) = Failed (errno_of errno) (cause_of cause)
 result_of outcome.Wait = Waiting
+result_of outcome.Walk = Walks_on
 
 -- a process after a success, and the processes that there are then
 abbrev pub succeeded_as : ProcessState → ℕ → Besides → ProcessState

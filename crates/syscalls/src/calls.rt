@@ -1,9 +1,11 @@
 //! The calls, each with its function: what it answers, and what it does to the tree and to what is open.
 
-ghost use Rattle.std.specs.Prelude.{◌≡◌, ℕ, None};
+ghost use Rattle.std.specs.Prelude.{◌≡◌, ℕ, None, Some};
+ghost use Rattle.process.specs.Views.{walk_of};
 ghost use Rattle.fd_table.specs.Kept.{open_files};
 ghost use Rattle.prog_asm.specs.Views.{syscall_of};
-ghost use Rattle.syscalls.specs.AnswerViews.{IsReady, Performs};
+ghost use Rattle.kernel.specs.Walks.{FitsIfWalking};
+ghost use Rattle.syscalls.specs.AnswerViews.{IsReady, Performs, state_with};
 
 use crate::bytes::{read, seek, truncate, write};
 use crate::descriptors::{
@@ -19,24 +21,30 @@ use crate::processes::{enter_mode, fork, get_mode};
 use crate::sockets::{make_pair, receive_descriptor, send_descriptor};
 use fd_table::Files;
 use file_tree::Tree;
+use process::Walking;
 use prog_asm::Syscall;
 use std::alloc::Global;
 
-/// What the call answers, and does to the tree and to what is open. No process is changed or made yet.
+/// What the call answers at this event, and does to the tree and to what is open. What it has under way was taken out of its
+/// process. No process is changed or made yet.
 pub(crate) fn perform<T: Tree>(
     alloc: Global,
     tree: &mut T,
     files: &mut Files,
     caller: &Caller<'_>,
     call: &Syscall,
+    walk: Option<Walking>,
 ) -> Result<Success, Refusal>
     requires ready { IsReady (T.nodes tree.old) (open_files files.old) caller.now.number }
     requires unmade { (n : ℕ) → (open_files files.old).table caller.now.made n ≡ None }
-    ensures { Performs (T.nodes tree.old) (open_files files.old) caller.now (T.nodes tree.new) (open_files files.new) result (syscall_of call.now) }
+    requires rests { caller.now.process.now.walk ≡ None }
+    requires fits { FitsIfWalking (T.nodes tree.old) (open_files files.old).objects ((open_files files.old).table caller.now.number) caller.now.process.now
+        (Some (syscall_of call.now)) (walk_of walk) }
+    ensures { Performs (T.nodes tree.old) (open_files files.old) caller.now (state_with caller.now walk) (T.nodes tree.new) (open_files files.new) result (syscall_of call.now) }
 {
     match call {
         Syscall::Open { path, flags } => {
-            open_path(alloc, tree, files, caller, path.bytes(), *flags)
+            open_path(alloc, tree, files, caller, path.bytes(), *flags, walk)
         }
         Syscall::Openat {
             descriptor,
@@ -50,6 +58,7 @@ pub(crate) fn perform<T: Tree>(
             *descriptor,
             path.bytes(),
             *flags,
+            walk,
         ),
         Syscall::Read { descriptor } => read(alloc, tree, files, caller, *descriptor),
         Syscall::Write { descriptor, value } => {
@@ -74,13 +83,13 @@ pub(crate) fn perform<T: Tree>(
             set_status(alloc, files, caller, *descriptor, *flags)
         }
         Syscall::Fstatat { descriptor, path } => {
-            stat_beneath(alloc, tree, files, caller, *descriptor, path.bytes())
+            stat_beneath(alloc, tree, files, caller, *descriptor, path.bytes(), walk)
         }
-        Syscall::Stat { path } => stat_path(alloc, tree, files, caller, path.bytes()),
+        Syscall::Stat { path } => stat_path(alloc, tree, files, caller, path.bytes(), walk),
         Syscall::Mkdirat { descriptor, path } => {
-            make_beneath(alloc, tree, files, caller, *descriptor, path.bytes())
+            make_beneath(alloc, tree, files, caller, *descriptor, path.bytes(), walk)
         }
-        Syscall::Mkdir { path } => make_path(alloc, tree, files, caller, path.bytes()),
+        Syscall::Mkdir { path } => make_path(alloc, tree, files, caller, path.bytes(), walk),
         Syscall::Unlinkat {
             descriptor,
             path,
@@ -93,9 +102,10 @@ pub(crate) fn perform<T: Tree>(
             *descriptor,
             path.bytes(),
             *directory,
+            walk,
         ),
         Syscall::Unlink { path, directory } => {
-            remove_path(alloc, tree, files, caller, path.bytes(), *directory)
+            remove_path(alloc, tree, files, caller, path.bytes(), *directory, walk)
         }
         Syscall::Renameat {
             descriptor,
@@ -111,6 +121,7 @@ pub(crate) fn perform<T: Tree>(
             path.bytes(),
             *target,
             new_path.bytes(),
+            walk,
         ),
         Syscall::Dup { descriptor } => duplicate(alloc, files, caller, *descriptor),
         Syscall::Close { descriptor } => close(alloc, files, caller, *descriptor),

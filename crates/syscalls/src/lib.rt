@@ -6,6 +6,7 @@ mod calls;
 mod changes;
 mod descriptors;
 pub mod events;
+mod lookups;
 mod names;
 mod opening;
 mod operands;

@@ -9,6 +9,7 @@ ghost use Rattle.syscalls.specs.Views.{effect_of, effects_of};
 ghost use Rattle.syscalls.specs.declared.outcomes.Refusal.TheVariants as refusal;
 
 use file_tree::{NodeId, Tree, TreeFault};
+use process::Walking;
 use rights::{Cause, Errno, Memory, Op};
 use std::alloc::{AllocError, AllocFailed, Global};
 
@@ -28,6 +29,8 @@ pub enum Outcome {
     Error(Errno, Cause),
     /// It can't go on yet, and nothing changes.
     Wait,
+    /// It has looked one name up, and has names left for later events. Nothing but what it has under way changes.
+    Walk,
 }
 
 /// What a success makes of the process, besides giving it the value.
@@ -50,11 +53,13 @@ pub(crate) struct Success {
     pub effects: Vec<Effect>,
 }
 
-/// Why a call doesn't succeed. It has changed nothing then, unless a growth was refused.
-#[derive(Clone, Copy)]
+/// Why a call doesn't succeed at this event. It has changed nothing then, unless a growth was refused.
+#[derive(Drop)]
 pub(crate) enum Refusal {
     Fails(Errno, Cause),
     Waits,
+    /// It has names left for later events, and this under way.
+    Walks(Walking),
     Memory,
 }
 

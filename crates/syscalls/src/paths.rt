@@ -1,4 +1,4 @@
-//! Calls with a path: what it leads to, beneath a directory's descriptor or from the root, and what is done with that.
+//! Calls with a path: what an event finds beneath a directory's descriptor or from the root, and what is done with that.
 
 ghost use Rattle.std.specs.Prelude.{◌≡◌, ◌<◌, Bool, Err, IfErr, IfOk, IfSome, OnOk, List, not, true, false, length};
 ghost use Rattle.fd_table.specs.Descriptions.{Descriptor};
@@ -8,10 +8,10 @@ ghost use Rattle.fd_table.specs.OpenFiles.{OpenFiles};
 ghost use Rattle.file_tree.specs.Nodes.{Node, is_link, node};
 ghost use Rattle.file_tree.specs.WellFormed.{IsTree};
 ghost use Rattle.lookup.specs.Answers as lookups;
-ghost use Rattle.lookup.specs.Looks.{find_of};
 ghost use Rattle.lookup.specs.Promises.{IsFreeName, IsFindingThere, IsUnderName, MayBeMade};
-ghost use Rattle.lookup.specs.Views as views;
-ghost use Rattle.lookup.specs.Views.{fault_of, found_of, last_of, way_of};
+ghost use Rattle.lookup.specs.UnderWay.{IsUnderWay};
+ghost use Rattle.lookup.specs.Views.{found_of, last_of};
+ghost use Rattle.process.specs.Views.{walk_of};
 ghost use Rattle.prog_asm.specs.Programs as programs;
 ghost use Rattle.prog_asm.specs.Programs.{Syscall, is_path};
 ghost use Rattle.prog_asm.specs.Views.{operand_of};
@@ -21,8 +21,10 @@ ghost use Rattle.rights.specs.Needs.{First, needs_of};
 ghost use Rattle.kernel.specs.Answers as answers;
 ghost use Rattle.kernel.specs.Answers.{Answer, unless};
 ghost use Rattle.kernel.specs.Calls as model;
-ghost use Rattle.syscalls.specs.AnswerViews.{Calls, Finds, HasNumbers, IsReady, IsReadyDescription, LooksUpIn, MayReplace, OnTree, Passes, Refuses, beneath_seen, need};
+ghost use Rattle.kernel.specs.Walks.{IfOne, IfTwo};
+ghost use Rattle.syscalls.specs.AnswerViews.{GoesOn, HasNumbers, IsReady, IsReadyDescription, LooksUpIn, Passes, Refuses, beneath_seen, need, state_with};
 
+use crate::lookups::{look_up, look_up_both};
 use crate::names::{make_directory, remove, rename_to, stat_found};
 use crate::opening::{Opening, open_found};
 use crate::operands::{
@@ -31,49 +33,11 @@ use crate::operands::{
 use crate::outcomes::{Refusal, Success};
 use fd_table::{DescriptionId, Files};
 use file_tree::{NodeId, Tree};
-use lookup::{Found, Last, PathFault, Way, find};
+use lookup::{Found, Last, Way};
+use process::Walking;
 use prog_asm::Operand;
 use rights::{Call, Cause, Errno, Fcntls, OpenFlags, Position, Rights, needs};
 use std::alloc::Global;
-
-/// What a fault of a lookup is refused as. An escape is no missing right, though its error is the same. (open(2),
-/// capsicum(4))
-fn refusal_of(fault: PathFault) -> Refusal
-    ensures { (found : lookups.Finding) → IfSome (views.not_found (fault_of fault)) (λ answer. answer ≡ found) → Finds found (Err result) }
-{
-    match fault {
-        PathFault::Escape => Refusal::Fails(Errno::ENOTCAPABLE, Cause::Escape),
-        PathFault::NoEntry => Refusal::Fails(Errno::ENOENT, Cause::Path),
-        PathFault::NotDir => Refusal::Fails(Errno::ENOTDIR, Cause::Path),
-        PathFault::Loop => Refusal::Fails(Errno::ELOOP, Cause::Path),
-        PathFault::TooLong => Refusal::Fails(Errno::ENAMETOOLONG, Cause::Path),
-        PathFault::BadLast => Refusal::Fails(Errno::EINVAL, Cause::Path),
-        PathFault::Memory => Refusal::Memory,
-    }
-}
-
-/// What a path leads to, from a start that is a file or directory of the tree.
-fn look_up<T: Tree>(
-    alloc: Global,
-    tree: &T,
-    start: NodeId,
-    path: &[u8],
-    way: Way,
-    last: Last,
-) -> Result<Found, Refusal>
-    requires there { start < length (T.nodes tree.now) }
-    requires opened { is_link (node (T.nodes tree.now) start).kind ≡ false }
-    ensures finds { Finds (find_of (T.nodes tree.now) start path.now (way_of way) (last_of last)) result }
-    ensures there { IfOk result (λ found. IsFindingThere (T.nodes tree.now) (found_of found)) }
-    ensures named { last ≡ Last.Keep → IfOk result (λ found. IsUnderName (T.nodes tree.now) path.now (found_of found)) }
-    ensures free { IfOk result (λ found. IsFreeName (T.nodes tree.now) path.now (found_of found)) }
-    ensures may_be_made { IfOk result (λ found. MayBeMade path.now (found_of found)) }
-{
-    match find(alloc, tree, start, path, way, last) {
-        Ok(found) => Ok(found),
-        Err(fault) => Err(refusal_of(fault)),
-    }
-}
 
 /// Global name spaces can't be reached in capability mode. (capsicum(4), cap_enter(2), ECAPMODE)
 #[tactic(auto, unfolding(kernel::specs::Answers::unless))]
@@ -87,7 +51,7 @@ fn outside_mode(caller: &Caller<'_>) -> Result<(), Refusal>
     Ok(())
 }
 
-/// What a path leads to beneath the directory of an operand, through the rights that the call needs.
+/// What an event finds beneath the directory of an operand, through the rights that the call needs.
 fn find_beneath<T: Tree>(
     alloc: Global,
     tree: &T,
@@ -97,9 +61,11 @@ fn find_beneath<T: Tree>(
     path: &[u8],
     call: Call,
     last: Last,
+    walk: Option<Walking>,
 ) -> Result<Found, Refusal>
-    requires { IsReady (T.nodes tree.now) (open_files files.now) caller.now.number }
-    ensures leads { LooksUpIn (T.nodes tree.now) (open_files files.now) (λ w p s e rest.
+    requires ready { IsReady (T.nodes tree.now) (open_files files.now) caller.now.number }
+    requires under { IfOne (IsUnderWay (T.nodes tree.now) path.now lookups.Beneath (last_of last)) (walk_of walk) }
+    ensures leads { LooksUpIn (T.nodes tree.now) (open_files files.now) (state_with caller.now walk) (λ w p s e rest.
         answers.through (need call) ((open_files files.now).table caller.now.number (answers.value_of caller.now.process.now (operand_of operand)))
         (λ d. model.in_directory w p s e d.description (λ n. model.looks w p s e n lookups.Beneath path.now (last_of last) rest))) result }
     ensures there { IfOk result (λ found. IsFindingThere (T.nodes tree.now) (found_of found)) }
@@ -109,20 +75,22 @@ fn find_beneath<T: Tree>(
 {
     match directory_through(tree, files, caller, operand, call) {
         Err(refused) => Err(refused),
-        Ok(dir) => look_up(alloc, tree, dir, path, Way::Beneath, last),
+        Ok(dir) => look_up(alloc, tree, dir, path, Way::Beneath, last, walk),
     }
 }
 
-/// What a path leads to from the root, outside capability mode.
+/// What an event finds from the root, outside capability mode.
 fn find_from_root<T: Tree>(
     alloc: Global,
     tree: &T,
     caller: &Caller<'_>,
     path: &[u8],
     last: Last,
+    walk: Option<Walking>,
 ) -> Result<Found, Refusal>
-    ensures leads { (f : OpenFiles) → LooksUpIn (T.nodes tree.now) f (λ w p s e rest.
-        model.outside_mode w p caller.now.process.now e (model.looks w p s e 0 lookups.Global path.now (last_of last) rest)) result }
+    requires { IfOne (IsUnderWay (T.nodes tree.now) path.now lookups.Global (last_of last)) (walk_of walk) }
+    ensures leads { (f : OpenFiles) → LooksUpIn (T.nodes tree.now) f (state_with caller.now walk) (λ w p s e rest.
+        model.outside_mode w p s e (model.looks w p s e 0 lookups.Global path.now (last_of last) rest)) result }
     ensures there { IfOk result (λ found. IsFindingThere (T.nodes tree.now) (found_of found)) }
     ensures named { last ≡ Last.Keep → IfOk result (λ found. IsUnderName (T.nodes tree.now) path.now (found_of found)) }
     ensures free { IfOk result (λ found. IsFreeName (T.nodes tree.now) path.now (found_of found)) }
@@ -130,7 +98,7 @@ fn find_from_root<T: Tree>(
 {
     match outside_mode(caller) {
         Err(refused) => Err(refused),
-        Ok(()) => look_up(alloc, tree, tree.root(), path, Way::Global, last),
+        Ok(()) => look_up(alloc, tree, tree.root(), path, Way::Global, last, walk),
     }
 }
 
@@ -142,13 +110,15 @@ pub(crate) fn stat_beneath<T: Tree>(
     caller: &Caller<'_>,
     operand: Operand,
     path: &[u8],
+    walk: Option<Walking>,
 ) -> Result<Success, Refusal>
-    requires { IsReady (T.nodes tree.now) (open_files files.now) caller.now.number }
-    ensures { Calls (T.nodes tree.now) (open_files files.now) caller.now (T.nodes tree.now) (open_files files.now) result (programs.Fstatat (operand_of operand) path.now) }
+    requires ready { IsReady (T.nodes tree.now) (open_files files.now) caller.now.number }
+    requires under { IfOne (IsUnderWay (T.nodes tree.now) path.now lookups.Beneath lookups.Follow) (walk_of walk) }
+    ensures { GoesOn (T.nodes tree.now) (open_files files.now) caller.now walk (T.nodes tree.now) (open_files files.now) result (programs.Fstatat (operand_of operand) path.now) }
 {
     let call = Call::Fstatat;
     let last = Last::Follow;
-    match find_beneath(alloc, tree, files, caller, operand, path, call, last) {
+    match find_beneath(alloc, tree, files, caller, operand, path, call, last, walk) {
         Err(refused) => Err(refused),
         Ok(found) => stat_found(alloc, tree, found),
     }
@@ -161,11 +131,13 @@ pub(crate) fn stat_path<T: Tree>(
     files: &Files,
     caller: &Caller<'_>,
     path: &[u8],
+    walk: Option<Walking>,
 ) -> Result<Success, Refusal>
-    requires { IsReady (T.nodes tree.now) (open_files files.now) caller.now.number }
-    ensures { Calls (T.nodes tree.now) (open_files files.now) caller.now (T.nodes tree.now) (open_files files.now) result (programs.Stat path.now) }
+    requires ready { IsReady (T.nodes tree.now) (open_files files.now) caller.now.number }
+    requires under { IfOne (IsUnderWay (T.nodes tree.now) path.now lookups.Global lookups.Follow) (walk_of walk) }
+    ensures { GoesOn (T.nodes tree.now) (open_files files.now) caller.now walk (T.nodes tree.now) (open_files files.now) result (programs.Stat path.now) }
 {
-    match find_from_root(alloc, tree, caller, path, Last::Follow) {
+    match find_from_root(alloc, tree, caller, path, Last::Follow, walk) {
         Err(refused) => Err(refused),
         Ok(found) => stat_found(alloc, tree, found),
     }
@@ -179,13 +151,15 @@ pub(crate) fn make_beneath<T: Tree>(
     caller: &Caller<'_>,
     operand: Operand,
     path: &[u8],
+    walk: Option<Walking>,
 ) -> Result<Success, Refusal>
     requires ready { IsReady (T.nodes tree.old) (open_files files.now) caller.now.number }
     requires text { is_path path.now ≡ true }
-    ensures { Calls (T.nodes tree.old) (open_files files.now) caller.now (T.nodes tree.new) (open_files files.now) result (programs.Mkdirat (operand_of operand) path.now) }
+    requires under { IfOne (IsUnderWay (T.nodes tree.old) path.now lookups.Beneath lookups.Keep) (walk_of walk) }
+    ensures { GoesOn (T.nodes tree.old) (open_files files.now) caller.now walk (T.nodes tree.new) (open_files files.now) result (programs.Mkdirat (operand_of operand) path.now) }
 {
     let call = Call::Mkdirat;
-    match find_beneath(alloc, tree, files, caller, operand, path, call, Last::Keep) {
+    match find_beneath(alloc, tree, files, caller, operand, path, call, Last::Keep, walk) {
         Err(refused) => Err(refused),
         Ok(found) => make_directory(alloc, tree, found, path, caller.refuse),
     }
@@ -198,12 +172,14 @@ pub(crate) fn make_path<T: Tree>(
     files: &Files,
     caller: &Caller<'_>,
     path: &[u8],
+    walk: Option<Walking>,
 ) -> Result<Success, Refusal>
     requires ready { IsReady (T.nodes tree.old) (open_files files.now) caller.now.number }
     requires text { is_path path.now ≡ true }
-    ensures { Calls (T.nodes tree.old) (open_files files.now) caller.now (T.nodes tree.new) (open_files files.now) result (programs.Mkdir path.now) }
+    requires under { IfOne (IsUnderWay (T.nodes tree.old) path.now lookups.Global lookups.Keep) (walk_of walk) }
+    ensures { GoesOn (T.nodes tree.old) (open_files files.now) caller.now walk (T.nodes tree.new) (open_files files.now) result (programs.Mkdir path.now) }
 {
-    match find_from_root(alloc, tree, caller, path, Last::Keep) {
+    match find_from_root(alloc, tree, caller, path, Last::Keep, walk) {
         Err(refused) => Err(refused),
         Ok(found) => make_directory(alloc, tree, found, path, caller.refuse),
     }
@@ -218,12 +194,14 @@ pub(crate) fn remove_beneath<T: Tree>(
     operand: Operand,
     path: &[u8],
     directory: bool,
+    walk: Option<Walking>,
 ) -> Result<Success, Refusal>
-    requires { IsReady (T.nodes tree.old) (open_files files.now) caller.now.number }
-    ensures { Calls (T.nodes tree.old) (open_files files.now) caller.now (T.nodes tree.new) (open_files files.now) result (programs.Unlinkat (operand_of operand) path.now directory) }
+    requires ready { IsReady (T.nodes tree.old) (open_files files.now) caller.now.number }
+    requires under { IfOne (IsUnderWay (T.nodes tree.old) path.now lookups.Beneath lookups.Keep) (walk_of walk) }
+    ensures { GoesOn (T.nodes tree.old) (open_files files.now) caller.now walk (T.nodes tree.new) (open_files files.now) result (programs.Unlinkat (operand_of operand) path.now directory) }
 {
     let call = Call::Unlinkat;
-    match find_beneath(alloc, tree, files, caller, operand, path, call, Last::Keep) {
+    match find_beneath(alloc, tree, files, caller, operand, path, call, Last::Keep, walk) {
         Err(refused) => Err(refused),
         Ok(found) => remove(alloc, tree, found, directory),
     }
@@ -237,11 +215,13 @@ pub(crate) fn remove_path<T: Tree>(
     caller: &Caller<'_>,
     path: &[u8],
     directory: bool,
+    walk: Option<Walking>,
 ) -> Result<Success, Refusal>
-    requires { IsReady (T.nodes tree.old) (open_files files.now) caller.now.number }
-    ensures { Calls (T.nodes tree.old) (open_files files.now) caller.now (T.nodes tree.new) (open_files files.now) result (programs.Unlink path.now directory) }
+    requires ready { IsReady (T.nodes tree.old) (open_files files.now) caller.now.number }
+    requires under { IfOne (IsUnderWay (T.nodes tree.old) path.now lookups.Global lookups.Keep) (walk_of walk) }
+    ensures { GoesOn (T.nodes tree.old) (open_files files.now) caller.now walk (T.nodes tree.new) (open_files files.now) result (programs.Unlink path.now directory) }
 {
-    match find_from_root(alloc, tree, caller, path, Last::Keep) {
+    match find_from_root(alloc, tree, caller, path, Last::Keep, walk) {
         Err(refused) => Err(refused),
         Ok(found) => remove(alloc, tree, found, directory),
     }
@@ -266,12 +246,14 @@ pub(crate) fn open_path<T: Tree>(
     caller: &Caller<'_>,
     path: &[u8],
     flags: OpenFlags,
+    walk: Option<Walking>,
 ) -> Result<Success, Refusal>
     requires ready { IsReady (T.nodes tree.old) (open_files files.old) caller.now.number }
     requires text { is_path path.now ≡ true }
-    ensures { Calls (T.nodes tree.old) (open_files files.old) caller.now (T.nodes tree.new) (open_files files.new) result (programs.Open path.now flags) }
+    requires under { IfOne (IsUnderWay (T.nodes tree.old) path.now lookups.Global (model.last_if flags.create)) (walk_of walk) }
+    ensures { GoesOn (T.nodes tree.old) (open_files files.old) caller.now walk (T.nodes tree.new) (open_files files.new) result (programs.Open path.now flags) }
 {
-    let found = match find_from_root(alloc, tree, caller, path, last_if(flags)) {
+    let found = match find_from_root(alloc, tree, caller, path, last_if(flags), walk) {
         Err(refused) => return Err(refused),
         Ok(found) => found,
     };
@@ -328,10 +310,12 @@ pub(crate) fn open_beneath<T: Tree>(
     operand: Operand,
     path: &[u8],
     flags: OpenFlags,
+    walk: Option<Walking>,
 ) -> Result<Success, Refusal>
     requires ready { IsReady (T.nodes tree.old) (open_files files.old) caller.now.number }
     requires text { is_path path.now ≡ true }
-    ensures { Calls (T.nodes tree.old) (open_files files.old) caller.now (T.nodes tree.new) (open_files files.new) result (programs.Openat (operand_of operand) path.now flags) }
+    requires under { IfOne (IsUnderWay (T.nodes tree.old) path.now lookups.Beneath (model.last_if flags.create)) (walk_of walk) }
+    ensures { GoesOn (T.nodes tree.old) (open_files files.old) caller.now walk (T.nodes tree.new) (open_files files.new) result (programs.Openat (operand_of operand) path.now flags) }
 {
     let beneath = match opening_beneath(files, caller, operand, flags) {
         Err(refused) => return Err(refused),
@@ -342,40 +326,10 @@ pub(crate) fn open_beneath<T: Tree>(
         Ok(dir) => dir,
     };
     let last = last_if(flags);
-    match look_up(alloc, tree, dir, path, Way::Beneath, last) {
+    match look_up(alloc, tree, dir, path, Way::Beneath, last, walk) {
         Err(refused) => Err(refused),
         Ok(found) => open_found(alloc, tree, files, caller, found, path, &beneath.how),
     }
-}
-
-/// Renames what one path leads to to where another leads, beneath a directory each. The second path is looked up only if
-/// the first leads to a node. (rename(2), ENOENT)
-fn rename<T: Tree>(
-    alloc: Global,
-    tree: &mut T,
-    start: NodeId,
-    path: &[u8],
-    target: NodeId,
-    new_path: &[u8],
-    may_replace: bool,
-) -> Result<Success, Refusal>
-    requires tree { IsTree (T.nodes tree.old) }
-    requires there { start < length (T.nodes tree.old) }
-    requires opened { is_link (node (T.nodes tree.old) start).kind ≡ false }
-    requires target_there { target < length (T.nodes tree.old) }
-    requires target_opened { is_link (node (T.nodes tree.old) target).kind ≡ false }
-    requires text { is_path new_path.now ≡ true }
-    ensures { (refuse : Bool) (call : Syscall) (holder : Descriptor) → MayReplace call holder may_replace
-        → OnTree (T.nodes tree.old) (T.nodes tree.new) refuse result (λ w p s e.
-        model.renamed_from w p s e (find_of (T.nodes tree.old) start path.now lookups.Beneath lookups.Keep) (λ n.
-        model.renamed_to w p s e call holder n new_path.now (find_of (T.nodes tree.old) target new_path.now lookups.Beneath lookups.Keep))) }
-{
-    let n = match look_up(alloc, tree, start, path, Way::Beneath, Last::Keep)? {
-        Found::Free(_) => return Err(Refusal::Fails(Errno::ENOENT, Cause::Path)),
-        Found::Node(n) => n,
-    };
-    let place = look_up(alloc, tree, target, new_path, Way::Beneath, Last::Keep)?;
-    rename_to(alloc, tree, n, place, new_path, may_replace)
 }
 
 /// Renames what a path leads to beneath a directory to where another leads beneath another. (renameat(2))
@@ -389,10 +343,13 @@ pub(crate) fn rename_beneath<T: Tree>(
     path: &[u8],
     target: Operand,
     new_path: &[u8],
+    walk: Option<Walking>,
 ) -> Result<Success, Refusal>
     requires ready { IsReady (T.nodes tree.old) (open_files files.now) caller.now.number }
     requires text { is_path new_path.now ≡ true }
-    ensures { Calls (T.nodes tree.old) (open_files files.now) caller.now (T.nodes tree.new) (open_files files.now) result
+    requires under { IfTwo (IsUnderWay (T.nodes tree.old) path.now lookups.Beneath lookups.Keep)
+        (IsUnderWay (T.nodes tree.old) new_path.now lookups.Beneath lookups.Keep) (walk_of walk) }
+    ensures { GoesOn (T.nodes tree.old) (open_files files.now) caller.now walk (T.nodes tree.new) (open_files files.now) result
         (programs.Renameat (operand_of operand) path.now (operand_of target) new_path.now) }
 {
     let source = match held(files, caller, operand) {
@@ -418,5 +375,8 @@ pub(crate) fn rename_beneath<T: Tree>(
         Ok(dir) => dir,
     };
     let may_replace = target.rights.contains(second_need(true));
-    rename(alloc, tree, start, path, end, new_path, may_replace)
+    match look_up_both(alloc, tree, start, path, end, new_path, walk) {
+        Err(refused) => Err(refused),
+        Ok(both) => rename_to(alloc, tree, both.node, both.place, new_path, may_replace),
+    }
 }

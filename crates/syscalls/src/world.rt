@@ -7,7 +7,7 @@ ghost use Rattle.rights.specs.Views.{cause_of, errno_of};
 ghost use Rattle.prog_asm.specs.Programs as programs;
 ghost use Rattle.prog_asm.specs.Views.{instruction_of, syscall_of};
 ghost use Rattle.syscalls.specs.CallViews.{FailsAs, processes_as, result_of, succeeded_as};
-ghost use Rattle.syscalls.specs.MayCall.{CallComes, IsCall, MayCall};
+ghost use Rattle.syscalls.specs.MayCall.{CallComes, MayCall, MayInvoke};
 ghost use Rattle.syscalls.specs.Views.{effects_of, event_of, world_of};
 
 use crate::calls::perform;
@@ -42,7 +42,7 @@ fn succeed(process: &mut Process, value: u32, besides: Besides)
     ensures { process.new ≡ succeeded_as process.old value besides }
 {
     process.registers[0] = value;
-    process.point += 1;
+    process.move_to(process.point + 1);
     match besides {
         Besides::Nothing | Besides::Child => {}
         Besides::Second(second) => process.registers[1] = second,
@@ -76,7 +76,7 @@ fn fail(alloc: Global, process: &mut Process, otherwise: u8, errno: Errno, cause
     ensures { FailsAs process.old otherwise (errno_of errno) (cause_of cause) (result_of result.outcome) (effects_of result.effects.items) process.new }
 {
     process.registers[7] = u32::from(errno.number());
-    process.point = otherwise;
+    process.move_to(otherwise);
     Called {
         outcome: Outcome::Error(errno, cause),
         effects: Vec::new(alloc),
@@ -92,17 +92,25 @@ fn invoke<T: Tree>(
     otherwise: u8,
     event: Event,
 ) -> Result<Called, Memory>
-    requires { MayCall (world_of T.nodes world.old) number }
+    requires { MayCall (world_of T.nodes world.old) number (syscall_of call.now) }
     ensures { IfOk result (λ called. CallComes (world_of T.nodes world.old) number (event_of event) (programs.Invoke (syscall_of call.now) otherwise)
         (result_of called.outcome) (effects_of called.effects.items) (world_of T.nodes world.new)) }
 {
+    let walk = world.processes[number as usize].take_walk();
     let caller = Caller {
         number,
         process: &world.processes[number as usize],
         made: world.processes.len(),
         refuse: event.refuse,
     };
-    let came = perform(alloc, &mut world.tree, &mut world.files, &caller, call);
+    let came = perform(
+        alloc,
+        &mut world.tree,
+        &mut world.files,
+        &caller,
+        call,
+        walk,
+    );
     match came {
         Ok(success) => {
             go_on(&mut world.processes, number, success.value, success.besides)?;
@@ -123,6 +131,13 @@ fn invoke<T: Tree>(
                 outcome: Outcome::Wait,
                 effects: Vec::new(alloc),
             }),
+            Refusal::Walks(walking) => {
+                world.processes[number as usize].walk_on(walking);
+                Ok(Called {
+                    outcome: Outcome::Walk,
+                    effects: Vec::new(alloc),
+                })
+            }
             Refusal::Memory => Err(Memory),
         },
     }
@@ -130,12 +145,14 @@ fn invoke<T: Tree>(
 
 /// A system call of a process at an event: what it comes to, and its effects in order.
 ///
-/// It may fail, for the first cause in its order, or have to wait; then nothing but the process's register 7 and point
-/// changes, or nothing at all. A refused growth is `Memory`, and then nothing is said of the world but that it may be
-/// dropped.
+/// A call with a path takes an event for each name of it: until the last one it tells `Walk`, and the process alone
+/// changes, which keeps what it has under way. A call may fail, for the first cause in its order, or have to wait; then
+/// nothing but the process's register 7 and point changes, or nothing at all. A refused growth is `Memory`, and then
+/// nothing is said of the world but that it may be dropped.
 ///
-/// Its caller knows that the world is well formed, that the process was made and has a next point, and that the
-/// instruction is a call. Of the event it asks only whether the kernel refuses.
+/// Its caller knows that the world is well formed, what other processes have under way aside; that the process was made
+/// and has a next point; that the instruction is a call; and that what the process has under way, if anything, is of
+/// this call. Of the event it asks only whether the kernel refuses.
 pub fn call<T: Tree>(
     alloc: Global,
     world: &mut World<T>,
@@ -143,8 +160,7 @@ pub fn call<T: Tree>(
     instruction: &Instruction,
     event: Event,
 ) -> Result<(Outcome, Vec<Effect>), Memory>
-    requires may { MayCall (world_of T.nodes world.old) process }
-    requires code { IsCall (instruction_of instruction.now) }
+    requires { MayInvoke (world_of T.nodes world.old) process (instruction_of instruction.now) }
     ensures { IfOk result (λ told. CallComes (world_of T.nodes world.old) process (event_of event) (instruction_of instruction.now)
         (result_of told.0) (effects_of told.1.items) (world_of T.nodes world.new)) }
 {

@@ -1,15 +1,18 @@
 use Rattle.lookup.specs.Answers.{Beneath}
-use Rattle.lookup.specs.Looks.{find_of}
 use Rattle.lookup.specs.Views.{last_of}
-use Rattle.kernel.specs.Calls.{looks}
+use Rattle.lookup.specs.Walks.{first_handled, handled}
+use Rattle.process.specs.Views.{walk_of}
+use Rattle.kernel.specs.Calls.{looks, resumed}
+use Rattle.syscalls.specs.AnswerViews.{state_with}
 use Rattle.syscalls.proofs.Finding.{leads_on}
 use Rattle.syscalls.proofs.paths.find_beneath.Goals as goal
 
 pub returns-in-Err-clause-leads : goal.returns-in-Err-clause-leads
-returns-in-Err-clause-leads g c = λ processes p s e rest tells. c.in-Err.ensures.passes processes p s e _
+returns-in-Err-clause-leads g c = λ processes p e rest tells. c.in-Err.ensures.passes processes p (state_with c.args.caller.now c.args.walk) e _
 
 pub returns-in-Ok-clause-leads : goal.returns-in-Ok-clause-leads
 unfolding looks
-returns-in-Ok-clause-leads g c = λ processes p s e.
-    leads_on _ c.look_up.result (find_of (g.T.Tree.nodes c.args.tree.now) c.in-Ok.dir c.args.path.now Beneath (last_of c.args.last))
-    (λ rest. c.in-Ok.ensures.passes processes p s e _) c.look_up.ensures.finds
+returns-in-Ok-clause-leads g c = λ processes p e.
+    let t = g.T.Tree.nodes c.args.tree.now in
+    leads_on _ c.look_up.result (resumed (walk_of c.args.walk) (first_handled t c.in-Ok.dir c.args.path.now Beneath (last_of c.args.last)) (handled t))
+    (λ rest. c.in-Ok.ensures.passes processes p (state_with c.args.caller.now c.args.walk) e _) c.look_up.ensures.finds

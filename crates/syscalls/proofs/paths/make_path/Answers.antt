@@ -1,7 +1,7 @@
 use Rattle.std.proofs.Common.{sym, subst, refl}
 use Rattle.fd_table.specs.Kept.{open_files}
 use Rattle.kernel.specs.Calls.{answer, made_directory}
-use Rattle.syscalls.specs.AnswerViews.{Meets}
+use Rattle.syscalls.specs.AnswerViews.{Meets, state_with}
 use Rattle.syscalls.specs.Views.{world_with}
 use Rattle.syscalls.proofs.Finding.{refused_alone}
 use Rattle.syscalls.proofs.paths.make_path.Goals as goal
@@ -13,8 +13,8 @@ returns-in-Err g c = λ processes e same.
     let f = open_files c.args.files.now in
     let w = world_with t f processes in
     let p = c.args.caller.now.number in
-    let s = c.args.caller.now.process.now in
-    refused_alone c.in-Err.refused w _ _ _ (c.in-Err.ensures.leads f processes p s e (made_directory w p s e c.args.path.now) (λ fault. refl)) (record { tree = refl; files = refl })
+    let s = state_with c.args.caller.now c.args.walk in
+    refused_alone c.in-Err.refused w _ _ _ (c.in-Err.ensures.leads f processes p e (made_directory w p s e c.args.path.now) (λ fault. refl)) (record { tree = refl; files = refl })
 
 pub returns-in-Ok : goal.returns-in-Ok
 unfolding answer
@@ -23,6 +23,6 @@ returns-in-Ok g c = λ processes e same.
     let f = open_files c.args.files.now in
     let w = world_with t f processes in
     let p = c.args.caller.now.number in
-    let s = c.args.caller.now.process.now in
-    subst (Meets w p (g.T.Tree.nodes c.make_directory.new.tree) f c.make_directory.result) (sym (c.in-Ok.ensures.leads f processes p s e (made_directory w p s e c.args.path.now)))
+    let s = state_with c.args.caller.now c.args.walk in
+    subst (Meets w p (g.T.Tree.nodes c.make_directory.new.tree) f c.make_directory.result) (sym (c.in-Ok.ensures.leads f processes p e (made_directory w p s e c.args.path.now)))
     (c.make_directory.ensures f processes p s e same c.requires.ready.idle)

@@ -1,0 +1,246 @@
+//! Lookups of calls, one name at an event: what the event finds, or why its call doesn't go on.
+
+ghost use Rattle.std.specs.Prelude.{◌≡◌, ◌<◌, Err, IfOk, IfSome, None, false, length};
+ghost use Rattle.file_tree.specs.Nodes.{is_link, node};
+ghost use Rattle.file_tree.specs.WellFormed.{IsTree};
+ghost use Rattle.lookup.specs.Answers as lookups;
+ghost use Rattle.lookup.specs.Promises.{IsFindingThere, IsFreeName, IsUnderName, MayBeMade};
+ghost use Rattle.lookup.specs.Looks.{lookup_fault};
+ghost use Rattle.lookup.specs.UnderWay.{IsUnderWay};
+ghost use Rattle.lookup.specs.Views.{fault_of, found_of, last_of, way_of};
+ghost use Rattle.lookup.specs.Walks as walks;
+ghost use Rattle.lookup.specs.Walks.{IsInTree, first_handled, handled};
+ghost use Rattle.process.specs.State.{ProcessState};
+ghost use Rattle.process.specs.Views.{walk_of};
+ghost use Rattle.kernel.specs.Calls as model;
+ghost use Rattle.kernel.specs.Calls.{found_last, resumed, unless_lost};
+ghost use Rattle.kernel.specs.Walks.{IfOne, IfTwo};
+ghost use Rattle.rights.specs.Values.{PathText};
+ghost use Rattle.syscalls.specs.AnswerViews.{AreFound, Finds, FindsLast, LeavesNames, RenamesIn};
+
+use crate::outcomes::Refusal;
+use file_tree::{NodeId, Tree};
+use lookup::{Found, Last, PathFault, Progress, Walk, Way};
+use process::Walking;
+use rights::{Cause, Errno};
+use std::alloc::Global;
+
+/// What a fault of a lookup is refused as. An escape is no missing right, though its error is the same. (open(2),
+/// capsicum(4))
+fn refusal_of(fault: PathFault) -> Refusal
+    ensures { (event : walks.Progress) → IfSome (fault_of fault) (λ f. event ≡ walks.Done (lookups.Not_found f)) → Finds event (Err result) }
+{
+    match fault {
+        PathFault::Escape => Refusal::Fails(Errno::ENOTCAPABLE, Cause::Escape),
+        PathFault::NoEntry => Refusal::Fails(Errno::ENOENT, Cause::Path),
+        PathFault::NotDir => Refusal::Fails(Errno::ENOTDIR, Cause::Path),
+        PathFault::Loop => Refusal::Fails(Errno::ELOOP, Cause::Path),
+        PathFault::TooLong => Refusal::Fails(Errno::ENAMETOOLONG, Cause::Path),
+        PathFault::BadLast => Refusal::Fails(Errno::EINVAL, Cause::Path),
+        PathFault::Memory => Refusal::Memory,
+    }
+}
+
+/// One event of a lookup under way.
+fn step_on<T: Tree>(tree: &T, walk: Walk) -> Result<Found, Refusal>
+    requires { IsInTree (T.nodes tree.now) walk }
+    ensures { Finds (handled (T.nodes tree.now) walk) result }
+{
+    let mut walk = walk;
+    match walk.step(tree) {
+        Ok(Progress::Done(found)) => Ok(found),
+        Ok(Progress::More) => Err(Refusal::Walks(Walking::One(walk))),
+        Err(fault) => Err(refusal_of(fault)),
+    }
+}
+
+/// The first event of a lookup, from a start that is in the tree.
+fn step_first<T: Tree>(
+    alloc: Global,
+    tree: &T,
+    start: NodeId,
+    path: &[u8],
+    way: Way,
+    last: Last,
+) -> Result<Found, Refusal>
+    requires { start < length (T.nodes tree.now) }
+    ensures { Finds (first_handled (T.nodes tree.now) start path.now (way_of way) (last_of last)) result }
+{
+    match Walk::begin(alloc, tree, start, path, way, last) {
+        Ok(walk) => step_on(tree, walk),
+        Err(fault) => Err(refusal_of(fault)),
+    }
+}
+
+/// The event of a lookup: the first one, or the next one of what the call has under way.
+fn step_of<T: Tree>(
+    alloc: Global,
+    tree: &T,
+    start: NodeId,
+    path: &[u8],
+    way: Way,
+    last: Last,
+    walk: Option<Walking>,
+) -> Result<Found, Refusal>
+    requires there { start < length (T.nodes tree.now) }
+    requires under { IfOne (IsUnderWay (T.nodes tree.now) path.now (way_of way) (last_of last)) (walk_of walk) }
+    ensures { Finds (resumed (walk_of walk) (first_handled (T.nodes tree.now) start path.now (way_of way) (last_of last)) (handled (T.nodes tree.now))) result }
+{
+    match walk {
+        None => step_first(alloc, tree, start, path, way, last),
+        Some(walking) => match walking {
+            Walking::One(walk) => step_on(tree, walk),
+            Walking::Two(_, _) => step_first(alloc, tree, start, path, way, last),
+        },
+    }
+}
+
+/// What an event of a lookup finds, from a start that is a file or directory of the tree.
+pub(crate) fn look_up<T: Tree>(
+    alloc: Global,
+    tree: &T,
+    start: NodeId,
+    path: &[u8],
+    way: Way,
+    last: Last,
+    walk: Option<Walking>,
+) -> Result<Found, Refusal>
+    requires tree { IsTree (T.nodes tree.now) }
+    requires there { start < length (T.nodes tree.now) }
+    requires opened { is_link (node (T.nodes tree.now) start).kind ≡ false }
+    requires under { IfOne (IsUnderWay (T.nodes tree.now) path.now (way_of way) (last_of last)) (walk_of walk) }
+    ensures finds { Finds (resumed (walk_of walk) (first_handled (T.nodes tree.now) start path.now (way_of way) (last_of last)) (handled (T.nodes tree.now))) result }
+    ensures there { IfOk result (λ found. IsFindingThere (T.nodes tree.now) (found_of found)) }
+    ensures named { last ≡ Last.Keep → IfOk result (λ found. IsUnderName (T.nodes tree.now) path.now (found_of found)) }
+    ensures free { IfOk result (λ found. IsFreeName (T.nodes tree.now) path.now (found_of found)) }
+    ensures may_be_made { IfOk result (λ found. MayBeMade path.now (found_of found)) }
+{
+    match step_of(alloc, tree, start, path, way, last, walk) {
+        Ok(found) => Ok(found),
+        Err(refused) => Err(refused),
+    }
+}
+
+/// The event of a lookup that has more than one name left: it leaves names, or the call is refused.
+fn step_before_last<T: Tree>(tree: &T, walk: Walk) -> Result<Walk, Refusal>
+    requires { IsInTree (T.nodes tree.now) walk }
+    ensures { LeavesNames (handled (T.nodes tree.now) walk) result }
+{
+    let mut walk = walk;
+    match walk.step(tree) {
+        Ok(Progress::More) => Ok(walk),
+        Ok(Progress::Done(_)) => Err(Refusal::Fails(Errno::ENOENT, Cause::Path)),
+        Err(fault) => Err(refusal_of(fault)),
+    }
+}
+
+/// The event of a lookup that has one name left, which is kept.
+fn step_last<T: Tree>(tree: &T, walk: Walk) -> Result<Found, Refusal>
+    requires { IsInTree (T.nodes tree.now) walk }
+    ensures { FindsLast (found_last (handled (T.nodes tree.now) walk)) result }
+{
+    let mut walk = walk;
+    match walk.step(tree) {
+        Ok(Progress::Done(found)) => Ok(found),
+        Ok(Progress::More) => Err(Refusal::Fails(Errno::ENOENT, Cause::Path)),
+        Err(fault) => Err(refusal_of(fault)),
+    }
+}
+
+/// What the two paths of a rename lead to: the node of the old one, and what is found by the new one.
+#[derive(Clone, Copy)]
+pub(crate) struct Both {
+    pub node: NodeId,
+    pub place: Found,
+}
+
+/// One event of the two lookups of a rename: a name of the old path, or else of the new one, or both last names. (own)
+fn step_both<T: Tree>(tree: &T, one: Walk, other: Walk) -> Result<Both, Refusal>
+    requires one { IsInTree (T.nodes tree.now) one }
+    requires other { IsInTree (T.nodes tree.now) other }
+    ensures leads { (s : ProcessState) → RenamesIn (T.nodes tree.now) s (λ w p s e rest. model.walked_both w p s e rest one other) result }
+    ensures found { (path new_path : PathText) → IsTree (T.nodes tree.now) → IsUnderWay (T.nodes tree.now) path lookups.Beneath lookups.Keep one
+        → IsUnderWay (T.nodes tree.now) new_path lookups.Beneath lookups.Keep other → IfOk result (AreFound (T.nodes tree.now) path new_path) }
+{
+    if !one.one_left() {
+        return match step_before_last(tree, one) {
+            Ok(one) => Err(Refusal::Walks(Walking::Two(one, other))),
+            Err(refused) => Err(refused),
+        };
+    }
+    if !other.one_left() {
+        return match step_before_last(tree, other) {
+            Ok(other) => Err(Refusal::Walks(Walking::Two(one, other))),
+            Err(refused) => Err(refused),
+        };
+    }
+    let node = match step_last(tree, one) {
+        Err(refused) => return Err(refused),
+        Ok(Found::Free(_)) => return Err(Refusal::Fails(Errno::ENOENT, Cause::Path)),
+        Ok(Found::Node(node)) => node,
+    };
+    match step_last(tree, other) {
+        Err(refused) => Err(refused),
+        Ok(place) => Ok(Both { node, place }),
+    }
+}
+
+/// The first event of the two lookups of a rename. What is wrong with the text or the start of either path is told first. (own)
+fn step_both_first<T: Tree>(
+    alloc: Global,
+    tree: &T,
+    start: NodeId,
+    path: &[u8],
+    target: NodeId,
+    new_path: &[u8],
+) -> Result<Both, Refusal>
+    requires there { start < length (T.nodes tree.now) }
+    requires opened { is_link (node (T.nodes tree.now) start).kind ≡ false }
+    requires target_there { target < length (T.nodes tree.now) }
+    requires target_opened { is_link (node (T.nodes tree.now) target).kind ≡ false }
+    ensures leads { (s : ProcessState) → RenamesIn (T.nodes tree.now) s (λ w p s e rest.
+        unless_lost (lookup_fault (T.nodes tree.now) start path.now lookups.Beneath lookups.Keep)
+        (unless_lost (lookup_fault (T.nodes tree.now) target new_path.now lookups.Beneath lookups.Keep)
+        (model.walked_both w p s e rest (walks.begun start path.now lookups.Beneath lookups.Keep) (walks.begun target new_path.now lookups.Beneath lookups.Keep)))) result }
+    ensures found { IfOk result (AreFound (T.nodes tree.now) path.now new_path.now) }
+{
+    let one = match Walk::begin(alloc, tree, start, path, Way::Beneath, Last::Keep) {
+        Err(fault) => return Err(refusal_of(fault)),
+        Ok(walk) => walk,
+    };
+    let other = match Walk::begin(alloc, tree, target, new_path, Way::Beneath, Last::Keep) {
+        Err(fault) => return Err(refusal_of(fault)),
+        Ok(walk) => walk,
+    };
+    step_both(tree, one, other)
+}
+
+/// What an event of a rename finds, by a path beneath each of two files or directories of the tree. (renameat(2))
+pub(crate) fn look_up_both<T: Tree>(
+    alloc: Global,
+    tree: &T,
+    start: NodeId,
+    path: &[u8],
+    target: NodeId,
+    new_path: &[u8],
+    walk: Option<Walking>,
+) -> Result<Both, Refusal>
+    requires tree { IsTree (T.nodes tree.now) }
+    requires there { start < length (T.nodes tree.now) }
+    requires opened { is_link (node (T.nodes tree.now) start).kind ≡ false }
+    requires target_there { target < length (T.nodes tree.now) }
+    requires target_opened { is_link (node (T.nodes tree.now) target).kind ≡ false }
+    requires under { IfTwo (IsUnderWay (T.nodes tree.now) path.now lookups.Beneath lookups.Keep)
+        (IsUnderWay (T.nodes tree.now) new_path.now lookups.Beneath lookups.Keep) (walk_of walk) }
+    ensures leads { (s : ProcessState) → s.walk ≡ walk_of walk → RenamesIn (T.nodes tree.now) s (λ w p s e rest.
+        model.looks_twice w p s e start path.now target new_path.now rest) result }
+    ensures found { IfOk result (AreFound (T.nodes tree.now) path.now new_path.now) }
+{
+    match walk {
+        None => step_both_first(alloc, tree, start, path, target, new_path),
+        Some(walking) => match walking {
+            Walking::One(_) => step_both_first(alloc, tree, start, path, target, new_path),
+            Walking::Two(one, other) => step_both(tree, one, other),
+        },
+    }
+}
