@@ -23,12 +23,12 @@ use Rattle.kernel.specs.Answers.{Event, TreeChange, TableChange, Same_table, Set
 use Rattle.kernel.specs.Calls.{answer}
 use Rattle.kernel.specs.Changes.{files_after, changed, given, children, processes_after}
 use Rattle.kernel.specs.Steps.{LineResult, Value, Failed, Waiting, Programs, answered, failed}
-use Rattle.kernel.specs.WellFormed.{IsWellFormed, Numbering, IsObject, IsDescriptor}
+use Rattle.kernel.specs.WellFormed.{Numbering, IsObject, IsDescriptor, IsWorld}
 use Rattle.lookup.proofs.UnderWay.{there_if_opened}
 use Rattle.kernel.specs.Runs.{MayChoose}
 use Rattle.kernel.specs.Alike.{AlikeWorlds}
 use Rattle.kernel.proofs.Fresh.{fresh_some}
-use Rattle.kernel.proofs.Keeping.{fresh_numbers}
+use Rattle.kernel.proofs.Keeping.{may_choose}
 use Rattle.syscalls.specs.Shows.{Shown, shown}
 use Rattle.syscalls.specs.Views.{world_with}
 use Rattle.syscalls.specs.AnswerViews.{Suits, IsBesides, Succeeds, RefusesAlone, Meets, IsIdle, IsReady, IsReadyDescription, IsReadyObject}
@@ -75,15 +75,15 @@ processes_besides processes p s value b change is =
 
 -- ## The three ways of a call
 module _ (programs : Programs) (t : List Node) (f : OpenFiles) (processes : List ProcessState)
-    (good : IsWellFormed programs (world_with t f processes)) (p : ℕ) (s : ProcessState) (e : Event) (call : Syscall) (otherwise : ℕ) where
+    (numbering : Numbering) (good : IsWorld programs numbering (world_with t f processes)) (p : ℕ) (s : ProcessState) (e : Event) (call : Syscall) (otherwise : ℕ) where
   abbrev pub w : World
   w = world_with t f processes
 
   idle : IsIdle f
-  idle = good.world.idle
+  idle = good.idle
 
   some : (choice : Choice) × IsFresh f choice
-  some = fresh_some programs good.numbering w good.world
+  some = fresh_some programs numbering w good
 
   -- it succeeds
   pub succeeds : (after : List Node) (left : OpenFiles) (value : ℕ) (b : Besides) (shows : List Shown) →
@@ -92,7 +92,7 @@ module _ (programs : Programs) (t : List Node) (f : OpenFiles) (processes : List
   unfolding answered changed
   succeeds after left value b shows y =
       let c = chosen f p (length processes) y.change.tree y.change.table y.change.queue y.change.state y.change.enters y.choice left
-      (fresh_numbers programs w good) some.0 some.1 y.suits y.files in
+      (may_choose programs numbering w good) some.0 some.1 y.suits y.files in
       let v = world_with after left (processes_as processes p s value b) in
       record {
         choice = c.choice;
@@ -140,23 +140,23 @@ ready_entry t numbering f (Some c) is d there =
     let good = subst (IfHeld (IsDescriptor t numbering f.objects f.states)) there is in
     (ready_object t numbering d.description (f.objects d.description) good.object, good.offset)
 
-pub made_few : (t : List Node) (f : OpenFiles) (processes : List ProcessState) (p : ℕ) → MayCall (world_with t f processes) p → p < length processes
-made_few t f processes p may = slice_get_within processes p may.process may.made
+pub made_few : (t : List Node) (f : OpenFiles) (processes : List ProcessState) (p : ℕ) (call : Syscall) → MayCall (world_with t f processes) p call → p < length processes
+made_few t f processes p call may = slice_get_within processes p may.process may.made
 
-pub few : (t : List Node) (f : OpenFiles) (processes : List ProcessState) (p : ℕ) → MayCall (world_with t f processes) p → p < 16
-few t f processes p may =
-    let low : p < length processes = made_few t f processes p may in
-    let most : length processes ≤ 16 = may.good.world.few in
+pub few : (t : List Node) (f : OpenFiles) (processes : List ProcessState) (p : ℕ) (call : Syscall) → MayCall (world_with t f processes) p call → p < 16
+few t f processes p call may =
+    let low : p < length processes = made_few t f processes p call may in
+    let most : length processes ≤ 16 = may.good.few in
     omega arith
 
-pub ready : (t : List Node) (f : OpenFiles) (processes : List ProcessState) (p : ℕ) → MayCall (world_with t f processes) p → IsReady t f p
-ready t f processes p may =
-    let good = may.good.world in
+pub ready : (t : List Node) (f : OpenFiles) (processes : List ProcessState) (p : ℕ) (call : Syscall) → MayCall (world_with t f processes) p call → IsReady t f p
+ready t f processes p call may =
+    let good = may.good in
     record {
       tree = good.tree;
-      process = few t f processes p may;
+      process = few t f processes p call may;
       numbers = good.numbers p;
-      entries = λ n. ready_entry t may.good.numbering f (f.table p n) (good.entries p n);
+      entries = λ n. ready_entry t may.numbering f (f.table p n) (good.entries p n);
       idle = good.idle;
     }
 
@@ -184,41 +184,41 @@ same_world : {t u : List Node} {f h : OpenFiles} {processes others : List Proces
 same_world tree files processes i = world_with (tree i) (files i) (processes i)
 
 -- a failure, where it is told as it has to be
-pub falls : (programs : Programs) (t : List Node) (f : OpenFiles) (processes : List ProcessState) → IsWellFormed programs (world_with t f processes) →
+pub falls : (programs : Programs) (t : List Node) (f : OpenFiles) (processes : List ProcessState) (numbering : Numbering) → IsWorld programs numbering (world_with t f processes) →
     (p : ℕ) (s : ProcessState) (e : Event) (call : Syscall) (otherwise : ℕ) (errno : Errno) (cause : Cause) →
     answer (world_with t f processes) p s e call ≡ Fails errno cause → (told : LineResult) (shows : List Shown) (next : ProcessState) →
     FailsAs s otherwise errno cause told shows next →
     Comes (world_with t f processes) p s e call otherwise told shows (world_with t f (slice_set processes p next))
-falls programs t f processes good p s e call otherwise errno cause is told shows next y =
+falls programs t f processes numbering good p s e call otherwise errno cause is told shows next y =
     let w = world_with t f processes in
     subst (λ x. Comes w p s e call otherwise x shows (world_with t f (slice_set processes p next))) (sym y.told)
     (subst (λ x. Comes w p s e call otherwise (Failed errno cause) x (world_with t f (slice_set processes p next))) (sym y.nothing)
     (subst (λ x. Comes w p s e call otherwise (Failed errno cause) [] (world_with t f (slice_set processes p x))) (sym y.process)
-    (fails programs t f processes good p s e call otherwise errno cause is)))
+    (fails programs t f processes numbering good p s e call otherwise errno cause is)))
 
 -- and where nothing was done before
 pub falls_as : (programs : Programs) (t : List Node) (f : OpenFiles) (processes : List ProcessState) →
-    IsWellFormed programs (world_with t f processes) →
+    (numbering : Numbering) → IsWorld programs numbering (world_with t f processes) →
     (p : ℕ) (s : ProcessState) (e : Event) (call : Syscall) (otherwise : ℕ) (after : List Node) (left : OpenFiles) (refused : Refusal)
     (errno : ErrnoCode) (cause : CauseCode) → refused ≡ refusal.Fails errno cause →
     RefusesAlone refused (world_with t f processes) after left (answer (world_with t f processes) p s e call) →
     (told : LineResult) (shows : List Shown) (next : ProcessState) → FailsAs s otherwise (errno_of errno) (cause_of cause) told shows next →
     Comes (world_with t f processes) p s e call otherwise told shows (world_with after left (slice_set processes p next))
-falls_as programs t f processes good p s e call otherwise after left refused errno cause same alone told shows next y =
+falls_as programs t f processes numbering good p s e call otherwise after left refused errno cause same alone told shows next y =
     let w = world_with t f processes in
     let (answers, nothing) = subst (λ r. RefusesAlone r w after left (answer w p s e call)) same alone in
     subst (λ (v : World). Comes w p s e call otherwise told shows v) (same_world (sym nothing.tree) (sym nothing.files) refl)
-    (falls programs t f processes good p s e call otherwise (errno_of errno) (cause_of cause) answers told shows next y)
+    (falls programs t f processes numbering good p s e call otherwise (errno_of errno) (cause_of cause) answers told shows next y)
 
 module _ (programs : Programs) (t : List Node) (f : OpenFiles) (processes : List ProcessState)
-    (good : IsWellFormed programs (world_with t f processes)) (p : ℕ) (s : ProcessState) (e : Event) (call : Syscall) (otherwise : ℕ)
+    (numbering : Numbering) (good : IsWorld programs numbering (world_with t f processes)) (p : ℕ) (s : ProcessState) (e : Event) (call : Syscall) (otherwise : ℕ)
     (after : List Node) (left : OpenFiles) (shows : List Shown) where
   pub succeeds_as : (value : ℕ) (b : Besides) → Succeeds (world_with t f processes) p after left value b shows (answer (world_with t f processes) p s e call) →
       (others : List ProcessState) → others ≡ processes_as processes p s value b →
       Comes (world_with t f processes) p s e call otherwise (Value value) shows (world_with after left others)
   succeeds_as value b y others is =
       subst (λ (v : World). Comes (world_with t f processes) p s e call otherwise (Value value) shows v) (same_world refl refl (sym is))
-      (succeeds programs t f processes good p s e call otherwise after left value b shows y)
+      (succeeds programs t f processes numbering good p s e call otherwise after left value b shows y)
 
   pub waits_as : (refused : Refusal) → refused ≡ refusal.Waits →
       RefusesAlone refused (world_with t f processes) after left (answer (world_with t f processes) p s e call) → shows ≡ [] →
@@ -227,7 +227,7 @@ module _ (programs : Programs) (t : List Node) (f : OpenFiles) (processes : List
       let w = world_with t f processes in
       let (answers, nothing) = subst (λ r. RefusesAlone r w after left (answer w p s e call)) same alone in
       subst (λ (v : World). Comes w p s e call otherwise Waiting shows v) (same_world (sym nothing.tree) (sym nothing.files) refl)
-      (subst (λ x. Comes w p s e call otherwise Waiting x w) (sym none) (waits programs t f processes good p s e call otherwise answers))
+      (subst (λ x. Comes w p s e call otherwise Waiting x w) (sym none) (waits programs t f processes numbering good p s e call otherwise answers))
 
 -- the process that calls, whatever is known to stand at its number
 pub same_process : (processes : List ProcessState) (p : ℕ) (s x : ProcessState) → slice_get processes p ≡ Some s → slice_get processes p ≡ Some x → s ≡ x
@@ -236,9 +236,9 @@ same_process processes p s x made read = some_same (sym made ∙ read)
     some_same : {a b : ProcessState} → Some a ≡ Some b → a ≡ b
     some_same is = cc
 
-pub next_at : (t : List Node) (f : OpenFiles) (processes : List ProcessState) (p : ℕ) → MayCall (world_with t f processes) p →
+pub next_at : (t : List Node) (f : OpenFiles) (processes : List ProcessState) (p : ℕ) (call : Syscall) → MayCall (world_with t f processes) p call →
     (s : ProcessState) → slice_get processes p ≡ Some s → s.point + 1 < 256
-next_at t f processes p may s made = subst (λ (y : ProcessState). y.point + 1 < 256) (same_process processes p may.process s may.made made) may.next
+next_at t f processes p call may s made = subst (λ (y : ProcessState). y.point + 1 < 256) (same_process processes p may.process s may.made made) may.next
 
 -- the processes where none is made
 pub alone : (processes : List ProcessState) (p : ℕ) (s : ProcessState) (value : ℕ) (b : Besides) → b ≢ besides.Child →

@@ -13,7 +13,7 @@ use Rattle.kernel.specs.Answers.{Event, Fails, Gives, same, New_process}
 use Rattle.kernel.specs.Calls.{answer}
 use Rattle.kernel.specs.Changes.{files_after}
 use Rattle.kernel.specs.Steps.{Programs}
-use Rattle.kernel.specs.WellFormed.{IsWellFormed, HasNone}
+use Rattle.kernel.specs.WellFormed.{Numbering, HasNone, IsWorld}
 use Rattle.syscalls.specs.declared.outcomes.Besides.TheVariants as besides
 use Rattle.syscalls.specs.AnswerViews.{Succeeds}
 use Rattle.syscalls.specs.Shows.{Shown}
@@ -54,10 +54,10 @@ module _ (w : World) (p : ℕ) (s : ProcessState) (e : Event) (n : ℕ) (counts 
   }
 
 -- nobody has the child's number yet
-pub unmade : (programs : Programs) (t : List Node) (f : OpenFiles) (processes : List ProcessState) → IsWellFormed programs (world_with t f processes) →
+pub unmade : (programs : Programs) (t : List Node) (f : OpenFiles) (processes : List ProcessState) (numbering : Numbering) → IsWorld programs numbering (world_with t f processes) →
     (n : ℕ) → f.table (length processes) n ≡ None
-unmade programs t f processes good =
-    subst (λ o. HasNone o (f.table (length processes))) (slice_get_past processes (length processes) (at_most (length processes))) (good.world.gone (length processes))
+unmade programs t f processes numbering good =
+    subst (λ o. HasNone o (f.table (length processes))) (slice_get_past processes (length processes) (at_most (length processes))) (good.gone (length processes))
   where
     at_most : (n : ℕ) → n ≤ n
     at_most n = grind (arith)

@@ -3,6 +3,7 @@ pub mod Numbers
 pub mod Pairing
 mod Growth
 pub mod Finding
+pub mod Walked
 pub mod Forking
 pub mod Queues
 pub mod Targets

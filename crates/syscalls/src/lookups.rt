@@ -16,7 +16,7 @@ ghost use Rattle.kernel.specs.Calls as model;
 ghost use Rattle.kernel.specs.Calls.{found_last, resumed, unless_lost};
 ghost use Rattle.kernel.specs.Walks.{IfOne, IfTwo};
 ghost use Rattle.rights.specs.Values.{PathText};
-ghost use Rattle.syscalls.specs.AnswerViews.{AreFound, Finds, FindsLast, LeavesNames, RenamesIn};
+ghost use Rattle.syscalls.specs.AnswerViews.{AreFound, Finds, FindsLast, LeavesNames, Refuses, RenamesIn};
 
 use crate::outcomes::Refusal;
 use file_tree::{NodeId, Tree};
@@ -154,6 +154,50 @@ pub(crate) struct Both {
     pub place: Found,
 }
 
+/// A name of the old path, where more than the last one is left.
+fn step_old<T: Tree>(tree: &T, one: Walk, other: Walk) -> Refusal
+    requires { IsInTree (T.nodes tree.now) one }
+    ensures { Refuses result (model.walked_first other (handled (T.nodes tree.now) one)) }
+{
+    match step_before_last(tree, one) {
+        Ok(next) => Refusal::Walks(Walking::Two(next, other)),
+        Err(refused) => refused,
+    }
+}
+
+/// A name of the new path, where more than the last one is left.
+fn step_new<T: Tree>(tree: &T, one: Walk, other: Walk) -> Refusal
+    requires { IsInTree (T.nodes tree.now) other }
+    ensures { Refuses result (model.walked_second one (handled (T.nodes tree.now) other)) }
+{
+    match step_before_last(tree, other) {
+        Ok(next) => Refusal::Walks(Walking::Two(one, next)),
+        Err(refused) => refused,
+    }
+}
+
+/// Both last names, the old path's first. The new one's is looked up only if the old one leads to a node. (rename(2), ENOENT)
+fn step_last_names<T: Tree>(tree: &T, one: Walk, other: Walk) -> Result<Both, Refusal>
+    requires one { IsInTree (T.nodes tree.now) one }
+    requires other { IsInTree (T.nodes tree.now) other }
+    ensures leads { (s : ProcessState) → RenamesIn (T.nodes tree.now) s (λ w p s e rest.
+        rest (found_last (handled (T.nodes tree.now) one)) (found_last (handled (T.nodes tree.now) other))) result }
+    ensures node { IfOk result (λ both. found_last (handled (T.nodes tree.now) one) ≡ lookups.Found_node both.node) }
+    ensures place { IfOk result (λ both. found_last (handled (T.nodes tree.now) other) ≡ found_of both.place) }
+{
+    let source = match step_last(tree, one) {
+        Err(refused) => return Err(refused),
+        Ok(found) => found,
+    };
+    match source {
+        Found::Free(_) => Err(Refusal::Fails(Errno::ENOENT, Cause::Path)),
+        Found::Node(node) => match step_last(tree, other) {
+            Err(refused) => Err(refused),
+            Ok(place) => Ok(Both { node, place }),
+        },
+    }
+}
+
 /// One event of the two lookups of a rename: a name of the old path, or else of the new one, or both last names. (own)
 fn step_both<T: Tree>(tree: &T, one: Walk, other: Walk) -> Result<Both, Refusal>
     requires one { IsInTree (T.nodes tree.now) one }
@@ -163,26 +207,12 @@ fn step_both<T: Tree>(tree: &T, one: Walk, other: Walk) -> Result<Both, Refusal>
         → IsUnderWay (T.nodes tree.now) new_path lookups.Beneath lookups.Keep other → IfOk result (AreFound (T.nodes tree.now) path new_path) }
 {
     if !one.one_left() {
-        return match step_before_last(tree, one) {
-            Ok(one) => Err(Refusal::Walks(Walking::Two(one, other))),
-            Err(refused) => Err(refused),
-        };
+        return Err(step_old(tree, one, other));
     }
     if !other.one_left() {
-        return match step_before_last(tree, other) {
-            Ok(other) => Err(Refusal::Walks(Walking::Two(one, other))),
-            Err(refused) => Err(refused),
-        };
+        return Err(step_new(tree, one, other));
     }
-    let node = match step_last(tree, one) {
-        Err(refused) => return Err(refused),
-        Ok(Found::Free(_)) => return Err(Refusal::Fails(Errno::ENOENT, Cause::Path)),
-        Ok(Found::Node(node)) => node,
-    };
-    match step_last(tree, other) {
-        Err(refused) => Err(refused),
-        Ok(place) => Ok(Both { node, place }),
-    }
+    step_last_names(tree, one, other)
 }
 
 /// The first event of the two lookups of a rename. What is wrong with the text or the start of either path is told first. (own)

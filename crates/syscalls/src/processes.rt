@@ -55,7 +55,7 @@ pub(crate) fn fork(
     requires process { caller.now.number < 16 }
     requires unmade { (n : ℕ) → (open_files files.old).table caller.now.made n ≡ None }
     requires idle { IsIdle (open_files files.old) }
-    ensures { (t : List Node) → Performs t (open_files files.old) caller.now t (open_files files.new) result programs.Fork }
+    ensures { (t : List Node) → Performs t (open_files files.old) caller.now caller.now.process.now t (open_files files.new) result programs.Fork }
 {
     if caller.made >= MAX_PROCESSES {
         return Err(Refusal::Fails(Errno::EAGAIN, Cause::Full));

@@ -28,4 +28,4 @@ returns-in-Ok g c = λ processes e same.
     let p = c.args.caller.now.number in
     let s = state_with c.args.caller.now c.args.walk in
     subst (Meets w p (g.T.Tree.nodes c.remove.new.tree) f c.remove.result) (sym (c.in-Ok.ensures.leads processes p e (unlinks w p s e c.args.directory)))
-    (c.remove.ensures c.args.caller.now.refuse f processes p s e same c.requires.idle)
+    (c.remove.ensures c.args.caller.now.refuse f processes p s e same c.requires.ready.idle)

@@ -25,4 +25,4 @@ returns-in-Ok g c = λ processes e same.
     let p = c.args.caller.now.number in
     let s = state_with c.args.caller.now c.args.walk in
     subst (Meets w p t f c.stat_found.result) (sym (c.in-Ok.ensures.leads f processes p e (stats_at w p s e)))
-    (c.stat_found.ensures e.refuse f processes p s e refl c.requires.idle)
+    (c.stat_found.ensures e.refuse f processes p s e refl c.requires.ready.idle)

@@ -1,0 +1,136 @@
+-- From what the code's walks do at an event to what the model's lookups do.
+use Rattle.std.proofs.Common.{◌≡◌, ◌≢◌, ℕ, List, Bool, true, false, cond, ap, refl, subst, sym, ◌∙◌}
+use Rattle.std.specs.Prelude.{not, Option, Some, None, Result, Ok, Err, IfOk, IfSome}
+use Rattle.rights.specs.Values.{PathText}
+use Rattle.file_tree.specs.Nodes.{Node}
+use Rattle.file_tree.specs.WellFormed.{IsTree}
+use Rattle.lookup.specs.Answers.{Way, Beneath, Last, Keep, LookupFault, Finding, Found_node, Not_found}
+use Rattle.lookup.specs.Looks.{lookup_fault}
+use Rattle.lookup.specs.UnderWay.{IsUnderWay}
+use Rattle.lookup.specs.Views.{found_of}
+use Rattle.lookup.specs.Walks.{WalkState, Progress, Done, More, IsInTree, begun, first_handled, handled}
+use Rattle.lookup.proofs.UnderWay.{Sure, under_way_in_tree}
+use Rattle.process.specs.State.{ProcessState, One, Two}
+use Rattle.process.specs.Views.{walk_of}
+use Rattle.process.specs.declared.walking.Walking.{Walking}
+use Rattle.process.specs.declared.walking.Walking.TheVariants as walking
+use Rattle.kernel.specs.World.{World}
+use Rattle.kernel.specs.Answers.{Answer, Event, lookup_fails}
+use Rattle.kernel.specs.Calls.{found_last, is_at_last, looks_twice, lost, unless_lost, walked_both, walked_first, walked_second}
+use Rattle.kernel.specs.Walks.{IfOne, IfTwo}
+use Rattle.syscalls.specs.declared.lookups.Both.{Both}
+use Rattle.syscalls.specs.declared.outcomes.Refusal.{Refusal}
+use Rattle.syscalls.specs.declared.outcomes.Refusal.TheVariants as refusal
+use Rattle.syscalls.specs.AnswerViews.{AreFound, Finds, IsLeft, IsLost, IsNotFound, Refuses, RenamesOn}
+use Rattle.syscalls.proofs.Finding.{free_name, last_found_sure}
+
+-- What a fault is refused as, whatever event it ends.
+abbrev pub RefusesFault : Option LookupFault → Refusal → Type 0
+RefusesFault o refused = (event : Progress) → IfSome o (λ fault. event ≡ Done (Not_found fault)) → Finds event (Err refused)
+
+-- want of memory ends any event
+no_fault_is_memory : (refused : Refusal) → RefusesFault None refused → refused ≢ refusal.Memory → ⊥
+no_fault_is_memory refused all other = let never = all (Done (Found_node 0)) tt other in absurd (let clash : Found_node 0 ≡ Not_found never.fault = never.is in cc)
+
+left_with : (refused : Refusal) (event : Progress) (fault : LookupFault) → event ≡ Done (Not_found fault) → IsLeft refused event → IsNotFound refused (Not_found fault)
+left_with refused event fault is left = subst (IsLeft refused) is left
+
+lost_as : (refused : Refusal) (fault : LookupFault) → IsNotFound refused (Not_found fault) → Refuses refused (lookup_fails fault)
+lost_as refused fault left = let same : left.fault ≡ fault = same_fault left.is in subst (λ f. Refuses refused (lookup_fails f)) same left.refuses
+  where
+    same_fault : {a b : LookupFault} → Not_found a ≡ Not_found b → b ≡ a
+    same_fault is = cc
+
+pub lost_of : (refused : Refusal) (o : Option LookupFault) → RefusesFault o refused → (event : Progress) → IfSome o (λ fault. event ≡ Done (Not_found fault)) →
+    refused ≢ refusal.Memory → IsLost refused event
+lost_of refused None all event is other = absurd (no_fault_is_memory refused all other)
+lost_of refused (Some fault) all event is other = subst (IsLost refused) (sym is) (lost_as refused fault (left_with refused event fault is (all event is other)))
+
+pub last_of_fault : (refused : Refusal) (o : Option LookupFault) → RefusesFault o refused → (event : Progress) → IfSome o (λ fault. event ≡ Done (Not_found fault)) →
+    refused ≢ refusal.Memory → IsNotFound refused (found_last event)
+last_of_fault refused None all event is other = absurd (no_fault_is_memory refused all other)
+last_of_fault refused (Some fault) all event is other = subst (λ v. IsNotFound refused (found_last v)) (sym is) (left_with refused event fault is (all event is other))
+
+-- what refuses but for want of memory refuses
+pub but_for_memory : (refused : Refusal) (a : Answer) → (refused ≢ refusal.Memory → Refuses refused a) → Refuses refused a
+but_for_memory (refusal.Fails errno cause) a is = is (λ same. absurd cc)
+but_for_memory refusal.Waits a is = is (λ same. absurd cc)
+but_for_memory (refusal.Walks walk) a is = is (λ same. absurd cc)
+but_for_memory refusal.Memory a is = tt
+
+-- ## The first event
+pub first_is : (t : List Node) (start : ℕ) (path : PathText) (way : Way) (last : Last) (walk : WalkState) → lookup_fault t start path way last ≡ None →
+    walk ≡ begun start path way last → handled t walk ≡ first_handled t start path way last
+unfolding first_handled
+first_is t start path way last walk none is = rw (none, is) refl
+
+pub first_lost : (t : List Node) (start : ℕ) (path : PathText) (way : Way) (last : Last) (o : Option LookupFault) → lookup_fault t start path way last ≡ o →
+    IfSome o (λ fault. first_handled t start path way last ≡ Done (Not_found fault))
+unfolding first_handled
+first_lost t start path way last None is = tt
+first_lost t start path way last (Some fault) is = rw is refl
+
+-- why a rename ends in its first event
+pub told_lost : (refused : Refusal) (fault o : Option LookupFault) (rest : Answer) → RefusesFault o refused → fault ≡ o → Refuses refused (unless_lost fault rest)
+told_lost refused fault o rest all is = subst (λ f. Refuses refused (unless_lost f rest)) (sym is) (by_fault o all)
+  where
+    by_fault : (o : Option LookupFault) → RefusesFault o refused → Refuses refused (unless_lost o rest)
+    by_fault None all = but_for_memory refused rest (λ other. absurd (no_fault_is_memory refused all other))
+    by_fault (Some fault) all = but_for_memory refused (lookup_fails fault) (λ other. lost_as refused fault (all (Done (Not_found fault)) refl other))
+
+-- ## What is under way
+pub one_is : (Under : WalkState → Type 0) (o : Option Walking) (w : Walking) (walk : WalkState) → o ≡ Some w → w ≡ walking.One walk → IfOne Under (walk_of o) → Under walk
+one_is Under o w walk is one under = subst (λ x. IfOne Under (walk_of x)) (is ∙ ap Some one) under
+
+pub two_are : (First Second : WalkState → Type 0) (o : Option Walking) (w : Walking) (one other : WalkState) → o ≡ Some w → w ≡ walking.Two one other →
+    IfTwo First Second (walk_of o) → First one × Second other
+two_are First Second o w one other is two under = subst (λ x. IfTwo First Second (walk_of x)) (is ∙ ap Some two) under
+
+-- ## Two paths
+pub renames_as : (look as_look : (Finding → Finding → Answer) → Answer) (from : Finding → (ℕ → Answer) → Answer) (r : Result Both Refusal) →
+    ((rest : Finding → Finding → Answer) → look rest ≡ as_look rest) → RenamesOn as_look from r → RenamesOn look from r
+renames_as look as_look from (Ok both) same renames = λ rest. same _ ∙ renames rest
+renames_as look as_look from (Err refused) same renames = λ rest tells. subst (Refuses refused) (sym (same _)) (renames rest tells)
+
+pub refused_as : (look : (Finding → Finding → Answer) → Answer) (from : Finding → (ℕ → Answer) → Answer) (refused : Refusal) (a : Answer) →
+    ((rest : Finding → Finding → Answer) → look rest ≡ a) → Refuses refused a → RenamesOn look from (Err refused)
+refused_as look from refused a same is = λ rest tells. subst (Refuses refused) (sym (same _)) is
+
+module _ (w : World) (p : ℕ) (s : ProcessState) (e : Event) (one other : WalkState) (rest : Finding → Finding → Answer) where
+  pub old_is : is_at_last one ≡ false → walked_both w p s e rest one other ≡ walked_first other (handled w.tree one)
+  old_is more = rw more refl
+
+  pub new_is : is_at_last one ≡ true → is_at_last other ≡ false → walked_both w p s e rest one other ≡ walked_second one (handled w.tree other)
+  new_is last more = rw (last, more) refl
+
+  pub last_is : is_at_last one ≡ true → is_at_last other ≡ true → walked_both w p s e rest one other ≡ rest (found_last (handled w.tree one)) (found_last (handled w.tree other))
+  last_is last also = rw (last, also) refl
+
+-- the first event of both, and a later one
+module _ (w : World) (p : ℕ) (s : ProcessState) (e : Event) (n : ℕ) (from : PathText) (m : ℕ) (to : PathText) where
+  abbrev pub both_first : (Finding → Finding → Answer) → Answer
+  both_first rest =
+      unless_lost (lookup_fault w.tree n from Beneath Keep)
+      (unless_lost (lookup_fault w.tree m to Beneath Keep) (walked_both w p s e rest (begun n from Beneath Keep) (begun m to Beneath Keep)))
+
+  pub looks_none : (rest : Finding → Finding → Answer) → s.walk ≡ None → looks_twice w p s e n from m to rest ≡ both_first rest
+  unfolding looks_twice
+  looks_none rest is = rw is refl
+
+  pub looks_one : (rest : Finding → Finding → Answer) (walk : WalkState) → s.walk ≡ Some (One walk) → looks_twice w p s e n from m to rest ≡ both_first rest
+  unfolding looks_twice
+  looks_one rest walk is = rw is refl
+
+  pub looks_two : (rest : Finding → Finding → Answer) (one other : WalkState) → s.walk ≡ Some (Two one other) → looks_twice w p s e n from m to rest ≡ walked_both w p s e rest one other
+  unfolding looks_twice
+  looks_two rest one other is = rw is refl
+
+pub are_found : (t : List Node) (path new_path : PathText) (one other : WalkState) (r : Result Both Refusal) → IsTree t → IsUnderWay t path Beneath Keep one →
+    IsUnderWay t new_path Beneath Keep other → IfOk r (λ both. found_last (handled t one) ≡ Found_node both.node) →
+    IfOk r (λ both. found_last (handled t other) ≡ found_of both.place) → IfOk r (AreFound t path new_path)
+are_found t path new_path one other (Ok both) tree under also node place =
+    let source : Sure t path Keep (Found_node both.node) = last_found_sure t path one (Found_node both.node) tree under node in
+    let target : Sure t new_path Keep (found_of both.place) = last_found_sure t new_path other (found_of both.place) tree also place in
+    let free = free_name t new_path (found_of both.place) target.vacant in
+    record { node = source.there; place = target.there; named = target.named refl; free = free.0; may_be_made = free.1 }
+are_found t path new_path one other (Err refused) tree under also node place = tt
