@@ -14,6 +14,8 @@ use Rattle.process.specs.State.{ProcessState, One, Two}
 use Rattle.process.specs.Views.{walk_of}
 use Rattle.process.specs.declared.walking.Walking.{Walking}
 use Rattle.process.specs.declared.walking.Walking.TheVariants as walking
+use Rattle.prog_asm.specs.Programs.{Syscall}
+use Rattle.fd_table.specs.OpenFiles.{OpenFiles}
 use Rattle.kernel.specs.World.{World}
 use Rattle.kernel.specs.Answers.{Answer, Event, lookup_fails}
 use Rattle.kernel.specs.Calls.{found_last, is_at_last, looks_twice, lost, unless_lost, walked_both, walked_first, walked_second}
@@ -21,7 +23,9 @@ use Rattle.kernel.specs.Walks.{IfOne, IfTwo}
 use Rattle.syscalls.specs.declared.lookups.Both.{Both}
 use Rattle.syscalls.specs.declared.outcomes.Refusal.{Refusal}
 use Rattle.syscalls.specs.declared.outcomes.Refusal.TheVariants as refusal
-use Rattle.syscalls.specs.AnswerViews.{AreFound, Finds, IsLeft, IsLost, IsNotFound, Refuses, RenamesOn}
+use Rattle.syscalls.specs.declared.operands.Caller.{Caller}
+use Rattle.syscalls.specs.declared.outcomes.Success.{Success}
+use Rattle.syscalls.specs.AnswerViews.{AreFound, Finds, IsLeft, IsLost, IsNotFound, Performs, Refuses, RenamesOn, state_with}
 use Rattle.syscalls.proofs.Finding.{free_name, last_found_sure}
 
 -- What a fault is refused as, whatever event it ends.
@@ -134,3 +138,11 @@ are_found t path new_path one other (Ok both) tree under also node place =
     let free = free_name t new_path (found_of both.place) target.vacant in
     record { node = source.there; place = target.there; named = target.named refl; free = free.0; may_be_made = free.1 }
 are_found t path new_path one other (Err refused) tree under also node place = tt
+
+-- a call that looks nothing up has nothing under way
+pub performs_at_rest : (t : List Node) (f : OpenFiles) (caller : Caller) (walk : Option Walking) (after : List Node) (left : OpenFiles) (r : Result Success Refusal) (call known : Syscall) →
+    call ≡ known → walk_of walk ≡ None → caller.process.now.walk ≡ None → Performs t f caller caller.process.now after left r known →
+    Performs t f caller (state_with caller walk) after left r call
+performs_at_rest t f caller walk after left r call known same none rests performs =
+    subst (Performs t f caller (state_with caller walk) after left r) (sym same)
+    (subst (λ s. Performs t f caller s after left r known) (sym (ap (λ o. record caller.process.now { walk = o }) (none ∙ sym rests))) performs)
