@@ -17,6 +17,21 @@ abbrev pub IsEvent : (Finding → Type 0) → (WalkState → Type 0) → Progres
 IsEvent Good Under (Done finding) = Good finding
 IsEvent Good Under (More walk) = Under walk
 
+-- of what is under way nothing is asked
+pub any_event : (event : Progress) → IsEvent (λ found. Unit {0}) (λ walk. Unit {0}) event
+any_event (Done found) = tt
+any_event (More walk) = tt
+
+pub any_one : (o : Option Walking) → IfOne (λ walk. Unit {0}) o
+any_one None = tt
+any_one (Some (One walk)) = tt
+any_one (Some (Two one other)) = tt
+
+pub any_two : (o : Option Walking) → IfTwo (λ walk. Unit {0}) (λ walk. Unit {0}) o
+any_two None = tt
+any_two (Some (One walk)) = tt
+any_two (Some (Two one other)) = (tt, tt)
+
 module _ (P : Answer → Type 0) (w : World) (p : ℕ) (s : ProcessState) (e : Event) where
   -- ## One path
   module _ (start : ℕ) (way : Way) (path : List ℕ) (last : Last) (rest : Finding → Answer) (Good : Finding → Type 0) (Under : WalkState → Type 0) where

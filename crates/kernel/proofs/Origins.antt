@@ -9,7 +9,7 @@ use Rattle.rights.specs.Opens.{OpenRequest}
 use Rattle.file_tree.specs.Nodes.{Kind, File, Dir, Link, node}
 use Rattle.lookup.specs.Answers.{Way, Last, LookupFault, Escape, No_entry, Not_dir, Loop, Too_long, Bad_last, Beneath, Keep, Found_node, Found_free, Not_found}
 use Rattle.lookup.specs.Answers as lookups
-use Rattle.lookup.specs.Walks.{Progress, Done, More, first_handled, handled}
+use Rattle.lookup.specs.Walks.{first_handled, handled}
 use Rattle.process.specs.State.{ProcessState, Walking, One, Two}
 use Rattle.prog_asm.specs.Programs.{Syscall, Open, Openat, Read, Write, Sendfd, Recvfd, Lseek, Ftruncate, Fsync, Fstat, Fcntl_getfl, Fcntl_setfl, Fstatat, Stat, Mkdirat, Mkdir}
 use Rattle.prog_asm.specs.Programs.{Unlinkat, Unlink, Renameat, Dup, Close, Cap_rights_limit, Cap_fcntls_limit, Cap_enter, Cap_getmode, Socketpair, Fork}
@@ -20,24 +20,8 @@ use Rattle.kernel.specs.Answers.{Event, Effect, TableChange, Same_table, Set_ent
 use Rattle.kernel.specs.Answers.{Answer, Fails, Waits, Gives, Walks, unless, held, at_object, at_number, lookup_fails}
 use Rattle.kernel.specs.Calls.{looks, looks_twice, answer, opened, opened_as, read_byte, read_end, write_node, sent_end, received, receive_end, stats_at, made_directory}
 use Rattle.kernel.specs.Calls.{unlinks_as, unlinks, renamed_over, renamed_to, renamed_from, pair_at, blocked, in_directory, at_file}
-use Rattle.kernel.specs.Walks.{IfOne, IfTwo}
-use Rattle.kernel.proofs.Looking.{IsEvent, looks_any, looks_twice_any}
+use Rattle.kernel.proofs.Looking.{any_event, any_one, any_two, looks_any, looks_twice_any}
 use Rattle.kernel.specs.Origins.{Caller, front_of, arriving_at, arriving, origin, IsNoWider, IsOwn, IsMade, IsEndOf, IsEnd, IsSent}
-
--- of what is under way nothing is asked
-any_event : (event : Progress) → IsEvent (λ found. Unit {0}) (λ walk. Unit {0}) event
-any_event (Done found) = tt
-any_event (More walk) = tt
-
-any_one : (o : Option Walking) → IfOne (λ walk. Unit {0}) o
-any_one None = tt
-any_one (Some (One walk)) = tt
-any_one (Some (Two one other)) = tt
-
-any_two : (o : Option Walking) → IfTwo (λ walk. Unit {0}) (λ walk. Unit {0}) o
-any_two None = tt
-any_two (Some (One walk)) = tt
-any_two (Some (Two one other)) = (tt, tt)
 
 -- a number that is found free is
 unheld : (o : Option Descriptor) → is_some o ≡ false → o ≡ None
