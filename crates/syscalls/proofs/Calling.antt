@@ -4,7 +4,7 @@ use Rattle.std.specs.Prelude.{Option, Some, None, Result}
 use Rattle.std.specs.List.{slice_get}
 use Rattle.std.proofs.Math.ListN.{get_or}
 use Rattle.std.proofs.lemmas.Option.{slice_get_within, get_or_from_slice_get}
-use Rattle.process.specs.State.{ProcessState}
+use Rattle.process.specs.State.{ProcessState, Walking}
 use Rattle.file_tree.specs.Nodes.{Node}
 use Rattle.fd_table.specs.Descriptions.{Object, At_node, At_end, Descriptor, IfHeld}
 use Rattle.fd_table.specs.OpenFiles.{OpenFiles, Alike}
@@ -19,10 +19,10 @@ use Rattle.syscalls.specs.declared.outcomes.Refusal.{Refusal}
 use Rattle.syscalls.specs.declared.outcomes.Refusal.TheVariants as refusal
 use Rattle.prog_asm.specs.Programs.{Syscall}
 use Rattle.kernel.specs.World.{World, Choice, IsFresh}
-use Rattle.kernel.specs.Answers.{Event, TreeChange, TableChange, Same_table, Set_entry, Clear_entry, New_file, New_pair, New_process, QueueChange, StateChange, Change, Fails, Waits}
+use Rattle.kernel.specs.Answers.{Event, TreeChange, TableChange, Same_table, Set_entry, Clear_entry, New_file, New_pair, New_process, QueueChange, StateChange, Change, Fails, Waits, Walks}
 use Rattle.kernel.specs.Calls.{answer}
 use Rattle.kernel.specs.Changes.{files_after, changed, given, children, processes_after}
-use Rattle.kernel.specs.Steps.{LineResult, Value, Failed, Waiting, Programs, answered, failed}
+use Rattle.kernel.specs.Steps.{LineResult, Value, Failed, Waiting, Walks_on, Programs, answered, failed}
 use Rattle.kernel.specs.WellFormed.{Numbering, IsObject, IsDescriptor, IsWorld}
 use Rattle.lookup.proofs.UnderWay.{there_if_opened}
 use Rattle.kernel.specs.Runs.{MayChoose}
@@ -128,6 +128,20 @@ module _ (programs : Programs) (t : List Node) (f : OpenFiles) (processes : List
     world = subst (λ a. AlikeWorlds (answered w p s some.0 otherwise a).world w) (sym is) (record { tree = refl; processes = refl; files = alike_refl f idle });
   }
 
+  -- it has names left
+  pub walks : (walking : Walking) → answer w p s e call ≡ Walks walking →
+      Comes w p s e call otherwise Walks_on [] (world_with t f (slice_set processes p (record s { walk = Some walking })))
+  unfolding answered
+  walks walking is =
+      let v = world_with t f (slice_set processes p (record s { walk = Some walking })) in
+      record {
+        choice = some.0;
+        fresh = some.1;
+        outcome = ap (λ a. (answered w p s some.0 otherwise a).outcome) (sym is);
+        prints = ap (λ a. map shown (answered w p s some.0 otherwise a).effects) (sym is);
+        world = subst (λ a. AlikeWorlds (answered w p s some.0 otherwise a).world v) (sym is) (record { tree = refl; processes = refl; files = alike_refl f idle });
+      }
+
 -- What a well-formed world gives to the parts of a call.
 ready_object : (t : List Node) (numbering : Numbering) (d : ℕ) (o : Object) → IsObject t numbering d o → IsReadyObject t o
 ready_object t numbering d (At_node n access) is = (there_if_opened t n is, is)
@@ -180,7 +194,7 @@ meets_at t f processes p s x e call after left r made read is = subst
 
 -- ## The same of what the code left
 -- worlds of equal parts
-same_world : {t u : List Node} {f h : OpenFiles} {processes others : List ProcessState} → t ≡ u → f ≡ h → processes ≡ others → world_with t f processes ≡ world_with u h others
+pub same_world : {t u : List Node} {f h : OpenFiles} {processes others : List ProcessState} → t ≡ u → f ≡ h → processes ≡ others → world_with t f processes ≡ world_with u h others
 same_world tree files processes i = world_with (tree i) (files i) (processes i)
 
 -- a failure, where it is told as it has to be

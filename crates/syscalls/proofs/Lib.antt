@@ -12,3 +12,4 @@ pub mod Keeping
 pub mod Removing
 pub mod Renaming
 pub mod Calling
+pub mod Settling

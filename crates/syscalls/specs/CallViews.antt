@@ -1,5 +1,5 @@
 -- What a call of a process comes to, with its process after it.
-use Rattle.std.specs.Prelude.{◌≡◌, ℕ, List, [], map}
+use Rattle.std.specs.Prelude.{◌≡◌, ℕ, List, [], map, slice_set, Some, Result, Ok, Err}
 use Rattle.rights.specs.Errors.{Errno, Cause}
 use Rattle.rights.specs.Views.{errno_of, cause_of}
 use Rattle.process.specs.State.{ProcessState}
@@ -14,7 +14,11 @@ use Rattle.syscalls.specs.declared.outcomes.Besides.{Besides}
 use Rattle.syscalls.specs.declared.outcomes.Outcome.{Outcome}
 use Rattle.syscalls.specs.declared.outcomes.Outcome.TheVariants as outcome
 use Rattle.syscalls.specs.Shows.{Shown, shown}
-use Rattle.syscalls.specs.Views.{change_of}
+use Rattle.process.specs.Views.{walking_of}
+use Rattle.syscalls.specs.declared.outcomes.Refusal.{Refusal}
+use Rattle.syscalls.specs.declared.outcomes.Refusal.TheVariants as refusal
+use Rattle.syscalls.specs.declared.outcomes.Success.{Success}
+use Rattle.syscalls.specs.Views.{change_of, effects_of}
 
 abbrev pub result_of : Outcome → LineResult
 result_of (outcome.Value value) = Value value
@@ -34,6 +38,17 @@ pub record FailsAs (s : ProcessState) (otherwise : ℕ) (errno : Errno) (cause :
   pub told : result ≡ Failed errno cause
   pub nothing : shows ≡ []
   pub process : after ≡ failed s errno otherwise
+
+-- What becomes of a call's process, and what is told, by what the call came to. After want of memory nothing is said.
+abbrev pub Settles : List ProcessState → ℕ → ProcessState → ℕ → Result Success Refusal → LineResult → List Shown → List ProcessState → Type 0
+Settles processes p s otherwise (Ok success) told shows after =
+    (told ≡ Value success.value) × (shows ≡ effects_of success.effects.items) × (after ≡ processes_as processes p s success.value success.besides)
+Settles processes p s otherwise (Err (refusal.Fails errno cause)) told shows after =
+    (told ≡ Failed (errno_of errno) (cause_of cause)) × (shows ≡ []) × (after ≡ slice_set processes p (failed s (errno_of errno) otherwise))
+Settles processes p s otherwise (Err refusal.Waits) told shows after = (told ≡ Waiting) × (shows ≡ []) × (after ≡ processes)
+Settles processes p s otherwise (Err (refusal.Walks walking)) told shows after =
+    (told ≡ Walks_on) × (shows ≡ []) × (after ≡ slice_set processes p (record s { walk = Some (walking_of walking) }))
+Settles processes p s otherwise (Err refusal.Memory) told shows after = ⊥
 
 -- Under some fresh numbers the call comes to this, with these effects, and to a world that is alike.
 pub record Comes (w : World) (p : ℕ) (s : ProcessState) (e : Event) (call : Syscall) (otherwise : ℕ) (told : LineResult) (shows : List Shown) (v : World) : Type 0 where

@@ -1,22 +1,23 @@
 //! The state of a run, and a system call of one of its processes.
 
-ghost use Rattle.std.specs.Prelude.{◌≡◌, ◌<◌, ◌+◌, IfOk, OnOk, Some, length};
+ghost use Rattle.std.specs.Prelude.{◌≡◌, ◌<◌, ◌+◌, [], IfOk, None, OnOk, Some, length, slice_set};
 ghost use Rattle.std.specs.List.{slice_get};
 ghost use Rattle.process.specs.State.{ProcessState};
+ghost use Rattle.process.specs.Views.{walk_of, walking_of};
 ghost use Rattle.rights.specs.Views.{cause_of, errno_of};
 ghost use Rattle.prog_asm.specs.Programs as programs;
 ghost use Rattle.prog_asm.specs.Views.{instruction_of, syscall_of};
-ghost use Rattle.syscalls.specs.CallViews.{FailsAs, processes_as, result_of, succeeded_as};
+ghost use Rattle.syscalls.specs.CallViews.{FailsAs, Settles, processes_as, result_of, succeeded_as};
 ghost use Rattle.syscalls.specs.MayCall.{CallComes, MayCall, MayInvoke};
 ghost use Rattle.syscalls.specs.Views.{effects_of, event_of, world_of};
 
 use crate::calls::perform;
 use crate::events::Event;
 use crate::operands::Caller;
-use crate::outcomes::{Besides, Effect, Outcome, Refusal};
+use crate::outcomes::{Besides, Effect, Outcome, Refusal, Success};
 use fd_table::Files;
 use file_tree::Tree;
-use process::Process;
+use process::{Process, Walking};
 use prog_asm::{Instruction, Syscall};
 use rights::{Cause, Errno, Memory};
 use std::alloc::Global;
@@ -71,19 +72,87 @@ fn go_on(
     Ok(())
 }
 
+/// What a call came to that has no effect.
+fn told(alloc: Global, outcome: Outcome) -> Called
+    ensures outcome { result.outcome ≡ outcome }
+    ensures nothing { result.effects.items ≡ [] }
+{
+    Called {
+        outcome,
+        effects: Vec::new(alloc),
+    }
+}
+
 /// A call fails: register 7 has the error's number, and the process goes to the label.
 fn fail(alloc: Global, process: &mut Process, otherwise: u8, errno: Errno, cause: Cause) -> Called
     ensures { FailsAs process.old otherwise (errno_of errno) (cause_of cause) (result_of result.outcome) (effects_of result.effects.items) process.new }
 {
     process.registers[7] = u32::from(errno.number());
     process.move_to(otherwise);
-    Called {
-        outcome: Outcome::Error(errno, cause),
-        effects: Vec::new(alloc),
+    told(alloc, Outcome::Error(errno, cause))
+}
+
+/// Takes what the call of a process has under way out of the process.
+fn take_walk(processes: &mut Vec<Process>, number: u8) -> Option<Walking>
+    requires { number < length processes.old.items }
+    ensures taken { (s : ProcessState) → slice_get processes.old.items number ≡ Some s → walk_of result ≡ s.walk }
+    ensures left { (s : ProcessState) → slice_get processes.old.items number ≡ Some s
+        → processes.new.items ≡ slice_set processes.old.items number (record s { walk = None }) }
+{
+    let process = &mut processes[number as usize];
+    process.take_walk()
+}
+
+/// Keeps what the call of a process has under way in the process.
+fn walk_on(processes: &mut Vec<Process>, number: u8, walking: Walking)
+    requires { number < length processes.old.items }
+    ensures { (s : ProcessState) → slice_get processes.old.items number ≡ Some s
+        → processes.new.items ≡ slice_set processes.old.items number (record s { walk = Some (walking_of walking) }) }
+{
+    let process = &mut processes[number as usize];
+    process.walk_on(walking);
+}
+
+/// What becomes of the process, by what its call came to.
+fn settle(
+    alloc: Global,
+    processes: &mut Vec<Process>,
+    number: u8,
+    otherwise: u8,
+    came: Result<Success, Refusal>,
+) -> Result<Called, Memory>
+    requires made { number < length processes.old.items }
+    requires next { (s : ProcessState) → slice_get processes.old.items number ≡ Some s → s.point + 1 < 256 }
+    ensures { IfOk result (λ called. (s : ProcessState) → slice_get processes.old.items number ≡ Some s
+        → Settles processes.old.items number s otherwise came (result_of called.outcome) (effects_of called.effects.items) processes.new.items) }
+{
+    match came {
+        Ok(success) => {
+            go_on(processes, number, success.value, success.besides)?;
+            Ok(Called {
+                outcome: Outcome::Value(success.value),
+                effects: success.effects,
+            })
+        }
+        Err(refused) => match refused {
+            Refusal::Fails(errno, cause) => Ok(fail(
+                alloc,
+                &mut processes[number as usize],
+                otherwise,
+                errno,
+                cause,
+            )),
+            Refusal::Waits => Ok(told(alloc, Outcome::Wait)),
+            Refusal::Walks(walking) => {
+                walk_on(processes, number, walking);
+                Ok(told(alloc, Outcome::Walk))
+            }
+            Refusal::Memory => Err(Memory),
+        },
     }
 }
 
-/// The call of a process, which gets its registers, its point and its mode.
+/// The call of a process, which gets its registers, its point and its mode, and what it has under way.
 fn invoke<T: Tree>(
     alloc: Global,
     world: &mut World<T>,
@@ -96,7 +165,7 @@ fn invoke<T: Tree>(
     ensures { IfOk result (λ called. CallComes (world_of T.nodes world.old) number (event_of event) (programs.Invoke (syscall_of call.now) otherwise)
         (result_of called.outcome) (effects_of called.effects.items) (world_of T.nodes world.new)) }
 {
-    let walk = world.processes[number as usize].take_walk();
+    let walk = take_walk(&mut world.processes, number);
     let caller = Caller {
         number,
         process: &world.processes[number as usize],
@@ -111,36 +180,7 @@ fn invoke<T: Tree>(
         call,
         walk,
     );
-    match came {
-        Ok(success) => {
-            go_on(&mut world.processes, number, success.value, success.besides)?;
-            Ok(Called {
-                outcome: Outcome::Value(success.value),
-                effects: success.effects,
-            })
-        }
-        Err(refused) => match refused {
-            Refusal::Fails(errno, cause) => Ok(fail(
-                alloc,
-                &mut world.processes[number as usize],
-                otherwise,
-                errno,
-                cause,
-            )),
-            Refusal::Waits => Ok(Called {
-                outcome: Outcome::Wait,
-                effects: Vec::new(alloc),
-            }),
-            Refusal::Walks(walking) => {
-                world.processes[number as usize].walk_on(walking);
-                Ok(Called {
-                    outcome: Outcome::Walk,
-                    effects: Vec::new(alloc),
-                })
-            }
-            Refusal::Memory => Err(Memory),
-        },
-    }
+    settle(alloc, &mut world.processes, number, otherwise, came)
 }
 
 /// A system call of a process at an event: what it comes to, and its effects in order.

@@ -1,0 +1,87 @@
+-- From what a call came to, and what became of its process, to the whole.
+use Rattle.std.proofs.Common.{◌≡◌, ℕ, zero, suc, List, [], ◌∷◌, ◌++◌, map, slice_set, refl, ap, sym, subst, ◌∙◌}
+use Rattle.std.specs.Prelude.{Some, None, Result, Ok, Err}
+use Rattle.std.specs.List.{slice_get}
+use Rattle.process.specs.State.{ProcessState}
+use Rattle.process.specs.Views.{walking_of}
+use Rattle.file_tree.specs.Nodes.{Node}
+use Rattle.fd_table.specs.OpenFiles.{OpenFiles}
+use Rattle.prog_asm.specs.Programs.{Syscall}
+use Rattle.rights.specs.Views.{errno_of, cause_of}
+use Rattle.kernel.specs.World.{World}
+use Rattle.kernel.specs.Answers.{Event, Waits, Walks}
+use Rattle.kernel.specs.Calls.{answer}
+use Rattle.kernel.specs.Changes.{children}
+use Rattle.kernel.specs.Steps.{LineResult, Programs, Value, Failed, Waiting, Walks_on, failed}
+use Rattle.kernel.specs.Walks.{FitsIfWalking}
+use Rattle.kernel.specs.WellFormed.{Numbering, IsWorld}
+use Rattle.kernel.proofs.FittingWalks.{none_under}
+use Rattle.syscalls.specs.declared.outcomes.Besides.{Besides}
+use Rattle.syscalls.specs.declared.outcomes.Refusal.{Refusal}
+use Rattle.syscalls.specs.declared.outcomes.Refusal.TheVariants as refusal
+use Rattle.syscalls.specs.declared.outcomes.Success.{Success}
+use Rattle.syscalls.specs.AnswerViews.{DoesNothing, Meets}
+use Rattle.syscalls.specs.CallViews.{Comes, Settles, processes_as, succeeded_as}
+use Rattle.syscalls.specs.Shows.{Shown}
+use Rattle.syscalls.specs.Views.{change_of, effects_of, world_with}
+use Rattle.syscalls.proofs.Calling.{fails, same_world, succeeds_as, waits, walks}
+use Rattle.syscalls.proofs.Unwaiting.{looks_nothing}
+
+-- one element set twice, and one set to what it is
+set_twice : {A : Type 0} (xs : List A) (p : ℕ) (a b : A) → slice_set (slice_set xs p a) p b ≡ slice_set xs p b
+set_twice [] p a b = refl
+set_twice (x ∷ xs) zero a b = refl
+set_twice (x ∷ xs) (suc p) a b = ap (λ rest. x ∷ rest) (set_twice xs p a b)
+
+set_itself : {A : Type 0} (xs : List A) (p : ℕ) (a : A) → slice_get xs p ≡ Some a → slice_set xs p a ≡ xs
+set_itself [] p a is = refl
+set_itself (x ∷ xs) zero a is = let same : x ≡ a = cc in ap (λ y. y ∷ xs) (sym same)
+set_itself (x ∷ xs) (suc p) a is = ap (λ rest. x ∷ rest) (set_itself xs p a is)
+
+-- the process without what its call had under way
+abbrev pub rested : ProcessState → ProcessState
+rested s = record s { walk = None }
+
+pub stays_made : (processes : List ProcessState) (p : ℕ) (s x : ProcessState) → slice_get processes p ≡ Some s → slice_get (slice_set processes p x) p ≡ Some x
+stays_made [] p s x made = absurd cc
+stays_made (y ∷ processes) zero s x made = refl
+stays_made (y ∷ processes) (suc p) s x made = stays_made processes p s x made
+
+module _ (programs : Programs) (t : List Node) (f : OpenFiles) (processes : List ProcessState) (numbering : Numbering)
+    (good : IsWorld programs numbering (world_with t f processes)) (p : ℕ) (s : ProcessState) (e : Event) (call : Syscall) (otherwise : ℕ)
+    (made : slice_get processes p ≡ Some s) (fits : FitsIfWalking t f.objects (f.table p) s (Some call) s.walk) (after : List Node) (left : OpenFiles) where
+  abbrev w : World
+  w = world_with t f processes
+
+  told_as : (told other : LineResult) (shows more : List Shown) (v u : World) → told ≡ other → shows ≡ more → v ≡ u → Comes w p s e call otherwise other more u → Comes w p s e call otherwise told shows v
+  told_as told other shows more v u one two three comes = rw (one, two, three) comes
+
+  unchanged : (others more : List ProcessState) → DoesNothing w after left → others ≡ more → world_with after left others ≡ world_with t f more
+  unchanged others more nothing same = same_world nothing.tree nothing.files same
+
+  -- a call that waits had nothing under way
+  was_rested : answer w p s e call ≡ Waits → slice_set processes p (rested s) ≡ processes
+  was_rested waiting =
+      let none : s.walk ≡ None = none_under t f.objects (f.table p) s call s.walk (looks_nothing w p s e call waiting) fits in
+      ap (slice_set processes p) (ap (λ o. record s { walk = o }) (sym none)) ∙ set_itself processes p s made
+
+  pub settled : (came : Result Success Refusal) → Meets w p after left came (answer w p s e call) → (told : LineResult) (shows : List Shown) (others : List ProcessState) →
+      Settles (slice_set processes p (rested s)) p (rested s) otherwise came told shows others → Comes w p s e call otherwise told shows (world_with after left others)
+  settled (Ok success) meets told shows others is =
+      told_as told (Value success.value) shows (effects_of success.effects.items) (world_with after left others) (world_with after left others) is.0 is.1 refl
+      (succeeds_as programs t f processes numbering good p s e call otherwise after left (effects_of success.effects.items) success.value success.besides meets others
+      (is.2 ∙ ap (λ list. list ++ children (change_of success.besides).table (succeeded_as s success.value success.besides))
+      (set_twice processes p (rested s) (succeeded_as s success.value success.besides))))
+  settled (Err (refusal.Fails errno cause)) meets told shows others is =
+      told_as told (Failed (errno_of errno) (cause_of cause)) shows [] (world_with after left others) (world_with t f (slice_set processes p (failed s (errno_of errno) otherwise))) is.0 is.1
+      (unchanged others (slice_set processes p (failed s (errno_of errno) otherwise)) meets.1 (is.2 ∙ set_twice processes p (rested s) (failed s (errno_of errno) otherwise)))
+      (fails programs t f processes numbering good p s e call otherwise (errno_of errno) (cause_of cause) meets.0)
+  settled (Err refusal.Waits) meets told shows others is =
+      told_as told Waiting shows [] (world_with after left others) w is.0 is.1 (unchanged others processes meets.1 (is.2 ∙ was_rested meets.0))
+      (waits programs t f processes numbering good p s e call otherwise meets.0)
+  settled (Err (refusal.Walks walking)) meets told shows others is =
+      let walker : ProcessState = record s { walk = Some (walking_of walking) } in
+      told_as told Walks_on shows [] (world_with after left others) (world_with t f (slice_set processes p walker)) is.0 is.1
+      (unchanged others (slice_set processes p walker) meets.1 (is.2 ∙ set_twice processes p (rested s) walker))
+      (walks programs t f processes numbering good p s e call otherwise (walking_of walking) meets.0)
+  settled (Err refusal.Memory) meets told shows others is = absurd is
