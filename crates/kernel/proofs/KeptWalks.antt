@@ -44,7 +44,7 @@ slice_get-more_cases Q (x ∷ xs) c (suc m) here there =
 
 -- ## One process, whose tree and descriptions change
 -- the same registers give the same operands
-pub same_value : (s t : ProcessState) → t.registers ≡ s.registers → (x : Operand) → value_of t x ≡ value_of s x
+same_value : (s t : ProcessState) → t.registers ≡ s.registers → (x : Operand) → value_of t x ≡ value_of s x
 same_value s t same (Register r) = ap (λ (registers : List ℕ). slice_index_or registers r 0) same
 same_value s t same (Number n) = refl
 

@@ -1,5 +1,5 @@
 -- What an event of a lookup beneath a directory finds, or leaves under way, lies in each grant that holds the directory.
-use Rattle.std.proofs.Common.{◌≡◌, ℕ, ◌<◌, Bool, true, false, List, [], ◌∷◌, ◌++◌, Option, Some, None, refl, ap, sym, ◌∙◌, subst, length, arith}
+use Rattle.std.proofs.Common.{◌≡◌, ℕ, ◌+◌, ◌<◌, Bool, true, false, List, [], ◌∷◌, ◌++◌, Option, Some, None, refl, ap, sym, ◌∙◌, subst, length, arith}
 use Rattle.std.specs.Prelude.{not, ◌&&◌}
 use Rattle.file_tree.specs.Places.{at_name, path_components}
 use Rattle.file_tree.specs.Nodes.{Node, node, child_of, parent_of, is_dir, is_link}
