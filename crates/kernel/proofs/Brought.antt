@@ -22,7 +22,7 @@ use Rattle.lookup.specs.Paths.{last_component}
 use Rattle.lookup.specs.Promises.{IsLinked, IsFindingThere, HasName, IsUnderName}
 use Rattle.process.specs.State.{ProcessState}
 use Rattle.prog_asm.specs.Programs.{Syscall, Open, Openat, Read, Write, Sendfd, Recvfd, Lseek, Ftruncate, Fsync, Fstat, Fcntl_getfl, Fcntl_setfl, Fstatat, Stat, Mkdirat, Mkdir}
-use Rattle.prog_asm.specs.Programs.{Unlinkat, Unlink, Renameat, Dup, Close, Cap_rights_limit, Cap_fcntls_limit, Cap_enter, Cap_getmode, Socketpair, Fork, Operand, is_syscall, is_operand}
+use Rattle.prog_asm.specs.Programs.{Unlinkat, Unlink, Renameat, Dup, Close, Cap_rights_limit, Cap_fcntls_limit, Cap_enter, Cap_getmode, Socketpair, Fork, is_syscall, is_operand}
 use Rattle.fd_table.specs.Descriptions.{Access, Object, At_node, At_end, State, Descriptor, Message, other_side, bit_of, status_number, IfHeld}
 use Rattle.fd_table.specs.OpenFiles.{is_open, lowest_from, lowest_free}
 use Rattle.kernel.specs.World.{World}
@@ -40,8 +40,9 @@ use Rattle.lookup.specs.UnderWay.{IsUnderWay}
 use Rattle.lookup.specs.Walks.{WalkState, Progress, Done, More, first_handled, handled}
 use Rattle.lookup.proofs.UnderWay.{IsSureProgress, MayMake, Sure, begun_sure, begun_under_way, sure_fault, there_if_opened, under_way_sure}
 use Rattle.process.specs.State.{Walking, One, Two}
-use Rattle.kernel.specs.Walks.{Fits, FitsIfWalking, From_directories, From_directory, From_root, IsDirectory, IsDirectoryOf, lookups_of}
-use Rattle.kernel.proofs.Looking.{IfOne, IfTwo, IsEvent, looks_any, looks_twice_any}
+use Rattle.kernel.specs.Walks.{Fits, FitsIfWalking, IfOne, IfTwo, IsDirectory, IsDirectoryOf, lookups_of}
+use Rattle.kernel.proofs.FittingWalks.{both_under, directory_under, root_under}
+use Rattle.kernel.proofs.Looking.{IsEvent, looks_any, looks_twice_any}
 use Rattle.kernel.proofs.Lookups.{moved_over, path_bytes}
 use Rattle.kernel.proofs.Brings.{Ground, Known, Brings, Sound, free_low, second_low, directory_kind, file_kind, no_directory, sound-fails, sound-waits, sound-gives, sound-walks, sound-unless, sound-if}
 use Rattle.kernel.proofs.Brings.{sound-held, sound-object, sound-number, sound-lookup_fails}
@@ -264,23 +265,6 @@ module _ (programs : Programs) (g : Ground) (standing : Standing programs g) (p 
   abbrev IsFit : Syscall → Option Walking → Type 0
   IsFit call o = FitsIfWalking w.tree w.files.objects (w.files.table p) s (Some call) o
 
-  root_under : (call : Syscall) (path : List ℕ) (last : Last) (o : Option Walking) → lookups_of call ≡ From_root path last → IsFit call o → IfOne (IsUnderWay w.tree path Global last) o
-  root_under call path last None is fits = tt
-  root_under call path last (Some (One walk)) is fits = rw is at fits
-  root_under call path last (Some (Two one other)) is fits = tt
-
-  directory_under : (call : Syscall) (x : Operand) (path : List ℕ) (last : Last) (o : Option Walking) → lookups_of call ≡ From_directory x path last → IsFit call o →
-      IfOne (IsUnderWay w.tree path Beneath last) o
-  directory_under call x path last None is fits = tt
-  directory_under call x path last (Some (One walk)) is fits = let both = rw is at fits in both.1
-  directory_under call x path last (Some (Two one other)) is fits = tt
-
-  both_under : (call : Syscall) (x : Operand) (from : List ℕ) (y : Operand) (to : List ℕ) (o : Option Walking) → lookups_of call ≡ From_directories x from y to → IsFit call o →
-      IfTwo (IsUnderWay w.tree from Beneath Keep) (IsUnderWay w.tree to Beneath Keep) o
-  both_under call x from y to None is fits = tt
-  both_under call x from y to (Some (One walk)) is fits = tt
-  both_under call x from y to (Some (Two one other)) is fits = let all = rw is at fits in (all.2, all.3)
-
   -- a directory's descriptor that is open
   sound-start : (n : ℕ) (rest : Descriptor → Answer) → ((d : Descriptor) → w.files.table p n ≡ Some d → Known g d → Sound g (rest d)) → Sound g (held (w.files.table p n) rest)
   sound-start n rest sound = sound-held g (w.files.table p n) rest (standing.entries p n) (λ d is fine. sound d is fine)
@@ -403,12 +387,12 @@ module _ (programs : Programs) (g : Ground) (standing : Standing programs g) (p 
   unfolding answer lookups_of
   sound (Open path f) valid fits left =
       sound-unless g _ _ _ _ (λ outside.
-      sound-looks _ _ _ _ _ root_opened (root_under (Open path f) path (last_if f.create) s.walk refl fits) (λ walk is. left (One walk) is) (λ found sure.
+      sound-looks _ _ _ _ _ root_opened (root_under w.tree w.files.objects (w.files.table p) s (Open path f) path (last_if f.create) s.walk refl fits) (λ walk is. left (One walk) is) (λ found sure.
       sound-opened f all_rights all_commands path found (within_all all_rights) (within_all all_commands) (path_bytes path (both_left _ _ valid)) sure.vacant))
   sound (Openat x path f) valid fits left =
       sound-start (value_of s x) _ (λ d is fine. sound-unless g _ _ _ _ (λ has.
       sound-directory d _ fine (λ n opened dir.
-      sound-looks _ _ _ _ _ opened (directory_under (Openat x path f) x path (last_if f.create) s.walk refl fits) (λ walk under. left (One walk) (is_start _ d is dir, under)) (λ found sure.
+      sound-looks _ _ _ _ _ opened (directory_under w.tree w.files.objects (w.files.table p) s (Openat x path f) x path (last_if f.create) s.walk refl fits) (λ walk under. left (One walk) (is_start _ d is dir, under)) (λ found sure.
       sound-opened f d.rights d.fcntls path found fine.0.rights fine.0.fcntls (path_bytes path (both_right (is_operand x) _ (both_left _ _ valid))) sure.vacant))))
   sound (Read x) valid fits left =
       sound-entry (value_of s x) _ (λ d low fine. sound-unless g _ _ _ _ (λ has.
@@ -461,27 +445,27 @@ module _ (programs : Programs) (g : Ground) (standing : Standing programs g) (p 
   sound (Fstatat x path) valid fits left =
       sound-start (value_of s x) _ (λ d is fine. sound-unless g _ _ _ _ (λ has.
       sound-directory d _ fine (λ n opened dir.
-      sound-looks _ _ _ _ _ opened (directory_under (Fstatat x path) x path Follow s.walk refl fits) (λ walk under. left (One walk) (is_start _ d is dir, under)) (λ found sure. sound-looked_at found))))
+      sound-looks _ _ _ _ _ opened (directory_under w.tree w.files.objects (w.files.table p) s (Fstatat x path) x path Follow s.walk refl fits) (λ walk under. left (One walk) (is_start _ d is dir, under)) (λ found sure. sound-looked_at found))))
   sound (Stat path) valid fits left =
       sound-unless g _ _ _ _ (λ outside.
-      sound-looks _ _ _ _ _ root_opened (root_under (Stat path) path Follow s.walk refl fits) (λ walk is. left (One walk) is) (λ found sure. sound-looked_at found))
+      sound-looks _ _ _ _ _ root_opened (root_under w.tree w.files.objects (w.files.table p) s (Stat path) path Follow s.walk refl fits) (λ walk is. left (One walk) is) (λ found sure. sound-looked_at found))
   sound (Mkdirat x path) valid fits left =
       sound-start (value_of s x) _ (λ d is fine. sound-unless g _ _ _ _ (λ has.
       sound-directory d _ fine (λ n opened dir.
-      sound-looks _ _ _ _ _ opened (directory_under (Mkdirat x path) x path Keep s.walk refl fits) (λ walk under. left (One walk) (is_start _ d is dir, under)) (λ found sure.
+      sound-looks _ _ _ _ _ opened (directory_under w.tree w.files.objects (w.files.table p) s (Mkdirat x path) x path Keep s.walk refl fits) (λ walk under. left (One walk) (is_start _ d is dir, under)) (λ found sure.
       sound-made_directory path found (path_bytes path (both_right (is_operand x) _ valid)) sure.vacant))))
   sound (Mkdir path) valid fits left =
       sound-unless g _ _ _ _ (λ outside.
-      sound-looks _ _ _ _ _ root_opened (root_under (Mkdir path) path Keep s.walk refl fits) (λ walk is. left (One walk) is) (λ found sure.
+      sound-looks _ _ _ _ _ root_opened (root_under w.tree w.files.objects (w.files.table p) s (Mkdir path) path Keep s.walk refl fits) (λ walk is. left (One walk) is) (λ found sure.
       sound-made_directory path found (path_bytes path valid) sure.vacant))
   sound (Unlinkat x path directory) valid fits left =
       sound-start (value_of s x) _ (λ d is fine. sound-unless g _ _ _ _ (λ has.
       sound-directory d _ fine (λ n opened dir.
-      sound-looks _ _ _ _ _ opened (directory_under (Unlinkat x path directory) x path Keep s.walk refl fits) (λ walk under. left (One walk) (is_start _ d is dir, under)) (λ found sure.
+      sound-looks _ _ _ _ _ opened (directory_under w.tree w.files.objects (w.files.table p) s (Unlinkat x path directory) x path Keep s.walk refl fits) (λ walk under. left (One walk) (is_start _ d is dir, under)) (λ found sure.
       sound-unlinked directory path found sure.there (sure.named refl)))))
   sound (Unlink path directory) valid fits left =
       sound-unless g _ _ _ _ (λ outside.
-      sound-looks _ _ _ _ _ root_opened (root_under (Unlink path directory) path Keep s.walk refl fits) (λ walk is. left (One walk) is) (λ found sure.
+      sound-looks _ _ _ _ _ root_opened (root_under w.tree w.files.objects (w.files.table p) s (Unlink path directory) path Keep s.walk refl fits) (λ walk is. left (One walk) is) (λ found sure.
       sound-unlinked directory path found sure.there (sure.named refl)))
   sound (Renameat x from y target) valid fits left =
       sound-start (value_of s x) _ (λ d is fine.
@@ -489,7 +473,7 @@ module _ (programs : Programs) (g : Ground) (standing : Standing programs g) (p 
       sound-unless g _ _ _ _ (λ has. sound-unless g _ _ _ _ (λ may.
       sound-directory d _ fine (λ n opened dir.
       sound-directory into _ also (λ m other into_dir.
-      sound-looks_twice _ _ _ _ _ opened other (both_under (Renameat x from y target) x from y target s.walk refl fits)
+      sound-looks_twice _ _ _ _ _ opened other (both_under w.tree w.files.objects (w.files.table p) s (Renameat x from y target) x from y target s.walk refl fits)
       (λ one two first second. left (Two one two) (is_start _ d is dir, is_start _ into into_is into_dir, first, second)) (λ source place sure into_place.
       sound-renamed_from source _ sure.there (λ k linked.
       sound-renamed_to (Renameat x from y target) into k target place (path_bytes target (both_right _ _ valid)) linked into_place.there into_place.vacant (into_place.named refl)))))))))

@@ -22,7 +22,7 @@ use Rattle.kernel.specs.Calls.{answer}
 use Rattle.kernel.specs.Changes.{table_after, second_number, given, processes_after, files_after, changed}
 use Rattle.kernel.specs.Steps.{Programs, register, with_register, goes_on, with_process, halted, failed, answered, jumped, executed, stepped_at, stepped_by, stepped, step}
 use Rattle.kernel.specs.WellFormed.{ArePrograms, Numbering, HasNone, IsDescriptor, IsProcessIfMade, IsPoint, IsProcess, IsWorld, IsWellFormed}
-use Rattle.kernel.specs.Runs.{NextWorldExists, FreshNumbersExist}
+use Rattle.kernel.specs.Runs.{NextWorldExists, FreshNumbersExist, MayChoose}
 use Rattle.kernel.specs.Walks.{Fits, lookups_of, under_way}
 use Rattle.kernel.proofs.Brings.{Ground, ground, Known, BringsTable, Brings, Sound}
 use Rattle.kernel.proofs.KeptWalks.{AreWalkers, call_here, slice_get-more_cases, walk_fits, walkers_changed, walkers_halted, walkers_moved, walkers_on}
@@ -300,8 +300,11 @@ next_world programs w e valid good byte = record {
   each = λ choice fresh. kept programs valid good.numbering w good.world good.walks e byte choice fresh;
 }
 
-pub fresh_numbers : FreshNumbersExist
-fresh_numbers programs w good = record {
-  with_first = fresh_with programs good.numbering w good.world;
+pub may_choose : (programs : Programs) (numbering : Numbering) (w : World) → IsWorld programs numbering w → MayChoose w.files
+may_choose programs numbering w good = record {
+  with_first = fresh_with programs numbering w good;
   all = λ first second pair one two apart unused. record { first = one; second = two; apart = apart; pair = unused };
 }
+
+pub fresh_numbers : FreshNumbersExist
+fresh_numbers programs w good = may_choose programs good.numbering w good.world

@@ -1,6 +1,6 @@
 -- What processes have under way stays of their calls, whatever a step of one of them changes.
 use Rattle.std.proofs.Common.{◌≡◌, ℕ, zero, suc, ◌<◌, Bool, true, false, List, [], ◌∷◌, ◌++◌, refl, length, arith, subst, ap, sym, ◌∙◌, append-nil}
-use Rattle.std.specs.Prelude.{◌≢◌, Option, Some, None, slice_set, slice_index_or}
+use Rattle.std.specs.Prelude.{◌≢◌, Option, Some, None, slice_set}
 use Rattle.std.specs.List.{slice_get}
 use Rattle.std.proofs.lemmas.Option.{slice_get_within}
 use Rattle.rights.specs.Maps.{put, put2}
@@ -10,12 +10,12 @@ use Rattle.lookup.specs.Answers.{Way, Last}
 use Rattle.lookup.specs.UnderWay.{AreOpened, IsUnderWay}
 use Rattle.lookup.specs.Walks.{WalkState}
 use Rattle.process.specs.State.{ProcessState, Walking, One, Two, ended, forked}
-use Rattle.prog_asm.specs.Programs.{Invoke, Operand, Register, Number, Syscall}
+use Rattle.prog_asm.specs.Programs.{Invoke, Operand, Syscall}
 use Rattle.fd_table.specs.Descriptions.{At_node, At_end, Object, Descriptor, IfHeld}
 use Rattle.fd_table.specs.OpenFiles as open_files
 use Rattle.fd_table.specs.OpenFiles.{OpenFiles, Alike}
 use Rattle.kernel.specs.World.{World, Choice, IsFresh}
-use Rattle.kernel.specs.Answers.{TreeChange, TableChange, Same_table, Set_entry, Clear_entry, New_file, New_pair, New_process, value_of}
+use Rattle.kernel.specs.Answers.{TreeChange, TableChange, Same_table, Set_entry, Clear_entry, New_file, New_pair, New_process, operand_value, value_of}
 use Rattle.kernel.specs.Changes.{tree_after, objects_after, table_after, processes_after}
 use Rattle.kernel.specs.Steps.{Programs, with_process, halted}
 use Rattle.kernel.specs.Walks.{Fits, FitsIfWalking, From_directories, From_directory, From_root, IsDirectory, IsDirectoryOf, IsWalker, IsWalkerIfMade, Lookups, No_path, call_in, lookups_of, under_way}
@@ -45,8 +45,7 @@ slice_get-more_cases Q (x ∷ xs) c (suc m) here there =
 -- ## One process, whose tree and descriptions change
 -- the same registers give the same operands
 same_value : (s t : ProcessState) → t.registers ≡ s.registers → (x : Operand) → value_of t x ≡ value_of s x
-same_value s t same (Register r) = ap (λ (registers : List ℕ). slice_index_or registers r 0) same
-same_value s t same (Number n) = refl
+same_value s t same x = ap (λ registers. operand_value registers x) same
 
 module _ (t u : List Node) (objects later : ℕ → Object) (row new : ℕ → Option Descriptor) (s v : ProcessState)
     (kinds : (n : ℕ) → is_link (node t n).kind ≡ false → (node u n).kind ≡ (node t n).kind)

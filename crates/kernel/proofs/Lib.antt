@@ -8,6 +8,7 @@ pub mod WalkRows
 pub mod Origins
 pub mod Trees
 pub mod Looking
+pub mod FittingWalks
 pub mod Lookups
 pub mod Brings
 pub mod Brought

@@ -9,23 +9,13 @@ use Rattle.lookup.specs.Walks.{WalkState, Progress, Done, More, begun, first_han
 use Rattle.process.specs.State.{ProcessState, Walking, One, Two}
 use Rattle.kernel.specs.World.{World}
 use Rattle.kernel.specs.Answers.{Event, Answer, Fails, Walks, lookup_fails}
+use Rattle.kernel.specs.Walks.{IfOne, IfTwo}
 use Rattle.kernel.specs.Calls.{found_last, is_at_last, looks, looks_twice, lost, resumed, resumed_twice, unless_lost, walked, walked_both, walked_first, walked_second}
 
 -- an event ends in a finding that is good, or leaves names, and what is under way is good
 abbrev pub IsEvent : (Finding → Type 0) → (WalkState → Type 0) → Progress → Type 0
 IsEvent Good Under (Done finding) = Good finding
 IsEvent Good Under (More walk) = Under walk
-
--- what holds of the lookup that is under way, and of the two, if they are
-abbrev pub IfOne : (WalkState → Type 0) → Option Walking → Type 0
-IfOne Under None = Unit {0}
-IfOne Under (Some (One walk)) = Under walk
-IfOne Under (Some (Two one other)) = Unit {0}
-
-abbrev pub IfTwo : (WalkState → Type 0) → (WalkState → Type 0) → Option Walking → Type 0
-IfTwo First Second None = Unit {0}
-IfTwo First Second (Some (One walk)) = Unit {0}
-IfTwo First Second (Some (Two one other)) = First one × Second other
 
 module _ (P : Answer → Type 0) (w : World) (p : ℕ) (s : ProcessState) (e : Event) where
   -- ## One path

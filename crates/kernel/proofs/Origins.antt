@@ -20,7 +20,8 @@ use Rattle.kernel.specs.Answers.{Event, Effect, TableChange, Same_table, Set_ent
 use Rattle.kernel.specs.Answers.{Answer, Fails, Waits, Gives, Walks, unless, held, at_object, at_number, lookup_fails}
 use Rattle.kernel.specs.Calls.{looks, looks_twice, answer, opened, opened_as, read_byte, read_end, write_node, sent_end, received, receive_end, stats_at, made_directory}
 use Rattle.kernel.specs.Calls.{unlinks_as, unlinks, renamed_over, renamed_to, renamed_from, pair_at, blocked, in_directory, at_file}
-use Rattle.kernel.proofs.Looking.{IfOne, IfTwo, IsEvent, looks_any, looks_twice_any}
+use Rattle.kernel.specs.Walks.{IfOne, IfTwo}
+use Rattle.kernel.proofs.Looking.{IsEvent, looks_any, looks_twice_any}
 use Rattle.kernel.specs.Origins.{Caller, front_of, arriving_at, arriving, origin, IsNoWider, IsOwn, IsMade, IsEndOf, IsEnd, IsSent}
 
 -- of what is under way nothing is asked

@@ -122,6 +122,9 @@ lookup_fails Too_long = Fails ENAMETOOLONG errors.Path
 lookup_fails Bad_last = Fails EINVAL errors.Path
 
 -- the value of an operand
+abbrev pub operand_value : List ℕ → Operand → ℕ
+operand_value registers (Register r) = slice_index_or registers r 0
+operand_value registers (Number n) = n
+
 abbrev pub value_of : ProcessState → Operand → ℕ
-value_of s (Register r) = slice_index_or s.registers r 0
-value_of s (Number n) = n
+value_of s x = operand_value s.registers x

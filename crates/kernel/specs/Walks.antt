@@ -5,6 +5,7 @@ use Rattle.rights.specs.Values.{PathText, DescriptionNumber, DescriptorNumber}
 use Rattle.file_tree.specs.Nodes.{Dir, Node, node}
 use Rattle.lookup.specs.Answers.{Beneath, Global, Last, Follow, Keep}
 use Rattle.lookup.specs.UnderWay.{IsUnderWay}
+use Rattle.lookup.specs.Walks.{WalkState}
 use Rattle.process.specs.State.{ProcessState, Walking, One, Two}
 use Rattle.prog_asm.specs.Programs.{Instruction, Invoke, Operand, Syscall, Open, Openat, Fstatat, Stat, Mkdirat, Mkdir, Unlinkat, Unlink, Renameat}
 use Rattle.fd_table.specs.Descriptions.{Object, At_node, At_end, Descriptor}
@@ -30,6 +31,17 @@ lookups_of (Unlinkat x path directory) = From_directory x path Keep
 lookups_of (Unlink path directory) = From_root path Keep
 lookups_of (Renameat x from y to) = From_directories x from y to
 lookups_of _ = No_path
+
+-- what holds of the lookup that is under way, and of the two, if they are
+abbrev pub IfOne : (WalkState → Type 0) → Option Walking → Type 0
+IfOne Under None = Unit {0}
+IfOne Under (Some (One walk)) = Under walk
+IfOne Under (Some (Two one other)) = Unit {0}
+
+abbrev pub IfTwo : (WalkState → Type 0) → (WalkState → Type 0) → Option Walking → Type 0
+IfTwo First Second None = Unit {0}
+IfTwo First Second (Some (One walk)) = Unit {0}
+IfTwo First Second (Some (Two one other)) = First one × Second other
 
 -- the call at which a process stands
 abbrev pub call_in : Option Instruction → Option Syscall
