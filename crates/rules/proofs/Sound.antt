@@ -54,6 +54,7 @@ module _ (plan : Plan) (certificate : Certificate) (grants : KeepsGrants plan) (
           acts = record { grants = grants; formed = inv.formed; made = made; fresh = fresh };
           inv = inv;
           alive = alive;
+          here = here;
           stands =
               stands plan certificate s (table_of plan w e.process) i inside.bound here inside.at inside.is
               (λ m far. ap (option_map (seen_of plan w)) (inv.formed.world.numbers e.process m far)) (meets s.program s.point);

@@ -16,6 +16,7 @@ use Rattle.kernel.specs.Steps.{Executed, Halted, with_process, plain, failed, an
 use Rattle.kernel.specs.WellFormed.{IsWellFormed}
 use Rattle.task.specs.Plans.{Plan, programs_of_plan}
 use Rattle.task.specs.Sandboxed.{AreAllowed, IsOtherCause, IsUnrefused}
+use Rattle.rules.specs.Points.{instruction_at}
 use Rattle.rules.proofs.worlds.Seen.{table_of}
 use Rattle.rules.proofs.worlds.Walks.{rests}
 use Rattle.rules.proofs.worlds.Invariant.{IfAlive, IsLiving, HasClass, Invariant, IsDescribed, bounds}
@@ -30,6 +31,7 @@ pub record Standing (plan : Plan) (certificate : Certificate) (w : World) (p : �
   pub acts : Acts plan w p s choice
   pub inv : Invariant plan (bounds plan certificate) w
   pub alive : s.alive ≡ true
+  pub here : instruction_at plan s.program s.point ≡ Some i
   pub stands : Stands plan certificate s (table_of plan w p) i
 
 -- What a step leaves: the frame, the classes of pairs, and what the acting process owes of itself, of a child, and of what
