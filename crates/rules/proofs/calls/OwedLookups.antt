@@ -9,20 +9,20 @@ use Rattle.lookup.specs.Walks.{WalkState}
 use Rattle.lookup.proofs.PlaceLaws.{directory_kind, no_directory_link}
 use Rattle.process.specs.State.{ProcessState, Walking, One, Two}
 use Rattle.prog_asm.specs.Programs.{Operand, Syscall, Invoke}
-use Rattle.fd_table.specs.Descriptions.{Access, Object, At_node, Descriptor}
+use Rattle.fd_table.specs.Descriptions.{Access, At_node, Descriptor}
 use Rattle.certificate.specs.Bounds.{Certificate}
 use Rattle.kernel.specs.World.{World, Choice}
 use Rattle.kernel.specs.Answers.{Event, Answer, Walks, value_of}
 use Rattle.kernel.specs.Calls.{looks, looks_twice}
 use Rattle.kernel.specs.Steps.{answered}
-use Rattle.kernel.specs.Walks.{FitsIfWalking, From_root, From_directory, From_directories, IfOne, IfTwo, call_in, lookups_of, under_way}
+use Rattle.kernel.specs.Walks.{FitsIfWalking, From_root, From_directory, From_directories, IfOne, IfTwo, lookups_of}
 use Rattle.kernel.proofs.KeptWalks.{call_here, walk_fits}
 use Rattle.kernel.proofs.Looking.{looks_any, looks_twice_any}
 use Rattle.task.specs.Plans.{Plan, programs_of_plan}
 use Rattle.task.specs.Policies.{grant_holds}
 use Rattle.rules.specs.Demands.{demands}
 use Rattle.rules.proofs.worlds.Seen.{table_of}
-use Rattle.rules.proofs.worlds.Walks.{IsBeside, StartsBeside, IsOpening, WalkIn, WalksIn}
+use Rattle.rules.proofs.worlds.Walks.{IsBeside, StartsBeside, WalkIn, WalksIn}
 use Rattle.rules.proofs.worlds.Invariant.{IfAlive, IsLiving, bounds}
 use Rattle.rules.proofs.bounds.Describing.{from_described}
 use Rattle.rules.proofs.findings.Findings.{Found, FoundBeneath, FoundOpened}

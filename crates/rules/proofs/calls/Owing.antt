@@ -1,6 +1,6 @@
 -- What is owed of a step of a living process, so that it is safe and the invariant holds after it; and that steps owe it
 -- that change neither the tree nor a table.
-use Rattle.std.proofs.Common.{◌≡◌, ℕ, true, false, List, [], refl, ap, sym, ◌∙◌, subst}
+use Rattle.std.proofs.Common.{◌≡◌, ℕ, true, List, [], refl, ap, sym, ◌∙◌, subst}
 use Rattle.std.specs.Prelude.{slice_set, Option, Some, None}
 use Rattle.std.specs.List.{slice_get}
 use Rattle.rights.specs.Errors.{Errno, Cause}

@@ -1,13 +1,12 @@
 -- What an event of a lookup beneath a directory finds, or leaves under way, lies in each grant that holds the directory.
-use Rattle.std.proofs.Common.{◌≡◌, ℕ, ◌+◌, ◌<◌, Bool, true, false, List, [], ◌∷◌, ◌++◌, Option, Some, None, refl, ap, sym, ◌∙◌, subst, length, arith}
-use Rattle.std.specs.Prelude.{not, ◌&&◌}
+use Rattle.std.proofs.Common.{◌≡◌, ℕ, ◌+◌, ◌<◌, true, false, List, [], ◌∷◌, ◌++◌, Option, Some, None, refl, sym, subst, length, arith}
 use Rattle.file_tree.specs.Places.{at_name, path_components}
-use Rattle.file_tree.specs.Nodes.{Node, node, child_of, parent_of, is_dir, is_link}
+use Rattle.file_tree.specs.Nodes.{Node, node, child_of, is_link}
 use Rattle.file_tree.specs.WellFormed.{IsTree}
 use Rattle.file_tree.proofs.PlaceLaws.{at_name_length, begins_append, begins_from}
-use Rattle.file_tree.proofs.TreeLaws.{Child, child_is}
-use Rattle.lookup.specs.Answers.{Way, Beneath, Global, Last, Follow, Keep, LookupFault, Finding, Found_node, Found_free, Not_found, is_kept}
-use Rattle.lookup.specs.ByNodes.{Walked, from_node}
+use Rattle.file_tree.proofs.TreeLaws.{child_is}
+use Rattle.lookup.specs.Answers.{Beneath, Last, Follow, Keep, LookupFault, Finding, Not_found, is_kept}
+use Rattle.lookup.specs.ByNodes.{Walked}
 use Rattle.lookup.specs.Looks.{lookup_fault}
 use Rattle.lookup.specs.Paths.{is_bad_last, is_dot, is_dot_dot, is_unkept, last_component, path_fault}
 use Rattle.lookup.specs.UnderWay.{HasNamesLeft, IsUnderWay}

@@ -1,6 +1,6 @@
 -- What an event of a lookup in the global name space finds, or leaves under way: with a grant's path it goes along that path.
 use Rattle.std.proofs.Common.{◌≡◌, ℕ, zero, suc, Bool, true, false, List, [], ◌∷◌, ◌++◌, append_assoc, refl, ap, sym, ◌∙◌, subst, cond}
-use Rattle.std.specs.Prelude.{not, ◌&&◌, Option, Some, None}
+use Rattle.std.specs.Prelude.{Option, Some, None}
 use Rattle.std.specs.List.{slice_get, list_all}
 use Rattle.std.specs.Str.{bytes_eq}
 use Rattle.std.proofs.lemmas.Bool.{and_parts}
@@ -8,13 +8,13 @@ use Rattle.std.proofs.lemmas.List.{append-nil}
 use Rattle.std.proofs.lemmas.List.Folds.{list_all-append}
 use Rattle.rights.proofs.Words.{same_bytes}
 use Rattle.file_tree.specs.Places.{at_name, begins, is_file_name, path_components, place_text}
-use Rattle.file_tree.specs.Nodes.{Dir, Node, node, child_of, is_link}
+use Rattle.file_tree.specs.Nodes.{Node, node, child_of, is_link}
 use Rattle.file_tree.specs.WellFormed.{IsTree}
 use Rattle.file_tree.proofs.KeptByCreate.{names_kept}
 use Rattle.file_tree.proofs.NodeLaws.{Directory, directory, linked_there}
 use Rattle.file_tree.proofs.PlaceLaws.{begins_refl}
 use Rattle.file_tree.proofs.PlaceTexts.{components_of_text}
-use Rattle.file_tree.proofs.TreeLaws.{Child, child_is}
+use Rattle.file_tree.proofs.TreeLaws.{child_is}
 use Rattle.lookup.specs.Answers.{Global, Last, LookupFault, Finding, Found_node, Found_free, Not_found}
 use Rattle.lookup.specs.ByNodes.{Walked, from_node}
 use Rattle.lookup.specs.Looks.{lookup_fault}
@@ -35,7 +35,7 @@ use Rattle.task.specs.KeptLimits.{KeepsGrants}
 use Rattle.rules.specs.Outcomes.{target_of_path}
 use Rattle.rules.proofs.worlds.Invariant.{AreClear}
 use Rattle.rules.proofs.worlds.Walks.{IsAlong, IsOpening}
-use Rattle.rules.proofs.findings.Findings.{Found, FoundOpened, IsTargeted}
+use Rattle.rules.proofs.findings.Findings.{FoundOpened, IsTargeted}
 
 -- ## Along a place
 module _ (t : List Node) (tree : IsTree t) (last : Last) (place : List (List ℕ)) (d : Directory t place) where

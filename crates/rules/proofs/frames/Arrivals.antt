@@ -1,5 +1,5 @@
 -- The invariant of each world that a step leads to, from what the acting process owes.
-use Rattle.std.proofs.Common.{◌≡◌, ◌≢◌, ℕ, true, false, List, [], ◌++◌, refl, ap, sym, ◌∙◌, subst, length, append-nil}
+use Rattle.std.proofs.Common.{◌≡◌, ◌≢◌, ℕ, true, List, [], ◌++◌, refl, ap, sym, ◌∙◌, subst, length, append-nil}
 use Rattle.std.specs.Prelude.{slice_set, Option, Some, None}
 use Rattle.std.specs.List.{slice_get}
 use Rattle.std.proofs.Math.ListN.{length-set}

@@ -1,5 +1,5 @@
 -- What other processes have under way stays in its grants, whatever a step changes in the tree.
-use Rattle.std.proofs.Common.{◌≡◌, ℕ, ◌<◌, true, false, List, [], ◌∷◌, refl, ap, sym, ◌∙◌, subst, length}
+use Rattle.std.proofs.Common.{◌≡◌, ℕ, ◌<◌, true, List, [], ◌∷◌, ap, sym, ◌∙◌, subst, length}
 use Rattle.std.specs.Prelude.{Option, Some, None}
 use Rattle.std.specs.List.{slice_get}
 use Rattle.file_tree.specs.Nodes.{Node, node, is_link}
