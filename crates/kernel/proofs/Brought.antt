@@ -252,7 +252,7 @@ module _ (programs : Programs) (g : Ground) (standing : Standing programs g) (p 
       ((found place : lookups.Finding) → Sure w.tree from Keep found → Sure w.tree to Keep place → Sound g (rest found place)) →
       Sound g (looks_twice w p s e n from m to rest)
   sound-looks_twice n from m to rest opened also under left sound =
-      looks_twice_any (Sound g) w p s e (sound-fails g) n from m to rest (Sure w.tree from Keep) (Sure w.tree to Keep)
+      looks_twice_any (Sound g) w p s e (sound-lookup_fails g) n from m to rest (Sure w.tree from Keep) (Sure w.tree to Keep)
       (IsUnderWay w.tree from Beneath Keep) (IsUnderWay w.tree to Beneath Keep) under
       (begun_under_way w.tree from Beneath Keep standing.good.tree n opened refl)
       (begun_under_way w.tree to Beneath Keep standing.good.tree m also refl)

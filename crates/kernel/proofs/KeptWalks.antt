@@ -151,7 +151,7 @@ module _ (programs : Programs) (numbering : Numbering) (w : World) (good : IsWor
   same_objects : (q n : ℕ) (d : Descriptor) → w.files.table q n ≡ Some d → objects_after w.files.objects choice table d.description ≡ w.files.objects d.description
   same_objects q n d is =
       let known : IfHeld (Known (ground numbering w (IsApart w.files choice))) (Some d) =
-        subst (IfHeld (Known (ground numbering w (IsApart w.files choice)))) is (known_entries programs numbering w good choice fresh q n) in
+      subst (IfHeld (Known (ground numbering w (IsApart w.files choice)))) is (known_entries programs numbering w good choice fresh q n) in
       object-kept w.files.objects choice table d.description known.1.first known.1.second
 
   abbrev Later : (ℕ → Option Descriptor) → Option ProcessState → Type 0
@@ -210,7 +210,7 @@ pub walk_fits : (programs : Programs) (w : World) → AreWalkers programs w → 
 unfolding under_way
 walk_fits programs w walkers p s call otherwise made here =
     let is : IsWalker programs w.tree w.files.objects (w.files.table p) s =
-      subst (IsWalkerIfMade programs w.tree w.files.objects (w.files.table p)) made (walkers p) in
+    subst (IsWalkerIfMade programs w.tree w.files.objects (w.files.table p)) made (walkers p) in
     subst (λ o. FitsIfWalking w.tree w.files.objects (w.files.table p) s (call_in o) s.walk) here is.fits
 
 pub call_here : (programs : Programs) (s : ProcessState) (call : Syscall) (otherwise : ℕ) → slice_get (programs s.program) s.point ≡ Some (Invoke call otherwise) → under_way programs s ≡ Some call

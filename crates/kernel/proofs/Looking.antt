@@ -56,23 +56,23 @@ module _ (P : Answer → Type 0) (w : World) (p : ℕ) (s : ProcessState) (e : E
         walked_any (resumed s.walk (first_handled w.tree start path way last) (handled w.tree)) (event_is s.walk under first later) found walks
 
   -- ## Two paths
-  module _ (fails : (errno : Errno) (cause : Cause) → P (Fails errno cause)) where
-    pub fault_any : (fault : LookupFault) → P (lookup_fails fault)
-    fault_any Escape = fails _ _
-    fault_any No_entry = fails _ _
-    fault_any Not_dir = fails _ _
-    fault_any Loop = fails _ _
-    fault_any Too_long = fails _ _
-    fault_any Bad_last = fails _ _
+  pub fault_any : ((errno : Errno) (cause : Cause) → P (Fails errno cause)) → (fault : LookupFault) → P (lookup_fails fault)
+  fault_any fails Escape = fails _ _
+  fault_any fails No_entry = fails _ _
+  fault_any fails Not_dir = fails _ _
+  fault_any fails Loop = fails _ _
+  fault_any fails Too_long = fails _ _
+  fault_any fails Bad_last = fails _ _
 
+  module _ (faults : (fault : LookupFault) → P (lookup_fails fault)) where
     lost_any : (finding : Finding) → P (lost finding)
-    lost_any (Not_found fault) = fault_any fault
-    lost_any (Found_node n) = fails _ _
-    lost_any (Found_free d) = fails _ _
+    lost_any (Not_found fault) = faults fault
+    lost_any (Found_node n) = faults No_entry
+    lost_any (Found_free d) = faults No_entry
 
     unless_lost_any : (fault : Option LookupFault) (rest : Answer) → (fault ≡ None → P rest) → P (unless_lost fault rest)
     unless_lost_any None rest good = good refl
-    unless_lost_any (Some fault) rest good = fault_any fault
+    unless_lost_any (Some fault) rest good = faults fault
 
     module _ (n : ℕ) (from : List ℕ) (m : ℕ) (to : List ℕ) (rest : Finding → Finding → Answer) (Good Also : Finding → Type 0) (First Second : WalkState → Type 0) where
       walked_first_any : (other : WalkState) → Second other → (event : Progress) → IsEvent Good First event →

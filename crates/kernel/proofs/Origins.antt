@@ -20,7 +20,7 @@ use Rattle.kernel.specs.Answers.{Event, Effect, TableChange, Same_table, Set_ent
 use Rattle.kernel.specs.Answers.{Answer, Fails, Waits, Gives, Walks, unless, held, at_object, at_number, lookup_fails}
 use Rattle.kernel.specs.Calls.{looks, looks_twice, answer, opened, opened_as, read_byte, read_end, write_node, sent_end, received, receive_end, stats_at, made_directory}
 use Rattle.kernel.specs.Calls.{unlinks_as, unlinks, renamed_over, renamed_to, renamed_from, pair_at, blocked, in_directory, at_file}
-use Rattle.kernel.proofs.Looking.{any_event, any_one, any_two, looks_any, looks_twice_any}
+use Rattle.kernel.proofs.Looking.{any_event, any_one, any_two, fault_any, looks_any, looks_twice_any}
 use Rattle.kernel.specs.Origins.{Caller, front_of, arriving_at, arriving, origin, IsNoWider, IsOwn, IsMade, IsEndOf, IsEnd, IsSent}
 
 -- a number that is found free is
@@ -178,7 +178,7 @@ module _ (w : World) (p : ℕ) (s : ProcessState) where
     fair-looks_twice : (call : Syscall) (n : ℕ) (from : List ℕ) (m : ℕ) (to : List ℕ) (rest : lookups.Finding → lookups.Finding → Answer) →
         ((found place : lookups.Finding) → Fair call (rest found place)) → Fair call (looks_twice w p s e n from m to rest)
     fair-looks_twice call n from m to rest fair =
-        looks_twice_any (Fair call) w p s e (fails call) n from m to rest (λ found. Unit {0}) (λ found. Unit {0}) (λ walk. Unit {0}) (λ walk. Unit {0}) (any_two s.walk)
+        looks_twice_any (Fair call) w p s e (fault_any (Fair call) w p s e (fails call)) n from m to rest (λ found. Unit {0}) (λ found. Unit {0}) (λ walk. Unit {0}) (λ walk. Unit {0}) (any_two s.walk)
         (λ none. tt) (λ none. tt) tt tt (λ walk is. any_event (handled w.tree walk)) (λ walk is. any_event (handled w.tree walk)) (λ found place is also. fair found place)
         (λ one other first second. walks call (Two one other))
 

@@ -27,13 +27,13 @@ more_found : (t : List Node) (p : List (List ℕ)) (x : List ℕ) (r : List (Lis
 more_found t p x r n found = record { there = found.there; linked = found.linked; place = found.place ∙ sym (append_assoc p (x ∷ []) r) }
 
 -- what is above a node is a directory
-front_directory : (t : List Node) (p : List (List ℕ)) (x : List ℕ) (r : List (List ℕ)) (n : ℕ) → IsTree t → Found t (p ++ x ∷ r) n → Directory t p
+pub front_directory : (t : List Node) (p : List (List ℕ)) (x : List ℕ) (r : List (List ℕ)) (n : ℕ) → IsTree t → Found t (p ++ x ∷ r) n → Directory t p
 front_directory t p x [] n tree found = directory_above t p x n tree found
 front_directory t p x (y ∷ r) n tree found =
     let d = front_directory t (at_name p x) y r n tree (more_found t p x (y ∷ r) n found) in
     directory_above t p x d.number tree (stands t (at_name p x) d)
 
-no_dots : (name : List ℕ) → is_file_name name ≡ true → (is_dot name ≡ false) × (is_dot_dot name ≡ false)
+pub no_dots : (name : List ℕ) → is_file_name name ≡ true → (is_dot name ≡ false) × (is_dot_dot name ≡ false)
 unfolding is_file_name
 no_dots name h = by_parts (is_dot name) (is_dot_dot name) (and_parts _ (not (is_dots name)) h).1
   where

@@ -24,7 +24,7 @@ use Rattle.task.proofs.KeptLimits.{plans_keep_limits}
 use Rattle.rules.specs.Points.{instruction_at}
 use Rattle.rules.specs.Verdicts.{MeetsRules}
 use Rattle.rules.proofs.worlds.Seen.{seen_of, table_of}
-use Rattle.rules.proofs.worlds.Invariant.{IfAlive, Invariant, IsDescribed, bounds}
+use Rattle.rules.proofs.worlds.Invariant.{IfAlive, IsLiving, Invariant, IsDescribed, bounds}
 use Rattle.rules.proofs.worlds.FirstStates.{first_invariant}
 use Rattle.rules.proofs.points.Stands.{stands}
 use Rattle.rules.proofs.calls.Owing.{Standing, Owed, invariant_after}
@@ -47,12 +47,14 @@ module _ (plan : Plan) (certificate : Certificate) (grants : KeepsGrants plan) (
         (s : ProcessState) (i : Instruction) → slice_get w.processes e.process ≡ Some s → s.alive ≡ true → instruction_at plan s.program s.point ≡ Some i
         → Standing plan certificate w e.process s choice i
     standing s i made alive here =
-        let inside : IsDescribed plan certificate w e.process s =
-        (subst (IfAlive (IsDescribed plan certificate w e.process)) made (inv.living e.process)) alive in
+        let lives : IsLiving plan (bounds plan certificate) w e.process s =
+        (subst (IfAlive (IsLiving plan (bounds plan certificate) w e.process)) made (inv.living e.process)) alive in
+        let inside : IsDescribed plan certificate w e.process s = lives.asked in
         record {
           acts = record { grants = grants; formed = inv.formed; made = made; fresh = fresh };
           inv = inv;
           alive = alive;
+          here = here;
           stands =
               stands plan certificate s (table_of plan w e.process) i inside.bound here inside.at inside.is
               (λ m far. ap (option_map (seen_of plan w)) (inv.formed.world.numbers e.process m far)) (meets s.program s.point);

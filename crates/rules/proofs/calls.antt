@@ -3,6 +3,7 @@ pub mod Owing
 pub mod OwedCalls
 pub mod OwedChanges
 pub mod OwedTests
+pub mod OwedLookups
 pub mod QuietCalls
 pub mod TableCalls
 pub mod FileCalls

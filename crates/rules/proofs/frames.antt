@@ -1,6 +1,7 @@
 -- What a step of a process leaves of a world, by kinds of change.
 pub mod KeptTrees
 pub mod GrantPlaces
+pub mod KeptWalks
 pub mod Frames
 pub mod ChangeKinds
 pub mod PairClasses

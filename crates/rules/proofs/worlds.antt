@@ -1,4 +1,5 @@
 -- What holds of each world of a run.
 pub mod Seen
+pub mod Walks
 pub mod Invariant
 pub mod FirstStates

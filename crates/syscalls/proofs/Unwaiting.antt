@@ -77,7 +77,7 @@ module _ (w : World) (p : ℕ) (s : ProcessState) (e : Event) where
   goes-looks_twice : (n : ℕ) (from : List ℕ) (m : ℕ) (to : List ℕ) (rest : Finding → Finding → Answer) → ((found place : Finding) → Goes (rest found place)) →
       Goes (looks_twice w p s e n from m to rest)
   goes-looks_twice n from m to rest goes =
-      looks_twice_any Goes w p s e goes-fails n from m to rest (λ found. Unit {0}) (λ found. Unit {0}) (λ walk. Unit {0}) (λ walk. Unit {0}) (any_two s.walk)
+      looks_twice_any Goes w p s e goes-lookup_fails n from m to rest (λ found. Unit {0}) (λ found. Unit {0}) (λ walk. Unit {0}) (λ walk. Unit {0}) (any_two s.walk)
       (λ none. tt) (λ none. tt) tt tt (λ walk is. any_event (handled w.tree walk)) (λ walk is. any_event (handled w.tree walk)) (λ found place is also. goes found place)
       (λ one other first second. goes-walks (Two one other))
 

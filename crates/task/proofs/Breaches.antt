@@ -4,13 +4,13 @@ use Rattle.std.specs.Prelude.{true, false}
 use Rattle.std.proofs.Math.Decide.{ℕ_discrete}
 use Rattle.rights.specs.Operations.{Operation, Create, Write}
 use Rattle.file_tree.specs.Places.{is_file_name, path_components}
-use Rattle.file_tree.specs.Nodes.{node_at}
+use Rattle.file_tree.specs.Nodes.{node_at, child_of}
 use Rattle.file_tree.specs.Changes.{filled}
 use Rattle.file_tree.specs.WellFormed.{is_within_limits}
 use Rattle.lookup.specs.Paths.{last_component, path_fault}
-use Rattle.lookup.specs.Steps.{looked}
-use Rattle.lookup.specs.ByPlaces.{by_places}
-use Rattle.lookup.specs.Looks.{lookup_fault, find_of}
+use Rattle.lookup.specs.ByNodes.{by_nodes}
+use Rattle.lookup.specs.Looks.{lookup_fault}
+use Rattle.lookup.specs.Walks.{handled}
 use Rattle.kernel.specs.World.{World, Choice}
 use Rattle.kernel.specs.Answers.{Event, unless, held, at_object, at_number}
 use Rattle.kernel.specs.Calls.{looks, looks_twice, answer}
@@ -67,8 +67,8 @@ unfolding is_within_limits is_file_name ℕ_discrete filled unless held at_objec
 unlisted_operation = second_step writing_plan refl (λ c d safe. forbidden writing_plan.grants Write (codes "work" ∷ codes "in" ∷ []) refl (safe.allowed refl).0)
 
 second_effect : IsSandboxed moving_plan → ⊥
-unfolding is_within_limits is_file_name ℕ_discrete find_of looks looks_twice lookup_fault path_fault path_components last_component looked by_places
-    node_at unless held at_object at_number answer files_after changed answered jumped executed stepped_at stepped_by stepped step first_world
+unfolding is_within_limits is_file_name ℕ_discrete looks looks_twice lookup_fault path_fault path_components last_component handled by_nodes
+    node_at child_of unless held at_object at_number answer files_after changed answered jumped executed stepped_at stepped_by stepped step first_world
     first_files
 second_effect = second_step moving_plan refl (λ c d safe. forbidden moving_plan.grants Create (codes "work" ∷ codes "new" ∷ []) refl (safe.allowed refl).1.0)
 

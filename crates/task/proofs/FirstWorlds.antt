@@ -9,6 +9,9 @@ use Rattle.texts.specs.Names.{is_name}
 use Rattle.prog_asm.specs.Programs.{Instruction, is_program, is_instruction, ends_well}
 use Rattle.fd_table.specs.Descriptions.{Descriptor}
 use Rattle.rights.specs.Limits.{most_processes, most_programs}
+use Rattle.fd_table.specs.Descriptions.{Object}
+use Rattle.file_tree.specs.Nodes.{Node}
+use Rattle.kernel.specs.Walks.{IsWalkerIfMade}
 use Rattle.kernel.specs.WellFormed.{IsCode, IsPoint, IsProcessIfMade, HasNone, FitsRegister, IsWorld}
 use Rattle.task.specs.Plans.{NamedProgram, Start, Plan, code_in, programs_of_plan}
 use Rattle.task.specs.Limits.{are_grants, is_program_named, are_named_apart, all_apart, are_programs, are_descriptors, is_start, are_starts, is_tree, is_plan}
@@ -117,9 +120,21 @@ first_is_world plan facts =
       sides = λ pair side far. refl;
     }
 
+-- nothing is under way
+none_walks : (plan : Plan) (tree : List Node) (objects : ℕ → Object) (row : ℕ → Option Descriptor) (starts : List Start) (p : ℕ) →
+    IsWalkerIfMade (programs_of_plan plan) tree objects row (slice_get (map first_process starts) p)
+none_walks plan tree objects row [] p = tt
+none_walks plan tree objects row (s ∷ starts) zero = record { lives = λ ended. refl; fits = tt }
+none_walks plan tree objects row (s ∷ starts) (suc p) = none_walks plan tree objects row starts p
+
 pub first_well_formed : FirstWorldsAreWellFormed
+unfolding first_world
 first_well_formed plan good =
     let facts = checked plan good in (
       (λ n. valid_code plan.programs n (named_programs plan.programs facts.programs)),
-      record { numbering = numbering_of plan.starts; world = first_is_world plan facts },
+      record {
+        numbering = numbering_of plan.starts;
+        world = first_is_world plan facts;
+        walks = λ p. none_walks plan (first_world plan).tree (first_world plan).files.objects ((first_world plan).files.table p) plan.starts p;
+      },
     )

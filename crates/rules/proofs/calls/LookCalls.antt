@@ -14,6 +14,7 @@ use Rattle.prog_asm.specs.Programs.{Operand, Fstatat, Stat, Invoke}
 use Rattle.kernel.specs.World.{World, Choice}
 use Rattle.kernel.specs.Answers.{Event, Same_tree, Same_queue, Same_state}
 use Rattle.kernel.specs.Calls.{answer, kind_number, stats_at}
+use Rattle.kernel.specs.Walks.{lookups_of}
 use Rattle.task.specs.Plans.{Plan}
 use Rattle.rules.specs.Outcomes.{from_to}
 use Rattle.rules.proofs.worlds.Seen.{subject_of, seen_of, table_of}
@@ -21,7 +22,8 @@ use Rattle.rules.proofs.outcomes.CallOutcomes.{leads_fstatat, leads_stat}
 use Rattle.rules.proofs.findings.Findings.{Found, FoundBeneath}
 use Rattle.rules.proofs.calls.Owing.{Standing}
 use Rattle.rules.proofs.calls.OwedCalls.{OwedBy, owed_fails, owed_value}
-use Rattle.rules.proofs.calls.OwedTests.{Opened, owed_through, allowed_through, owed_outside, never_on, owed_directory, owed_lost, owed_beneath, owed_globally}
+use Rattle.rules.proofs.calls.OwedTests.{Opened, owed_through, allowed_through, owed_outside, never_on, owed_directory, owed_lost}
+use Rattle.rules.proofs.calls.OwedLookups.{owed_beneath, owed_globally}
 
 -- of a file or a directory, not of a link
 kind_fits : (k : Kind) → is_link k ≡ false → interval_describes (from_to 1 2) (kind_number k) ≡ true
@@ -46,11 +48,11 @@ module _ (plan : Plan) (certificate : Certificate) (w : World) (e : Event) (s : 
 
   pub owed_fstatat : (x : Operand) (path : List ℕ) (otherwise : ℕ) (known : Standing plan certificate w e.process s choice (Invoke (Fstatat x path) otherwise))
       → OwedBy plan certificate w e.process s choice (Fstatat x path) otherwise known (answer w e.process s e (Fstatat x path))
-  unfolding answer
+  unfolding answer lookups_of
   owed_fstatat x path otherwise known =
       owed_through plan certificate w e s choice (Fstatat x path) otherwise known x refl refl _ (λ slot. refl) _ (λ d opened.
       owed_directory plan certificate w e s choice (Fstatat x path) otherwise known refl d.description _ (λ n access is dir.
-      owed_beneath plan certificate w e s choice (Fstatat x path) otherwise known n dir path Follow _
+      owed_beneath plan certificate w e s choice (Fstatat x path) otherwise known x path Follow refl d opened.held n access is dir _
       (looked_beneath x path otherwise known d opened n access is)))
 
   looked_anywhere : (path : List ℕ) (otherwise : ℕ) (known : Standing plan certificate w e.process s choice (Invoke (Stat path) otherwise))
@@ -66,8 +68,8 @@ module _ (plan : Plan) (certificate : Certificate) (w : World) (e : Event) (s : 
 
   pub owed_stat : (path : List ℕ) (otherwise : ℕ) (known : Standing plan certificate w e.process s choice (Invoke (Stat path) otherwise))
       → OwedBy plan certificate w e.process s choice (Stat path) otherwise known (answer w e.process s e (Stat path))
-  unfolding answer
+  unfolding answer lookups_of
   owed_stat path otherwise known =
       owed_outside plan certificate w e s choice (Stat path) otherwise known refl _
-      (owed_globally plan certificate w e s choice (Stat path) otherwise known path Follow _
+      (owed_globally plan certificate w e s choice (Stat path) otherwise known path Follow refl _
       (looked_anywhere path otherwise known))

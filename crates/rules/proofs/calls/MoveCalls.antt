@@ -19,6 +19,7 @@ use Rattle.prog_asm.specs.Programs.{Operand, Renameat, Invoke, called}
 use Rattle.kernel.specs.World.{World, Choice}
 use Rattle.kernel.specs.Answers.{Event, Effect, Answer, Same_tree, Move, Same_queue, Same_state, Gives, gives, granted, value_of}
 use Rattle.kernel.specs.Calls.{no_request, answer, moves, renamed_free, renamed_over, renamed_to, renamed_from}
+use Rattle.kernel.specs.Walks.{lookups_of}
 use Rattle.task.specs.Plans.{Plan}
 use Rattle.task.specs.Policies.{grant_holds}
 use Rattle.task.specs.Sandboxed.{Allowed, AreAllowed}
@@ -37,7 +38,8 @@ use Rattle.rules.proofs.points.Known.{allowed_where, OneGrant, renames_in}
 use Rattle.rules.proofs.points.Uses.{Through, through_second, second_rights}
 use Rattle.rules.proofs.calls.Owing.{Standing}
 use Rattle.rules.proofs.calls.OwedCalls.{OwedBy, owed_fails, owed_unless, owed_passed, owed_held, owed_value}
-use Rattle.rules.proofs.calls.OwedTests.{Opened, allowed_through, owed_directory, owed_lost, owed_twice}
+use Rattle.rules.proofs.calls.OwedTests.{Opened, allowed_through, owed_directory, owed_lost}
+use Rattle.rules.proofs.calls.OwedLookups.{owed_twice}
 use Rattle.rules.proofs.points.Uses as slots
 
 module _ (plan : Plan) (certificate : Certificate) (w : World) (e : Event) (s : ProcessState) (choice : Choice) (x : Operand) (from : List ℕ) (y : Operand)
@@ -142,7 +144,7 @@ module _ (plan : Plan) (certificate : Certificate) (w : World) (e : Event) (s : 
     comes_from (Found_node k) b found place = goes_to k found b place
 
   pub owed_renameat : OwedBy plan certificate w e.process s choice (Renameat x from y to) otherwise known (answer w e.process s e (Renameat x from y to))
-  unfolding answer
+  unfolding answer lookups_of
   owed_renameat =
       owed_held plan certificate w e.process s choice (Renameat x from y to) otherwise known refl (w.files.table e.process (value_of s x)) _ (λ d here.
       owed_held plan certificate w e.process s choice (Renameat x from y to) otherwise known refl (w.files.table e.process (value_of s y)) _ (λ target other.
@@ -154,7 +156,7 @@ module _ (plan : Plan) (certificate : Certificate) (w : World) (e : Event) (s : 
       (second_rights plan certificate s (table_of plan w e.process) x y from to otherwise known.stands (seen_of plan w target) there)
       (owed_directory plan certificate w e s choice (Renameat x from y to) otherwise known refl d.description _ (λ n first_access is_first dir.
       owed_directory plan certificate w e s choice (Renameat x from y to) otherwise known refl target.description _ (λ m second_access is_second also.
-      owed_twice plan certificate w e s choice (Renameat x from y to) otherwise known n dir from m also to _
+      owed_twice plan certificate w e s choice (Renameat x from y to) otherwise known refl x from y to refl d here n first_access is_first dir target other m second_access is_second also _
       (comes_from d target n m (record {
         opened = record { held = here; there = first; way = way };
         there = there;

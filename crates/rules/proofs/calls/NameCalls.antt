@@ -18,6 +18,7 @@ use Rattle.prog_asm.specs.Programs.{Operand, Syscall, Mkdirat, Mkdir, Unlinkat, 
 use Rattle.kernel.specs.World.{World, Choice}
 use Rattle.kernel.specs.Answers.{Event, Answer, Make, Remove, Same_queue, Same_state}
 use Rattle.kernel.specs.Calls.{answer, made_directory, unlinks_as, unlinks}
+use Rattle.kernel.specs.Walks.{lookups_of}
 use Rattle.task.specs.Plans.{Plan}
 use Rattle.task.specs.Policies.{grant_holds}
 use Rattle.rules.specs.Demands.{demands}
@@ -32,7 +33,8 @@ use Rattle.rules.proofs.points.Known.{InGrant, known_node}
 use Rattle.rules.proofs.points.Uses.{said}
 use Rattle.rules.proofs.calls.Owing.{Standing}
 use Rattle.rules.proofs.calls.OwedCalls.{OwedBy, owed_fails, owed_unless, owed_value}
-use Rattle.rules.proofs.calls.OwedTests.{Opened, owed_through, allowed_through, owed_unrefused, owed_directory, owed_lost, owed_beneath}
+use Rattle.rules.proofs.calls.OwedTests.{Opened, owed_through, allowed_through, owed_unrefused, owed_directory, owed_lost}
+use Rattle.rules.proofs.calls.OwedLookups.{owed_beneath}
 
 module _ (plan : Plan) (certificate : Certificate) (w : World) (e : Event) (s : ProcessState) (choice : Choice) where
   -- no name is made or removed in a global name space
@@ -62,11 +64,11 @@ module _ (plan : Plan) (certificate : Certificate) (w : World) (e : Event) (s : 
 
   pub owed_mkdirat : (x : Operand) (path : List ℕ) (otherwise : ℕ) (known : Standing plan certificate w e.process s choice (Invoke (Mkdirat x path) otherwise))
       → OwedBy plan certificate w e.process s choice (Mkdirat x path) otherwise known (answer w e.process s e (Mkdirat x path))
-  unfolding answer
+  unfolding answer lookups_of
   owed_mkdirat x path otherwise known =
       owed_through plan certificate w e s choice (Mkdirat x path) otherwise known x refl refl _ (λ slot. refl) _ (λ d opened.
       owed_directory plan certificate w e s choice (Mkdirat x path) otherwise known refl d.description _ (λ n access is dir.
-      owed_beneath plan certificate w e s choice (Mkdirat x path) otherwise known n dir path Keep _
+      owed_beneath plan certificate w e s choice (Mkdirat x path) otherwise known x path Keep refl d opened.held n access is dir _
       (made_beneath x path otherwise known d opened n access is)))
 
   pub owed_mkdir : (path : List ℕ) (otherwise : ℕ) (known : Standing plan certificate w e.process s choice (Invoke (Mkdir path) otherwise))
@@ -111,11 +113,11 @@ module _ (plan : Plan) (certificate : Certificate) (w : World) (e : Event) (s : 
   pub owed_unlinkat : (x : Operand) (path : List ℕ) (directory : Bool) (otherwise : ℕ)
       (known : Standing plan certificate w e.process s choice (Invoke (Unlinkat x path directory) otherwise))
       → OwedBy plan certificate w e.process s choice (Unlinkat x path directory) otherwise known (answer w e.process s e (Unlinkat x path directory))
-  unfolding answer
+  unfolding answer lookups_of
   owed_unlinkat x path directory otherwise known =
       owed_through plan certificate w e s choice (Unlinkat x path directory) otherwise known x refl refl _ (λ slot. refl) _ (λ d opened.
       owed_directory plan certificate w e s choice (Unlinkat x path directory) otherwise known refl d.description _ (λ n access is dir.
-      owed_beneath plan certificate w e s choice (Unlinkat x path directory) otherwise known n dir path Keep _
+      owed_beneath plan certificate w e s choice (Unlinkat x path directory) otherwise known x path Keep refl d opened.held n access is dir _
       (removed_beneath x path directory otherwise known d opened n access is)))
 
   pub owed_unlink : (path : List ℕ) (directory : Bool) (otherwise : ℕ) (known : Standing plan certificate w e.process s choice (Invoke (Unlink path directory) otherwise))

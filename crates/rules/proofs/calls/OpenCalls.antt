@@ -23,6 +23,7 @@ use Rattle.kernel.specs.World.{World, Choice}
 use Rattle.kernel.specs.Answers.{Event, Effect, TreeChange, Same_tree, Make, New_file, Same_queue, Same_state, Change, Gives, does}
 use Rattle.kernel.specs.Calls.{answer, last_if, opened, opened_as, truncated, truncates, access_for}
 use Rattle.kernel.specs.Changes.{tree_after, given}
+use Rattle.kernel.specs.Walks.{lookups_of}
 use Rattle.task.specs.Plans.{Grant, Plan}
 use Rattle.task.specs.Policies.{grant_holds}
 use Rattle.task.specs.Sandboxed.{Allowed, AreAllowed}
@@ -43,7 +44,8 @@ use Rattle.rules.proofs.points.Taken.{number_taken}
 use Rattle.rules.proofs.points.Uses.{said}
 use Rattle.rules.proofs.calls.Owing.{Standing}
 use Rattle.rules.proofs.calls.OwedCalls.{OwedBy, owed_fails, owed_unless, owed_number}
-use Rattle.rules.proofs.calls.OwedTests.{owed_through, allowed_through, owed_outside, never_on, owed_directory, owed_lost, owed_beneath, owed_opening}
+use Rattle.rules.proofs.calls.OwedTests.{owed_through, allowed_through, owed_outside, never_on, owed_directory, owed_lost}
+use Rattle.rules.proofs.calls.OwedLookups.{owed_beneath, owed_opening}
 use Rattle.rules.proofs.calls.OwedChanges.{owed_change, own_described}
 
 abbrev opening : TreeChange → ℕ → ℕ → Access → Bool → ℕ → ℕ → Change
@@ -189,7 +191,7 @@ among_write false true is = inl refl
 module _ (plan : Plan) (certificate : Certificate) (w : World) (e : Event) (s : ProcessState) (choice : Choice) where
   pub owed_openat : (x : Operand) (path : List ℕ) (f : OpenRequest) (otherwise : ℕ) (known : Standing plan certificate w e.process s choice (Invoke (Openat x path f) otherwise))
       → OwedBy plan certificate w e.process s choice (Openat x path f) otherwise known (answer w e.process s e (Openat x path f))
-  unfolding answer
+  unfolding answer lookups_of
   owed_openat x path f otherwise known =
       let call = Openat x path f in
       let p = e.process in
@@ -197,7 +199,7 @@ module _ (plan : Plan) (certificate : Certificate) (w : World) (e : Event) (s : 
       owed_directory plan certificate w e s choice call otherwise known refl d.description _ (λ n access is dir.
       let from : List (List ℕ) = (node w.tree n).place in
       let node_is : (seen_of plan w d).subject ≡ Node_at from = ap (subject_of plan w.tree) is in
-      owed_beneath plan certificate w e s choice call otherwise known n dir path (last_if f.create) _ (λ a found.
+      owed_beneath plan certificate w e s choice call otherwise known x path (last_if f.create) refl d opened.held n access is dir _ (λ a found.
       owed_opened plan certificate w e s choice call otherwise known refl d.rights d.fcntls (IsBeside plan.grants from)
       (λ place number reaches free.
       leads_openat plan certificate s (table_of plan w p) x path f otherwise known.stands (seen_of plan w d) from place number opened.there node_is reaches
@@ -213,13 +215,13 @@ module _ (plan : Plan) (certificate : Certificate) (w : World) (e : Event) (s : 
 
   pub owed_open : (path : List ℕ) (f : OpenRequest) (otherwise : ℕ) (known : Standing plan certificate w e.process s choice (Invoke (Open path f) otherwise))
       → OwedBy plan certificate w e.process s choice (Open path f) otherwise known (answer w e.process s e (Open path f))
-  unfolding answer
+  unfolding answer lookups_of
   owed_open path f otherwise known =
       let call = Open path f in
       let p = e.process in
       let none_made : f.create ≡ false = (said plan certificate s (table_of plan w p) call otherwise known.stands).global_names in
       owed_outside plan certificate w e s choice call otherwise known refl _
-      (owed_opening plan certificate w e s choice call otherwise known path (last_if f.create) _ (λ a found.
+      (owed_opening plan certificate w e s choice call otherwise known path (last_if f.create) refl _ (λ a found.
       owed_opened plan certificate w e s choice call otherwise known refl all_rights all_commands (IsOpened plan.grants path)
       (λ place number reaches free.
       leads_open plan certificate s (table_of plan w p) path f otherwise known.stands place number reaches

@@ -25,7 +25,7 @@ use Rattle.rules.proofs.bounds.Describing.{Described, described, from_described,
 use Rattle.rules.proofs.outcomes.Outcomes.{GoesOn}
 use Rattle.rules.proofs.outcomes.Plain.{arrives, Moves}
 use Rattle.rules.proofs.outcomes.Failing.{failed_arrives}
-use Rattle.rules.proofs.calls.Owing.{Standing, Owed, described_there, in_place, no_child, owed_plain, owed_failed, owed_waits}
+use Rattle.rules.proofs.calls.Owing.{Standing, Owed, living_there, in_place, no_child, owed_plain, owed_failed, owed_waits}
 
 -- A plain instruction owes what it should.
 pub plain_owed :
@@ -35,7 +35,7 @@ pub plain_owed :
     → Owed plan certificate w e.process s choice known.inv.classes (executed w e choice s i)
 plain_owed plan certificate w e s choice i byte known moves =
     subst (Owed plan certificate w e.process s choice known.inv.classes) (sym moves.is)
-    (owed_plain plan certificate w e.process s choice i known moves.to moves.arrives)
+    (owed_plain plan certificate w e.process s choice i known moves.to moves.resting moves.arrives)
 
 -- a call that changes neither the tree, but for contents, nor a table
 abbrev pub quiet : TreeChange → QueueChange → StateChange → Bool → Change
@@ -136,7 +136,7 @@ module _ (plan : Plan) (certificate : Certificate) (w : World) (p : ℕ) (s : Pr
           owes = record {
             own =
                 in_place plan certificate w p s choice (Invoke call otherwise) known v t (processes_same t tree queue state enters)
-                (λ alive. described_there plan certificate v p t
+                (λ alive. living_there plan certificate v p t refl
                 (arrives plan certificate t (table_of plan v p) (with_interval after 0 i) leads
                 (register_changed (grant_holds plan.grants) after (s.mode || enters) s.registers (table_of plan v p) 0 value i fits inside)));
             child = no_child plan certificate w p s choice (Invoke call otherwise) known v t (processes_same t tree queue state enters);

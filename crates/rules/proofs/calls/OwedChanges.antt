@@ -1,7 +1,7 @@
 -- What is owed of a success that changes a table.
-use Rattle.std.proofs.Common.{◌≡◌, ℕ, true, false, List, sym, subst}
+use Rattle.std.proofs.Common.{◌≡◌, ℕ, true, false, List, length, refl, sym, subst}
 use Rattle.std.specs.Prelude.{◌||◌, slice_set, Some}
-use Rattle.process.specs.State.{ProcessState}
+use Rattle.process.specs.State.{ProcessState, forked}
 use Rattle.fd_table.specs.Descriptions.{Descriptor, IfHeld}
 use Rattle.prog_asm.specs.Programs.{Syscall, Invoke}
 use Rattle.certificate.specs.Bounds.{Interval, with_interval, Bound, Certificate}
@@ -14,11 +14,11 @@ use Rattle.task.specs.Plans.{Plan}
 use Rattle.task.specs.Policies.{grant_holds}
 use Rattle.task.specs.Sandboxed.{AreAllowed}
 use Rattle.rules.proofs.worlds.Seen.{table_of}
-use Rattle.rules.proofs.worlds.Invariant.{IsDescribed, bounds}
+use Rattle.rules.proofs.worlds.Invariant.{IsLiving, IsDescribed, bounds}
 use Rattle.rules.proofs.frames.ChangeKinds.{frame_changed}
 use Rattle.rules.proofs.frames.PairClasses.{classes_after, IsNamed, entry_named, classes_changed}
 use Rattle.rules.proofs.bounds.Describing.{Described, register_changed}
-use Rattle.rules.proofs.frames.Arrivals.{OwesChange, own_owed, child_owed}
+use Rattle.rules.proofs.frames.Arrivals.{OwesChange, if_child, lives_on, own_owed, child_owed}
 use Rattle.rules.proofs.outcomes.Outcomes.{GoesOn}
 use Rattle.rules.proofs.outcomes.Plain.{arrives}
 use Rattle.rules.proofs.calls.Owing.{Standing, described_there}
@@ -45,9 +45,12 @@ module _ (plan : Plan) (certificate : Certificate) (w : World) (p : ℕ) (s : Pr
           kept = classes_changed plan w p s choice known.acts (bounds plan certificate) known.inv t change owes.deep owes.named;
           owes = record {
             own =
-                own_owed plan w p s choice known.acts (bounds plan certificate) known.inv (IsDescribed plan certificate v p) t _ owes.own;
+                own_owed plan w p s choice known.acts (bounds plan certificate) known.inv (IsLiving plan (bounds plan certificate) v p) t _
+                (λ alive. lives_on plan w p s choice known.acts (bounds plan certificate) known.inv v p t refl (owes.own alive));
             child =
-                child_owed plan w p s choice known.acts (bounds plan certificate) known.inv (IsDescribed plan certificate v) t change.table owes.child;
+                child_owed plan w p s choice known.acts (bounds plan certificate) known.inv (IsLiving plan (bounds plan certificate) v) t change.table
+                (if_child change.table
+                (λ owed alive. lives_on plan w p s choice known.acts (bounds plan certificate) known.inv v (length w.processes) (forked t) refl (owed alive)) owes.child);
             pushed = owes.pushed;
           };
         };

@@ -11,12 +11,11 @@ use Rattle.process.specs.State.{ProcessState}
 use Rattle.certificate.specs.Bounds.{Certificate}
 use Rattle.certificate.specs.Describes.{Node_at, target_describes}
 use Rattle.fd_table.specs.Descriptions.{Access, At_node, Descriptor, IfHeld}
-use Rattle.lookup.specs.Answers.{Beneath, Global, Last, Keep, LookupFault, Escape, No_entry, Not_dir, Loop, Too_long, Bad_last}
-use Rattle.lookup.specs.Answers as lookups
+use Rattle.lookup.specs.Answers.{LookupFault, Escape, No_entry, Not_dir, Loop, Too_long, Bad_last}
 use Rattle.prog_asm.specs.Programs.{Operand, Syscall, Invoke}
 use Rattle.kernel.specs.World.{World, Choice}
 use Rattle.kernel.specs.Answers.{Event, Answer, does, granted, through, lookup_fails, value_of}
-use Rattle.kernel.specs.Calls.{outside_mode, unrefused, in_directory, at_file, blocked, looks, looks_twice}
+use Rattle.kernel.specs.Calls.{outside_mode, unrefused, in_directory, at_file, blocked}
 use Rattle.kernel.specs.WellFormed.{IsObject, IsDescriptor}
 use Rattle.task.specs.Plans.{Plan}
 use Rattle.task.specs.Policies.{grant_holds}
@@ -30,8 +29,6 @@ use Rattle.rules.proofs.outcomes.Outcomes.{subject_is}
 use Rattle.rules.proofs.points.Uses.{Through, first_operand, first_use}
 use Rattle.rules.proofs.points.Uses as through_slots
 use Rattle.rules.proofs.points.Known.{allowed_where}
-use Rattle.rules.proofs.findings.Findings.{Found, FoundBeneath, FoundOpened}
-use Rattle.rules.proofs.findings.FoundIn.{found_beneath, found_globally, found_opened}
 use Rattle.rules.proofs.calls.Owing.{Standing}
 use Rattle.rules.proofs.calls.OwedCalls.{OwedBy, owed_fails, owed_wait, owed_unless, owed_passed, owed_held, owed_object}
 
@@ -133,7 +130,7 @@ module _ (plan : Plan) (certificate : Certificate) (w : World) (e : Event) (s : 
       (λ file. owed n access is))
       (λ pair side class is. owed_fails plan certificate w e.process s choice call otherwise known may EINVAL errors.Kind tt)
 
-  -- ## Lookups
+  -- a lookup that ends in a fault
   pub owed_lost : (demands call).never_fails ≡ false → (fault : LookupFault) → Owes (lookup_fails fault)
   owed_lost may Escape = owed_fails plan certificate w e.process s choice call otherwise known may ENOTCAPABLE errors.Escape tt
   owed_lost may No_entry = owed_fails plan certificate w e.process s choice call otherwise known may ENOENT errors.Path tt
@@ -141,33 +138,3 @@ module _ (plan : Plan) (certificate : Certificate) (w : World) (e : Event) (s : 
   owed_lost may Loop = owed_fails plan certificate w e.process s choice call otherwise known may ELOOP errors.Path tt
   owed_lost may Too_long = owed_fails plan certificate w e.process s choice call otherwise known may ENAMETOOLONG errors.Path tt
   owed_lost may Bad_last = owed_fails plan certificate w e.process s choice call otherwise known may EINVAL errors.Path tt
-
-  -- beneath a directory
-  pub owed_beneath :
-      (start : ℕ) → is_dir (node w.tree start).kind ≡ true → (path : List ℕ) (last : Last) (rest : lookups.Finding → Answer)
-      → ((a : lookups.Finding) → FoundBeneath plan.grants w.tree start path last a → Owes (rest a)) → Owes (looks w e.process s e start Beneath path last rest)
-  unfolding looks
-  owed_beneath start dir path last rest owed = owed _ (found_beneath plan.grants w.tree start path known.acts.formed.world.tree dir last)
-
-  -- in the global name space, and what `open` knows of it
-  pub owed_globally :
-      (path : List ℕ) (last : Last) (rest : lookups.Finding → Answer) → ((a : lookups.Finding) → Found w.tree last a → Owes (rest a)) → Owes (looks w e.process s e 0 Global path last rest)
-  unfolding looks
-  owed_globally path last rest owed = owed _ (found_globally w.tree path last known.acts.formed.world.tree)
-
-  pub owed_opening :
-      (path : List ℕ) (last : Last) (rest : lookups.Finding → Answer) → ((a : lookups.Finding) → FoundOpened plan.grants w.tree path last a → Owes (rest a))
-      → Owes (looks w e.process s e 0 Global path last rest)
-  unfolding looks
-  owed_opening path last rest owed = owed _ (found_opened plan known.acts.grants w known.acts.formed.world.tree known.inv.clear path last)
-
-  -- beneath two directories
-  pub owed_twice :
-      (n : ℕ) → is_dir (node w.tree n).kind ≡ true → (from : List ℕ) (m : ℕ) → is_dir (node w.tree m).kind ≡ true → (to : List ℕ)
-      (rest : lookups.Finding → lookups.Finding → Answer)
-      → ((a b : lookups.Finding) → FoundBeneath plan.grants w.tree n from Keep a → FoundBeneath plan.grants w.tree m to Keep b → Owes (rest a b))
-      → Owes (looks_twice w e.process s e n from m to rest)
-  unfolding looks_twice
-  owed_twice n dir from m also to rest owed =
-      let tree = known.acts.formed.world.tree in
-      owed _ _ (found_beneath plan.grants w.tree n from tree dir Keep) (found_beneath plan.grants w.tree m to tree also Keep)

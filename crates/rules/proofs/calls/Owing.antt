@@ -1,12 +1,12 @@
 -- What is owed of a step of a living process, so that it is safe and the invariant holds after it; and that steps owe it
 -- that change neither the tree nor a table.
-use Rattle.std.proofs.Common.{◌≡◌, ℕ, true, false, List, [], refl, ap, sym, ◌∙◌, subst}
+use Rattle.std.proofs.Common.{◌≡◌, ℕ, true, List, [], refl, ap, sym, ◌∙◌, subst}
 use Rattle.std.specs.Prelude.{slice_set, Option, Some, None}
 use Rattle.std.specs.List.{slice_get}
 use Rattle.rights.specs.Errors.{Errno, Cause}
 use Rattle.rights.proofs.Changes.{put-cases}
 use Rattle.rights.proofs.Lists.{slice_get-set_same, slice_get-set_cases}
-use Rattle.process.specs.State.{ProcessState}
+use Rattle.process.specs.State.{ProcessState, ended}
 use Rattle.fd_table.specs.Descriptions.{PairClass, Descriptor, IfHeld}
 use Rattle.prog_asm.specs.Programs.{Instruction}
 use Rattle.certificate.specs.Bounds.{Certificate}
@@ -16,8 +16,10 @@ use Rattle.kernel.specs.Steps.{Executed, Halted, with_process, plain, failed, an
 use Rattle.kernel.specs.WellFormed.{IsWellFormed}
 use Rattle.task.specs.Plans.{Plan, programs_of_plan}
 use Rattle.task.specs.Sandboxed.{AreAllowed, IsOtherCause, IsUnrefused}
+use Rattle.rules.specs.Points.{instruction_at}
 use Rattle.rules.proofs.worlds.Seen.{table_of}
-use Rattle.rules.proofs.worlds.Invariant.{IfAlive, HasClass, Invariant, IsDescribed, bounds}
+use Rattle.rules.proofs.worlds.Walks.{rests}
+use Rattle.rules.proofs.worlds.Invariant.{IfAlive, IsLiving, HasClass, Invariant, IsDescribed, bounds}
 use Rattle.rules.proofs.frames.Frames.{Frame, KeepsClasses, Owes, bounds_persist, next}
 use Rattle.rules.proofs.frames.ChangeKinds.{Acts, frame_same, frame_process, frame_halted}
 use Rattle.rules.proofs.points.Stands.{Stands}
@@ -29,6 +31,7 @@ pub record Standing (plan : Plan) (certificate : Certificate) (w : World) (p : �
   pub acts : Acts plan w p s choice
   pub inv : Invariant plan (bounds plan certificate) w
   pub alive : s.alive ≡ true
+  pub here : instruction_at plan s.program s.point ≡ Some i
   pub stands : Stands plan certificate s (table_of plan w p) i
 
 -- What a step leaves: the frame, the classes of pairs, and what the acting process owes of itself, of a child, and of what
@@ -38,7 +41,7 @@ pub record Leaves (plan : Plan) (certificate : Certificate) (w v : World) (p : �
   pub frame : Frame plan w v choice queue p
   pub after : ℕ → PairClass
   pub kept : KeepsClasses v choice classes after
-  pub owes : Owes (bounds plan certificate) w v after queue p
+  pub owes : Owes plan (bounds plan certificate) w v after queue p
 
 -- What is owed of a step: in the mode its effects are allowed, no call is refused for a right or by the mode, and it
 -- leaves what it must.
@@ -56,35 +59,43 @@ invariant_after plan certificate w v p s choice acts inv leaves formed =
     next plan w v choice leaves.queue p leaves.frame (bounds plan certificate)
     (bounds_persist plan w v choice leaves.queue p leaves.frame certificate) inv leaves.after leaves.kept acts.grants formed leaves.owes
 
--- what a process comes to, in the world after it
+-- what a process comes to, in the world after it, with nothing under way
 pub described_there :
     (plan : Plan) (certificate : Certificate) (v : World) (p : ℕ) (t : ProcessState) → Arrives plan certificate t (table_of plan v p)
     → IsDescribed plan certificate v p t
 described_there plan certificate v p t there = record { bound = there.bound; at = there.at; is = there.is }
 
+pub living_there :
+    (plan : Plan) (certificate : Certificate) (v : World) (p : ℕ) (t : ProcessState) → t.walk ≡ None → Arrives plan certificate t (table_of plan v p)
+    → IsLiving plan (bounds plan certificate) v p t
+living_there plan certificate v p t none there = record {
+  asked = described_there plan certificate v p t there;
+  walker = rests plan v.tree v.files.objects (v.files.table p) t none;
+}
+
 module _ (plan : Plan) (certificate : Certificate) (w : World) (p : ℕ) (s : ProcessState) (choice : Choice) (i : Instruction)
     (known : Standing plan certificate w p s choice i) where
   -- the process in its place in the list
   pub in_place :
-      (v : World) (t : ProcessState) → v.processes ≡ slice_set w.processes p t → IfAlive (IsDescribed plan certificate v p) (Some t)
-      → IfAlive (IsDescribed plan certificate v p) (slice_get v.processes p)
+      (v : World) (t : ProcessState) → v.processes ≡ slice_set w.processes p t → IfAlive (IsLiving plan (bounds plan certificate) v p) (Some t)
+      → IfAlive (IsLiving plan (bounds plan certificate) v p) (slice_get v.processes p)
   in_place v t is inside =
       let at : slice_get v.processes p ≡ Some t = ap (λ ps. slice_get ps p) is ∙ slice_get-set_same w.processes p s t known.acts.made in
-      subst (IfAlive (IsDescribed plan certificate v p)) (sym at) inside
+      subst (IfAlive (IsLiving plan (bounds plan certificate) v p)) (sym at) inside
 
   -- and no process made
   pub no_child :
       (v : World) (t : ProcessState) → v.processes ≡ slice_set w.processes p t → (q : ℕ) → slice_get w.processes q ≡ None
-      → IfAlive (IsDescribed plan certificate v q) (slice_get v.processes q)
+      → IfAlive (IsLiving plan (bounds plan certificate) v q) (slice_get v.processes q)
   no_child v t is q none =
-      let P : Option ProcessState → Type 0 = IfAlive (IsDescribed plan certificate v q) in
+      let P : Option ProcessState → Type 0 = IfAlive (IsLiving plan (bounds plan certificate) v q) in
       subst (λ (ps : List ProcessState). P (slice_get ps q)) (sym is)
       (slice_get-set_cases P w.processes p t q
       (λ same. absurd (let clash : Some s ≡ None = sym known.acts.made ∙ ap (slice_get w.processes) (sym same) ∙ none in cc))
       (subst P (sym none) tt))
 
   -- a step that changes the process alone
-  pub leaves_process : (t : ProcessState) → IfAlive (IsDescribed plan certificate (with_process w p t) p) (Some t)
+  pub leaves_process : (t : ProcessState) → IfAlive (IsLiving plan (bounds plan certificate) (with_process w p t) p) (Some t)
       → Leaves plan certificate w (with_process w p t) p choice known.inv.classes
   leaves_process t inside = record {
     queue = Same_queue;
@@ -113,11 +124,11 @@ module _ (plan : Plan) (certificate : Certificate) (w : World) (p : ℕ) (s : Pr
   }
 
   -- an instruction that is neither `halt` nor a call
-  pub owed_plain : (t : ProcessState) → Arrives plan certificate t (table_of plan w p) → Owed plan certificate w p s choice known.inv.classes (plain w p t)
-  owed_plain t there = record {
+  pub owed_plain : (t : ProcessState) → t.walk ≡ None → Arrives plan certificate t (table_of plan w p) → Owed plan certificate w p s choice known.inv.classes (plain w p t)
+  owed_plain t none there = record {
     allowed = λ on. tt;
     unrefused = tt;
-    leaves = leaves_process t (λ alive. described_there plan certificate (with_process w p t) p t there);
+    leaves = leaves_process t (λ alive. living_there plan certificate (with_process w p t) p t none there);
   }
 
   -- `halt`
@@ -136,8 +147,8 @@ module _ (plan : Plan) (certificate : Certificate) (w : World) (p : ℕ) (s : Pr
             (λ _. tt) (λ _. known.inv.ends q n);
       };
       owes = record {
-        own = in_place (halted w p s) (record s { alive = false }) refl (λ alive. absurd cc);
-        child = no_child (halted w p s) (record s { alive = false }) refl;
+        own = in_place (halted w p s) (ended s) refl (λ alive. absurd cc);
+        child = no_child (halted w p s) (ended s) refl;
         pushed = tt;
       };
     };
@@ -157,5 +168,5 @@ module _ (plan : Plan) (certificate : Certificate) (w : World) (p : ℕ) (s : Pr
       record {
         allowed = λ on. tt;
         unrefused = other;
-        leaves = leaves_process t (λ alive. described_there plan certificate (with_process w p t) p t there);
+        leaves = leaves_process t (λ alive. living_there plan certificate (with_process w p t) p t refl there);
       }

@@ -1,12 +1,12 @@
 -- The invariant of each world that a step leads to, from what the acting process owes.
-use Rattle.std.proofs.Common.{◌≡◌, ◌≢◌, ℕ, true, false, List, [], ◌++◌, refl, ap, sym, ◌∙◌, subst, length, append-nil}
+use Rattle.std.proofs.Common.{◌≡◌, ◌≢◌, ℕ, true, List, [], ◌++◌, refl, ap, sym, ◌∙◌, subst, length, append-nil}
 use Rattle.std.specs.Prelude.{slice_set, Option, Some, None}
 use Rattle.std.specs.List.{slice_get}
 use Rattle.std.proofs.Math.ListN.{length-set}
 use Rattle.std.proofs.lemmas.Bool.{eq-eqb, both_ways}
 use Rattle.rights.proofs.Changes.{put-cases}
 use Rattle.rights.proofs.Lists.{slice_get-set_cases, slice_get-set_same}
-use Rattle.process.specs.State.{ProcessState, forked}
+use Rattle.process.specs.State.{ProcessState, ended, forked}
 use Rattle.fd_table.specs.Descriptions.{PairClass, At_end, Descriptor, IfHeld}
 use Rattle.fd_table.specs.OpenFiles.{is_end}
 use Rattle.kernel.specs.World.{World, Choice}
@@ -16,7 +16,8 @@ use Rattle.kernel.specs.Steps.{with_process, halted}
 use Rattle.kernel.specs.WellFormed.{IsWellFormed}
 use Rattle.kernel.proofs.KeptWalks.{slice_get-more_cases}
 use Rattle.task.specs.Plans.{Plan, programs_of_plan}
-use Rattle.rules.proofs.worlds.Invariant.{Asks, IfAlive, IsOfClass, HasClass, IsCarried, Invariant}
+use Rattle.rules.proofs.worlds.Invariant.{Asks, IfAlive, IsLiving, IsOfClass, HasClass, IsCarried, Invariant}
+use Rattle.rules.proofs.worlds.Walks.{rests}
 use Rattle.rules.proofs.frames.KeptTrees.{IsDeepChange}
 use Rattle.rules.proofs.frames.Frames.{Persists, IfPushed, next, carried_later}
 use Rattle.rules.proofs.frames.ChangeKinds.{Acts, get_front, frame_process, frame_halted, frame_changed}
@@ -31,6 +32,14 @@ IfChild (New_file number n access append rights fcntls) Owed = Unit {0}
 IfChild (New_pair first second class) Owed = Unit {0}
 IfChild New_process Owed = Owed
 
+pub if_child : (table : TableChange) {A B : Type 0} → (A → B) → IfChild table A → IfChild table B
+if_child Same_table f owed = tt
+if_child (Set_entry number d) f owed = tt
+if_child (Clear_entry number) f owed = tt
+if_child (New_file number n access append rights fcntls) f owed = tt
+if_child (New_pair first second class) f owed = tt
+if_child New_process f owed = f owed
+
 -- What a process owes that goes on at t after a call's change.
 pub record OwesChange (plan : Plan) (asks : Asks) (w : World) (classes : ℕ → PairClass) (p : ℕ) (t : ProcessState) (choice : Choice) (change : Change) : Type 0 where
   pub deep : IsDeepChange plan.grants w.tree change.tree
@@ -41,6 +50,10 @@ pub record OwesChange (plan : Plan) (asks : Asks) (w : World) (classes : ℕ →
 
 module _ (plan : Plan) (w : World) (p : ℕ) (s : ProcessState) (choice : Choice) (acts : Acts plan w p s choice) (asks : Asks) (inv : Invariant plan asks w) where
   -- ## Processes
+  -- one that has nothing under way
+  pub lives_on : (v : World) (q : ℕ) (t : ProcessState) → t.walk ≡ None → asks.Lives v q t → IsLiving plan asks v q t
+  lives_on v q t none asked = record { asked = asked; walker = rests plan v.tree v.files.objects (v.files.table q) t none }
+
   none_made : (P : ProcessState → Type 0) (t : ProcessState) (q : ℕ) → slice_get w.processes q ≡ None → IfAlive P (slice_get (slice_set w.processes p t) q)
   none_made P t q none =
       slice_get-set_cases (IfAlive P) w.processes p t q
@@ -71,20 +84,19 @@ module _ (plan : Plan) (w : World) (p : ℕ) (s : ProcessState) (choice : Choice
   -- ## Worlds
   -- another state of the process
   pub process_arrives : (t : ProcessState) → Persists asks w (with_process w p t) → IsWellFormed (programs_of_plan plan) (with_process w p t)
-      → (t.alive ≡ true → asks.Lives (with_process w p t) p t) → Invariant plan asks (with_process w p t)
+      → (t.alive ≡ true → IsLiving plan asks (with_process w p t) p t) → Invariant plan asks (with_process w p t)
   process_arrives t persists formed owed =
       next plan w (with_process w p t) choice Same_queue p (frame_process plan w p s choice acts t) asks persists inv inv.classes
       (record { same = λ pair other. refl; ends = inv.ends }) acts.grants formed
       (record {
-        own = subst (IfAlive (asks.Lives (with_process w p t) p)) (sym (slice_get-set_same w.processes p s t acts.made)) owed;
-        child = λ q none. none_made (asks.Lives (with_process w p t) q) t q none;
+        own = subst (IfAlive (IsLiving plan asks (with_process w p t) p)) (sym (slice_get-set_same w.processes p s t acts.made)) owed;
+        child = λ q none. none_made (IsLiving plan asks (with_process w p t) q) t q none;
         pushed = tt;
       })
 
   -- the process ended
   pub halted_arrives : (t : ProcessState) → Persists asks w (halted w p t) → IsWellFormed (programs_of_plan plan) (halted w p t) → Invariant plan asks (halted w p t)
   halted_arrives t persists formed =
-      let ended : ProcessState = record t { alive = false } in
       next plan w (halted w p t) choice Same_queue p (frame_halted plan w p s choice acts t) asks persists inv inv.classes
       (record {
         same = λ pair other. refl;
@@ -94,23 +106,25 @@ module _ (plan : Plan) (w : World) (p : ℕ) (s : ProcessState) (choice : Choice
       })
       acts.grants formed
       (record {
-        own = subst (IfAlive (asks.Lives (halted w p t) p)) (sym (slice_get-set_same w.processes p s ended acts.made)) (λ alive. absurd cc);
-        child = λ q none. none_made (asks.Lives (halted w p t) q) ended q none;
+        own = subst (IfAlive (IsLiving plan asks (halted w p t) p)) (sym (slice_get-set_same w.processes p s (ended t) acts.made)) (λ alive. absurd cc);
+        child = λ q none. none_made (IsLiving plan asks (halted w p t) q) (ended t) q none;
         pushed = tt;
       })
 
-  -- a call's change
-  pub changed_arrives : (t : ProcessState) (change : Change) → Persists asks w (changed w p t choice change)
+  -- a call's change, which leaves nothing under way
+  pub changed_arrives : (t : ProcessState) (change : Change) → t.walk ≡ None → Persists asks w (changed w p t choice change)
       → IsWellFormed (programs_of_plan plan) (changed w p t choice change) → OwesChange plan asks w inv.classes p t choice change
       → Invariant plan asks (changed w p t choice change)
   unfolding changed
-  changed_arrives t change persists formed owes =
+  changed_arrives t change none persists formed owes =
       next plan w (changed w p t choice change) choice change.queue p (frame_changed plan w p s choice acts t change owes.deep) asks persists inv
       (classes_after inv.classes choice change.table)
       (classes_changed plan w p s choice acts asks inv t change owes.deep owes.named) acts.grants formed
       (record {
-        own = own_owed (asks.Lives (changed w p t choice change) p) t _ owes.own;
-        child = child_owed (asks.Lives (changed w p t choice change)) t change.table owes.child;
+        own = own_owed (IsLiving plan asks (changed w p t choice change) p) t _ (λ alive. lives_on (changed w p t choice change) p t none (owes.own alive));
+        child =
+            child_owed (IsLiving plan asks (changed w p t choice change)) t change.table
+            (if_child change.table (λ owed alive. lives_on (changed w p t choice change) (length w.processes) (forked t) none (owed alive)) owes.child);
         pushed = owes.pushed;
       })
 

@@ -1,12 +1,12 @@
 -- What each kind of change leaves of everybody else: the frame of each world that a step leads to.
-use Rattle.std.proofs.Common.{◌≡◌, ◌≢◌, ℕ, zero, suc, ◌<◌, false, List, [], ◌∷◌, ◌++◌, refl, ap, ◌∙◌, length, arith}
+use Rattle.std.proofs.Common.{◌≡◌, ◌≢◌, ℕ, zero, suc, ◌<◌, List, [], ◌∷◌, ◌++◌, refl, ap, ◌∙◌, length, arith}
 use Rattle.std.specs.Prelude.{slice_set, Option, Some, None}
 use Rattle.std.specs.List.{slice_get}
 use Rattle.rights.specs.Maps.{put, put2}
 use Rattle.rights.specs.Sets.{all_rights, all_commands}
 use Rattle.rights.proofs.Changes.{put-other}
 use Rattle.rights.proofs.Lists.{slice_get-set_cases}
-use Rattle.process.specs.State.{ProcessState}
+use Rattle.process.specs.State.{ProcessState, ended}
 use Rattle.fd_table.specs.Descriptions.{Object, At_node, At_end, Descriptor, descriptor_of}
 use Rattle.kernel.specs.World.{World, Choice, IsFresh}
 use Rattle.kernel.specs.Answers.{Same_tree, TableChange, Same_table, Set_entry, Clear_entry, New_file, New_pair, New_process, QueueChange, Same_queue, Change}
@@ -98,7 +98,7 @@ module _ (plan : Plan) (w : World) (p : ℕ) (s : ProcessState) (choice : Choice
   frame_halted t = framed (halted w p t) Same_queue (record {
     objects = λ n one two. refl;
     tree = keeps_tree plan acts.grants w.tree Same_tree tt;
-    processes = λ q r other is. other_process w.processes p (record t { alive = false }) q r other is;
+    processes = λ q r other is. other_process w.processes p (ended t) q r other is;
     tables = λ q r other is n. ap (λ (row : ℕ → Option Descriptor). row n) (put-other w.files.table p (λ k. None) q other);
     queues = λ pair side. refl;
   })

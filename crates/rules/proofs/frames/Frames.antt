@@ -1,5 +1,5 @@
 -- What a step of a process leaves of the rest of a world, and the invariant after it.
-use Rattle.std.proofs.Common.{◌≡◌, ◌≢◌, ℕ, ◌+◌, true, false, List, [], ◌∷◌, ◌++◌, inl, inr, refl, ap, sym, ◌∙◌, subst, drop}
+use Rattle.std.proofs.Common.{◌≡◌, ◌≢◌, ℕ, ◌+◌, ◌<◌, length, true, false, List, [], ◌∷◌, ◌++◌, inl, inr, refl, ap, sym, ◌∙◌, subst, drop}
 use Rattle.std.specs.Prelude.{◌&&◌, Option, Some, None}
 use Rattle.std.specs.List.{slice_get}
 use Rattle.std.specs.Option.{option_map}
@@ -14,12 +14,13 @@ use Rattle.process.specs.State.{ProcessState}
 use Rattle.certificate.specs.Bounds.{Target, In_grant, Any_node, Socket, Unknown, Held, Slot, Closed, Open, Maybe, Certificate}
 use Rattle.certificate.specs.Describes.{Holds, target_describes, held_describes, slot_describes, mode_describes, registers_describe, slots_describe}
 use Rattle.certificate.proofs.Smaller.{between, from_between}
-use Rattle.fd_table.specs.Descriptions.{PairClass, Object, At_node, At_end, Descriptor, Message, IfHeld, EachPassed}
+use Rattle.fd_table.specs.Descriptions.{PairClass, Access, Object, At_node, At_end, Descriptor, Message, IfHeld, EachPassed}
 use Rattle.fd_table.specs.OpenFiles.{is_end, IsOther}
 use Rattle.kernel.specs.World.{World, Choice, IsFresh}
 use Rattle.kernel.specs.Answers.{QueueChange, Same_queue, Push, Pop}
 use Rattle.kernel.specs.Changes.{queue_after}
-use Rattle.kernel.specs.WellFormed.{EachMessage, IsWellFormed}
+use Rattle.kernel.specs.WellFormed.{EachMessage, IsObject, IsDescriptor, IsWellFormed}
+use Rattle.lookup.proofs.UnderWay.{there_if_opened}
 use Rattle.kernel.proofs.Brings.{ground, Known}
 use Rattle.kernel.proofs.Fresh.{IsApart, known_messages}
 use Rattle.task.specs.Plans.{Plan, programs_of_plan}
@@ -27,8 +28,10 @@ use Rattle.task.specs.Policies.{grant_holds}
 use Rattle.task.specs.KeptLimits.{KeepsGrants}
 use Rattle.rules.specs.Channels.{channel_at}
 use Rattle.rules.proofs.worlds.Seen.{class_of, subject_of, seen_of, table_of}
-use Rattle.rules.proofs.worlds.Invariant.{Asks, IfAlive, IsOfClass, HasClass, IsCarried, Invariant, IsDescribed, line_describes, bounds}
+use Rattle.rules.proofs.worlds.Invariant.{Asks, IfAlive, IsLiving, IsOfClass, HasClass, IsCarried, Invariant, IsDescribed, line_describes, bounds}
+use Rattle.rules.proofs.worlds.Walks.{IsWalkerIn}
 use Rattle.rules.proofs.frames.KeptTrees.{KeepsTree, goes_on, clear_stays}
+use Rattle.rules.proofs.frames.KeptWalks.{walker_later}
 
 -- What a step of process p leaves, which may change that queue: what old descriptions are of; each node in the grants that
 -- hold it; the other processes and their tables; and the other queues.
@@ -62,9 +65,9 @@ IfPushed P Same_queue = Unit {0}
 IfPushed P (Push pair side m) = IfHeld (P pair side) m.passed
 IfPushed P (Pop pair side) = Unit {0}
 
-pub record Owes (asks : Asks) (w v : World) (classes : ℕ → PairClass) (queue : QueueChange) (p : ℕ) : Type 0 where
-  pub own : IfAlive (asks.Lives v p) (slice_get v.processes p)
-  pub child : (q : ℕ) → slice_get w.processes q ≡ None → IfAlive (asks.Lives v q) (slice_get v.processes q)
+pub record Owes (plan : Plan) (asks : Asks) (w v : World) (classes : ℕ → PairClass) (queue : QueueChange) (p : ℕ) : Type 0 where
+  pub own : IfAlive (IsLiving plan asks v p) (slice_get v.processes p)
+  pub child : (q : ℕ) → slice_get w.processes q ≡ None → IfAlive (IsLiving plan asks v q) (slice_get v.processes q)
   pub pushed : IfPushed (IsCarried asks v classes) queue
 
 -- ## Queues
@@ -108,6 +111,13 @@ module _ (plan : Plan) (w v : World) (choice : Choice) (queue : QueueChange) (p 
   pub object_stays : (n : ℕ) → IsApart w.files choice n → v.files.objects n ≡ w.files.objects n
   object_stays n apart = frame.keeps.objects n apart.first apart.second
 
+  -- what an entry is of is in the tree
+  node_there : (q m : ℕ) (d : Descriptor) (n : ℕ) (access : Access) → w.files.table q m ≡ Some d → w.files.objects d.description ≡ At_node n access → n < length w.tree
+  node_there q m d n access here at =
+      let formed : IsDescriptor w.tree frame.formed.numbering w.files.objects w.files.states d =
+      subst (IfHeld (IsDescriptor w.tree frame.formed.numbering w.files.objects w.files.states)) here (frame.formed.world.entries q m) in
+      there_if_opened w.tree n (subst (IsObject w.tree frame.formed.numbering d.description) at formed.object)
+
   -- ### Classes
   other_pair : (pair side : ℕ) (class : PairClass) → is_end choice.pair side (At_end pair side class) ≡ false → pair ≢ choice.pair
   other_pair pair side class none same =
@@ -150,7 +160,7 @@ module _ (plan : Plan) (w v : World) (choice : Choice) (queue : QueueChange) (p 
         ]
 
     -- ### The invariant after a step
-    pub next : KeepsGrants plan → IsWellFormed (programs_of_plan plan) v → Owes asks w v after queue p → Invariant plan asks v
+    pub next : KeepsGrants plan → IsWellFormed (programs_of_plan plan) v → Owes plan asks w v after queue p → Invariant plan asks v
     next grants formed owes = record {
       formed = formed;
       classes = after;
@@ -162,18 +172,29 @@ module _ (plan : Plan) (w v : World) (choice : Choice) (queue : QueueChange) (p 
       clear = λ i g there. clear_stays plan grants w.tree v.tree frame.keeps.tree i g there (inv.clear i g there);
     }
       where
+        -- what a process that doesn't act has under way
+        walker_goes_on : (q : ℕ) (s : ProcessState) → ((n : ℕ) → v.files.table q n ≡ w.files.table q n)
+            → IsWalkerIn plan w.tree w.files.objects (w.files.table q) s → IsWalkerIn plan v.tree v.files.objects (v.files.table q) s
+        walker_goes_on q s same is =
+            walker_later plan grants w.tree v.tree frame.keeps.tree w.files.objects v.files.objects (w.files.table q) (v.files.table q) s same
+            (λ m d here.
+            frame.keeps.objects d.description (subst (IsOther choice.first) here (frame.fresh.first.entries q m)) (subst (IsOther choice.second) here (frame.fresh.second.entries q m)))
+            (λ m d n access here at. node_there q m d n access here at) is
+
         goes_on_living : (q : ℕ) (s : ProcessState) → ((n : ℕ) → v.files.table q n ≡ w.files.table q n) → (o : Option ProcessState) → o ≡ Some s
-            → IfAlive (asks.Lives w q) o → IfAlive (asks.Lives v q) (Some s)
+            → IfAlive (IsLiving plan asks w q) o → IfAlive (IsLiving plan asks v q) (Some s)
         goes_on_living q s same None is lives = absurd cc
         goes_on_living q s same (Some r) is lives =
             let one : r ≡ s = cc in
-            λ alive. persists.lives q s same (subst (λ (u : ProcessState). u.alive ≡ true → asks.Lives w q u) one lives alive)
+            λ alive.
+            let old : IsLiving plan asks w q s = (subst (λ (u : ProcessState). u.alive ≡ true → IsLiving plan asks w q u) one lives) alive in
+            record { asked = persists.lives q s same old.asked; walker = walker_goes_on q s same old.walker }
 
-        living : (q : ℕ) → Dec (q ≡ p) → (o : Option ProcessState) → slice_get w.processes q ≡ o → IfAlive (asks.Lives v q) (slice_get v.processes q)
-        living q (yes same) o is = subst (λ k. IfAlive (asks.Lives v k) (slice_get v.processes k)) (sym same) owes.own
+        living : (q : ℕ) → Dec (q ≡ p) → (o : Option ProcessState) → slice_get w.processes q ≡ o → IfAlive (IsLiving plan asks v q) (slice_get v.processes q)
+        living q (yes same) o is = subst (λ k. IfAlive (IsLiving plan asks v k) (slice_get v.processes k)) (sym same) owes.own
         living q (no other) None is = owes.child q is
         living q (no other) (Some s) is =
-            subst (IfAlive (asks.Lives v q)) (sym (frame.keeps.processes q s other is))
+            subst (IfAlive (IsLiving plan asks v q)) (sym (frame.keeps.processes q s other is))
             (goes_on_living q s (frame.keeps.tables q s other is) (slice_get w.processes q) is (inv.living q))
 
 -- ## What a bound says holds on

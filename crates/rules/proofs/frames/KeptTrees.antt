@@ -229,22 +229,24 @@ module _ (plan : Plan) (grants : KeepsGrants plan) (t : List Node) where
       left n out (inl is) = is
       left n out (inr at) = absurd (out (record { number = at.number; grant = at.grant; there = at.there; beneath = at.beneath }))
 
-  -- a grant's own place isn't beneath one
-  not_deep : (i : ℕ) (g : Grant) → slice_get plan.grants i ≡ Some g → IsDeep plan.grants g.path → ⊥
-  not_deep i g there deep =
-      let same : i ≡ deep.number = grants.places i deep.number g deep.grant g.path there deep.there (begins_refl g.path) deep.beneath.front in
+  -- the first names of a grant's own place aren't beneath one, nor are all of them
+  pub not_deep : (i : ℕ) (g : Grant) → slice_get plan.grants i ≡ Some g → (place : List (List ℕ)) → begins place g.path ≡ true → IsDeep plan.grants place → ⊥
+  not_deep i g there place front deep =
+      let through : begins deep.grant.path g.path ≡ true = begins_trans deep.grant.path place g.path deep.beneath.front front in
+      let same : i ≡ deep.number = grants.places i deep.number g deep.grant g.path there deep.there (begins_refl g.path) through in
       let both : Some g ≡ Some deep.grant = sym there ∙ ap (slice_get plan.grants) same ∙ deep.there in
       let one_grant : g ≡ deep.grant = cc in
       let length_is : length g.path ≡ length deep.grant.path = ap (λ (k : Grant). length k.path) one_grant in
-      let longer : length deep.grant.path < length g.path = deep.beneath.longer in
-      omega (arith, length_is, longer)
+      let longer : length deep.grant.path < length place = deep.beneath.longer in
+      let short : length place ≤ length g.path = begins_length place g.path front in
+      omega (arith, length_is, longer, short)
 
   -- So its directory stays.
   pub clear_stays : (u : List Node) → KeepsTree plan.grants t u → (i : ℕ) (g : Grant) → slice_get plan.grants i ≡ Some g
       → has_directory t g.path ≡ true → has_directory u g.path ≡ true
   clear_stays u keeps i g there is =
       let d : Directory t g.path = directory t g.path is in
-      let out : IsDeep plan.grants (node t d.number).place → ⊥ = λ deep. not_deep i g there (subst (IsDeep plan.grants) d.place deep) in
+      let out : IsDeep plan.grants (node t d.number).place → ⊥ = λ deep. not_deep i g there g.path (begins_refl g.path) (subst (IsDeep plan.grants) d.place deep) in
       let same : IsStill (node t d.number) (node u d.number) = keeps.outside d.number (linked_there t d.number d.linked) out in
       directory_from u g.path (record {
         number = d.number;

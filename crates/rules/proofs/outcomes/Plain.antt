@@ -1,12 +1,12 @@
 -- What an instruction that is no call does lies in its outcomes.
 use Rattle.std.proofs.Common.{◌≡◌, ℕ, ◌+◌, ◌%◌, ◌^◌, Bool, true, false, List, ◌++◌, inl, refl, arith, ap, sym, ◌∙◌, subst}
-use Rattle.std.specs.Prelude.{◌==◌, nat_lt, Option, Some}
+use Rattle.std.specs.Prelude.{◌==◌, nat_lt, Option, Some, None}
 use Rattle.std.proofs.lemmas.Bool.{eqb-true, eq-eqb, ltb-true, ltb-false}
-use Rattle.process.specs.State.{ProcessState}
+use Rattle.process.specs.State.{ProcessState, moved_to}
 use Rattle.prog_asm.specs.Programs.{Instruction, Set, Mov, Add, In, Jmp, Jeq, Jlt, Halt, Invoke}
 use Rattle.kernel.specs.World.{World, Choice}
 use Rattle.kernel.specs.Answers.{Event, IsEvent}
-use Rattle.kernel.specs.Steps.{register, with_register, moved_to, goes_on, plain, jumped, executed}
+use Rattle.kernel.specs.Steps.{register, with_register, goes_on, plain, jumped, executed}
 use Rattle.task.specs.Plans.{Plan, program_name}
 use Rattle.task.specs.Policies.{grant_holds}
 use Rattle.certificate.specs.Bounds.{Interval, interval, with_interval, Bound, Certificate, bound_at}
@@ -46,6 +46,7 @@ pub record Moves (plan : Plan) (certificate : Certificate) (w : World) (e : Even
   pub program : to.program ≡ s.program
   pub mode : to.mode ≡ s.mode
   pub alive : to.alive ≡ s.alive
+  pub resting : to.walk ≡ None
   pub arrives : Arrives plan certificate to table
 
 -- an instruction that is neither `halt` nor a call
@@ -111,20 +112,20 @@ module _ (plan : Plan) (certificate : Certificate) (s : ProcessState) (table : �
 moves :
     (plan : Plan) (certificate : Certificate) (w : World) (e : Event) (choice : Choice) (s : ProcessState) (table : ℕ → Option Seen) (i : Instruction)
     (t : ProcessState)
-    → executed w e choice s i ≡ plain w e.process t → t.program ≡ s.program → t.mode ≡ s.mode → t.alive ≡ s.alive → Arrives plan certificate t table
+    → executed w e choice s i ≡ plain w e.process t → t.program ≡ s.program → t.mode ≡ s.mode → t.alive ≡ s.alive → t.walk ≡ None → Arrives plan certificate t table
     → Moves plan certificate w e choice s table i
-moves plan certificate w e choice s table i t is program mode alive there =
-    record { to = t; is = is; program = program; mode = mode; alive = alive; arrives = there }
+moves plan certificate w e choice s table i t is program mode alive resting there =
+    record { to = t; is = is; program = program; mode = mode; alive = alive; resting = resting; arrives = there }
 
 pub plain_moves :
     (plan : Plan) (certificate : Certificate) (w : World) (e : Event) (choice : Choice) (s : ProcessState) (table : ℕ → Option Seen) (i : Instruction)
     → IsEvent e → Stands plan certificate s table i → IfPlain i (Moves plan certificate w e choice s table i)
 unfolding executed jumped successes
 plain_moves plan certificate w e choice s table (Set r v) byte known =
-    moves plan certificate w e choice s table (Set r v) (goes_on (with_register s r v)) refl refl refl refl
+    moves plan certificate w e choice s table (Set r v) (goes_on (with_register s r v)) refl refl refl refl refl
     (sets plan certificate s table (Set r v) known r v (only v) refl (only_fits v))
 plain_moves plan certificate w e choice s table (Mov r source) byte known =
-    moves plan certificate w e choice s table (Mov r source) (goes_on (with_register s r (register s source))) refl refl refl refl
+    moves plan certificate w e choice s table (Mov r source) (goes_on (with_register s r (register s source))) refl refl refl refl refl
     (sets plan certificate s table (Mov r source) known r (register s source) (interval known.bound.registers source) refl
     (register_inside plan certificate s table (Mov r source) known source))
 plain_moves plan certificate w e choice s table (Add r addend) byte known =
@@ -132,14 +133,14 @@ plain_moves plan certificate w e choice s table (Add r addend) byte known =
     let sum : ℕ = (register s r + register s addend) % 2 ^ 32 in
     let mine = interval known.bound.registers r in
     let other = interval known.bound.registers addend in
-    moves plan certificate w e choice s table i (goes_on (with_register s r sum)) refl refl refl refl
+    moves plan certificate w e choice s table i (goes_on (with_register s r sum)) refl refl refl refl refl
     (sets plan certificate s table i known r sum (sums mine other) refl
     (sum_fits mine other (register s r) (register s addend) (register_inside plan certificate s table i known r) (register_inside plan certificate s table i known addend)))
 plain_moves plan certificate w e choice s table (In r) byte known =
-    moves plan certificate w e choice s table (In r) (goes_on (with_register s r e.input)) refl refl refl refl
+    moves plan certificate w e choice s table (In r) (goes_on (with_register s r e.input)) refl refl refl refl refl
     (sets plan certificate s table (In r) known r e.input (from_to 0 255) refl (inside_of (from_to 0 255) e.input (omega arith) (omega (arith, byte))))
 plain_moves plan certificate w e choice s table (Jmp target) byte known =
-    moves plan certificate w e choice s table (Jmp target) (moved_to s target) refl refl refl refl
+    moves plan certificate w e choice s table (Jmp target) (moved_to s target) refl refl refl refl refl
     (jumps plan certificate s table (Jmp target) known target refl)
 plain_moves plan certificate w e choice s table (Jeq r v target) byte known = jump (register s r == v) refl
   where
@@ -154,11 +155,11 @@ plain_moves plan certificate w e choice s table (Jeq r v target) byte known = ju
 
     jump : (taken : Bool) → (register s r == v) ≡ taken → Moves plan certificate w e choice s table i
     jump true is =
-        moves plan certificate w e choice s table i (moved_to s target) (ap (λ c. plain w e.process (jumped s c target)) is) refl refl refl
+        moves plan certificate w e choice s table i (moved_to s target) (ap (λ c. plain w e.process (jumped s c target)) is) refl refl refl refl
         (takes_jump plan certificate s table i known r target (equal_part n v) (outcomes_in (s.point + 1) known.bound r (other_part n v)) refl
         (has_equal n v (register s r) inside (eqb-true _ _ is)))
     jump false is =
-        moves plan certificate w e choice s table i (goes_on s) (ap (λ c. plain w e.process (jumped s c target)) is) refl refl refl
+        moves plan certificate w e choice s table i (goes_on s) (ap (λ c. plain w e.process (jumped s c target)) is) refl refl refl refl
         (passes_by plan certificate s table i known r (other_part n v) (outcomes_in target known.bound r (equal_part n v)) refl
         (has_other n v (register s r) inside (λ same. absurd (let clash : true ≡ false = sym (eq-eqb _ _ same) ∙ is in cc))))
 plain_moves plan certificate w e choice s table (Jlt r v target) byte known = jump (nat_lt (register s r) v) refl
@@ -174,11 +175,11 @@ plain_moves plan certificate w e choice s table (Jlt r v target) byte known = ju
 
     jump : (taken : Bool) → nat_lt (register s r) v ≡ taken → Moves plan certificate w e choice s table i
     jump true is =
-        moves plan certificate w e choice s table i (moved_to s target) (ap (λ c. plain w e.process (jumped s c target)) is) refl refl refl
+        moves plan certificate w e choice s table i (moved_to s target) (ap (λ c. plain w e.process (jumped s c target)) is) refl refl refl refl
         (takes_jump plan certificate s table i known r target (lower_part n v) (outcomes_in (s.point + 1) known.bound r (upper_part n v)) refl
         (has_lower n v (register s r) inside (ltb-true _ _ is)))
     jump false is =
-        moves plan certificate w e choice s table i (goes_on s) (ap (λ c. plain w e.process (jumped s c target)) is) refl refl refl
+        moves plan certificate w e choice s table i (goes_on s) (ap (λ c. plain w e.process (jumped s c target)) is) refl refl refl refl
         (passes_by plan certificate s table i known r (upper_part n v) (outcomes_in target known.bound r (lower_part n v)) refl
         (has_upper n v (register s r) inside (ltb-false _ _ is)))
 plain_moves plan certificate w e choice s table Halt byte known = tt

@@ -28,7 +28,8 @@ use Rattle.rules.specs.Points.{instruction_at}
 use Rattle.rules.specs.Rules.{Test, first_subject, first_seen, first_table, start_within, starts_within, is_started, tests, tests_without, least_broken}
 use Rattle.rules.specs.Verdicts.{MeetsRules, found_with, found_at}
 use Rattle.rules.proofs.worlds.Seen.{subject_of, seen_of, table_of}
-use Rattle.rules.proofs.worlds.Invariant.{IfAlive, IsOfClass, HasClass, IsCarried, Invariant, IsDescribed, bounds}
+use Rattle.rules.proofs.worlds.Walks.{rests}
+use Rattle.rules.proofs.worlds.Invariant.{IfAlive, IsLiving, IsOfClass, HasClass, IsCarried, Invariant, IsDescribed, bounds}
 
 -- ## What the rules say at point 0
 abbrev IsFirstKept : List Test → Type 0
@@ -146,13 +147,19 @@ module _ (plan : Plan) (certificate : Certificate) (valid : is_plan plan ≡ tru
             record { bound = b.bound; at = b.at; is = first_described b.bound (own_start b.bound b.starts) }
 
   inside : (p : ℕ) (start : Option Start) → slice_get plan.starts p ≡ start → (o : Option ProcessState) → IsProcessIfMade (programs_of_plan plan) o
-      → IsFirstProcess start o → IfAlive (IsDescribed plan certificate (first_world plan) p) o
+      → IsFirstProcess start o → IfAlive (IsLiving plan (bounds plan certificate) (first_world plan) p) o
   inside p start here None made is = tt
   inside p None here (Some s) made is = absurd is
   inside p (Some st) here (Some s) made is = λ alive.
       let placed : IsPoint (instruction_at plan s.program s.point) = made.placed alive in
-      subst (IsDescribed plan certificate (first_world plan) p) (sym is)
-      (first_inside p st here (subst (λ (t : ProcessState). IsPoint (instruction_at plan t.program t.point)) is placed))
+      record {
+        asked =
+            subst (IsDescribed plan certificate (first_world plan) p) (sym is)
+            (first_inside p st here (subst (λ (t : ProcessState). IsPoint (instruction_at plan t.program t.point)) is placed));
+        walker =
+            rests plan (first_world plan).tree (first_world plan).files.objects ((first_world plan).files.table p) s
+            (ap (λ (t : ProcessState). t.walk) is);
+      }
 
   -- ## Ends
   class_given : (tree : List Node) (numbering : Numbering) (description : ℕ) (o : Object) → IsObject tree numbering description o → IsOfClass numbering.class o

@@ -13,6 +13,7 @@ use Rattle.task.specs.Plans.{Grant, Plan, program_name, programs_of_plan}
 use Rattle.task.specs.Policies.{grant_holds}
 use Rattle.rules.specs.Channels.{channel_at}
 use Rattle.rules.proofs.worlds.Seen.{class_of, seen_of, table_of}
+use Rattle.rules.proofs.worlds.Walks.{IsWalkerIn}
 
 -- What is asked of each living process, by its number, and of each descriptor that one side of a pair of a class has
 -- sent.
@@ -23,6 +24,11 @@ pub record Asks : Type 1 where
 abbrev pub IfAlive : (ProcessState → Type 0) → Option ProcessState → Type 0
 IfAlive Lives None = Unit {0}
 IfAlive Lives (Some s) = s.alive ≡ true → Lives s
+
+-- so it is, and what the process has under way stays in the grants that it began in
+pub record IsLiving (plan : Plan) (asks : Asks) (w : World) (p : ℕ) (s : ProcessState) : Type 0 where
+  pub asked : asks.Lives w p s
+  pub walker : IsWalkerIn plan w.tree w.files.objects (w.files.table p) s
 
 -- each end is of the class of its pair
 abbrev pub IsOfClass : (ℕ → PairClass) → Object → Type 0
@@ -44,7 +50,7 @@ AreClear plan w = (i : ℕ) (g : Grant) → slice_get plan.grants i ≡ Some g �
 pub record Invariant (plan : Plan) (asks : Asks) (w : World) : Type 0 where
   pub formed : IsWellFormed (programs_of_plan plan) w
   pub classes : ℕ → PairClass
-  pub living : (p : ℕ) → IfAlive (asks.Lives w p) (slice_get w.processes p)
+  pub living : (p : ℕ) → IfAlive (IsLiving plan asks w p) (slice_get w.processes p)
   pub ends : (p n : ℕ) → IfHeld (HasClass w.files.objects classes) (w.files.table p n)
   pub carried : (pair side : ℕ) → EachPassed (IsCarried asks w classes pair side) (w.files.queue pair side)
   pub clear : AreClear plan w
