@@ -1,10 +1,13 @@
 -- From what a call came to, and what became of its process, to the whole.
-use Rattle.std.proofs.Common.{◌≡◌, ℕ, zero, suc, List, [], ◌∷◌, ◌++◌, map, slice_set, refl, ap, sym, subst, ◌∙◌}
-use Rattle.std.specs.Prelude.{Some, None, Result, Ok, Err}
+use Rattle.std.proofs.Common.{◌≡◌, ◌<◌, ◌+◌, ℕ, zero, suc, List, [], ◌∷◌, ◌++◌, length, map, slice_set, refl, ap, sym, subst, ◌∙◌}
+use Rattle.std.specs.Prelude.{Option, Some, None, Result, Ok, Err, IfOk}
+use Rattle.std.proofs.Math.ListN.{get_or, length-set}
+use Rattle.std.proofs.lemmas.Option.{slice_get_within}
 use Rattle.std.specs.List.{slice_get}
-use Rattle.process.specs.State.{ProcessState}
+use Rattle.process.specs.State.{ProcessState, Walking}
 use Rattle.process.specs.Views.{walking_of}
 use Rattle.file_tree.specs.Nodes.{Node}
+use Rattle.fd_table.specs.Descriptions.{Descriptor}
 use Rattle.fd_table.specs.OpenFiles.{OpenFiles}
 use Rattle.prog_asm.specs.Programs.{Syscall}
 use Rattle.rights.specs.Views.{errno_of, cause_of}
@@ -16,6 +19,7 @@ use Rattle.kernel.specs.Steps.{LineResult, Programs, Value, Failed, Waiting, Wal
 use Rattle.kernel.specs.Walks.{FitsIfWalking}
 use Rattle.kernel.specs.WellFormed.{Numbering, IsWorld}
 use Rattle.kernel.proofs.FittingWalks.{none_under}
+use Rattle.kernel.proofs.KeptWalks.{if_walking_later}
 use Rattle.syscalls.specs.declared.outcomes.Besides.{Besides}
 use Rattle.syscalls.specs.declared.outcomes.Refusal.{Refusal}
 use Rattle.syscalls.specs.declared.outcomes.Refusal.TheVariants as refusal
@@ -24,7 +28,7 @@ use Rattle.syscalls.specs.AnswerViews.{DoesNothing, Meets}
 use Rattle.syscalls.specs.CallViews.{Comes, Settles, processes_as, succeeded_as}
 use Rattle.syscalls.specs.Shows.{Shown}
 use Rattle.syscalls.specs.Views.{change_of, effects_of, world_with}
-use Rattle.syscalls.proofs.Calling.{fails, same_world, succeeds_as, waits, walks}
+use Rattle.syscalls.proofs.Calling.{fails, same_process, same_world, stands, succeeds_as, waits, walks}
 use Rattle.syscalls.proofs.Unwaiting.{looks_nothing}
 
 -- one element set twice, and one set to what it is
@@ -46,6 +50,38 @@ pub stays_made : (processes : List ProcessState) (p : ℕ) (s x : ProcessState) 
 stays_made [] p s x made = absurd cc
 stays_made (y ∷ processes) zero s x made = refl
 stays_made (y ∷ processes) (suc p) s x made = stays_made processes p s x made
+
+-- the list after what a process has under way was taken out
+module _ (processes others : List ProcessState) (p : ℕ) (s : ProcessState) (made : slice_get processes p ≡ Some s) (left : others ≡ slice_set processes p (rested s)) where
+  pub stays_there : slice_get others p ≡ Some (rested s)
+  stays_there = subst (λ xs. slice_get xs p ≡ Some (rested s)) (sym left) (stays_made processes p s (rested s) made)
+
+  pub still_made : p < length others
+  still_made = slice_get_within others p (rested s) stays_there
+
+  pub as_many : length others ≡ length processes
+  as_many = ap length left ∙ length-set processes p (rested s)
+
+  pub stands_rested : (x : ProcessState) → x ≡ get_or others p x → x ≡ rested s
+  stands_rested x read = stands others p (rested s) x stays_there read
+
+  pub next_rested : s.point + 1 < 256 → (x : ProcessState) → slice_get others p ≡ Some x → x.point + 1 < 256
+  next_rested next x there = subst (λ (y : ProcessState). y.point + 1 < 256) (same_process others p (rested s) x stays_there there) next
+
+-- what fits the process fits it without what it has under way, in its place
+pub fits_rested : (t : List Node) (f : OpenFiles) (row : ℕ → Option Descriptor) (s x : ProcessState) (call : Syscall) (o : Option Walking) → x ≡ rested s → o ≡ s.walk →
+    FitsIfWalking t f.objects row s (Some call) s.walk → FitsIfWalking t f.objects row x (Some call) o
+fits_rested t f row s x call o is taken fits =
+    subst (λ y. FitsIfWalking t f.objects row y (Some call) o) (sym is) (subst (FitsIfWalking t f.objects row (rested s) (Some call)) (sym taken)
+    (if_walking_later t t f.objects f.objects row row s (rested s) (λ n opened. refl) (λ n d there. refl) (λ n. refl) refl (Some call) s.walk fits))
+
+-- the process with what was taken out of it
+pub whole_again : (s x : ProcessState) (o : Option Walking) → x ≡ rested s → o ≡ s.walk → record x { walk = o } ≡ s
+whole_again s x o is taken = ap (λ (y : ProcessState). record y { walk = o }) is ∙ ap (λ w. record s { walk = w }) taken
+
+pub if_ok_map : {A E : Type 0} (r : Result A E) (P Q : A → Type 0) → ((a : A) → P a → Q a) → IfOk r P → IfOk r Q
+if_ok_map (Ok a) P Q f h = f a h
+if_ok_map (Err error) P Q f h = tt
 
 module _ (programs : Programs) (t : List Node) (f : OpenFiles) (processes : List ProcessState) (numbering : Numbering)
     (good : IsWorld programs numbering (world_with t f processes)) (p : ℕ) (s : ProcessState) (e : Event) (call : Syscall) (otherwise : ℕ)

@@ -136,5 +136,5 @@ module _ (w : World) (p : ℕ) (s : ProcessState) (e : Event) where
   looks_nothing (Unlink path directory) is = absurd (waiting _ (goes-unless _ _ _ _ (goes-looks _ _ _ _ _ (goes-unlinks directory))) is)
   looks_nothing (Renameat x from y to) is =
       absurd (waiting _ (goes-held _ _ (λ d. goes-held _ _ (λ target. goes-unless _ _ _ _ (goes-unless _ _ _ _ (goes-directory _ _ (λ n. goes-directory _ _ (λ m.
-      goes-looks_twice _ _ _ _ _ (λ source place. goes-renamed_from source _ (λ k. goes-renamed_to (Renameat x from y to) target k to place)))))))) is)
+      goes-looks_twice _ _ _ _ _ (λ source place. goes-renamed_from source _ (λ k. goes-renamed_to (Renameat x from y to) target k to place))))))))) is)
   looks_nothing call is = refl
