@@ -16,8 +16,9 @@ use Rattle.kernel.specs.Steps.{Done, Ended, Executed, Halted, LineResult, Progra
 use Rattle.kernel.specs.Alike.{AlikeWorlds}
 use Rattle.kernel.specs.WellFormed.{IsCode, IsPoint, IsWellFormed}
 use Rattle.kernel.proofs.Fresh.{fresh_some}
+use Rattle.kernel.proofs.KeptWalks.{walk_fits}
 use Rattle.kernel.proofs.Points.{placed}
-use Rattle.syscalls.specs.MayCall.{CallComes, IsCall, MayCall}
+use Rattle.syscalls.specs.MayCall.{CallComes, MayInvoke}
 use Rattle.syscalls.specs.Shows.{Shown, shown}
 use Rattle.syscalls.proofs.Keeping.{alike_refl}
 use Rattle.simulator.specs.Lines.{line_at, shown_step}
@@ -110,18 +111,7 @@ module _ (w : World) (p : ℕ) (x next : ProcessState) (input : ℕ) (read : x �
   calls_unchanged Halt at calls is = absurd cc
   calls_unchanged (Invoke call otherwise) at calls is = unchanged (Invoke call otherwise) at refl is
 
-pub is_call : (i : Instruction) → Calls ≡ action i → IsCall i
-is_call (Set r value) is = absurd cc
-is_call (Mov r source) is = absurd cc
-is_call (Add r addend) is = absurd cc
-is_call (In r) is = absurd cc
-is_call (Jmp target) is = absurd cc
-is_call (Jeq r value target) is = absurd cc
-is_call (Jlt r value target) is = absurd cc
-is_call Halt is = absurd cc
-is_call (Invoke call otherwise) is = tt
-
-pub may_call : (w : World) (p : ℕ) (i : Instruction) → StandsAt w p i → Calls ≡ action i → MayCall w p
+pub may_call : (w : World) (p : ℕ) (i : Instruction) → StandsAt w p i → Calls ≡ action i → MayInvoke w p i
 may_call w p (Set r value) at is = absurd cc
 may_call w p (Mov r source) at is = absurd cc
 may_call w p (Add r addend) at is = absurd cc
@@ -130,7 +120,15 @@ may_call w p (Jmp target) at is = absurd cc
 may_call w p (Jeq r value target) at is = absurd cc
 may_call w p (Jlt r value target) at is = absurd cc
 may_call w p Halt at is = absurd cc
-may_call w p (Invoke call otherwise) at is = record { programs = at.programs; good = at.good; process = at.process; made = at.made; next = next_below w p _ at refl }
+may_call w p (Invoke call otherwise) at is = record {
+  programs = at.programs;
+  numbering = at.good.numbering;
+  good = at.good.world;
+  process = at.process;
+  made = at.made;
+  next = next_below w p _ at refl;
+  fits = walk_fits at.programs w at.good.walks p at.process call otherwise at.made at.here;
+}
 
 -- ## Instructions that are no calls
 alike_world : (w : World) (p : ℕ) (i : Instruction) → StandsAt w p i → (ps : List ProcessState) → AlikeWorlds (record w { processes = ps }) (record w { processes = ps })

@@ -16,7 +16,8 @@ use Rattle.task.specs.Limits.{is_plan}
 use Rattle.syscalls.specs.Views.{world_with}
 use Rattle.task.specs.Begins.{first_files, first_process, first_world}
 use Rattle.task.proofs.AsGiven.{first_is_first}
-use Rattle.task.proofs.FirstWorlds.{first_well_formed}
+use Rattle.kernel.specs.Walks.{IsWalkerIfMade}
+use Rattle.task.proofs.FirstWorlds.{first_well_formed, none_walks}
 use Rattle.simulator.specs.Starts.{Awaits, awaiting, gifts_from}
 use Rattle.simulator.proofs.Given.{all_given}
 
@@ -86,8 +87,15 @@ module _ (plan : Plan) (test : is_plan plan ≡ true) (w : World) (d : DiffersIn
   none_more None p none = λ n. d.files.table p n ∙ no_entry (first.files.table p n) (none n)
   none_more (Some s) p none = λ dead n. d.files.table p n ∙ no_entry (first.files.table p n) (none dead n)
 
+  resting : (p : ℕ) → IsWalkerIfMade (programs_of_plan plan) w.tree w.files.objects (w.files.table p) (slice_get w.processes p)
+  unfolding first_world
+  resting p =
+      subst (λ ps. IsWalkerIfMade (programs_of_plan plan) w.tree w.files.objects (w.files.table p) (slice_get ps p)) (sym d.processes)
+      (none_walks plan w.tree w.files.objects (w.files.table p) plan.starts p)
+
   pub started_good : IsWellFormed (programs_of_plan plan) w
   started_good = record {
+    walks = resting;
     numbering = numbering;
     world = record {
       tree = subst IsTree (sym d.tree) good.world.tree;

@@ -5,7 +5,7 @@ use Rattle.std.specs.Fmt.{decimal}
 use Rattle.rights.specs.Errors.{errno_name, cause_name}
 use Rattle.rights.specs.OperationLists.{operation_name}
 use Rattle.kernel.specs.Answers.{Event}
-use Rattle.kernel.specs.Steps.{LineResult, Done, Halted, Value, Failed, Waiting, Ended, Acted}
+use Rattle.kernel.specs.Steps.{LineResult, Done, Halted, Value, Failed, Waiting, Walks_on, Ended, Acted}
 use Rattle.syscalls.specs.Shows.{Shown}
 use Rattle.task.specs.Plans.{Plan, program_name}
 use Rattle.simulator.specs.Lines.{Line, ShownStep, line_at}
@@ -16,6 +16,7 @@ result_text Halted = codes "halt"
 result_text (Value n) = codes "= " ++ decimal n
 result_text (Failed errno cause) = codes "! " ++ errno_name errno ++ codes " " ++ cause_name cause
 result_text Waiting = codes "wait"
+result_text Walks_on = codes "walk"
 result_text Ended = codes "ended"
 
 -- ` read /work/in`

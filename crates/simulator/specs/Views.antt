@@ -1,7 +1,7 @@
 -- What the code's lines and actions stand for.
 use Rattle.std.specs.Option.{option_map}
 use Rattle.rights.specs.Views.{errno_of, cause_of}
-use Rattle.kernel.specs.Steps.{LineResult, Done, Halted, Value, Failed, Waiting, Ended}
+use Rattle.kernel.specs.Steps.{LineResult, Done, Halted, Value, Failed, Waiting, Walks_on, Ended}
 use Rattle.syscalls.specs.Views.{effects_of}
 use Rattle.simulator.specs.declared.lines.LineResult.{LineResult as LineResultCode}
 use Rattle.simulator.specs.declared.lines.LineResult.TheVariants as code
@@ -18,6 +18,7 @@ result_of code.Halted = Halted
 result_of (code.Value n) = Value n
 result_of (code.Failed errno cause) = Failed (errno_of errno) (cause_of cause)
 result_of code.Waiting = Waiting
+result_of code.Walking = Walks_on
 result_of code.Ended = Ended
 
 abbrev pub acted_of : ActedCode → ShownStep

@@ -25,7 +25,7 @@ fn go_on(process: &mut Process)
     requires { process.old.point + 1 < 256 }
     ensures { process.new ≡ steps.goes_on process.old }
 {
-    process.point += 1;
+    process.move_to(process.point + 1);
 }
 
 /// What a register holds.
@@ -51,7 +51,7 @@ fn jump(process: &mut Process, jumps: bool, target: u8)
     ensures { process.new ≡ steps.jumped process.old jumps target }
 {
     if jumps {
-        process.point = target;
+        process.move_to(target);
     } else {
         go_on(process);
     }
@@ -75,7 +75,7 @@ pub(crate) fn act(process: &mut Process, instruction: &Instruction, input: u8) -
             set_register(process, *register, sum);
         }
         Instruction::In { register } => set_register(process, *register, u32::from(input)),
-        Instruction::Jmp { target } => process.point = *target,
+        Instruction::Jmp { target } => process.move_to(*target),
         Instruction::Jeq {
             register,
             value,

@@ -17,6 +17,8 @@ pub enum LineResult {
     Value(u32),
     Failed(Errno, Cause),
     Waiting,
+    /// The call has looked one name of a path up, and has names left for later events.
+    Walking,
     /// The process had ended before.
     Ended,
 }
@@ -47,5 +49,6 @@ pub(crate) fn result_of_call(outcome: Outcome) -> LineResult
         Outcome::Value(value) => LineResult::Value(value),
         Outcome::Error(errno, cause) => LineResult::Failed(errno, cause),
         Outcome::Wait => LineResult::Waiting,
+        Outcome::Walk => LineResult::Walking,
     }
 }

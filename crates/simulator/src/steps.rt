@@ -50,7 +50,7 @@ fn halt<T: Tree>(alloc: Global, world: &mut World<T>, number: u8) -> Executed
 {
     world.files.close_all(number);
     let process = &mut world.processes[number as usize];
-    process.alive = false;
+    process.end();
     without_effects(alloc, LineResult::Halted)
 }
 

@@ -40,6 +40,7 @@ fn push_result(text: &mut Vec<u8>, outcome: LineResult) -> Result<(), AllocError
             text.extend_from_slice(cause.name().as_bytes())
         }
         LineResult::Waiting => text.extend_from_slice(b"wait"),
+        LineResult::Walking => text.extend_from_slice(b"walk"),
         LineResult::Ended => text.extend_from_slice(b"ended"),
     }
 }

@@ -121,7 +121,7 @@ first_is_world plan facts =
     }
 
 -- nothing is under way
-none_walks : (plan : Plan) (tree : List Node) (objects : ℕ → Object) (row : ℕ → Option Descriptor) (starts : List Start) (p : ℕ) →
+pub none_walks : (plan : Plan) (tree : List Node) (objects : ℕ → Object) (row : ℕ → Option Descriptor) (starts : List Start) (p : ℕ) →
     IsWalkerIfMade (programs_of_plan plan) tree objects row (slice_get (map first_process starts) p)
 none_walks plan tree objects row [] p = tt
 none_walks plan tree objects row (s ∷ starts) zero = record { lives = λ ended. refl; fits = tt }

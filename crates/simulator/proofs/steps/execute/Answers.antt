@@ -7,7 +7,7 @@ use Rattle.kernel.specs.Alike.{AlikeWorlds}
 use Rattle.kernel.specs.Steps.{halted}
 use Rattle.prog_asm.specs.Views.{instruction_of}
 use Rattle.syscalls.specs.CallViews.{result_of as outcome_of}
-use Rattle.syscalls.specs.MayCall.{CallComes, MayCall}
+use Rattle.syscalls.specs.MayCall.{CallComes, MayInvoke}
 use Rattle.syscalls.specs.Views.{effects_of, event_of, world_of, world_with}
 use Rattle.simulator.specs.Views.{result_of}
 use Rattle.simulator.proofs.Doing.{calls_unchanged, ends_unchanged, executes_called, executes_ended, executes_moved, made_few, made_within, may_call, needs_next}
@@ -26,9 +26,10 @@ halt-requires-clause-made g c =
 pub halt-requires-clause-few : goal.halt-requires-clause-few
 halt-requires-clause-few g c = made_few (world_of g.T.Tree.nodes c.args.world.now) c.args.event.process (instruction_of c.args.instruction.now) c.requires.stands
 
-pub call-requires-clause-may : goal.call-requires-clause-may
-call-requires-clause-may g c =
-    subst (λ (ps : List ProcessState). MayCall (world_with (g.T.Tree.nodes c.args.world.now.tree) (open_files c.args.world.now.files) ps) c.args.event.process)
+pub call-requires : goal.call-requires
+call-requires g c =
+    subst (λ (ps : List ProcessState). MayInvoke (world_with (g.T.Tree.nodes c.args.world.now.tree) (open_files c.args.world.now.files) ps) c.args.event.process
+    (instruction_of c.args.instruction.now))
     (sym (calls_unchanged (world_of g.T.Tree.nodes c.args.world.now) c.args.event.process c.index_mut.result.now c.act.new.process c.args.event.input
     c.index_mut.ensures.value (instruction_of c.args.instruction.now) c.requires.stands c.in-Calls.ensures.action c.in-Calls.ensures.process))
     (may_call (world_of g.T.Tree.nodes c.args.world.now) c.args.event.process (instruction_of c.args.instruction.now) c.requires.stands c.in-Calls.ensures.action)
