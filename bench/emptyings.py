@@ -3,7 +3,7 @@ name, the text that is replaced, what stands there then, and what has to be refu
 no name is given, any refusal is one: then the crate's proofs use the clause."""
 
 ALL = "Some (record { description = 0; rights = all_rights; fcntls = all_commands })"
-NEW_CALLER = "record { program = 0; point = 0; registers = []; mode = false; alive = true }"
+NEW_CALLER = "record { program = 0; point = 0; registers = []; mode = false; alive = true; walk = None }"
 OWN = "IsOwn (record c.state { mode = false }) Socketpair (record d { rights = all_rights; fcntls = all_commands })"
 BOTH = "(Unit {0} × Unit {0})"
 INSTANCES = "nothing_comes_from_elsewhere"

@@ -19,4 +19,9 @@ fn a_child_has_its_parents_mode(rt: HostRuntime) {
     assert!(rt; (child.program, child.point) == (3, 7));
     assert!(rt; child.registers == [0, 2, 3, 4, 5, 6, 7, 8]);
     assert!(rt; parent.registers[0] == 1);
+    assert!(rt; !parent.is_walking() && parent.take_walk().is_none());
+    parent.move_to(9);
+    assert!(rt; parent.point == 9);
+    parent.end();
+    assert!(rt; !parent.alive);
 }

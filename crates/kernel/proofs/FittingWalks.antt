@@ -6,7 +6,8 @@ use Rattle.lookup.specs.UnderWay.{IsUnderWay}
 use Rattle.process.specs.State.{ProcessState, Walking, One, Two}
 use Rattle.prog_asm.specs.Programs.{Operand, Syscall}
 use Rattle.fd_table.specs.Descriptions.{Object, Descriptor}
-use Rattle.kernel.specs.Walks.{FitsIfWalking, From_directories, From_directory, From_root, IfOne, IfTwo, No_path, lookups_of}
+use Rattle.kernel.specs.Walks.{FitsIfWalking, From_directories, From_directory, From_root, IfOne, IfTwo, IsDirectory, No_path, lookups_of}
+use Rattle.kernel.specs.Answers.{value_of}
 
 module _ (tree : List Node) (objects : ℕ → Object) (row : ℕ → Option Descriptor) (s : ProcessState) where
   abbrev IsFit : Syscall → Option Walking → Type 0
@@ -32,3 +33,14 @@ module _ (tree : List Node) (objects : ℕ → Object) (row : ℕ → Option Des
   pub none_under : (call : Syscall) (o : Option Walking) → lookups_of call ≡ No_path → IsFit call o → o ≡ None
   none_under call None is fits = refl
   none_under call (Some walking) is fits = let never = rw is at fits in absurd never
+
+  -- its descriptors are of directories
+  pub directory_start : (call : Syscall) (x : Operand) (path : List ℕ) (last : Last) (walking : Walking) → lookups_of call ≡ From_directory x path last →
+      IsFit call (Some walking) → IsDirectory tree objects (row (value_of s x))
+  directory_start call x path last (One walk) is fits = let both = rw is at fits in both.0
+  directory_start call x path last (Two one other) is fits = let never = rw is at fits in absurd never
+
+  pub both_starts : (call : Syscall) (x : Operand) (from : List ℕ) (y : Operand) (to : List ℕ) (walking : Walking) → lookups_of call ≡ From_directories x from y to →
+      IsFit call (Some walking) → IsDirectory tree objects (row (value_of s x)) × IsDirectory tree objects (row (value_of s y))
+  both_starts call x from y to (One walk) is fits = let never = rw is at fits in absurd never
+  both_starts call x from y to (Two one other) is fits = let all = rw is at fits in (all.0, all.1)

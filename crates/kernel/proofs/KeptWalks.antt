@@ -26,7 +26,7 @@ use Rattle.kernel.proofs.Later.{object-kept}
 use Rattle.kernel.proofs.Trees.{kinds_kept}
 
 -- the others of a list where one is set, and one more behind it
-set_other_cases : {A : Type 0} (Q : Option A → Type 0) (xs : List A) (p : ℕ) (v : A) (m : ℕ) → Q None → (m ≡ p → Q (Some v)) → (m ≢ p → Q (slice_get xs m)) →
+pub set_other_cases : {A : Type 0} (Q : Option A → Type 0) (xs : List A) (p : ℕ) (v : A) (m : ℕ) → Q None → (m ≡ p → Q (Some v)) → (m ≢ p → Q (slice_get xs m)) →
     Q (slice_get (slice_set xs p v) m)
 set_other_cases Q [] p v m none here there = none
 set_other_cases Q (x ∷ xs) zero v zero none here there = here refl
@@ -138,7 +138,7 @@ module _ (programs : Programs) (w : World) (walkers : AreWalkers programs w) (p 
       (λ other. subst (λ row. IsWalkerIfMade programs w.tree w.files.objects row (slice_get w.processes q)) (sym (put-other w.files.table p (λ n. None) q other)) (walkers q))
 
 -- the tables of others stay
-table-kept : (f : ℕ → ℕ → Option Descriptor) (p made : ℕ) (choice : Choice) (table : TableChange) (q : ℕ) → q ≢ p → q ≢ made → table_after f p made choice table q ≡ f q
+pub table-kept : (f : ℕ → ℕ → Option Descriptor) (p made : ℕ) (choice : Choice) (table : TableChange) (q : ℕ) → q ≢ p → q ≢ made → table_after f p made choice table q ≡ f q
 table-kept f p made choice Same_table q other below = refl
 table-kept f p made choice (Set_entry number d) q other below = put-other f p _ q other
 table-kept f p made choice (Clear_entry number) q other below = put-other f p _ q other

@@ -17,6 +17,7 @@ pub mod Points
 pub mod Later
 pub mod KeptWalks
 pub mod Keeping
+pub mod LaterEvents
 pub mod Opens
 pub mod Renamed
 pub mod ChangedAlike

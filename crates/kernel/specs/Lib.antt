@@ -6,6 +6,7 @@ pub mod Steps
 pub mod Walks
 pub mod Origins
 pub mod WellFormed
+pub mod LaterEvents
 pub mod Runs
 pub mod Renamings
 pub mod Alike

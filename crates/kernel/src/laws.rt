@@ -3,6 +3,7 @@
 ghost use Rattle.kernel.specs.Alike.{AlikeWorldsActAlike, AlikeWorldsShareNumbers, AlikeWorldsTwice};
 ghost use Rattle.kernel.specs.Gainful.{NothingComesFromElsewhere};
 ghost use Rattle.kernel.specs.Gains.{NoRunGains};
+ghost use Rattle.kernel.specs.LaterEvents.{LaterEventsFailLate};
 ghost use Rattle.kernel.specs.Renamings.{NumbersAreIgnoredTwice, NumbersDoNotMatter};
 ghost use Rattle.kernel.specs.Runs.{AlikeWorldsRunAlike, FreshNumbersExist, NextWorldExists, RunExists, RunsShowTheSame, RunsShowTheSameLines, WellFormedWorldExists};
 ghost use Rattle.kernel.specs.Scans.{LookupsCompute, OpenEndsAreNamed, WalksArrive};
@@ -109,4 +110,11 @@ pub fn walks_arrive()
 /// where some entry or some queued message names it.
 pub fn open_ends_are_named()
     ensures { OpenEndsAreNamed }
+{}
+
+/// Each event of a call asks the mode, the descriptors, their rights and what they are of. In every run from a well-formed world in
+/// which nobody has a lookup under way, that makes a difference at the first event alone: a later one fails for such a cause only
+/// where a rename's second descriptor lacks the right to remove what it would replace, which is asked once both paths are found.
+pub fn later_events_fail_late()
+    ensures { LaterEventsFailLate }
 {}

@@ -122,16 +122,21 @@ e: halt
 '''
 ";
 
-/// An event of process 0 for each of its thirteen instructions.
+/// The events of process 0: one for each of its thirteen instructions, and one more for each name or link that a path has before
+/// its last name.
 pub(super) const EVENTS: &[u8] =
-    b"0 0\n0 0\n0 0\n0 0\n0 0\n0 0\n0 0\n0 0\n0 0\n0 0\n0 0\n0 0\n0 0\n";
+    b"0 0\n0 0\n0 0\n0 0\n0 0\n0 0\n0 0\n0 0\n0 0\n0 0\n0 0\n0 0\n0 0\n0 0\n0 0\n0 0\n0 0\n0 0\n";
 
 /// The same, with one more that has no byte.
 pub(super) const NO_BYTE: &[u8] =
-    b"0 0\n0 0\n0 0\n0 0\n0 0\n0 0\n0 0\n0 0\n0 0\n0 0\n0 0\n0 0\n0 0\n0\n";
+    b"0 0\n0 0\n0 0\n0 0\n0 0\n0 0\n0 0\n0 0\n0 0\n0 0\n0 0\n0 0\n0 0\n0 0\n0 0\n0 0\n0 0\n0 0\n0\n";
 
 /// What these events show.
-pub(super) const TRACE: &[u8] = b"0 main:0 = 0 create /log/directory
+pub(super) const TRACE: &[u8] = b"0 main:0 walk
+0 main:0 walk
+0 main:0 walk
+0 main:0 = 0 create /log/directory
+0 main:1 walk
 0 main:1 = 0 create /log/directory/file
 0 main:2 = 1 write /log/directory/file
 0 main:3 = 0 remove /log/directory create /log/another_directory
@@ -142,6 +147,7 @@ pub(super) const TRACE: &[u8] = b"0 main:0 = 0 create /log/directory
 0 main:8 = 0
 0 main:9 = 44 read /log/another_directory/file
 0 main:10 = 1
+0 main:11 walk
 0 main:11 = 0 remove /log/another_directory/file
 0 main:12 halt
 ";
