@@ -12,7 +12,7 @@ use Rattle.process.specs.State.{Walking, ProcessState}
 use Rattle.prog_asm.specs.Programs.{Operand, Register, Number}
 use Rattle.fd_table.specs.Descriptions.{Access, PairClass, Object, At_node, At_end, State, Descriptor, Message}
 
--- One event is one instruction of one process: its number, the byte that it may be given, and whether
+-- One event is one step of one process: its number, the byte that it may be given, and whether
 -- the kernel refuses where it may. (own)
 pub record Event : Type 0 where
   pub process : ProcessNumber

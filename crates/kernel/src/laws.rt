@@ -95,13 +95,13 @@ pub fn a_well_formed_world_exists()
     ensures { WellFormedWorldExists }
 {}
 
-/// What a path leads to, as a relation, is what the model's function gives: so the calls, which ask the function, ask the
-/// relation. (open(2))
+/// What a path leads to on one tree, as a relation, is what the model's function gives. (open(2))
 pub fn lookups_compute()
     ensures { LookupsCompute }
 {}
 
-/// A lookup that takes an event for each name comes on one tree to what the path leads to, and to nothing else. (own)
+/// A lookup that takes an event for each name, as those of the calls do, comes on one tree to what the path leads to, and to
+/// nothing else. (own)
 pub fn walks_arrive()
     ensures { WalksArrive }
 {}

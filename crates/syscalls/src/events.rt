@@ -1,6 +1,6 @@
 //! Events.
 
-/// One instruction of one process. (own)
+/// One step of one process: an instruction, or one name of a call's path. (own)
 #[derive(Clone, Copy, PartialEq, Eq)]
 pub struct Event {
     /// The number of the process, 0 to 15.
