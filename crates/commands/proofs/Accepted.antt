@@ -4,13 +4,13 @@ use Rattle.std.specs.Prelude.{None}
 use Rattle.std.proofs.Math.Decide.{ℕ_discrete}
 use Rattle.std.specs.Fmt.{digits}
 use Rattle.certificate.specs.Bounds.{Certificate, bound_in}
-use Rattle.file_tree.specs.Nodes.{node_at}
+use Rattle.file_tree.specs.Nodes.{child_of, node_at, parent_of}
 use Rattle.file_tree.specs.Changes.{removed, filled}
 use Rattle.file_tree.specs.WellFormed.{is_within_limits}
 use Rattle.lookup.specs.Paths.{last_component, path_fault}
-use Rattle.lookup.specs.Steps.{looked}
-use Rattle.lookup.specs.ByPlaces.{by_places}
-use Rattle.lookup.specs.Looks.{lookup_fault, find_of}
+use Rattle.lookup.specs.ByNodes.{by_nodes}
+use Rattle.lookup.specs.Walks.{first_handled, handled}
+use Rattle.lookup.specs.Looks.{lookup_fault}
 use Rattle.fd_table.specs.OpenFiles.{any_below, lowest_from}
 use Rattle.kernel.specs.Answers.{AreEvents, unless, held, at_object, at_number}
 use Rattle.kernel.specs.Calls.{answer, looks, looks_twice}
@@ -58,8 +58,8 @@ unfolding first_found found_at found_with tests tests_without bound_in grant_nam
 passing_meets = refl
 
 passing_shows : AlwaysShows passing_plan (turns (0 ∷ 0 ∷ 1 ∷ 1 ∷ [])) (codes "0 main:0 = 0\n0 main:1 = 1\n1 child:0 = 1\n1 child:1 = 2\n")
-unfolding ℕ_discrete digits removed filled find_of looks looks_twice lookup_fault path_fault path_components last_component looked by_places node_at
-    unless held at_object at_number any_below lowest_from answer files_after changed answered jumped executed stepped_at stepped_by stepped step
+unfolding ℕ_discrete digits removed filled first_handled handled looks looks_twice lookup_fault path_fault path_components last_component by_nodes node_at
+    child_of parent_of unless held at_object at_number any_below lowest_from answer files_after changed answered jumped executed stepped_at stepped_by stepped step
     first_world first_files
 passing_shows = always passing_plan (turns (0 ∷ 0 ∷ 1 ∷ 1 ∷ [])) (codes "0 main:0 = 0\n0 main:1 = 1\n1 child:0 = 1\n1 child:1 = 2\n") (λ choose. refl)
 
@@ -75,8 +75,8 @@ unfolding first_found found_at found_with tests tests_without bound_in grant_nam
 forking_meets = refl
 
 forking_shows : AlwaysShows forking_plan (turns (0 ∷ 0 ∷ 1 ∷ 1 ∷ [])) (codes "0 main:0 = 0\n0 main:1 = 1\n1 main:2 ok\n1 main:4 = 2\n")
-unfolding ℕ_discrete digits removed filled find_of looks looks_twice lookup_fault path_fault path_components last_component looked by_places node_at
-    unless held at_object at_number any_below lowest_from answer files_after changed answered jumped executed stepped_at stepped_by stepped step
+unfolding ℕ_discrete digits removed filled first_handled handled looks looks_twice lookup_fault path_fault path_components last_component by_nodes node_at
+    child_of parent_of unless held at_object at_number any_below lowest_from answer files_after changed answered jumped executed stepped_at stepped_by stepped step
     first_world first_files
 forking_shows = always forking_plan (turns (0 ∷ 0 ∷ 1 ∷ 1 ∷ [])) (codes "0 main:0 = 0\n0 main:1 = 1\n1 main:2 ok\n1 main:4 = 2\n") (λ choose. refl)
 
@@ -91,11 +91,11 @@ renaming_meets : first_found renaming_plan renaming_certificate ≡ None
 unfolding first_found found_at found_with tests tests_without bound_in grant_named slots_in free_numbers uses channel_at successes error_outcomes
 renaming_meets = refl
 
-renaming_shows : AlwaysShows renaming_plan (turns (0 ∷ 0 ∷ [])) (codes "0 main:0 = 0\n0 main:1 = 0 remove /work/in create /work/out/in\n")
-unfolding ℕ_discrete digits removed filled find_of looks looks_twice lookup_fault path_fault path_components last_component looked by_places node_at
-    unless held at_object at_number any_below lowest_from answer files_after changed answered jumped executed stepped_at stepped_by stepped step
+renaming_shows : AlwaysShows renaming_plan (turns (0 ∷ 0 ∷ 0 ∷ [])) (codes "0 main:0 = 0\n0 main:1 walk\n0 main:1 = 0 remove /work/in create /work/out/in\n")
+unfolding ℕ_discrete digits removed filled first_handled handled looks looks_twice lookup_fault path_fault path_components last_component by_nodes node_at
+    child_of parent_of unless held at_object at_number any_below lowest_from answer files_after changed answered jumped executed stepped_at stepped_by stepped step
     first_world first_files
-renaming_shows = always renaming_plan (turns (0 ∷ 0 ∷ [])) (codes "0 main:0 = 0\n0 main:1 = 0 remove /work/in create /work/out/in\n") (λ choose. refl)
+renaming_shows = always renaming_plan (turns (0 ∷ 0 ∷ 0 ∷ [])) (codes "0 main:0 = 0\n0 main:1 walk\n0 main:1 = 0 remove /work/in create /work/out/in\n") (λ choose. refl)
 
-pub renaming : ActsAccepted renaming_plan renaming_certificate (0 ∷ 0 ∷ []) (codes "0 main:0 = 0\n0 main:1 = 0 remove /work/in create /work/out/in\n")
-renaming = accepted renaming_plan renaming_certificate (0 ∷ 0 ∷ []) _ renaming_is_task renaming_meets renaming_shows
+pub renaming : ActsAccepted renaming_plan renaming_certificate (0 ∷ 0 ∷ 0 ∷ []) (codes "0 main:0 = 0\n0 main:1 walk\n0 main:1 = 0 remove /work/in create /work/out/in\n")
+renaming = accepted renaming_plan renaming_certificate (0 ∷ 0 ∷ 0 ∷ []) _ renaming_is_task renaming_meets renaming_shows

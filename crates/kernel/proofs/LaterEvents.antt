@@ -116,7 +116,7 @@ asked_on row s o call is = tt
 -- ## The later ones
 late : (row : ℕ → Option Descriptor) (s : ProcessState) (call : Syscall) (errno : Errno) (cause : Cause) → is_early cause ≡ false → FailsLate row s call (Fails errno cause)
 unfolding FailsLate
-late row s call errno cause no = λ early. absurd (let clash : false ≡ true = sym no ∙ early in cc)
+late row s call errno cause behind = λ early. absurd (let clash : false ≡ true = sym behind ∙ early in cc)
 
 module _ (w : World) (p : ℕ) (s : ProcessState) (e : Event) (call : Syscall) where
   abbrev Late : Answer → Type 0
@@ -132,8 +132,8 @@ module _ (w : World) (p : ℕ) (s : ProcessState) (e : Event) (call : Syscall) w
 
   late-unless : (test : Bool) (errno : Errno) (cause : Cause) (rest : Answer) → is_early cause ≡ false → Late rest → Late (unless test errno cause rest)
   unfolding unless
-  late-unless true errno cause rest no goes = goes
-  late-unless false errno cause rest no goes = late (w.files.table p) s call errno cause no
+  late-unless true errno cause rest behind goes = goes
+  late-unless false errno cause rest behind goes = late (w.files.table p) s call errno cause behind
 
   late-passed : (test : Bool) (errno : Errno) (cause : Cause) (rest : Answer) → test ≡ true → Late rest → Late (unless test errno cause rest)
   unfolding unless
