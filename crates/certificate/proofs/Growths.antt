@@ -1,10 +1,11 @@
 -- Lines that are taken after others.
-use Rattle.std.proofs.Common.{◌≡◌, ◌++◌, List, [], ◌∷◌, refl}
+use Rattle.std.proofs.Common.{◌≡◌, ◌++◌, List, [], ◌∷◌, refl, sym, ◌∙◌}
 use Rattle.std.specs.Prelude.{Option, Some, None, Result, Ok, Err}
-use Rattle.certificate.specs.Bounds.{PointBound, Certificate}
+use Rattle.std.specs.List.{flat_map}
+use Rattle.certificate.specs.Bounds.{PointBound, Authority, Certificate}
 use Rattle.certificate.specs.Growth.{Refused, taken}
-use Rattle.certificate.specs.Lines.{Line, block_lines}
-use Rattle.certificate.specs.Growths.{grown, grown_behind, grown_by, then_grown}
+use Rattle.certificate.specs.Lines.{Line, authority_lines, block_lines}
+use Rattle.certificate.specs.Growths.{grown, grown_behind, grown_by, grown_with, then_grown}
 
 behind : (lines more : List Line) → ((d : Certificate) → grown (lines ++ more) d ≡ then_grown (grown more) (grown lines d))
     → (r : Result Certificate Refused) → grown_behind (grown (lines ++ more)) r ≡ then_grown (grown more) (grown_behind (grown lines) r)
@@ -25,3 +26,15 @@ pub by_append : (points more : List PointBound) (c : Certificate) → grown_by (
 unfolding grown_by
 by_append [] more c = refl
 by_append (b ∷ points) more c = by-behind points more (by_append points more) (grown (block_lines b) c)
+
+with-behind : (authorities : List Authority) → ((d : Certificate) → grown_with authorities d ≡ grown (flat_map authority_lines authorities) d)
+    → (o : Option Certificate) → then_grown (grown_with authorities) o ≡ then_grown (grown (flat_map authority_lines authorities)) o
+with-behind authorities same (Some c) = same c
+with-behind authorities same None = refl
+
+-- Authorities are taken line by line.
+pub with_lines : (authorities : List Authority) (c : Certificate) → grown_with authorities c ≡ grown (flat_map authority_lines authorities) c
+unfolding grown_with grown
+with_lines [] c = refl
+with_lines (a ∷ authorities) c =
+    with-behind authorities (with_lines authorities) (grown (authority_lines a) c) ∙ sym (grown_append (authority_lines a) (flat_map authority_lines authorities) c)
