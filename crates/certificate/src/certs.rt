@@ -26,6 +26,21 @@ pub enum Version {
     Three,
 }
 
+impl Version {
+    ghost use Rattle.certificate.specs.Bounds.{has_authorities};
+    ghost use Rattle.certificate.specs.Views.{version_of};
+
+    /// Whether programs have authorities in it.
+    pub fn has_authorities(self) -> bool
+        ensures { result ≡ has_authorities (version_of self) }
+    {
+        match self {
+            Version::One | Version::Two => false,
+            Version::Three => true,
+        }
+    }
+}
+
 /// A certificate, valid by construction: it is what lines make of nothing, each taken in its place and within the limits. A
 /// point that is not listed is claimed not to be reached. (own)
 #[derive(Drop)]
