@@ -9,7 +9,7 @@ use Rattle.rights.specs.Classes.{Class}
 use Rattle.rights.specs.Limits.{most_programs}
 use Rattle.certificate.specs.Order.{same_class}
 use Rattle.certificate.specs.Bounds.{Authority, Ceiling, End, Certificate, ChannelBound, PointBound, Version, has_authorities}
-use Rattle.certificate.specs.Lines.{Line, Begins_block, Bounds_register, Bounds_slot, Bounds_channel, Begins_authority, Bounds_grant, Holds_end, authority_lines, is_of_version}
+use Rattle.certificate.specs.Lines.{Line, Begins_block, Bounds_register, Bounds_slot, Bounds_channel, Begins_authority, Bounds_grant, Holds_end, authority_lines, is_of_version, rest_lines}
 use Rattle.certificate.specs.Growth.{IsCertificate, begins, grows, above_blocks, above_ceilings, above_channels, above_ends, classes_held, classes_in_line, classes_of, classes_of_ends}
 use Rattle.certificate.specs.Growth.{distinct, distinct_behind, has_none, most_classes, may_bound_register, may_bound_slot, open_authority, programs_in_line, programs_named, programs_of_authority, programs_of_block}
 use Rattle.certificate.specs.Growth.{programs_of_channel, programs_of_end, stands, with_ceiling, with_end, with_line}
@@ -24,9 +24,6 @@ is_behind_blocks (Bounds_channel channel) = true
 is_behind_blocks (Begins_authority program) = true
 is_behind_blocks (Bounds_grant ceiling) = true
 is_behind_blocks (Holds_end held) = true
-
-abbrev pub rest_lines : Certificate → List Line
-rest_lines c = map Bounds_channel c.channels ++ flat_map authority_lines c.authorities
 
 -- what an authority's ceilings and ends ask of it
 abbrev pub takes_ceiling : Ceiling → Authority → Bool

@@ -12,7 +12,7 @@ use Rattle.rights.specs.Limits.{most_descriptors, most_programs, register_count}
 use Rattle.certificate.specs.Bounds.{ModeBound, Interval, Slot, Closed, Open, Maybe, Bound, PointBound, ChannelBound, Ceiling, End, Authority, Version, Certificate, full_interval, with_interval, with_slot}
 use Rattle.certificate.specs.Order.{same_class}
 use Rattle.certificate.specs.Lines.{Line, Begins_block, Bounds_register, Bounds_slot, Bounds_channel, Begins_authority, Bounds_grant, Holds_end, authority_lines, block_lines, is_closed, is_full}
-use Rattle.certificate.specs.Lines.{register_lines, slot_lines}
+use Rattle.certificate.specs.Lines.{register_lines, rest_lines, slot_lines}
 use Rattle.certificate.specs.Growth.{Refused, above_blocks, all_from, classes_in_line, classes_of, copies, distinct, distinct_behind, most_classes, empty, on_last, programs_in_line, programs_named}
 use Rattle.certificate.specs.Growth.{programs_of_authority, programs_of_block, programs_of_channel, programs_of_slot, stands, taken, with_line}
 use Rattle.certificate.specs.Growths.{IsGrown, grown, grown_behind, then_grown}
@@ -20,7 +20,7 @@ use Rattle.certificate.specs.Rising.{places_of, precedes, rises}
 use Rattle.certificate.proofs.Fewer.{among_both, among_split, are_among, is_among}
 use Rattle.certificate.proofs.Fits.{among_block, among_blocks, is_fit, is_fit_point, is_fit_slot, room_for, slots_among}
 use Rattle.certificate.proofs.Growing.{and_left, and_right, both_true, le_true, taken-back, taken_ok}
-use Rattle.certificate.proofs.Behind.{is_behind_blocks, rest_lines, rest_named, rest_names}
+use Rattle.certificate.proofs.Behind.{is_behind_blocks, rest_named, rest_names}
 use Rattle.certificate.proofs.Growths.{grown_append}
 use Rattle.certificate.proofs.Last.{may_bound_register-last, may_bound_slot-last}
 use Rattle.certificate.proofs.Rising.{rises_front}
@@ -317,7 +317,6 @@ makes_itself names c fits =
     let all = ap (are_among names) (append-nil (flat_map programs_of_block c.points ++ []) ∙ append-nil (flat_map programs_of_block c.points)) ∙ blocks in
     let own = ap (are_among names) (rest_names c)
     ∙ among_both names (flat_map programs_of_channel c.channels) (flat_map programs_of_authority c.authorities) fits.among fits.holders in
-    ap (λ lines. grown lines (empty c.version)) (append_assoc (flat_map block_lines c.points) (map Bounds_channel c.channels) (flat_map authority_lines c.authorities))
-    ∙ grown_append (flat_map block_lines c.points) (rest_lines c) (empty c.version)
+    grown_append (flat_map block_lines c.points) (rest_lines c) (empty c.version)
     ∙ ap (then_grown (grown (rest_lines c))) (points_grown c.version names fits.few [] c.points refl fits.fit fits.up)
     ∙ rest_grown c.version c.points names fits.few (rest_lines c) (empty c.version) (beside c.version [] c) (rest_behind c) (fits.rest c.version) all own

@@ -8,7 +8,7 @@ use Rattle.std.proofs.lemmas.List.Folds.{list_all-append}
 use Rattle.rights.specs.Limits.{most_descriptors, most_programs, register_count}
 use Rattle.certificate.specs.Bounds.{Bound, PointBound, Version, Certificate, with_interval, with_slot}
 use Rattle.certificate.specs.Order.{same_class}
-use Rattle.certificate.specs.Lines.{Line, Begins_block, Bounds_register, Bounds_slot, Bounds_channel, Begins_authority, Bounds_grant, Holds_end}
+use Rattle.certificate.specs.Lines.{Line, Begins_block, Bounds_register, Bounds_slot, Bounds_channel, Begins_authority, Bounds_grant, Holds_end, rest_lines}
 use Rattle.certificate.specs.Growth.{IsCertificate, begins, grows, classes_in_line, classes_of, distinct, distinct_behind, empty, most_classes, on_last, open_bound}
 use Rattle.certificate.specs.Growth.{programs_in_line, programs_named, programs_of_authority, programs_of_block, programs_of_channel, programs_of_slot, taken, with_line}
 use Rattle.certificate.specs.Growths.{IsGrown, grown, grown_behind, then_grown}
@@ -16,7 +16,7 @@ use Rattle.certificate.proofs.Fewer.{among_both, among_own, among_split, are_amo
 use Rattle.certificate.proofs.Fits.{all_together, is_fit, is_fit_point, is_fit_slot}
 use Rattle.certificate.proofs.Growing.{and_left, and_right, both_true, le_true, taken-back}
 use Rattle.certificate.proofs.Growths.{grown_append}
-use Rattle.certificate.proofs.Behind.{is_behind_blocks, rest_grows, rest_lines}
+use Rattle.certificate.proofs.Behind.{is_behind_blocks, rest_grows}
 use Rattle.certificate.proofs.Made.{programs_made}
 use Rattle.certificate.proofs.Makes.{Fits, beside, makes_itself, taken_beside}
 use Rattle.certificate.proofs.Rising.{certificates_rise}

@@ -137,5 +137,9 @@ block_lines b = Begins_block b.program b.point b.bound.mode ∷ (register_lines 
 abbrev pub authority_lines : Authority → List Line
 authority_lines a = Begins_authority a.program ∷ (map Bounds_grant a.ceilings ++ map Holds_end a.holds)
 
+-- what stands behind blocks
+abbrev pub rest_lines : Certificate → List Line
+rest_lines c = map Bounds_channel c.channels ++ flat_map authority_lines c.authorities
+
 abbrev pub lines_of : Certificate → List Line
-lines_of c = flat_map block_lines c.points ++ map Bounds_channel c.channels ++ flat_map authority_lines c.authorities
+lines_of c = flat_map block_lines c.points ++ rest_lines c

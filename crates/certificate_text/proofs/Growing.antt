@@ -10,8 +10,8 @@ use Rattle.certificate.specs.Bounds.{Interval, Slot, Bound, PointBound, ChannelB
 use Rattle.certificate.specs.Growth.{IsCertificate, begins, grows, all_from, has_none, has_room, may_bound_register, may_bound_slot, on_last, open_bound, No_room, Out_of_order, stands}
 use Rattle.certificate.specs.Growth.{taken, with_line}
 use Rattle.certificate.proofs.LastOnes.{behind_nothing}
-use Rattle.certificate.proofs.Behind.{block_stands, is_behind_blocks, no_authorities, no_channels, rest_grows, rest_lines}
-use Rattle.certificate.specs.Lines.{Line, Begins_block, Bounds_register, Bounds_slot, Bounds_channel, Begins_authority, Bounds_grant, Holds_end, authority_lines, block_lines, is_bound_slot, is_closed, is_full, is_line, lines_of, register_lines}
+use Rattle.certificate.proofs.Behind.{block_stands, is_behind_blocks, no_authorities, no_channels, rest_grows}
+use Rattle.certificate.specs.Lines.{Line, Begins_block, Bounds_register, Bounds_slot, Bounds_channel, Begins_authority, Bounds_grant, Holds_end, authority_lines, block_lines, is_bound_slot, is_closed, is_full, is_line, lines_of, register_lines, rest_lines}
 use Rattle.certificate.specs.Lines.{slot_lines}
 
 -- each block has eight registers and sixteen slots
@@ -203,12 +203,11 @@ blocks-begin points program point mode = flat_map-append block_lines points ((re
 -- CERTIFICATES
 
 -- where nothing stands behind blocks, a line of the blocks is the last one
-behind-blocks : (before after channels authorities : List Line) (line : Line) → channels ≡ [] → authorities ≡ [] → after ≡ before ++ line ∷ []
-    → (after ++ channels) ++ authorities ≡ ((before ++ channels) ++ authorities) ++ line ∷ []
-behind-blocks before after channels authorities line no_channels no_authorities more =
-    ap (λ lines. (lines ++ channels) ++ authorities) more
-    ∙ ap (λ lines. lines ++ authorities) (behind_nothing before (line ∷ []) channels no_channels)
-    ∙ behind_nothing (before ++ channels) (line ∷ []) authorities no_authorities
+behind-blocks : (before after rest : List Line) (line : Line) → rest ≡ [] → after ≡ before ++ line ∷ [] → after ++ rest ≡ (before ++ rest) ++ line ∷ []
+behind-blocks before after rest line nothing more = ap (λ lines. lines ++ rest) more ∙ behind_nothing before (line ∷ []) rest nothing
+
+no-rest : (c : Certificate) → c.channels ≡ [] → c.authorities ≡ [] → rest_lines c ≡ []
+no-rest c no_channels no_authorities = λ i. map Bounds_channel (no_channels i) ++ flat_map authority_lines (no_authorities i)
 
 -- a slot that a line bounds isn't closed
 open-slot : (s : Slot) → is_bound_slot s ≡ true → is_closed s ≡ false
@@ -220,31 +219,26 @@ open-slot (Maybe h) is = refl
 behind-lines : (c : Certificate) (line : Line) → is_behind_blocks line ≡ true → stands c line ≡ true → (with_line c line).points ≡ c.points
     → lines_of (with_line c line) ≡ lines_of c ++ line ∷ []
 behind-lines c line behind stand same =
-    let made = with_line c line in
-    let blocks = flat_map block_lines c.points in
-    append_assoc (flat_map block_lines made.points) (map Bounds_channel made.channels) (flat_map authority_lines made.authorities)
-    ∙ (λ i. flat_map block_lines (same i) ++ rest_grows c line behind stand i)
-    ∙ sym (append_assoc blocks (rest_lines c) (line ∷ []))
-    ∙ ap (λ lines. lines ++ line ∷ []) (sym (append_assoc blocks (map Bounds_channel c.channels) (flat_map authority_lines c.authorities)))
+    (λ i. flat_map block_lines (same i) ++ rest_grows c line behind stand i) ∙ sym (append_assoc (flat_map block_lines c.points) (rest_lines c) (line ∷ []))
 
 grown-lines : (c : Certificate) (line : Line) → AreWhole c.points → is_line line ≡ true → stands c line ≡ true → lines_of (with_line c line) ≡ lines_of c ++ line ∷ []
 grown-lines c (Begins_block program point mode) whole is stand =
-    behind-blocks (flat_map block_lines c.points) _ (map Bounds_channel c.channels) (flat_map authority_lines c.authorities) (Begins_block program point mode)
-    (ap (map Bounds_channel) (no_channels c _ stand)) (ap (flat_map authority_lines) (no_authorities c _ stand)) (blocks-begin c.points program point mode)
+    behind-blocks (flat_map block_lines c.points) _ (rest_lines c) (Begins_block program point mode)
+    (no-rest c (no_channels c _ stand) (no_authorities c _ stand)) (blocks-begin c.points program point mode)
 grown-lines c (Bounds_register register interval) whole is stand =
     let parts = and_parts _ _ is in
     let numbers = and_parts (nat_lt register 8) _ parts.1 in
     let proper = and_parts _ (not (is_full interval)) parts.0 in
-    behind-blocks (flat_map block_lines c.points) _ (map Bounds_channel c.channels) (flat_map authority_lines c.authorities) (Bounds_register register interval)
-    (ap (map Bounds_channel) (no_channels c _ stand)) (ap (flat_map authority_lines) (no_authorities c _ stand)) (
+    behind-blocks (flat_map block_lines c.points) _ (rest_lines c) (Bounds_register register interval)
+    (no-rest c (no_channels c _ stand) (no_authorities c _ stand)) (
     blocks-register c.points register interval whole (ltb-true register 8 numbers.0) (block_stands c _ stand) (not_true (is_full interval) proper.1)
     )
 grown-lines c (Bounds_slot number slot) whole is stand =
     let parts = and_parts _ _ is in
     let names = and_parts _ (is_bound_slot slot) parts.0 in
     let numbers = and_parts (nat_lt number 16) _ parts.1 in
-    behind-blocks (flat_map block_lines c.points) _ (map Bounds_channel c.channels) (flat_map authority_lines c.authorities) (Bounds_slot number slot)
-    (ap (map Bounds_channel) (no_channels c _ stand)) (ap (flat_map authority_lines) (no_authorities c _ stand)) (
+    behind-blocks (flat_map block_lines c.points) _ (rest_lines c) (Bounds_slot number slot)
+    (no-rest c (no_channels c _ stand) (no_authorities c _ stand)) (
     blocks-slot c.points number slot whole (ltb-true number 16 numbers.0) (block_stands c _ stand) (open-slot slot names.1)
     )
 grown-lines c (Bounds_channel channel) whole is stand = behind-lines c (Bounds_channel channel) refl stand refl

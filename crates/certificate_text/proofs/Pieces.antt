@@ -2,7 +2,7 @@
 use Rattle.std.proofs.Common.{◌≡◌, ℕ, ◌+◌, Bool, true, false, cond, List, [], ◌∷◌, ◌++◌, map, refl, ap, sym, ◌∙◌, append_assoc}
 use Rattle.std.specs.List.{flat_map}
 use Rattle.certificate.specs.Bounds.{Interval, Slot, PointBound, ChannelBound, Ceiling, End, Authority, Certificate}
-use Rattle.certificate.specs.Lines.{Begins_authority, Begins_block, Bounds_channel, Bounds_grant, Bounds_register, Bounds_slot, Holds_end, authority_lines, block_lines, is_closed, is_full, lines_of, register_lines, slot_lines}
+use Rattle.certificate.specs.Lines.{Begins_authority, Begins_block, Bounds_channel, Bounds_grant, Bounds_register, Bounds_slot, Holds_end, authority_lines, block_lines, is_closed, is_full, lines_of, register_lines, rest_lines, slot_lines}
 use Rattle.certificate_text.specs.Pieces.{authority_text, block_text, ceiling_text, channel_text, end_text, in_order, line_ended, register_text, slot_text}
 use Rattle.certificate_text.specs.Texts.{certificate_text, ended_line, first_line, end_line}
 
@@ -73,10 +73,6 @@ authorities-text n [] = refl
 authorities-text n (a ∷ authorities) =
     ap (λ rest. authority_text a ++ rest) (authorities-text (n + 1) authorities) ∙ sym (flat-more line_ended (authority_lines a) (flat_map authority_lines authorities))
 
--- three pieces and what stands behind them
-three_pieces : (a b c d : List ℕ) → a ++ (b ++ (c ++ d)) ≡ (a ++ b ++ c) ++ d
-three_pieces a b c d = ap (λ rest. a ++ rest) (sym (append_assoc b c d)) ∙ sym (append_assoc a (b ++ c) d) ∙ ap (λ text. text ++ d) (sym (append_assoc a b c))
-
 pub whole-text : (c : Certificate) → ended_line (first_line c.version)
     ++ (in_order (λ n. block_text) 0 c.points
     ++ (in_order (λ n. channel_text) 0 c.channels ++ (in_order (λ n. authority_text) 0 c.authorities ++ ended_line end_line))) ≡ certificate_text c
@@ -86,7 +82,9 @@ whole-text c =
     let authorities = flat_map authority_lines c.authorities in
     ap (λ rest. ended_line (first_line c.version) ++ rest)
     ((λ i. blocks-text 0 c.points i ++ (channels-text 0 c.channels i ++ (authorities-text 0 c.authorities i ++ ended_line end_line)))
-    ∙ three_pieces (flat_map line_ended blocks) (flat_map line_ended channels) (flat_map line_ended authorities) (ended_line end_line)
-    ∙ ap (λ text. text ++ ended_line end_line)
-    (ap (λ text. text ++ flat_map line_ended authorities) (sym (flat-more line_ended blocks channels)) ∙ sym (flat-more line_ended (blocks ++ channels) authorities)))
+    ∙ ap (λ rest. flat_map line_ended blocks ++ rest)
+    (sym (append_assoc (flat_map line_ended channels) (flat_map line_ended authorities) (ended_line end_line))
+    ∙ ap (λ text. text ++ ended_line end_line) (sym (flat-more line_ended channels authorities)))
+    ∙ sym (append_assoc (flat_map line_ended blocks) (flat_map line_ended (rest_lines c)) (ended_line end_line))
+    ∙ ap (λ text. text ++ ended_line end_line) (sym (flat-more line_ended blocks (rest_lines c))))
     ∙ sym (append_assoc (ended_line (first_line c.version)) (flat_map line_ended (lines_of c)) (ended_line end_line))
