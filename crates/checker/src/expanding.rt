@@ -13,7 +13,9 @@ ghost use Rattle.rules.specs.Expansions.{expanded_points, expanded_version, expa
 
 use crate::carrying::{bound_with, carried_past};
 use crate::points::code_named;
-use certificate::{Bound, Cert, Name, Point, Refusal, Version, push_authorities, push_block, push_channels};
+use certificate::{
+    Bound, Cert, Name, Point, Refusal, Version, push_authorities, push_block, push_channels,
+};
 use rights::Memory;
 use rights::limits::MAX_INSTRUCTIONS;
 use std::alloc::Global;

@@ -33,9 +33,9 @@ module _ (plan : Plan) (c : Certificate) where
   carried_alike name point None b = refl
   carried_alike name point (Some i) None = refl
   carried_alike name point (Some i) (Some b) = λ k.
-    if may_carry c.version (code_named plan.programs name) (suc point)
-    then joined_at (point + 1) None (instruction_same c.version (expanded_points plan c) c plan.grants name point b i k ++ error_outcomes b i)
-    else None
+      if may_carry c.version (code_named plan.programs name) (suc point)
+      then joined_at (point + 1) None (instruction_same c.version (expanded_points plan c) c plan.grants name point b i k ++ error_outcomes b i)
+      else None
 
   there_alike : (name : List ℕ) (n : ℕ) → n < most_instructions → carried_to plan written name n ≡ carried_to plan c name n
       → bound_there plan written name n ≡ bound_there plan c name n
