@@ -129,6 +129,29 @@ at main 0 off
 end
 ";
 
+/// Two programs that share a pair, and the authority of one of them, in version 3.
+const AN_AUTHORITY: &str = "capcert 3
+at main 0 off
+fd 0 open grant work 3fff 3fff 3 3
+fd 1 open grant log 3fff 3fff 3 3
+fd 2 open sock @0 a 3fff 3fff 3 3
+at main 2 off
+fd 0 open grant work 0081 3fff 3 3
+fd 1 open grant log 3fff 3fff 3 3
+fd 2 open sock @0 a 3fff 3fff 3 3
+chan @0 a grant work 0081 0081 3 3
+chan @0 b unknown 0000 3fff 0 3
+auth child
+ceil work 0081
+hold @0 b
+end
+";
+
+/// Where each of its lines begins.
+const ITS_LINE_STARTS: [usize; 15] = [
+    0, 10, 24, 59, 93, 127, 141, 176, 210, 244, 279, 311, 322, 337, 347,
+];
+
 /// Whether the certificate is written as these bytes, to a writer that takes at most so many a call.
 fn is_written_as(alloc: Global, cert: &Cert, bytes: &[u8], most: usize) -> bool {
     let mut out = empty_shelf(alloc, most, 0, true);
@@ -156,6 +179,7 @@ fn texts_are_written_back(rt: HostRuntime) {
         SENDS_NARROWED,
         TWO_POINTS,
         ONE_POINT,
+        AN_AUTHORITY,
     ] {
         assert!(rt; is_written_back(rt.alloc(), text.as_bytes()), "{text}");
     }
@@ -181,27 +205,29 @@ fn untold_failure(alloc: Global, text: &[u8]) -> Result<Option<usize>, CertFault
 
 #[test]
 fn a_failed_write_is_told(rt: HostRuntime) -> Result<(), Fail> {
-    let untold = untold_failure(rt.alloc(), SIX_POINTS.as_bytes())?;
-    assert!(rt; untold == None, "{untold:?}");
+    for text in [SIX_POINTS, AN_AUTHORITY] {
+        let untold = untold_failure(rt.alloc(), text.as_bytes())?;
+        assert!(rt; untold == None, "{untold:?}");
+    }
     Ok(())
 }
 
-/// Where the line begins in which this place of `THREE_POINTS` is.
-fn line_start(place: usize) -> usize {
+/// Where the line begins in which this place is, of lines that begin there.
+fn line_start(starts: &[usize], place: usize) -> usize {
     let mut start = 0;
-    for next in LINE_STARTS {
-        if next <= place {
-            start = next;
+    for next in starts {
+        if *next <= place {
+            start = *next;
         }
     }
     start
 }
 
 /// The least length of a beginning of the text that doesn't have the fault of a line that isn't ended.
-fn unfaulty_cut(alloc: Global, text: &[u8]) -> Option<usize> {
+fn unfaulty_cut(alloc: Global, text: &[u8], starts: &[usize]) -> Option<usize> {
     for (length, _) in text.iter().enumerate() {
         let fault = read_cert(alloc, &text[..length]).err();
-        if fault != Some(CertFault::Syntax(line_start(length))) {
+        if fault != Some(CertFault::Syntax(line_start(starts, length))) {
             return Some(length);
         }
     }
@@ -210,7 +236,9 @@ fn unfaulty_cut(alloc: Global, text: &[u8]) -> Option<usize> {
 
 #[test]
 fn a_cut_text_is_faulty_where_its_last_line_begins(rt: HostRuntime) {
-    let unfaulty = unfaulty_cut(rt.alloc(), THREE_POINTS.as_bytes());
+    let unfaulty = unfaulty_cut(rt.alloc(), THREE_POINTS.as_bytes(), &LINE_STARTS);
+    assert!(rt; unfaulty == None, "{unfaulty:?}");
+    let unfaulty = unfaulty_cut(rt.alloc(), AN_AUTHORITY.as_bytes(), &ITS_LINE_STARTS);
     assert!(rt; unfaulty == None, "{unfaulty:?}");
 }
 
@@ -233,11 +261,12 @@ fn is_one_spelling(alloc: Global, bytes: &[u8]) -> bool {
 
 #[test]
 fn a_changed_byte_is_a_fault_or_another_certificate(rt: HostRuntime) -> Result<(), Fail> {
-    let text = THREE_POINTS.as_bytes();
-    for (place, _) in text.iter().enumerate() {
-        for byte in 0..=255 {
-            let bytes = with_byte(rt.alloc(), text, place, byte)?;
-            assert!(rt; is_one_spelling(rt.alloc(), &bytes), "{place} {byte}");
+    for text in [THREE_POINTS, AN_AUTHORITY] {
+        for (place, _) in text.as_bytes().iter().enumerate() {
+            for byte in 0..=255 {
+                let bytes = with_byte(rt.alloc(), text.as_bytes(), place, byte)?;
+                assert!(rt; is_one_spelling(rt.alloc(), &bytes), "{place} {byte}");
+            }
         }
     }
     Ok(())

@@ -7,7 +7,7 @@ use Rattle.std.proofs.lemmas.Bool.Decides.{nat_tests}
 use Rattle.rights.specs.Limits.{most_programs}
 use Rattle.certificate.specs.Bounds.{Certificate, ChannelBound}
 use Rattle.certificate.specs.Order.{same_class}
-use Rattle.certificate.specs.Lines.{Line, Begins_block, Bounds_register, Bounds_slot, Bounds_channel}
+use Rattle.certificate.specs.Lines.{Line, Begins_block, Bounds_register, Bounds_slot, Bounds_channel, Begins_authority, Bounds_grant, Holds_end}
 use Rattle.certificate.specs.Growth.{IsCertificate, No_room, Out_of_order, begins, grows, classes_in_line, classes_of, distinct, distinct_behind, has_room, most_classes}
 use Rattle.certificate.specs.Growth.{programs_in_line, programs_named, stands, taken, with_line}
 use Rattle.certificate.specs.Room.{if_few, listed_with}
@@ -57,11 +57,14 @@ unfolding taken
 taken-back c line d took = taken_cases c line d (has_room c line) (stands c line) refl refl took
 
 -- a line that is taken keeps the version
-line_keeps : (c : Certificate) (line : Line) → (with_line c line).version ≡ c.version
+pub line_keeps : (c : Certificate) (line : Line) → (with_line c line).version ≡ c.version
 line_keeps c (Begins_block program point mode) = refl
 line_keeps c (Bounds_register register interval) = refl
 line_keeps c (Bounds_slot number slot) = refl
 line_keeps c (Bounds_channel channel) = refl
+line_keeps c (Begins_authority program) = refl
+line_keeps c (Bounds_grant ceiling) = refl
+line_keeps c (Holds_end held) = refl
 
 pub taken_keeps : (c d : Certificate) (line : Line) → taken c line ≡ Ok d → d.version ≡ c.version
 taken_keeps c d line took = ap (λ (e : Certificate). e.version) (sym (taken-back c line d took).made) ∙ line_keeps c line
@@ -126,13 +129,6 @@ room_no_class c line over =
     both_false_right (few_programs c line) (few_classes c line)
     (listed_over same_class most_classes (classes_of c) (classes_in_line line) (map_none length _ over))
 
--- the classes of what a line makes
-pub classes_made : (c : Certificate) (line : Line) → classes_of (with_line c line) ≡ classes_of c ++ classes_in_line line
-classes_made c (Begins_block program point mode) = sym (append-nil (classes_of c))
-classes_made c (Bounds_register register interval) = sym (append-nil (classes_of c))
-classes_made c (Bounds_slot number slot) = sym (append-nil (classes_of c))
-classes_made c (Bounds_channel channel) = map-append (λ (a : ChannelBound). a.class) c.channels (channel ∷ [])
-
 pub and_right : (a b : Bool) → (a && b) ≡ true → b ≡ true
 and_right true b both = both
 and_right false b both = absurd cc
@@ -143,13 +139,3 @@ and_left false b both = absurd cc
 
 pub le_true : (m n : ℕ) → nat_le m n ≡ true → m ≤ n
 le_true m n is = grind (arith, nat_tests, is)
-
--- a certificate's channels are of 32 classes at most
-pub classes_few : (c : Certificate) → IsCertificate c → length (distinct same_class (classes_of c)) ≤ most_classes
-unfolding distinct_behind
-classes_few _ (begins version) = omega arith
-classes_few _ (grows {c} {d} valid line proper took) =
-    let is = taken-back c line d took in
-    let few = le_true _ _ (and_right (few_programs c line) (few_classes c line) is.room) in
-    subst (λ e. length (distinct same_class (classes_of e)) ≤ most_classes) is.made
-    (subst (λ classes. length (distinct same_class classes) ≤ most_classes) (sym (classes_made c line)) few)

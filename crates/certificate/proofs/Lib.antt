@@ -6,6 +6,8 @@ pub mod Rows
 pub mod JoinRows
 pub mod Kept
 pub mod Last
+pub mod LastOnes
+pub mod Behind
 pub mod Distinct
 pub mod ClassLaws
 pub mod Listed

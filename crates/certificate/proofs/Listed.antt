@@ -10,14 +10,11 @@ use Rattle.certificate.specs.declared.classes.Class.{Class}
 use Rattle.certificate.specs.declared.classes.Side.{Side}
 use Rattle.certificate.specs.declared.bounds.Target.{Target}
 use Rattle.certificate.specs.declared.bounds.Target.TheVariants as target
-use Rattle.certificate.specs.declared.lines.Channel.{Channel}
-use Rattle.certificate.specs.declared.lines.Line.{Line}
-use Rattle.certificate.specs.declared.lines.Line.TheVariants as line
-use Rattle.certificate.specs.Growth.{classes_in_line, programs_of_target}
+use Rattle.certificate.specs.Growth.{programs_of_target}
 use Rattle.certificate.specs.Room.{listed_with}
 use Rattle.certificate.specs.GrowthViews.{names_there}
 use Rattle.certificate.specs.CountViews.{programs_listed}
-use Rattle.certificate.specs.Views.{line_of, name_of, target_of}
+use Rattle.certificate.specs.Views.{name_of, target_of}
 use Rattle.certificate.proofs.Distinct.{listed_nothing}
 
 pub programs_few : (p : ProgramNames) → length (programs_listed p) ≤ most_programs
@@ -31,12 +28,6 @@ target-no_programs (target.InGrant name) not = refl
 target-no_programs target.AnyNode not = refl
 target-no_programs (target.Socket c s) not = absurd (not c s refl)
 target-no_programs target.Unknown not = refl
-
-pub line-no_classes : (l : Line) → ((c : Channel) → l ≡ line.Channel c → ⊥) → classes_in_line (line_of l) ≡ []
-line-no_classes (line.Block p n m) not = refl
-line-no_classes (line.Register n i) not = refl
-line-no_classes (line.Slot n s) not = refl
-line-no_classes (line.Channel c) not = absurd (not c refl)
 
 -- a name is put into the first empty place
 names-append : (xs ys : List (Option Name)) → names_there (xs ++ ys) ≡ names_there xs ++ names_there ys

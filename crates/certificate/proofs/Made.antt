@@ -9,10 +9,13 @@ use Rattle.std.proofs.lemmas.Bool.Decides.{nat_tests}
 use Rattle.rights.specs.Limits.{most_descriptors}
 use Rattle.certificate.specs.Bounds.{Bound, Certificate, ChannelBound, PointBound, Slot, Closed, Open, Maybe, held_in, with_interval, with_slot}
 use Rattle.certificate.specs.Order.{same_class}
-use Rattle.certificate.specs.Lines.{Line, Begins_block, Bounds_register, Bounds_slot, Bounds_channel, are_numbered, is_closed, is_line, has_names, is_numbered, is_proper}
+use Rattle.certificate.specs.Lines.{Line, Begins_block, Bounds_register, Bounds_slot, Bounds_channel, Begins_authority, Bounds_grant, Holds_end, are_numbered, is_closed, is_line, is_of_version}
+use Rattle.certificate.specs.Lines.{has_names, is_numbered, is_proper}
 use Rattle.certificate.specs.Growth.{IsCertificate, begins, grows, all_from, classes_of, distinct, has_none, may_bound_slot, on_last, programs_in_line, programs_named}
-use Rattle.certificate.specs.Growth.{programs_of_block, programs_of_channel, programs_of_slot, stands, with_line}
-use Rattle.certificate.proofs.Growing.{HasRoom, and_left, and_right, classes_made, taken-back, taken_ok}
+use Rattle.certificate.specs.Growth.{programs_of_authority, programs_of_block, programs_of_channel, programs_of_slot, stands, with_line}
+use Rattle.certificate.proofs.Growing.{HasRoom, and_left, and_right, taken-back, taken_ok}
+use Rattle.certificate.proofs.LastOnes.{behind_nothing}
+use Rattle.certificate.proofs.Behind.{block_stands, classes_made, no_authorities, no_channels, rest_named}
 
 -- Blocks have rows of sixteen slots.
 abbrev IsRow : PointBound → Type 0
@@ -37,10 +40,13 @@ rows-made c (Begins_block program point mode) rows = rows-push c.points _ rows r
 rows-made c (Bounds_register register interval) rows = rows-on_last (λ b. with_interval b register interval) (λ b. refl) c.points rows
 rows-made c (Bounds_slot number slot) rows = rows-on_last (λ b. with_slot b number slot) (λ b. length-set b.slots number slot) c.points rows
 rows-made c (Bounds_channel channel) rows = rows
+rows-made c (Begins_authority program) rows = rows
+rows-made c (Bounds_grant ceiling) rows = rows
+rows-made c (Holds_end held) rows = rows
 
 rows : (c : Certificate) → IsCertificate c → AreRows c.points
 rows _ (begins version) = tt
-rows _ (grows {c} {d} valid line proper took) =
+rows _ (grows {c} {d} valid line proper own took) =
     let is = taken-back c line d took in subst (λ (e : Certificate). AreRows e.points) is.made (rows-made c line (rows c valid))
 
 -- A closed slot names nothing.
@@ -93,17 +99,12 @@ slots_on_last n s (b ∷ c ∷ points) within rows may =
     ap (λ names. programs_of_block b ++ names) (slots_on_last n s (c ∷ points) within rows.1 may)
     ∙ sym (append_assoc (programs_of_block b) (flat_map programs_of_block (c ∷ points)) (programs_of_slot s))
 
-none : (channels : List ChannelBound) → has_none channels ≡ true → channels ≡ []
-none [] is = refl
-none (a ∷ channels) is = absurd cc
-
--- before channels stand no programs' names
-before_channels : (blocks more : List (List ℕ)) (channels : List ChannelBound) → channels ≡ []
-    → (blocks ++ more) ++ flat_map programs_of_channel channels ≡ (blocks ++ flat_map programs_of_channel channels) ++ more
-before_channels blocks more channels no_channels =
-    ap (λ list. (blocks ++ more) ++ flat_map programs_of_channel list) no_channels
-    ∙ append-nil (blocks ++ more)
-    ∙ ap (λ list. list ++ more) (sym (ap (λ list. blocks ++ flat_map programs_of_channel list) no_channels ∙ append-nil blocks))
+-- a block's names, where nothing stands behind blocks
+in_blocks : (blocks more channels authorities : List (List ℕ)) → channels ≡ [] → authorities ≡ []
+    → ((blocks ++ more) ++ channels) ++ authorities ≡ ((blocks ++ channels) ++ authorities) ++ more
+in_blocks blocks more channels authorities no_channels no_authorities =
+    ap (λ names. names ++ authorities) (behind_nothing blocks more channels no_channels)
+    ∙ behind_nothing (blocks ++ channels) more authorities no_authorities
 
 number_within : (n : ℕ) → nat_lt n most_descriptors ≡ true → n < most_descriptors
 number_within n is = grind (arith, nat_tests, is)
@@ -116,29 +117,30 @@ slot_number n s proper =
 pub programs_made : (c : Certificate) (line : Line) → IsCertificate c → is_line line ≡ true → stands c line ≡ true
     → programs_named (with_line c line) ≡ programs_named c ++ programs_in_line line
 programs_made c (Begins_block program point mode) valid proper place =
-    let no_channels = none c.channels (and_left (has_none c.channels) _ place) in
-    ap (λ names. names ++ flat_map programs_of_channel c.channels) (flat_map-append programs_of_block c.points _)
-    ∙ before_channels (flat_map programs_of_block c.points) (program ∷ []) c.channels no_channels
+    ap (λ names. names ++ flat_map programs_of_channel c.channels ++ flat_map programs_of_authority c.authorities) (flat_map-append programs_of_block c.points _)
+    ∙ in_blocks (flat_map programs_of_block c.points) (program ∷ []) (flat_map programs_of_channel c.channels) (flat_map programs_of_authority c.authorities)
+    (ap (flat_map programs_of_channel) (no_channels c _ place)) (ap (flat_map programs_of_authority) (no_authorities c _ place))
 programs_made c (Bounds_register register interval) valid proper place =
-    ap (λ names. names ++ flat_map programs_of_channel c.channels) (registers_on_last (λ b. with_interval b register interval) (λ b. refl) c.points)
+    ap (λ names. names ++ flat_map programs_of_channel c.channels ++ flat_map programs_of_authority c.authorities)
+    (registers_on_last (λ b. with_interval b register interval) (λ b. refl) c.points)
     ∙ sym (append-nil (programs_named c))
 programs_made c (Bounds_slot number slot) valid proper place =
-    let no_channels = none c.channels (and_left (has_none c.channels) _ place) in
-    let may = and_right (has_none c.channels) _ place in
-    ap (λ names. names ++ flat_map programs_of_channel c.channels) (slots_on_last number slot c.points (slot_number number slot proper) (rows c valid) may)
-    ∙ before_channels (flat_map programs_of_block c.points) (programs_of_slot slot) c.channels no_channels
-programs_made c (Bounds_channel channel) valid proper place =
-    ap (λ names. flat_map programs_of_block c.points ++ names)
-    (flat_map-append programs_of_channel c.channels (channel ∷ []) ∙ ap (λ names. flat_map programs_of_channel c.channels ++ names) (append-nil (programs_of_channel channel)))
-    ∙ sym (append_assoc (flat_map programs_of_block c.points) (flat_map programs_of_channel c.channels) (programs_of_channel channel))
+    ap (λ names. names ++ flat_map programs_of_channel c.channels ++ flat_map programs_of_authority c.authorities)
+    (slots_on_last number slot c.points (slot_number number slot proper) (rows c valid) (block_stands c _ place))
+    ∙ in_blocks (flat_map programs_of_block c.points) (programs_of_slot slot) (flat_map programs_of_channel c.channels) (flat_map programs_of_authority c.authorities)
+    (ap (flat_map programs_of_channel) (no_channels c _ place)) (ap (flat_map programs_of_authority) (no_authorities c _ place))
+programs_made c (Bounds_channel channel) valid proper place = rest_named c (Bounds_channel channel) refl place
+programs_made c (Begins_authority program) valid proper place = rest_named c (Begins_authority program) refl place
+programs_made c (Bounds_grant ceiling) valid proper place = rest_named c (Bounds_grant ceiling) refl place
+programs_made c (Holds_end held) valid proper place = rest_named c (Holds_end held) refl place
 
 -- a line that has room and its place makes a certificate, of which the same is listed
-pub grown : (c d : Certificate) (line : Line) (names : List (List ℕ)) (classes : ℕ) → IsCertificate c → is_line line ≡ true
+pub grown : (c d : Certificate) (line : Line) (names : List (List ℕ)) (classes : ℕ) → IsCertificate c → is_line line ≡ true → is_of_version c.version line ≡ true
     → HasRoom c line names classes → stands c line ≡ true → d ≡ with_line c line
     → IsCertificate d × (names ≡ distinct bytes_eq (programs_named d)) × (classes ≡ length (distinct same_class (classes_of d)))
-grown c d line names classes valid proper has place is =
+grown c d line names classes valid proper own has place is =
     subst (λ e. IsCertificate e × (names ≡ distinct bytes_eq (programs_named e)) × (classes ≡ length (distinct same_class (classes_of e)))) (sym is) (
-      grows valid line proper (taken_ok c line has.room place),
+      grows valid line proper own (taken_ok c line has.room place),
       has.named ∙ ap (distinct bytes_eq) (sym (programs_made c line valid proper place)),
-      has.counted ∙ ap (λ all. length (distinct same_class all)) (sym (classes_made c line)),
+      has.counted ∙ ap (λ all. length (distinct same_class all)) (sym (classes_made c line place)),
     )

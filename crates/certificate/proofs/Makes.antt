@@ -1,6 +1,6 @@
--- Lines that make a certificate of nothing: the lines of blocks that fit it and rise, and then of channels that rise.
+-- Lines that make a certificate of nothing: the lines of blocks that fit it and rise, and then those behind blocks.
 use Rattle.std.proofs.Common.{◌≡◌, ◌≤◌, ◌+◌, ◌++◌, ◌∷◌, [], Bool, true, false, ℕ, zero, suc, List, length, map, refl, ap, sym, ◌∙◌, subst, append_assoc, append-nil, arith}
-use Rattle.std.specs.Prelude.{◌==◌, ◌&&◌, Some, Ok, if◌then◌else◌}
+use Rattle.std.specs.Prelude.{◌==◌, ◌&&◌, nat_le, Some, Result, Ok, Err, if◌then◌else◌}
 use Rattle.std.specs.List.{flat_map, list_all}
 use Rattle.std.specs.Str.{bytes_eq}
 use Rattle.std.proofs.lemmas.Bool.{eqb-true}
@@ -9,17 +9,18 @@ use Rattle.std.proofs.lemmas.List.{length_push, map-append}
 use Rattle.std.proofs.lemmas.List.Folds.{list_all-append}
 use Rattle.std.proofs.Math.Seq.{set-append_seam}
 use Rattle.rights.specs.Limits.{most_descriptors, most_programs, register_count}
-use Rattle.certificate.specs.Bounds.{ModeBound, Interval, Slot, Closed, Open, Maybe, Bound, PointBound, ChannelBound, Version, Certificate, full_interval, with_interval, with_slot}
+use Rattle.certificate.specs.Bounds.{ModeBound, Interval, Slot, Closed, Open, Maybe, Bound, PointBound, ChannelBound, Ceiling, End, Authority, Version, Certificate, full_interval, with_interval, with_slot}
 use Rattle.certificate.specs.Order.{same_class}
-use Rattle.certificate.specs.Lines.{Begins_block, Bounds_register, Bounds_slot, Bounds_channel, block_lines, is_closed, is_full, register_lines, slot_lines}
-use Rattle.certificate.specs.Growth.{above_blocks, above_channels, all_from, classes_in, copies, distinct, distinct_behind, most_classes, empty, on_last, programs_named}
-use Rattle.certificate.specs.Growth.{programs_of_block, programs_of_channel, programs_of_slot, taken}
+use Rattle.certificate.specs.Lines.{Line, Begins_block, Bounds_register, Bounds_slot, Bounds_channel, Begins_authority, Bounds_grant, Holds_end, authority_lines, block_lines, is_closed, is_full}
+use Rattle.certificate.specs.Lines.{register_lines, rest_lines, slot_lines}
+use Rattle.certificate.specs.Growth.{Refused, above_blocks, all_from, classes_in_line, classes_of, copies, distinct, distinct_behind, most_classes, empty, on_last, programs_in_line, programs_named}
+use Rattle.certificate.specs.Growth.{programs_of_authority, programs_of_block, programs_of_channel, programs_of_slot, stands, taken, with_line}
 use Rattle.certificate.specs.Growths.{IsGrown, grown, grown_behind, then_grown}
 use Rattle.certificate.specs.Rising.{places_of, precedes, rises}
-use Rattle.certificate.proofs.Distinct.{behind-append, behind-grows}
 use Rattle.certificate.proofs.Fewer.{among_both, among_split, are_among, is_among}
 use Rattle.certificate.proofs.Fits.{among_block, among_blocks, is_fit, is_fit_point, is_fit_slot, room_for, slots_among}
-use Rattle.certificate.proofs.Growing.{and_left, and_right, both_true, taken_ok}
+use Rattle.certificate.proofs.Growing.{and_left, and_right, both_true, le_true, taken-back, taken_ok}
+use Rattle.certificate.proofs.Behind.{is_behind_blocks, rest_named, rest_names}
 use Rattle.certificate.proofs.Growths.{grown_append}
 use Rattle.certificate.proofs.Last.{may_bound_register-last, may_bound_slot-last}
 use Rattle.certificate.proofs.Rising.{rises_front}
@@ -53,14 +54,9 @@ closed_is Closed is = refl
 closed_is (Open h) is = absurd cc
 closed_is (Maybe h) is = absurd cc
 
--- whether channels stand in their places, one after another, behind others
-abbrev pub stand_behind : List ChannelBound → List ChannelBound → Bool
-stand_behind before [] = true
-stand_behind before (channel ∷ channels) = above_channels before channel && stand_behind (before ++ channel ∷ []) channels
-
 module _ (version : Version) (names : List (List ℕ)) (few : length (distinct bytes_eq names) ≤ most_programs) where
   abbrev of_points : List PointBound → Certificate
-  of_points points = record { version = version; points = points; channels = [] }
+  of_points points = record { version = version; points = points; channels = []; authorities = [] }
 
   -- THE LINES OF A BLOCK, behind others
   module _ (before : List PointBound) (among : are_among names (flat_map programs_of_block before) ≡ true)
@@ -78,7 +74,7 @@ module _ (version : Version) (names : List (List ℕ)) (few : length (distinct b
         → are_among names (programs_named (state registers slots)) ≡ true
     state_among registers slots fit =
         let blocks = flat_map programs_of_block (before ++ block registers slots ∷ []) in
-        ap (are_among names) (append-nil blocks ∙ flat_map-append programs_of_block before (block registers slots ∷ []))
+        ap (are_among names) (append-nil (blocks ++ []) ∙ append-nil blocks ∙ flat_map-append programs_of_block before (block registers slots ∷ []))
         ∙ among_both names (flat_map programs_of_block before) (programs_of_block (block registers slots) ++ []) among
         (ap (are_among names) (append-nil (programs_of_block (block registers slots)))
         ∙ both_true (is_among names program) (are_among names (flat_map programs_of_slot slots)) own (slots_among names slots fit))
@@ -180,7 +176,8 @@ module _ (version : Version) (names : List (List ℕ)) (few : length (distinct b
       let eight = eqb-true (length b.bound.registers) register_count (and_left (length b.bound.registers == register_count) _ bound) in
       let sixteen = eqb-true (length b.bound.slots) most_descriptors (and_left (length b.bound.slots == most_descriptors) _ rest) in
       let slots = and_right (length b.bound.slots == most_descriptors) (list_all (is_fit_slot names) b.bound.slots) rest in
-      let all = ap (are_among names) (append-nil (flat_map programs_of_block before)) ∙ among in
+      let blocks = flat_map programs_of_block before in
+      let all = ap (are_among names) (append-nil (blocks ++ []) ∙ append-nil blocks) ∙ among in
       let named = both_true (is_among names b.program) true own refl in
       let room = room_for names few (of_points before) (Begins_block b.program b.point b.bound.mode) all named (omega arith) in
       ap (grown_behind (grown (register_lines 0 b.bound.registers ++ slot_lines 0 b.bound.slots)))
@@ -213,58 +210,113 @@ module _ (version : Version) (names : List (List ℕ)) (few : length (distinct b
       ∙ points_grown (before ++ b ∷ []) after pushed others (ap (λ points. rises (places_of points)) (append_assoc before (b ∷ []) after) ∙ up)
       ∙ ap (λ points. Some (of_points points)) (append_assoc before (b ∷ []) after)
 
-  -- THE CHANNELS, behind all blocks
-  module _ (points : List PointBound) (among : are_among names (flat_map programs_of_block points) ≡ true) where
-    abbrev with_channels : List ChannelBound → Certificate
-    with_channels channels = record { version = version; points = points; channels = channels }
+-- THE LINES BEHIND BLOCKS are taken behind other blocks too, and in another version.
+abbrev pub beside : Version → List PointBound → Certificate → Certificate
+beside version points c = record c { version = version; points = points }
 
-    channels_among : (channels : List ChannelBound) → are_among names (flat_map programs_of_channel channels) ≡ true
-        → are_among names (programs_named (with_channels channels)) ≡ true
-    channels_among channels all = among_both names (flat_map programs_of_block points) (flat_map programs_of_channel channels) among all
+module _ (version : Version) (points : List PointBound) where
+  stands_beside : (c : Certificate) (line : Line) → is_behind_blocks line ≡ true → stands (beside version points c) line ≡ stands c line
+  stands_beside c (Begins_block program point mode) behind = absurd cc
+  stands_beside c (Bounds_register register interval) behind = absurd cc
+  stands_beside c (Bounds_slot number slot) behind = absurd cc
+  stands_beside c (Bounds_channel channel) behind = refl
+  stands_beside c (Begins_authority program) behind = refl
+  stands_beside c (Bounds_grant ceiling) behind = refl
+  stands_beside c (Holds_end held) behind = refl
 
-    channel_taken : (done : List ChannelBound) (channel : ChannelBound) (todo : List ChannelBound)
-        → are_among names (flat_map programs_of_channel done) ≡ true
-        → are_among names (programs_of_channel channel) ≡ true → above_channels done channel ≡ true
-        → length (distinct same_class (classes_in (done ++ channel ∷ todo))) ≤ most_classes
-        → taken (with_channels done) (Bounds_channel channel) ≡ Ok (with_channels (done ++ channel ∷ []))
-    channel_taken done channel todo all own above classes =
-        let begun = classes_in done ++ channel.class ∷ [] in
-        let whole : classes_in (done ++ channel ∷ todo) ≡ begun ++ classes_in todo =
-        map-append (λ (a : ChannelBound). a.class) done (channel ∷ todo) ∙ sym (append_assoc (classes_in done) (channel.class ∷ []) (classes_in todo)) in
-        let same = ap (λ list. length (distinct same_class list)) whole ∙ ap length (behind-append same_class [] begun (classes_in todo)) in
-        let more = behind-grows same_class (distinct same_class begun) (classes_in todo) in
-        taken_ok (with_channels done) (Bounds_channel channel)
-        (room_for names few (with_channels done) (Bounds_channel channel) (channels_among done all) own (omega (arith, same, more, classes))) above
+  made_beside : (c : Certificate) (line : Line) → is_behind_blocks line ≡ true
+      → with_line (beside version points c) line ≡ beside version points (with_line c line)
+  made_beside c (Begins_block program point mode) behind = absurd cc
+  made_beside c (Bounds_register register interval) behind = absurd cc
+  made_beside c (Bounds_slot number slot) behind = absurd cc
+  made_beside c (Bounds_channel channel) behind = refl
+  made_beside c (Begins_authority program) behind = refl
+  made_beside c (Bounds_grant ceiling) behind = refl
+  made_beside c (Holds_end held) behind = refl
 
-    channels_grown : (done todo : List ChannelBound) → are_among names (flat_map programs_of_channel done) ≡ true
-        → are_among names (flat_map programs_of_channel todo) ≡ true
-        → stand_behind done todo ≡ true → length (distinct same_class (classes_in (done ++ todo))) ≤ most_classes
-        → grown (map Bounds_channel todo) (with_channels done) ≡ Some (with_channels (done ++ todo))
+  module _ (names : List (List ℕ)) (few : length (distinct bytes_eq names) ≤ most_programs) where
+    pub taken_beside : (c d : Certificate) (line : Line) → is_behind_blocks line ≡ true → taken c line ≡ Ok d
+        → are_among names (programs_named (beside version points c)) ≡ true → are_among names (programs_in_line line) ≡ true
+        → taken (beside version points c) line ≡ Ok (beside version points d)
+    taken_beside c d line behind took all own =
+        let is = taken-back c line d took in
+        let classes = le_true _ _ (and_right (nat_le (length (distinct bytes_eq (programs_named c ++ programs_in_line line))) most_programs)
+        (nat_le (length (distinct same_class (classes_of c ++ classes_in_line line))) most_classes) is.room) in
+        taken_ok (beside version points c) line (room_for names few (beside version points c) line all own classes) (stands_beside c line behind ∙ is.place)
+        ∙ ap Ok (made_beside c line behind ∙ ap (beside version points) is.made)
+
+    pub rest_grown : (lines : List Line) (c d : Certificate) → list_all is_behind_blocks lines ≡ true → grown lines c ≡ Some d
+        → are_among names (programs_named (beside version points c)) ≡ true → are_among names (flat_map programs_in_line lines) ≡ true
+        → grown lines (beside version points c) ≡ Some (beside version points d)
     unfolding grown
-    channels_grown done [] all more stand classes = ap (λ channels. Some (with_channels channels)) (sym (append-nil done))
-    channels_grown done (channel ∷ todo) all more stand classes =
-        let parts = among_split names (programs_of_channel channel) (flat_map programs_of_channel todo) more in
-        let above = and_left (above_channels done channel) (stand_behind (done ++ channel ∷ []) todo) stand in
-        let pushed = ap (are_among names) (flat_map-append programs_of_channel done (channel ∷ []))
-        ∙ among_both names (flat_map programs_of_channel done) (programs_of_channel channel ++ []) all
-        (ap (are_among names) (append-nil (programs_of_channel channel)) ∙ parts.0) in
-        let few_still = subst (λ list. length (distinct same_class (classes_in list)) ≤ most_classes) (sym (append_assoc done (channel ∷ []) todo)) classes in
-        ap (grown_behind (grown (map Bounds_channel todo))) (channel_taken done channel todo all parts.0 above classes)
-        ∙ channels_grown (done ++ channel ∷ []) todo pushed parts.1
-        (and_right (above_channels done channel) (stand_behind (done ++ channel ∷ []) todo) stand) few_still
-        ∙ ap (λ channels. Some (with_channels channels)) (append_assoc done (channel ∷ []) todo)
+    rest_grown [] c d behind grew all own = let same : c ≡ d = cc in ap (λ e. Some (beside version points e)) same
+    rest_grown (line ∷ lines) c d behind grew all own =
+        go (taken c line) refl grew
+        (λ e. rest_grown lines e d (and_right (is_behind_blocks line) (list_all is_behind_blocks lines) behind))
+      where
+        first : is_behind_blocks line ≡ true
+        first = and_left (is_behind_blocks line) (list_all is_behind_blocks lines) behind
 
--- A CERTIFICATE that its own lines make, where its blocks fit it and rise, and its channels do
+        names_apart : (are_among names (programs_in_line line) ≡ true) × (are_among names (flat_map programs_in_line lines) ≡ true)
+        names_apart = among_split names (programs_in_line line) (flat_map programs_in_line lines) own
+
+        go : (r : Result Certificate Refused) → taken c line ≡ r → grown_behind (grown lines) r ≡ Some d
+            → ((e : Certificate) → grown lines e ≡ Some d → are_among names (programs_named (beside version points e)) ≡ true
+            → are_among names (flat_map programs_in_line lines) ≡ true → grown lines (beside version points e) ≡ Some (beside version points d))
+            → grown_behind (grown lines) (taken (beside version points c) line) ≡ Some (beside version points d)
+        go (Err refused) took more rest = absurd cc
+        go (Ok e) took more rest =
+            let is = taken-back c line e took in
+            let stood = stands_beside c line first ∙ is.place in
+            let named = ap (λ (f : Certificate). programs_named f) (sym (made_beside c line first ∙ ap (beside version points) is.made))
+            ∙ rest_named (beside version points c) line first stood in
+            ap (grown_behind (grown lines)) (taken_beside c e line first took all names_apart.0)
+            ∙ rest e more
+            (ap (are_among names) named ∙ among_both names (programs_named (beside version points c)) (programs_in_line line) all names_apart.0) names_apart.1
+
+-- they stand behind blocks
+channels_behind : (channels : List ChannelBound) → list_all is_behind_blocks (map Bounds_channel channels) ≡ true
+channels_behind [] = refl
+channels_behind (channel ∷ channels) = channels_behind channels
+
+ceilings_behind : (ceilings : List Ceiling) → list_all is_behind_blocks (map Bounds_grant ceilings) ≡ true
+ceilings_behind [] = refl
+ceilings_behind (ceiling ∷ ceilings) = ceilings_behind ceilings
+
+ends_behind : (holds : List End) → list_all is_behind_blocks (map Holds_end holds) ≡ true
+ends_behind [] = refl
+ends_behind (held ∷ holds) = ends_behind holds
+
+authorities_behind : (authorities : List Authority) → list_all is_behind_blocks (flat_map authority_lines authorities) ≡ true
+authorities_behind [] = refl
+authorities_behind (a ∷ authorities) =
+    list_all-append is_behind_blocks (authority_lines a) (flat_map authority_lines authorities)
+    ∙ both_true (list_all is_behind_blocks (authority_lines a)) (list_all is_behind_blocks (flat_map authority_lines authorities))
+    (list_all-append is_behind_blocks (map Bounds_grant a.ceilings) (map Holds_end a.holds)
+    ∙ both_true (list_all is_behind_blocks (map Bounds_grant a.ceilings)) (list_all is_behind_blocks (map Holds_end a.holds)) (ceilings_behind a.ceilings) (ends_behind a.holds))
+    (authorities_behind authorities)
+
+rest_behind : (c : Certificate) → list_all is_behind_blocks (rest_lines c) ≡ true
+rest_behind c =
+    list_all-append is_behind_blocks (map Bounds_channel c.channels) (flat_map authority_lines c.authorities)
+    ∙ both_true (list_all is_behind_blocks (map Bounds_channel c.channels)) (list_all is_behind_blocks (flat_map authority_lines c.authorities))
+    (channels_behind c.channels) (authorities_behind c.authorities)
+
+-- A CERTIFICATE that its own lines make, where its blocks fit it and rise, and those behind them are taken
 pub record Fits (names : List (List ℕ)) (c : Certificate) : Type 0 where
   pub few : length (distinct bytes_eq names) ≤ most_programs
   pub fit : list_all (is_fit_point names) c.points ≡ true
   pub up : rises (places_of c.points) ≡ true
   pub among : are_among names (flat_map programs_of_channel c.channels) ≡ true
-  pub stand : stand_behind [] c.channels ≡ true
-  pub classes : length (distinct same_class (classes_in c.channels)) ≤ most_classes
+  pub holders : are_among names (flat_map programs_of_authority c.authorities) ≡ true
+  pub rest : (version : Version) → grown (rest_lines c) (empty version) ≡ Some (beside version [] c)
 
 pub makes_itself : (names : List (List ℕ)) (c : Certificate) → Fits names c → IsGrown c
 makes_itself names c fits =
-    grown_append (flat_map block_lines c.points) (map Bounds_channel c.channels) (empty c.version)
-    ∙ ap (then_grown (grown (map Bounds_channel c.channels))) (points_grown c.version names fits.few [] c.points refl fits.fit fits.up)
-    ∙ channels_grown c.version names fits.few c.points (among_blocks names c.points fits.fit) [] c.channels refl fits.among fits.stand fits.classes
+    let blocks = among_blocks names c.points fits.fit in
+    let all = ap (are_among names) (append-nil (flat_map programs_of_block c.points ++ []) ∙ append-nil (flat_map programs_of_block c.points)) ∙ blocks in
+    let own = ap (are_among names) (rest_names c)
+    ∙ among_both names (flat_map programs_of_channel c.channels) (flat_map programs_of_authority c.authorities) fits.among fits.holders in
+    grown_append (flat_map block_lines c.points) (rest_lines c) (empty c.version)
+    ∙ ap (then_grown (grown (rest_lines c))) (points_grown c.version names fits.few [] c.points refl fits.fit fits.up)
+    ∙ rest_grown c.version c.points names fits.few (rest_lines c) (empty c.version) (beside c.version [] c) (rest_behind c) (fits.rest c.version) all own

@@ -9,10 +9,11 @@ use Rattle.std.proofs.lemmas.Cmp.{nat_cmp_total, nat_list_cmp_total, on_total, t
 use Rattle.std.proofs.lemmas.List.{map-append}
 use Rattle.std.proofs.lemmas.List.Folds.{list_all-append}
 use Rattle.certificate.specs.Bounds.{Bound, Certificate, PointBound, with_interval, with_slot}
-use Rattle.certificate.specs.Lines.{Line, Begins_block, Bounds_register, Bounds_slot, Bounds_channel}
-use Rattle.certificate.specs.Growth.{IsCertificate, begins, grows, above_blocks, has_none, on_last, point_order, stands, with_line}
+use Rattle.certificate.specs.Lines.{Line, Begins_block, Bounds_register, Bounds_slot, Bounds_channel, Begins_authority, Bounds_grant, Holds_end}
+use Rattle.certificate.specs.Growth.{IsCertificate, begins, grows, above_blocks, on_last, point_order, stands, with_line}
 use Rattle.certificate.specs.Rising.{places_of, precedes, rises}
 use Rattle.certificate.proofs.Growing.{and_left, and_right, both_true, taken-back}
+use Rattle.certificate.proofs.Behind.{block_stands}
 
 -- THE ORDER of places is total.
 abbrev pub Place : Type 0
@@ -72,15 +73,18 @@ places_kept f (b ∷ d ∷ points) = ap (λ places. (b.program, b.point) ∷ pla
 
 rises_made : (c : Certificate) (line : Line) → stands c line ≡ true → rises (places_of c.points) ≡ true → rises (places_of (with_line c line).points) ≡ true
 rises_made c (Begins_block program point mode) place up =
-    let higher = above c.points program point up (and_right (has_none c.channels) (above_blocks c.points program point) place) in
+    let higher = above c.points program point up (block_stands c (above_blocks c.points program point) place) in
     ap rises (map-append (λ (b : PointBound). (b.program, b.point)) c.points _) ∙ rises-push (places_of c.points) (program, point) up higher
 rises_made c (Bounds_register register interval) place up = ap rises (places_kept (λ b. with_interval b register interval) c.points) ∙ up
 rises_made c (Bounds_slot number slot) place up = ap rises (places_kept (λ b. with_slot b number slot) c.points) ∙ up
 rises_made c (Bounds_channel channel) place up = up
+rises_made c (Begins_authority program) place up = up
+rises_made c (Bounds_grant ceiling) place up = up
+rises_made c (Holds_end held) place up = up
 
 pub certificates_rise : (c : Certificate) → IsCertificate c → rises (places_of c.points) ≡ true
 certificates_rise _ (begins version) = refl
-certificates_rise _ (grows {c} {d} valid line proper took) =
+certificates_rise _ (grows {c} {d} valid line proper own took) =
     let is = taken-back c line d took in
     subst (λ (e : Certificate). rises (places_of e.points) ≡ true) is.made (rises_made c line is.place (certificates_rise c valid))
 

@@ -1,6 +1,6 @@
 -- What a certificate says: at each point of a program that may be reached, a bound on the process
 -- there. (own)
-use Rattle.std.specs.Prelude.{◌==◌, ◌&&◌, ◌-◌, ◌^◌, ℕ, List, [], ◌∷◌, slice_set, Option, Some, None, if◌then◌else◌}
+use Rattle.std.specs.Prelude.{◌==◌, ◌&&◌, ◌-◌, ◌^◌, ℕ, Bool, true, false, List, [], ◌∷◌, slice_set, Option, Some, None, if◌then◌else◌}
 use Rattle.std.specs.List.{slice_index_or}
 use Rattle.std.specs.Str.{bytes_eq}
 use Rattle.rights.specs.Values.{Name, DescriptorNumber, SideNumber, RightSet, CommandSet}
@@ -57,15 +57,39 @@ pub record ChannelBound : Type 0 where
   pub side : SideNumber
   pub sends : Option Held
 
--- In version 1 each bound is written; in version 2 bounds are carried along between points where ways meet.
+-- The most rights that a program's descriptors of nodes in a grant may have.
+pub record Ceiling : Type 0 where
+  pub grant : Name
+  pub rights : RightSet
+
+-- one side of the pairs of a class
+pub record End : Type 0 where
+  pub class : Class
+  pub side : SideNumber
+
+-- What a program may hold whatever it does: nodes in these grants with rights up to these, and these ends.
+pub record Authority : Type 0 where
+  pub program : Name
+  pub ceilings : List Ceiling
+  pub holds : List End
+
+-- In version 1 each bound is written; in version 2 bounds are carried along between points where ways meet; in version
+-- 3 they are too, and programs have authorities.
 pub data Version : Type 0 where
   One : Version
   Two : Version
+  Three : Version
+
+abbrev pub has_authorities : Version → Bool
+has_authorities One = false
+has_authorities Two = false
+has_authorities Three = true
 
 pub record Certificate : Type 0 where
   pub version : Version
   pub points : List PointBound
   pub channels : List ChannelBound
+  pub authorities : List Authority
 
 -- all numbers of a register
 abbrev pub full_interval : Interval

@@ -9,10 +9,10 @@ use Rattle.std.specs.Str.{bytes_eq}
 use Rattle.rights.specs.Values.{Name}
 use Rattle.rights.specs.Classes.{Class, Initial, Made_at}
 use Rattle.rights.specs.Limits.{most_descriptors, most_programs, register_count}
-use Rattle.certificate.specs.Bounds.{ModeBound, Target, In_grant, Any_node, Socket, Unknown, Held, Slot, Closed, Bound, PointBound, ChannelBound, Version, Certificate}
+use Rattle.certificate.specs.Bounds.{ModeBound, Target, In_grant, Any_node, Socket, Unknown, Held, Slot, Closed, Bound, PointBound, ChannelBound, Ceiling, End, Authority, Version, Certificate}
 use Rattle.certificate.specs.Bounds.{full_interval, held_in, with_interval, with_slot}
 use Rattle.certificate.specs.Order.{same_class}
-use Rattle.certificate.specs.Lines.{Line, Begins_block, Bounds_register, Bounds_slot, Bounds_channel, is_closed, is_full, is_line}
+use Rattle.certificate.specs.Lines.{Line, Begins_block, Bounds_register, Bounds_slot, Bounds_channel, Begins_authority, Bounds_grant, Holds_end, is_closed, is_full, is_line, is_of_version}
 
 -- THE ORDER. Blocks stand by the bytes of their program's name, then by point.
 abbrev pub name_order : List ℕ → List ℕ → Ordering
@@ -64,14 +64,45 @@ abbrev pub has_none : {A : Type 0} → List A → Bool
 has_none [] = true
 has_none (x ∷ xs) = false
 
--- Whether the line stands in its place behind those that made the certificate: channels stand behind all blocks.
-abbrev pub stands : Certificate → Line → Bool
-stands c (Begins_block program point mode) = has_none c.channels && above_blocks c.points program point
-stands c (Bounds_register register interval) = has_none c.channels && may_bound_register c.points register
-stands c (Bounds_slot number slot) = has_none c.channels && may_bound_slot c.points number
-stands c (Bounds_channel channel) = above_channels c.channels channel
+-- what is asked of the last one, and the answer where there is none
+unfoldable pub asked_of_last : {A : Type 0} → Bool → (A → Bool) → List A → Bool
+asked_of_last none test [] = none
+asked_of_last none test (x ∷ []) = test x
+asked_of_last none test (x ∷ y ∷ xs) = asked_of_last none test (y ∷ xs)
 
--- THE LIMITS. Eight programs have names in a certificate, wherever they stand, and its channels are of 32 classes.
+-- Authorities stand by the bytes of their program's name. Ceilings of the last authority, which is there, rise by those of
+-- their grant's name, and stand before its ends, which rise as channels do.
+abbrev pub above_authorities : List Authority → Name → Bool
+above_authorities authorities program = asked_of_last true (λ (a : Authority). is_lt (name_order a.program program)) authorities
+
+abbrev pub above_ceilings : List Ceiling → Name → Bool
+above_ceilings ceilings grant = asked_of_last true (λ (a : Ceiling). is_lt (name_order a.grant grant)) ceilings
+
+abbrev pub end_order : End → End → Ordering
+end_order a b = ordering_then (class_order a.class b.class) (nat_cmp a.side b.side)
+
+abbrev pub above_ends : List End → End → Bool
+above_ends holds held = asked_of_last true (λ (a : End). is_lt (end_order a held)) holds
+
+abbrev pub may_bound_grant : List Authority → Name → Bool
+may_bound_grant authorities grant = asked_of_last false (λ (a : Authority). has_none a.holds && above_ceilings a.ceilings grant) authorities
+
+abbrev pub may_hold_end : List Authority → End → Bool
+may_hold_end authorities held = asked_of_last false (λ (a : Authority). above_ends a.holds held) authorities
+
+-- Whether the line stands in its place behind those that made the certificate: channels stand behind all blocks, and
+-- authorities behind all channels.
+abbrev pub stands : Certificate → Line → Bool
+stands c (Begins_block program point mode) = has_none c.channels && (has_none c.authorities && above_blocks c.points program point)
+stands c (Bounds_register register interval) = has_none c.channels && (has_none c.authorities && may_bound_register c.points register)
+stands c (Bounds_slot number slot) = has_none c.channels && (has_none c.authorities && may_bound_slot c.points number)
+stands c (Bounds_channel channel) = has_none c.authorities && above_channels c.channels channel
+stands c (Begins_authority program) = above_authorities c.authorities program
+stands c (Bounds_grant ceiling) = may_bound_grant c.authorities ceiling.grant
+stands c (Holds_end held) = may_hold_end c.authorities held
+
+-- THE LIMITS. Eight programs have names in a certificate, wherever they stand, and its channels and the ends of its
+-- authorities are of 32 classes.
 abbrev pub most_classes : ℕ
 most_classes = 32
 
@@ -98,26 +129,47 @@ programs_of_block b = b.program ∷ flat_map programs_of_slot b.bound.slots
 abbrev pub programs_of_channel : ChannelBound → List (List ℕ)
 programs_of_channel c = programs_of_class c.class ++ programs_of_held c.sends
 
+abbrev pub programs_of_end : End → List (List ℕ)
+programs_of_end held = programs_of_class held.class
+
+abbrev pub programs_of_authority : Authority → List (List ℕ)
+programs_of_authority a = a.program ∷ flat_map programs_of_end a.holds
+
 abbrev pub programs_named : Certificate → List (List ℕ)
-programs_named c = flat_map programs_of_block c.points ++ flat_map programs_of_channel c.channels
+programs_named c = flat_map programs_of_block c.points ++ flat_map programs_of_channel c.channels ++ flat_map programs_of_authority c.authorities
 
 abbrev pub classes_in : List ChannelBound → List Class
 classes_in channels = map (λ (channel : ChannelBound). channel.class) channels
 
+abbrev pub classes_of_ends : List End → List Class
+classes_of_ends holds = map (λ (held : End). held.class) holds
+
+abbrev pub classes_held : Authority → List Class
+classes_held a = classes_of_ends a.holds
+
+abbrev pub all_classes : List ChannelBound → List Authority → List Class
+all_classes channels authorities = classes_in channels ++ flat_map classes_held authorities
+
 abbrev pub classes_of : Certificate → List Class
-classes_of c = classes_in c.channels
+classes_of c = all_classes c.channels c.authorities
 
 abbrev pub programs_in_line : Line → List (List ℕ)
 programs_in_line (Begins_block program point mode) = program ∷ []
 programs_in_line (Bounds_register register interval) = []
 programs_in_line (Bounds_slot number slot) = programs_of_slot slot
 programs_in_line (Bounds_channel channel) = programs_of_channel channel
+programs_in_line (Begins_authority program) = program ∷ []
+programs_in_line (Bounds_grant ceiling) = []
+programs_in_line (Holds_end held) = programs_of_end held
 
 abbrev pub classes_in_line : Line → List Class
 classes_in_line (Begins_block program point mode) = []
 classes_in_line (Bounds_register register interval) = []
 classes_in_line (Bounds_slot number slot) = []
 classes_in_line (Bounds_channel channel) = channel.class ∷ []
+classes_in_line (Begins_authority program) = []
+classes_in_line (Bounds_grant ceiling) = []
+classes_in_line (Holds_end held) = held.class ∷ []
 
 -- the different ones among some, behind those that are listed already
 unfoldable pub distinct_behind : {A : Type 0} → (A → A → Bool) → List A → List A → List A
@@ -147,12 +199,30 @@ on_last f [] = []
 on_last f (b ∷ []) = (record b { bound = f b.bound }) ∷ []
 on_last f (b ∷ c ∷ points) = b ∷ on_last f (c ∷ points)
 
+-- the last one changed
+unfoldable pub with_last : {A : Type 0} → (A → A) → List A → List A
+with_last f [] = []
+with_last f (x ∷ []) = f x ∷ []
+with_last f (x ∷ y ∷ xs) = x ∷ with_last f (y ∷ xs)
+
+abbrev pub with_ceiling : Ceiling → Authority → Authority
+with_ceiling ceiling a = record a { ceilings = a.ceilings ++ ceiling ∷ [] }
+
+abbrev pub with_end : End → Authority → Authority
+with_end held a = record a { holds = a.holds ++ held ∷ [] }
+
+abbrev pub open_authority : Name → Authority
+open_authority program = record { program = program; ceilings = []; holds = [] }
+
 abbrev pub with_line : Certificate → Line → Certificate
 with_line c (Begins_block program point mode) =
     record c { points = c.points ++ (record { program = program; point = point; bound = open_bound mode }) ∷ [] }
 with_line c (Bounds_register register interval) = record c { points = on_last (λ b. with_interval b register interval) c.points }
 with_line c (Bounds_slot number slot) = record c { points = on_last (λ b. with_slot b number slot) c.points }
 with_line c (Bounds_channel channel) = record c { channels = c.channels ++ channel ∷ [] }
+with_line c (Begins_authority program) = record c { authorities = c.authorities ++ open_authority program ∷ [] }
+with_line c (Bounds_grant ceiling) = record c { authorities = with_last (with_ceiling ceiling) c.authorities }
+with_line c (Holds_end held) = record c { authorities = with_last (with_end held) c.authorities }
 
 -- why a line isn't taken: a ninth program or a 33rd class; or it is out of its place, or not above the line before it
 pub data Refused : Type 0 where
@@ -163,9 +233,10 @@ unfoldable pub taken : Certificate → Line → Result Certificate Refused
 taken c line = if has_room c line then (if stands c line then Ok (with_line c line) else Err Out_of_order) else Err No_room
 
 abbrev pub empty : Version → Certificate
-empty version = record { version = version; points = []; channels = [] }
+empty version = record { version = version; points = []; channels = []; authorities = [] }
 
--- A certificate of a version is what lines make of nothing, each taken by what the lines before it made.
+-- A certificate of a version is what lines of that version make of nothing, each taken by what the lines before it made.
 pub data IsCertificate : Certificate → Type 0 where
   begins : (version : Version) → IsCertificate (empty version)
-  grows : {c : Certificate} {d : Certificate} → IsCertificate c → (line : Line) → is_line line ≡ true → taken c line ≡ Ok d → IsCertificate d
+  grows : {c : Certificate} {d : Certificate} → IsCertificate c → (line : Line) → is_line line ≡ true → is_of_version c.version line ≡ true
+      → taken c line ≡ Ok d → IsCertificate d

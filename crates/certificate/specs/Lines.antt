@@ -1,23 +1,26 @@
 -- The lines of a certificate's body, as values. (own)
 use Rattle.std.specs.Prelude.{◌&&◌, ◌==◌, ◌+◌, ℕ, Bool, true, false, not, nat_le, nat_lt, List, [], ◌∷◌, ◌++◌, map, Option, Some, None, if◌then◌else◌}
 use Rattle.std.specs.List.{flat_map}
-use Rattle.rights.specs.Values.{Name, DescriptorNumber}
+use Rattle.rights.specs.Values.{Name, DescriptorNumber, RightSet}
 use Rattle.rights.specs.Classes.{Class, Initial, Made_at}
 use Rattle.rights.specs.Limits.{most_descriptors, most_instructions, most_pairs, register_count}
 use Rattle.rights.specs.Sets.{all_commands, all_rights, is_within}
 use Rattle.texts.specs.Names.{is_name}
-use Rattle.certificate.specs.Bounds.{ModeBound, Interval, full_interval, Target, In_grant, Any_node, Socket, Unknown, Held, Slot, Closed, Open, Maybe, PointBound, ChannelBound, Certificate, held_in}
+use Rattle.certificate.specs.Bounds.{ModeBound, Interval, full_interval, Target, In_grant, Any_node, Socket, Unknown, Held, Slot, Closed, Open, Maybe, PointBound, ChannelBound, Ceiling, End, Authority, Version, Certificate, has_authorities, held_in}
 
--- The block of a point begins, with its mode; then a register of it isn't full, then a slot of it isn't closed; and
--- what one side of a class of pairs sends.
+-- The block of a point begins, with its mode; then a register of it isn't full, then a slot of it isn't closed; what one
+-- side of a class of pairs sends; and the authority of a program begins, then a ceiling of it, then an end that it may hold.
 pub data Line : Type 0 where
   Begins_block : (program : Name) (point : ℕ) (mode : ModeBound) → Line
   Bounds_register : (register : ℕ) (interval : Interval) → Line
   Bounds_slot : (number : DescriptorNumber) (slot : Slot) → Line
   Bounds_channel : (channel : ChannelBound) → Line
+  Begins_authority : (program : Name) → Line
+  Bounds_grant : (ceiling : Ceiling) → Line
+  Holds_end : (held : End) → Line
 
 -- What a line may say: an interval with a low end that isn't above its high end, and not the full one; sets of which
--- the least is within the greatest, and that within all.
+-- the least is within the greatest, and that within all; a ceiling of some rights.
 abbrev pub is_full : Interval → Bool
 is_full i = (i.low == full_interval.low) && (i.high == full_interval.high)
 
@@ -39,11 +42,17 @@ abbrev pub are_held : Option Held → Bool
 are_held None = true
 are_held (Some h) = is_held_bound h
 
+abbrev pub is_ceiling : RightSet → Bool
+is_ceiling rights = is_within rights all_rights && not (rights == 0)
+
 abbrev pub is_proper : Line → Bool
 is_proper (Begins_block program point mode) = true
 is_proper (Bounds_register register interval) = is_interval interval
 is_proper (Bounds_slot number slot) = is_bound_slot slot
 is_proper (Bounds_channel channel) = are_held channel.sends
+is_proper (Begins_authority program) = true
+is_proper (Bounds_grant ceiling) = is_ceiling ceiling.rights
+is_proper (Holds_end held) = true
 
 -- Points, registers, values, descriptors and initial pairs have numbers up to a limit.
 abbrev pub is_numbered_class : Class → Bool
@@ -65,6 +74,9 @@ is_numbered (Begins_block program point mode) = nat_lt point most_instructions
 is_numbered (Bounds_register register interval) = nat_lt register register_count && nat_le interval.high full_interval.high
 is_numbered (Bounds_slot number slot) = nat_lt number most_descriptors && are_numbered (held_in slot)
 is_numbered (Bounds_channel channel) = is_numbered_class channel.class && are_numbered channel.sends
+is_numbered (Begins_authority program) = true
+is_numbered (Bounds_grant ceiling) = true
+is_numbered (Holds_end held) = is_numbered_class held.class
 
 -- Programs and grants have names, and sides are two.
 abbrev pub is_named_class : Class → Bool
@@ -86,12 +98,25 @@ has_names (Begins_block program point mode) = is_name program
 has_names (Bounds_register register interval) = true
 has_names (Bounds_slot number slot) = are_named (held_in slot)
 has_names (Bounds_channel channel) = is_named_class channel.class && nat_lt channel.side 2 && are_named channel.sends
+has_names (Begins_authority program) = is_name program
+has_names (Bounds_grant ceiling) = is_name ceiling.grant
+has_names (Holds_end held) = is_named_class held.class && nat_lt held.side 2
 
 abbrev pub is_line : Line → Bool
 is_line line = has_names line && is_proper line && is_numbered line
 
+-- Authorities stand in version 3 alone.
+abbrev pub is_of_version : Version → Line → Bool
+is_of_version version (Begins_block program point mode) = true
+is_of_version version (Bounds_register register interval) = true
+is_of_version version (Bounds_slot number slot) = true
+is_of_version version (Bounds_channel channel) = true
+is_of_version version (Begins_authority program) = has_authorities version
+is_of_version version (Bounds_grant ceiling) = has_authorities version
+is_of_version version (Holds_end held) = has_authorities version
+
 -- THE LINES OF A CERTIFICATE: block by block its mode, its registers that aren't full and its slots that aren't closed,
--- rising; and then the channels.
+-- rising; then the channels; and then authority by authority its program, its ceilings and its ends.
 abbrev pub is_closed : Slot → Bool
 is_closed Closed = true
 is_closed (Open h) = false
@@ -109,5 +134,12 @@ slot_lines n (s ∷ slots) = if is_closed s then slot_lines (n + 1) slots else B
 abbrev pub block_lines : PointBound → List Line
 block_lines b = Begins_block b.program b.point b.bound.mode ∷ (register_lines 0 b.bound.registers ++ slot_lines 0 b.bound.slots)
 
+abbrev pub authority_lines : Authority → List Line
+authority_lines a = Begins_authority a.program ∷ (map Bounds_grant a.ceilings ++ map Holds_end a.holds)
+
+-- what stands behind blocks
+abbrev pub rest_lines : Certificate → List Line
+rest_lines c = map Bounds_channel c.channels ++ flat_map authority_lines c.authorities
+
 abbrev pub lines_of : Certificate → List Line
-lines_of c = flat_map block_lines c.points ++ map Bounds_channel c.channels
+lines_of c = flat_map block_lines c.points ++ rest_lines c

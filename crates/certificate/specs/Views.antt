@@ -16,6 +16,9 @@ use Rattle.certificate.specs.declared.bounds.Slot.TheVariants as slots
 use Rattle.certificate.specs.declared.bounds.Bound.{Bound as BoundCode}
 use Rattle.certificate.specs.declared.points.NumberedSlot.{NumberedSlot}
 use Rattle.certificate.specs.declared.points.Point.{Point as PointCode}
+use Rattle.certificate.specs.declared.authorities.Ceiling.{Ceiling as CeilingCode}
+use Rattle.certificate.specs.declared.authorities.End.{End as EndCode}
+use Rattle.certificate.specs.declared.authorities.Authority.{Authority as AuthorityCode}
 use Rattle.certificate.specs.declared.certs.Version.{Version as VersionCode}
 use Rattle.certificate.specs.declared.certs.Version.TheVariants as version
 use Rattle.certificate.specs.declared.lines.Channel.{Channel as ChannelCode}
@@ -24,9 +27,9 @@ use Rattle.certificate.specs.declared.lines.Line.TheVariants as line
 use Rattle.rights.specs.Classes.{Class, Initial, Made_at}
 use Rattle.rights.specs.Limits.{most_descriptors}
 use Rattle.certificate.specs.Bounds.{ModeBound, Off, On, Either, Interval, Target, In_grant, Any_node, Socket, Unknown, Held, Slot, Closed, Open, Maybe, Bound, PointBound}
-use Rattle.certificate.specs.Bounds.{ChannelBound, Version, One, Two, Certificate}
+use Rattle.certificate.specs.Bounds.{ChannelBound, Ceiling, End, Authority, Version, One, Two, Three, Certificate}
 use Rattle.certificate.specs.Growth.{copies}
-use Rattle.certificate.specs.Lines.{Line, Begins_block, Bounds_register, Bounds_slot, Bounds_channel}
+use Rattle.certificate.specs.Lines.{Line, Begins_block, Bounds_register, Bounds_slot, Bounds_channel, Begins_authority, Bounds_grant, Holds_end}
 
 abbrev pub name_of : NameCode → List ℕ
 name_of n = take n.length n.bytes
@@ -92,15 +95,36 @@ channel_of c = record { class = class_of c.class; side = side_of c.side; sends =
 abbrev pub channels_of : List ChannelCode → List ChannelBound
 channels_of channels = map channel_of channels
 
+abbrev pub ceiling_of : CeilingCode → Ceiling
+ceiling_of c = record { grant = name_of c.grant; rights = c.rights.0 }
+
+abbrev pub end_of : EndCode → End
+end_of e = record { class = class_of e.class; side = side_of e.side }
+
+abbrev pub authority_of : AuthorityCode → Authority
+authority_of a = record { program = name_of a.program; ceilings = map ceiling_of a.ceilings.items; holds = map end_of a.holds.items }
+
+abbrev pub authorities_of : List AuthorityCode → List Authority
+authorities_of authorities = map authority_of authorities
+
 abbrev pub version_of : VersionCode → Version
 version_of version.One = One
 version_of version.Two = Two
+version_of version.Three = Three
 
-abbrev pub certificate_with : Version → List PointCode → List ChannelCode → Certificate
-certificate_with v points channels = record { version = v; points = points_of points; channels = channels_of channels }
+abbrev pub certificate_with : Version → List PointCode → List ChannelCode → List AuthorityCode → Certificate
+certificate_with v points channels authorities = record {
+  version = v;
+  points = points_of points;
+  channels = channels_of channels;
+  authorities = authorities_of authorities;
+}
 
 abbrev pub line_of : LineCode → Line
 line_of (line.Block name number m) = Begins_block (name_of name) number (mode_of m)
 line_of (line.Register number values) = Bounds_register number (interval_of values)
 line_of (line.Slot number s) = Bounds_slot number (slot_of s)
 line_of (line.Channel channel) = Bounds_channel (channel_of channel)
+line_of (line.Authority name) = Begins_authority (name_of name)
+line_of (line.Ceiling ceiling) = Bounds_grant (ceiling_of ceiling)
+line_of (line.Hold held) = Holds_end (end_of held)

@@ -1,11 +1,14 @@
-//! How a certificate grows by blocks and by channels.
+//! How a certificate grows by blocks, by channels and by authorities.
 
 ghost use Rattle.std.specs.Prelude.{◌≡◌, ◌+◌, ◌≤◌, ◌<◌, length, map, true, false};
-ghost use Rattle.certificate.specs.Lines.{Bounds_channel, Bounds_register, Bounds_slot, block_lines, is_closed, is_full, is_line, register_lines, slot_lines};
-ghost use Rattle.certificate.specs.Views.{bound_of, channel_of, channels_of, interval_of, line_of, name_of, slot_of};
-ghost use Rattle.certificate.specs.Growths.{grown};
+ghost use Rattle.certificate.specs.Bounds.{Version, has_authorities};
+ghost use Rattle.certificate.specs.Lines.{Begins_authority, Bounds_channel, Bounds_grant, Bounds_register, Bounds_slot, Holds_end, authority_lines, block_lines, is_closed, is_full, is_line};
+ghost use Rattle.certificate.specs.Lines.{is_of_version, register_lines, slot_lines};
+ghost use Rattle.certificate.specs.Views.{authorities_of, authority_of, bound_of, ceiling_of, channel_of, channels_of, end_of, interval_of, line_of, name_of, slot_of};
+ghost use Rattle.certificate.specs.Growths.{grown, grown_with};
 ghost use Rattle.certificate.specs.GrowthViews.{Grows};
 
+use crate::authorities::{Authority, Ceiling, End};
 use crate::bounds::{Bound, Interval, Slot};
 use crate::certs::Cert;
 use crate::lines::{Channel, Line, Refusal};
@@ -17,6 +20,7 @@ fn register_line(register: u8, interval: Interval) -> Line
     requires bounded { is_full (interval_of interval) ≡ false }
     ensures value { line_of result ≡ Bounds_register register (interval_of interval) }
     ensures valid { is_line (line_of result) ≡ true }
+    ensures version { (version : Version) → is_of_version version (line_of result) ≡ true }
 {
     Line::Register { register, interval }
 }
@@ -27,6 +31,7 @@ fn slot_line(number: u8, slot: Slot) -> Line
     requires open { is_closed (slot_of slot) ≡ false }
     ensures value { line_of result ≡ Bounds_slot number (slot_of slot) }
     ensures valid { is_line (line_of result) ≡ true }
+    ensures version { (version : Version) → is_of_version version (line_of result) ≡ true }
 {
     Line::Slot { number, slot }
 }
@@ -84,6 +89,7 @@ pub fn push_block(cert: &mut Cert, program: &Name, point: u8, bound: &Bound) -> 
 fn channel_line(channel: Channel) -> Line
     ensures value { line_of result ≡ Bounds_channel (channel_of channel) }
     ensures valid { is_line (line_of result) ≡ true }
+    ensures version { (version : Version) → is_of_version version (line_of result) ≡ true }
 {
     Line::Channel(channel)
 }
@@ -98,6 +104,82 @@ pub fn push_channels(cert: &mut Cert, channels: &[Channel]) -> Result<(), Refusa
         [first, rest @ ..] => {
             cert.push(&channel_line(*first))?;
             push_channels(cert, rest)
+        }
+    }
+}
+
+/// The line of a ceiling.
+fn ceiling_line(ceiling: Ceiling) -> Line
+    ensures value { line_of result ≡ Bounds_grant (ceiling_of ceiling) }
+    ensures valid { is_line (line_of result) ≡ true }
+{
+    Line::Ceiling(ceiling)
+}
+
+/// Adds ceilings to the last authority.
+#[tactic(auto, unfolding(crate::specs::Growths::grown))]
+fn push_ceilings(cert: &mut Cert, ceilings: &[Ceiling]) -> Result<(), Refusal>
+    requires { has_authorities cert.old.version ≡ true }
+    ensures grows { Grows result cert.new (grown (map Bounds_grant (map ceiling_of ceilings.now)) cert.old) }
+    ensures version { cert.new.version ≡ cert.old.version }
+{
+    match ceilings {
+        [] => Ok(()),
+        [first, rest @ ..] => {
+            cert.push(&ceiling_line(*first))?;
+            push_ceilings(cert, rest)
+        }
+    }
+}
+
+/// The line of an end.
+fn end_line(held: End) -> Line
+    ensures value { line_of result ≡ Holds_end (end_of held) }
+    ensures valid { is_line (line_of result) ≡ true }
+{
+    Line::Hold(held)
+}
+
+/// Adds ends to the last authority.
+#[tactic(auto, unfolding(crate::specs::Growths::grown))]
+fn push_ends(cert: &mut Cert, holds: &[End]) -> Result<(), Refusal>
+    requires { has_authorities cert.old.version ≡ true }
+    ensures grows { Grows result cert.new (grown (map Holds_end (map end_of holds.now)) cert.old) }
+    ensures version { cert.new.version ≡ cert.old.version }
+{
+    match holds {
+        [] => Ok(()),
+        [first, rest @ ..] => {
+            cert.push(&end_line(*first))?;
+            push_ends(cert, rest)
+        }
+    }
+}
+
+/// Adds the authority of a program: its line, its ceilings and its ends.
+#[tactic(auto, using(crate::proofs::Growths::grown_append), unfolding(crate::specs::Growths::grown))]
+fn push_authority(cert: &mut Cert, authority: &Authority) -> Result<(), Refusal>
+    requires { has_authorities cert.old.version ≡ true }
+    ensures grows { Grows result cert.new (grown (authority_lines (authority_of authority.now)) cert.old) }
+    ensures version { cert.new.version ≡ cert.old.version }
+{
+    cert.push(&Line::Authority(authority.program))?;
+    push_ceilings(cert, &authority.ceilings)?;
+    push_ends(cert, &authority.holds)
+}
+
+/// Adds authorities to a certificate of version 3. Its errors are those of `Cert::push`; after one of them the certificate may
+/// have some of their lines. (own)
+#[tactic(auto, unfolding(crate::specs::Growths::grown_with))]
+pub fn push_authorities(cert: &mut Cert, authorities: &[Authority]) -> Result<(), Refusal>
+    requires { has_authorities cert.old.version ≡ true }
+    ensures { Grows result cert.new (grown_with (authorities_of authorities.now) cert.old) }
+{
+    match authorities {
+        [] => Ok(()),
+        [first, rest @ ..] => {
+            push_authority(cert, first)?;
+            push_authorities(cert, rest)
         }
     }
 }

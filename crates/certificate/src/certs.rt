@@ -5,6 +5,7 @@ ghost use Rattle.certificate.specs.Bounds.{bound_in};
 ghost use Rattle.certificate.specs.Rising.{places_of, rises};
 ghost use Rattle.certificate.specs.Views.{bound_of, points_of};
 
+use crate::authorities::Authority;
 use crate::bounds::Bound;
 use crate::growth::{classes_with, extend, programs_with, stands};
 use crate::lines::{Channel, Line, Refusal};
@@ -14,13 +15,30 @@ use std::alloc::Global;
 use std::cmp::Ordering;
 use std::marker::Model;
 
-/// What a certificate leaves to be carried along. (own)
+/// What a certificate leaves to be carried along, and whether programs have authorities. (own)
 #[derive(Clone, Copy, Debug, PartialEq, Eq)]
 pub enum Version {
     /// Nothing: each bound is written.
     One,
     /// Bounds between points where ways meet.
     Two,
+    /// The same; and programs have authorities.
+    Three,
+}
+
+impl Version {
+    ghost use Rattle.certificate.specs.Bounds.{has_authorities};
+    ghost use Rattle.certificate.specs.Views.{version_of};
+
+    /// Whether programs have authorities in it.
+    pub fn has_authorities(self) -> bool
+        ensures { result ≡ has_authorities (version_of self) }
+    {
+        match self {
+            Version::One | Version::Two => false,
+            Version::Three => true,
+        }
+    }
 }
 
 /// A certificate, valid by construction: it is what lines make of nothing, each taken in its place and within the limits. A
@@ -30,6 +48,7 @@ pub struct Cert {
     version: Version,
     points: Vec<Point>,
     channels: Vec<Channel>,
+    authorities: Vec<Authority>,
     programs: ProgramNames,
     classes: usize,
 }
@@ -46,11 +65,12 @@ impl Model for Cert {
     ghost use Rattle.certificate.specs.Views.{certificate_with, version_of};
     ghost use Rattle.certificate.specs.CountViews.{programs_listed};
 
-    ghost view = { λ c. certificate_with (version_of c.version) c.points.items c.channels.items };
+    ghost view = { λ c. certificate_with (version_of c.version) c.points.items c.channels.items c.authorities.items };
 
-    ghost invariant = { λ c. IsCertificate (certificate_with (version_of c.version) c.points.items c.channels.items)
-        × (programs_listed c.programs ≡ distinct bytes_eq (programs_named (certificate_with (version_of c.version) c.points.items c.channels.items)))
-        × (c.classes ≡ length (distinct same_class (classes_of (certificate_with (version_of c.version) c.points.items c.channels.items)))) };
+    ghost invariant = { λ c.
+        let certificate = certificate_with (version_of c.version) c.points.items c.channels.items c.authorities.items in
+        IsCertificate certificate × (programs_listed c.programs ≡ distinct bytes_eq (programs_named certificate))
+        × (c.classes ≡ length (distinct same_class (classes_of certificate))) };
 }
 
 /// The bound of a point among some that rise, by halving them.
@@ -73,10 +93,10 @@ fn bound_among(points: &[Point], program: &[u8], point: usize) -> Option<Bound>
 impl Cert {
     ghost use Rattle.std.specs.Prelude.{◌≡◌, option_map, true};
     ghost use Rattle.certificate.specs.Bounds.{bound_at};
-    ghost use Rattle.certificate.specs.Lines.{is_line};
+    ghost use Rattle.certificate.specs.Lines.{is_line, is_of_version};
     ghost use Rattle.certificate.specs.Growth.{IsCertificate, empty, taken};
     ghost use Rattle.certificate.specs.GrowthViews.{LineTaken};
-    ghost use Rattle.certificate.specs.Views.{bound_of, channels_of, line_of, points_of, version_of};
+    ghost use Rattle.certificate.specs.Views.{authorities_of, bound_of, channels_of, line_of, points_of, version_of};
 
     /// The certificate of this version without lines. Takes no memory.
     pub fn new(alloc: Global, version: Version) -> Cert
@@ -86,6 +106,7 @@ impl Cert {
             version,
             points: Vec::new(alloc),
             channels: Vec::new(alloc),
+            authorities: Vec::new(alloc),
             programs: ProgramNames::new(),
             classes: 0,
         }
@@ -94,19 +115,27 @@ impl Cert {
     /// Takes a line; the version stays. Where the line is refused the certificate stays as it was: `Limit` comes before `Order`,
     /// and `Memory` last.
     pub fn push(&mut self, line: &Line) -> Result<(), Refusal>
-        requires { is_line (line_of line.now) ≡ true }
-        ensures { LineTaken result self.old self.new (taken self.old (line_of line.now)) }
+        requires line { is_line (line_of line.now) ≡ true }
+        requires version { is_of_version self.old.version (line_of line.now) ≡ true }
+        ensures taken { LineTaken result self.old self.new (taken self.old (line_of line.now)) }
+        ensures version { self.new.version ≡ self.old.version }
     {
         let Some(programs) = programs_with(self.programs, line) else {
             return Err(Refusal::Limit);
         };
-        let Some(classes) = classes_with(self.classes, &self.channels, line) else {
+        let Some(classes) = classes_with(self.classes, &self.channels, &self.authorities, line)
+        else {
             return Err(Refusal::Limit);
         };
-        if !stands(&self.points, &self.channels, line) {
+        if !stands(&self.points, &self.channels, &self.authorities, line) {
             return Err(Refusal::Order);
         }
-        extend(&mut self.points, &mut self.channels, line)?;
+        extend(
+            &mut self.points,
+            &mut self.channels,
+            &mut self.authorities,
+            line,
+        )?;
         self.programs = programs;
         self.classes = classes;
         Ok(())
@@ -140,6 +169,14 @@ impl Cert {
         ensures valid { IsCertificate self.now }
     {
         &self.channels
+    }
+
+    /// Its authorities, rising; there are none in versions 1 and 2. Who asks for them learns that it is a certificate.
+    pub fn authorities(&self) -> &[Authority]
+        ensures authorities { authorities_of result.now ≡ self.now.authorities }
+        ensures valid { IsCertificate self.now }
+    {
+        &self.authorities
     }
 
     /// The bound of a point of the program of this name, if it has one.

@@ -1,19 +1,21 @@
 //! How a certificate grows by a line: whether there is room for it, whether it stands in its place, and what it adds.
 
-ghost use Rattle.std.specs.Prelude.{◌≡◌, ◌≤◌, length, map, option_map, IfErr, OnErr, OnOk};
-ghost use Rattle.std.specs.List.{list_any};
+ghost use Rattle.std.specs.Prelude.{◌≡◌, ◌≤◌, ◌∷◌, [], length, map, option_map, IfErr, MatchOption, OnErr, OnOk};
+ghost use Rattle.std.specs.List.{flat_map, list_any};
 ghost use Rattle.std.specs.Str.{bytes_eq};
 ghost use Rattle.rights.specs.Limits.{most_programs};
 ghost use Rattle.certificate.specs.Order.{same_class};
 ghost use Rattle.certificate.specs.Bounds.{Version, with_interval, with_slot};
 ghost use Rattle.certificate.specs.Lines.{is_closed, is_full};
-ghost use Rattle.certificate.specs.Growth.{above_blocks, above_channels, all_from, classes_in, classes_in_line, distinct, may_bound_register, may_bound_slot, most_classes};
-ghost use Rattle.certificate.specs.Growth.{on_last, programs_in_line, programs_of_class, programs_of_held, stands, with_line};
+ghost use Rattle.certificate.specs.Growth.{above_authorities, above_blocks, above_ceilings, above_channels, above_ends, all_classes, all_from, classes_held, classes_in, classes_in_line};
+ghost use Rattle.certificate.specs.Growth.{classes_of_ends, distinct, may_bound_grant, may_bound_register, may_bound_slot, may_hold_end, most_classes};
+ghost use Rattle.certificate.specs.Growth.{on_last, programs_in_line, programs_of_class, programs_of_held, stands, with_ceiling, with_end, with_last, with_line};
 ghost use Rattle.certificate.specs.Room.{listed_with};
 ghost use Rattle.certificate.specs.CountViews.{programs_listed};
-ghost use Rattle.certificate.specs.Views.{certificate_with, channel_of, channels_of, class_of, held_of, interval_of, line_of, name_of, points_of, slot_of};
+ghost use Rattle.certificate.specs.Views.{authorities_of, ceiling_of, certificate_with, channel_of, channels_of, class_of, end_of, held_of, interval_of, line_of, name_of, points_of, slot_of};
 ghost use Rattle.certificate.specs.declared.lines.Refusal.TheVariants as refusal;
 
+use crate::authorities::{Authority, Ceiling, End};
 use crate::bounds::{Held, Interval, Slot, Target};
 use crate::classes::Class;
 use crate::lines::{Channel, Line, Refusal};
@@ -21,7 +23,7 @@ use crate::names::Name;
 use crate::points::Point;
 use crate::program_names::ProgramNames;
 
-/// The classes that a certificate's channels may be of.
+/// The classes that a certificate's channels and the ends of its authorities may be of.
 const MAX_CLASSES: usize = 32;
 
 /// The names with that of a class's program, if it has one.
@@ -59,6 +61,9 @@ pub(crate) fn programs_with(programs: ProgramNames, line: &Line) -> Option<Progr
         Line::Register { .. } => Some(programs),
         Line::Slot { slot, .. } => with_held(programs, slot.held()),
         Line::Channel(channel) => with_held(with_class(programs, channel.class)?, channel.sends),
+        Line::Authority(program) => programs.with(program),
+        Line::Ceiling(_) => Some(programs),
+        Line::Hold(held) => with_class(programs, held.class),
     }
 }
 
@@ -74,17 +79,61 @@ fn has_class(channels: &[Channel], class: Class) -> bool
     false
 }
 
-/// How many classes the channels are of once the line is taken, if they are no more than 32.
-pub(crate) fn classes_with(classes: usize, channels: &[Channel], line: &Line) -> Option<usize>
-    requires counted { classes ≡ length (distinct same_class (classes_in (channels_of channels.now))) }
+/// Whether an end is of this class.
+fn is_class_of_ends(holds: &[End], class: Class) -> bool
+    ensures { result ≡ list_any (λ y. same_class y (class_of class)) (classes_of_ends (map end_of holds.now)) }
+{
+    for held in holds {
+        if held.class.is(&class) {
+            return true;
+        }
+    }
+    false
+}
+
+/// Whether an authority has an end of this class.
+fn is_class_held(authorities: &[Authority], class: Class) -> bool
+    ensures { result ≡ list_any (λ y. same_class y (class_of class)) (flat_map classes_held (authorities_of authorities.now)) }
+{
+    for authority in authorities {
+        if is_class_of_ends(&authority.holds, class) {
+            return true;
+        }
+    }
+    false
+}
+
+/// The class that is counted where the line is taken, if one is.
+fn counted_class(line: &Line) -> Option<Class>
+    ensures { MatchOption result (classes_in_line (line_of line.now) ≡ []) (λ class. classes_in_line (line_of line.now) ≡ class_of class ∷ []) }
+{
+    match line {
+        Line::Channel(channel) => Some(channel.class),
+        Line::Hold(held) => Some(held.class),
+        Line::Block { .. }
+        | Line::Register { .. }
+        | Line::Slot { .. }
+        | Line::Authority(_)
+        | Line::Ceiling(_) => None,
+    }
+}
+
+/// How many classes the channels and the ends of authorities are of once the line is taken, if they are no more than 32.
+pub(crate) fn classes_with(
+    classes: usize,
+    channels: &[Channel],
+    authorities: &[Authority],
+    line: &Line,
+) -> Option<usize>
+    requires counted { classes ≡ length (distinct same_class (all_classes (channels_of channels.now) (authorities_of authorities.now))) }
     requires few { classes ≤ 32 }
     ensures { result ≡ option_map length (listed_with same_class most_classes
-        (distinct same_class (classes_in (channels_of channels.now))) (classes_in_line (line_of line.now))) }
+        (distinct same_class (all_classes (channels_of channels.now) (authorities_of authorities.now))) (classes_in_line (line_of line.now))) }
 {
-    let Line::Channel(channel) = line else {
+    let Some(class) = counted_class(line) else {
         return Some(classes);
     };
-    if has_class(channels, channel.class) {
+    if has_class(channels, class) || is_class_held(authorities, class) {
         return Some(classes);
     }
     if classes == MAX_CLASSES {
@@ -167,19 +216,74 @@ fn may_bound_slot(points: &[Point], number: u8) -> bool
     }
 }
 
-/// Whether the line stands in its place behind those that made these points and channels, in either version.
-pub(crate) fn stands(points: &[Point], channels: &[Channel], line: &Line) -> bool
-    ensures { (version : Version) → result ≡ stands (certificate_with version points.now channels.now) (line_of line.now) }
+/// Whether the authority of a program may stand behind these.
+fn is_above_authorities(authorities: &[Authority], program: &Name) -> bool
+    ensures { result ≡ above_authorities (authorities_of authorities.now) (name_of program.now) }
 {
+    match authorities.split_last() {
+        None => true,
+        Some((last, _)) => last.program.as_bytes().cmp(program.as_bytes()).is_lt(),
+    }
+}
+
+/// Whether the ceiling of a grant may stand behind these.
+fn is_above_ceilings(ceilings: &[Ceiling], grant: &Name) -> bool
+    ensures { result ≡ above_ceilings (map ceiling_of ceilings.now) (name_of grant.now) }
+{
+    match ceilings.split_last() {
+        None => true,
+        Some((last, _)) => last.grant.as_bytes().cmp(grant.as_bytes()).is_lt(),
+    }
+}
+
+/// Whether an end may stand behind these.
+fn is_above_ends(holds: &[End], held: &End) -> bool
+    ensures { result ≡ above_ends (map end_of holds.now) (end_of held.now) }
+{
+    match holds.split_last() {
+        None => true,
+        Some((last, _)) => last.compare(held).is_lt(),
+    }
+}
+
+/// Whether a grant of the last authority may be bounded.
+fn may_bound_grant(authorities: &[Authority], grant: &Name) -> bool
+    ensures { result ≡ may_bound_grant (authorities_of authorities.now) (name_of grant.now) }
+{
+    match authorities.split_last() {
+        None => false,
+        Some((last, _)) => last.holds.is_empty() && is_above_ceilings(&last.ceilings, grant),
+    }
+}
+
+/// Whether the last authority may have this end.
+fn may_hold_end(authorities: &[Authority], held: &End) -> bool
+    ensures { result ≡ may_hold_end (authorities_of authorities.now) (end_of held.now) }
+{
+    match authorities.split_last() {
+        None => false,
+        Some((last, _)) => is_above_ends(&last.holds, held),
+    }
+}
+
+/// Whether the line stands in its place behind those that made these points, channels and authorities, in any version.
+pub(crate) fn stands(
+    points: &[Point],
+    channels: &[Channel],
+    authorities: &[Authority],
+    line: &Line,
+) -> bool
+    ensures { (version : Version) → result ≡ stands (certificate_with version points.now channels.now authorities.now) (line_of line.now) }
+{
+    let in_blocks = channels.is_empty() && authorities.is_empty();
     match line {
-        Line::Block { program, point, .. } => {
-            channels.is_empty() && is_above_blocks(points, program, *point)
-        }
-        Line::Register { register, .. } => {
-            channels.is_empty() && may_bound_register(points, *register)
-        }
-        Line::Slot { number, .. } => channels.is_empty() && may_bound_slot(points, *number),
-        Line::Channel(channel) => is_above_channels(channels, channel),
+        Line::Block { program, point, .. } => in_blocks && is_above_blocks(points, program, *point),
+        Line::Register { register, .. } => in_blocks && may_bound_register(points, *register),
+        Line::Slot { number, .. } => in_blocks && may_bound_slot(points, *number),
+        Line::Channel(channel) => authorities.is_empty() && is_above_channels(channels, channel),
+        Line::Authority(program) => is_above_authorities(authorities, program),
+        Line::Ceiling(ceiling) => may_bound_grant(authorities, &ceiling.grant),
+        Line::Hold(held) => may_hold_end(authorities, held),
     }
 }
 
@@ -205,16 +309,41 @@ fn bound_slot(points: &mut [Point], number: u8, slot: Slot) -> Result<(), Refusa
     Ok(())
 }
 
-/// Adds what the line says, in either version. A refused growth changes nothing.
+/// Adds a ceiling to the last authority. A refused growth changes nothing.
+fn bound_grant(authorities: &mut [Authority], ceiling: Ceiling) -> Result<(), Refusal>
+    ensures ok { OnOk result (authorities_of authorities.new ≡ with_last (with_ceiling (ceiling_of ceiling)) (authorities_of authorities.old)) }
+    ensures err { OnErr result (authorities_of authorities.new ≡ authorities_of authorities.old) }
+    ensures memory { IfErr result (λ reason. reason ≡ refusal.Memory) }
+{
+    if let Some(last) = authorities.last_mut() {
+        last.bound_grant(ceiling)?;
+    }
+    Ok(())
+}
+
+/// Adds an end to the last authority. A refused growth changes nothing.
+fn hold_end(authorities: &mut [Authority], held: End) -> Result<(), Refusal>
+    ensures ok { OnOk result (authorities_of authorities.new ≡ with_last (with_end (end_of held)) (authorities_of authorities.old)) }
+    ensures err { OnErr result (authorities_of authorities.new ≡ authorities_of authorities.old) }
+    ensures memory { IfErr result (λ reason. reason ≡ refusal.Memory) }
+{
+    if let Some(last) = authorities.last_mut() {
+        last.hold_end(held)?;
+    }
+    Ok(())
+}
+
+/// Adds what the line says, in any version. A refused growth changes nothing.
 pub(crate) fn extend(
     points: &mut Vec<Point>,
     channels: &mut Vec<Channel>,
+    authorities: &mut Vec<Authority>,
     line: &Line,
 ) -> Result<(), Refusal>
-    ensures ok { OnOk result ((version : Version) → certificate_with version points.new.items channels.new.items
-        ≡ with_line (certificate_with version points.old.items channels.old.items) (line_of line.now)) }
-    ensures err { OnErr result ((version : Version) → certificate_with version points.new.items channels.new.items
-        ≡ certificate_with version points.old.items channels.old.items) }
+    ensures ok { OnOk result ((version : Version) → certificate_with version points.new.items channels.new.items authorities.new.items
+        ≡ with_line (certificate_with version points.old.items channels.old.items authorities.old.items) (line_of line.now)) }
+    ensures err { OnErr result ((version : Version) → certificate_with version points.new.items channels.new.items authorities.new.items
+        ≡ certificate_with version points.old.items channels.old.items authorities.old.items) }
     ensures memory { IfErr result (λ reason. reason ≡ refusal.Memory) }
 {
     match line {
@@ -231,6 +360,12 @@ pub(crate) fn extend(
         }
         Line::Slot { number, slot } => bound_slot(points.as_mut_slice(), *number, *slot)?,
         Line::Channel(channel) => channels.push(*channel)?,
+        Line::Authority(program) => {
+            let alloc = *authorities.allocator();
+            authorities.push(Authority::begins(alloc, *program))?
+        }
+        Line::Ceiling(ceiling) => bound_grant(authorities.as_mut_slice(), *ceiling)?,
+        Line::Hold(held) => hold_end(authorities.as_mut_slice(), *held)?,
     }
     Ok(())
 }

@@ -2,6 +2,7 @@
 //! order of bounds.
 #![tactic(auto)]
 
+pub mod authorities;
 pub mod blocks;
 pub mod bounds;
 pub mod certs;
@@ -15,7 +16,8 @@ pub mod order;
 pub mod points;
 mod program_names;
 
-pub use blocks::{push_block, push_channels};
+pub use authorities::{Authority, Ceiling, End};
+pub use blocks::{push_authorities, push_block, push_channels};
 pub use bounds::{Bound, FcntlsRange, Held, Interval, ModeBound, RightsRange, Slot, Target};
 pub use certs::{Cert, Version};
 pub use classes::{Class, Pair, Side};

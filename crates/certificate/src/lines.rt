@@ -5,6 +5,7 @@ ghost use Rattle.certificate.specs.Growth.{channel_order};
 ghost use Rattle.certificate.specs.Views.{channel_of, class_of, held_of, side_of};
 ghost use Rattle.certificate.specs.declared.lines.Refusal.TheVariants as refusal;
 
+use crate::authorities::{Ceiling, End};
 use crate::bounds::{Held, Interval, ModeBound, Slot};
 use crate::classes::{Class, Side};
 use crate::names::Name;
@@ -81,12 +82,18 @@ pub enum Line {
     },
     /// What one side of the pairs of a class sends.
     Channel(Channel),
+    /// The authority of the program of a name begins.
+    Authority(Name),
+    /// The last authority has a ceiling in a grant.
+    Ceiling(Ceiling),
+    /// The last authority has an end.
+    Hold(End),
 }
 
 /// Why a certificate doesn't take a line. Nothing has changed then. (own)
 #[derive(Clone, Copy, Debug, PartialEq, Eq, Error)]
 pub enum Refusal {
-    /// It names a ninth program, or a 33rd class of channels.
+    /// It names a ninth program, or a 33rd class of channels and ends.
     #[error("too many programs or classes")]
     Limit,
     /// It is out of its place, or not above the line before it.

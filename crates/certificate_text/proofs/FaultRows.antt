@@ -1,9 +1,10 @@
 -- Faulty bytes, the fault of each, and where its line begins, by computation.
 use Rattle.std.proofs.Common.{◌≡◌, refl}
 use Rattle.std.specs.Fmt.{decimal, digits}
-use Rattle.std.specs.Prelude.{◌+◌, ℕ, zero, suc, List, [], ◌∷◌, ◌++◌, codes, take}
+use Rattle.std.specs.Prelude.{◌+◌, ℕ, zero, suc, List, [], ◌∷◌, ◌++◌, codes, take, Ok}
+use Rattle.certificate.specs.Bounds.{Three}
 use Rattle.certificate_text.specs.Faults.{Syntax, Limit, Order}
-use Rattle.certificate.specs.Growth.{taken, distinct_behind, above_blocks, above_channels, may_bound_register, may_bound_slot, all_from, on_last}
+use Rattle.certificate.specs.Growth.{empty, asked_of_last, with_last, taken, distinct_behind, above_blocks, above_channels, may_bound_register, may_bound_slot, all_from, on_last}
 use Rattle.certificate_text.specs.Readings.{Reading, certificate_of_text, fails, line_of_text, read_behind}
 use Rattle.certificate_text.proofs.Samples.{block_0, block_1, block_2, text, three_blocks}
 
@@ -36,12 +37,12 @@ abbrev of_first : List ℕ → Reading
 of_first line = certificate_of_text (text (line ∷ codes "end" ∷ []))
 
 no_version :
-    (of_first (codes "capcert 3") ≡ fails Syntax 0) × (of_first (codes "capcert 0") ≡ fails Syntax 0) × (of_first (codes "capcert 02") ≡ fails Syntax 0)
+    (of_first (codes "capcert 4") ≡ fails Syntax 0) × (of_first (codes "capcert 03") ≡ fails Syntax 0) × (of_first (codes "capcert 0") ≡ fails Syntax 0) × (of_first (codes "capcert 02") ≡ fails Syntax 0)
     × (of_first (codes "capcert 2x") ≡ fails Syntax 0) × (of_first (codes "capcert 12") ≡ fails Syntax 0) × (of_first (codes "capcert 1 ") ≡ fails Syntax 0)
     × (of_first (codes "capcert  2") ≡ fails Syntax 0) × (of_first (codes "capcert 2 1") ≡ fails Syntax 0) × (of_first (codes "capcert") ≡ fails Syntax 0)
     × (of_first (codes "Capcert 2") ≡ fails Syntax 0) × (of_first [] ≡ fails Syntax 0) × (certificate_of_text (codes "capcert 2") ≡ fails Syntax 0)
 unfolding certificate_of_text read_behind line_of_text taken distinct_behind above_blocks above_channels may_bound_register may_bound_slot all_from on_last
-no_version = (refl, refl, refl, refl, refl, refl, refl, refl, refl, refl, refl, refl)
+no_version = (refl, refl, refl, refl, refl, refl, refl, refl, refl, refl, refl, refl, refl)
 
 -- the lines behind the first one
 abbrev of_lines : List (List ℕ) → Reading
@@ -132,3 +133,70 @@ classes :
     × (of_lines (channels_from 32 0 ++ codes "chan @31 a none" ∷ []) ≡ fails Order 512)
 unfolding digits certificate_of_text read_behind line_of_text taken distinct_behind above_blocks above_channels may_bound_register may_bound_slot all_from on_last
 classes = (refl, refl)
+
+-- VERSION 3: authorities. Their words are none in the other versions, nor are the versions' first lines again.
+abbrev of_second : List (List ℕ) → Reading
+of_second lines = certificate_of_text (text (codes "capcert 2" ∷ (lines ++ codes "end" ∷ [])))
+
+abbrev of_third : List (List ℕ) → Reading
+of_third lines = certificate_of_text (text (codes "capcert 3" ∷ (lines ++ codes "end" ∷ [])))
+
+not_in_other_versions :
+    (of_lines (codes "auth main" ∷ []) ≡ fails Syntax 10) × (of_lines (codes "ceil work 0081" ∷ []) ≡ fails Syntax 10) × (of_lines (codes "hold @0 b" ∷ []) ≡ fails Syntax 10)
+    × (of_second (codes "auth main" ∷ []) ≡ fails Syntax 10) × (of_second (codes "ceil work 0081" ∷ []) ≡ fails Syntax 10) × (of_second (codes "hold @0 b" ∷ []) ≡ fails Syntax 10)
+    × (of_lines (codes "capcert 3" ∷ []) ≡ fails Syntax 10) × (of_third (codes "capcert 1" ∷ []) ≡ fails Syntax 10) × (of_third (codes "capcert 3" ∷ []) ≡ fails Syntax 10)
+unfolding certificate_of_text read_behind line_of_text taken distinct_behind above_blocks above_channels may_bound_register may_bound_slot all_from on_last
+not_in_other_versions = (refl, refl, refl, refl, refl, refl, refl, refl, refl)
+
+-- a line of an authority that begins at 10; the line's offset is 20
+abbrev in_authority : List ℕ → Reading
+in_authority line = of_third (codes "auth main" ∷ line ∷ [])
+
+authority_forms :
+    (of_third (codes "auth" ∷ []) ≡ fails Syntax 10) × (of_third (codes "auth Main" ∷ []) ≡ fails Syntax 10) × (of_third (codes "auth main 0" ∷ []) ≡ fails Syntax 10)
+    × (of_third (codes "auth main " ∷ []) ≡ fails Syntax 10) × (in_authority (codes "ceil work 0000") ≡ fails Syntax 20) × (in_authority (codes "ceil work 4000") ≡ fails Syntax 20)
+    × (in_authority (codes "ceil work 81") ≡ fails Syntax 20) × (in_authority (codes "ceil work 00A1") ≡ fails Syntax 20) × (in_authority (codes "ceil work") ≡ fails Syntax 20)
+    × (in_authority (codes "ceil 0work 0081") ≡ fails Syntax 20) × (in_authority (codes "ceil work 0081 0081") ≡ fails Syntax 20) × (in_authority (codes "hold @0") ≡ fails Syntax 20)
+    × (in_authority (codes "hold @0 c") ≡ fails Syntax 20) × (in_authority (codes "hold @0 b b") ≡ fails Syntax 20) × (in_authority (codes "hold main b") ≡ fails Syntax 20)
+    × (of_third (codes "ceil work 0000" ∷ []) ≡ fails Syntax 10)
+unfolding certificate_of_text read_behind line_of_text taken distinct_behind asked_of_last with_last
+authority_forms = (refl, refl, refl, refl, refl, refl, refl, refl, refl, refl, refl, refl, refl, refl, refl, refl)
+
+authority_limits :
+    (in_authority (codes "hold @32 b") ≡ fails Limit 20) × (in_authority (codes "hold main:256 b") ≡ fails Limit 20) × (in_authority (codes "hold @32 c") ≡ fails Syntax 20)
+    × (of_third (codes "hold @32 b" ∷ []) ≡ fails Limit 10)
+unfolding certificate_of_text read_behind line_of_text taken distinct_behind asked_of_last with_last
+authority_limits = (refl, refl, refl, refl)
+
+authority_places :
+    (of_third (codes "ceil work 0081" ∷ []) ≡ fails Order 10) × (of_third (codes "hold @0 b" ∷ []) ≡ fails Order 10) × (in_authority (codes "at main 0 off") ≡ fails Order 20)
+    × (in_authority (codes "r0 0 1") ≡ fails Order 20) × (in_authority (codes "fd 0 open any 0000 3fff 0 3") ≡ fails Order 20) × (in_authority (codes "chan @0 a none") ≡ fails Order 20)
+    × (in_authority (codes "auth main") ≡ fails Order 20) × (in_authority (codes "auth lain") ≡ fails Order 20)
+    × (of_third (codes "auth main" ∷ codes "hold @0 b" ∷ codes "ceil work 0081" ∷ []) ≡ fails Order 30)
+    × (of_third (codes "auth main" ∷ codes "ceil work 0081" ∷ codes "ceil work 0001" ∷ []) ≡ fails Order 35)
+    × (of_third (codes "auth main" ∷ codes "ceil work 0081" ∷ codes "ceil log 0001" ∷ []) ≡ fails Order 35)
+    × (of_third (codes "auth main" ∷ codes "hold @0 b" ∷ codes "hold @0 b" ∷ []) ≡ fails Order 30)
+    × (of_third (codes "auth main" ∷ codes "hold @0 b" ∷ codes "hold @0 a" ∷ []) ≡ fails Order 30)
+    × (of_third (codes "auth main" ∷ codes "hold @10 a" ∷ codes "hold @9 a" ∷ []) ≡ fails Order 31)
+    × (of_third (codes "auth main" ∷ codes "hold main:0 a" ∷ codes "hold @9 a" ∷ []) ≡ fails Order 34)
+    × (of_third (codes "auth child" ∷ codes "ceil work 0081" ∷ codes "auth main" ∷ codes "ceil work 0081" ∷ []) ≡ Ok (record (empty Three) {
+      authorities = (record { program = codes "child"; ceilings = (record { grant = codes "work"; rights = 0x81 }) ∷ []; holds = [] })
+          ∷ (record { program = codes "main"; ceilings = (record { grant = codes "work"; rights = 0x81 }) ∷ []; holds = [] }) ∷ [];
+    }))
+unfolding certificate_of_text read_behind line_of_text taken distinct_behind asked_of_last with_last
+authority_places = (refl, refl, refl, refl, refl, refl, refl, refl, refl, refl, refl, refl, refl, refl, refl, refl)
+
+-- Programs of authorities and of the classes of their ends are among the eight, and grants aren't.
+nine_by_authorities :
+    (of_third (eight ++ codes "auth i" ∷ []) ≡ fails Limit 115) × (of_third (eight ++ codes "auth h" ∷ codes "hold i:0 a" ∷ []) ≡ fails Limit 122)
+    × (of_third (eight ++ codes "auth h" ∷ codes "ceil i 0001" ∷ codes "hold h:1 c" ∷ []) ≡ fails Syntax 134)
+unfolding certificate_of_text read_behind line_of_text taken distinct_behind above_blocks above_channels may_bound_register may_bound_slot all_from on_last asked_of_last with_last
+nine_by_authorities = (refl, refl, refl)
+
+-- The classes of ends are among the 32, with those of channels.
+classes_by_authorities :
+    (of_third (channels_from 32 0 ++ codes "auth main" ∷ codes "hold main:0 a" ∷ []) ≡ fails Limit 522)
+    × (of_third (channels_from 32 0 ++ codes "auth main" ∷ codes "hold @31 a" ∷ codes "hold @31 a" ∷ []) ≡ fails Order 533)
+    × (of_third (channels_from 31 0 ++ codes "auth main" ∷ codes "hold main:0 a" ∷ codes "hold main:1 a" ∷ []) ≡ fails Limit 520)
+unfolding digits certificate_of_text read_behind line_of_text taken distinct_behind above_blocks above_channels may_bound_register may_bound_slot all_from on_last asked_of_last with_last
+classes_by_authorities = (refl, refl, refl)

@@ -9,7 +9,9 @@ use Rattle.rights.proofs.Tests.{not_true}
 use Rattle.certificate.specs.Bounds.{Interval, Slot, Bound, PointBound, ChannelBound, ModeBound, Certificate, with_interval, with_slot, Closed, Open, Maybe}
 use Rattle.certificate.specs.Growth.{IsCertificate, begins, grows, all_from, has_none, has_room, may_bound_register, may_bound_slot, on_last, open_bound, No_room, Out_of_order, stands}
 use Rattle.certificate.specs.Growth.{taken, with_line}
-use Rattle.certificate.specs.Lines.{Line, Begins_block, Bounds_register, Bounds_slot, Bounds_channel, block_lines, is_bound_slot, is_closed, is_full, is_line, lines_of, register_lines}
+use Rattle.certificate.proofs.LastOnes.{behind_nothing}
+use Rattle.certificate.proofs.Behind.{block_stands, is_behind_blocks, no_authorities, no_channels, rest_grows}
+use Rattle.certificate.specs.Lines.{Line, Begins_block, Bounds_register, Bounds_slot, Bounds_channel, Begins_authority, Bounds_grant, Holds_end, authority_lines, block_lines, is_bound_slot, is_closed, is_full, is_line, lines_of, register_lines, rest_lines}
 use Rattle.certificate.specs.Lines.{slot_lines}
 
 -- each block has eight registers and sixteen slots
@@ -48,12 +50,15 @@ whole-with c (Bounds_register register interval) whole =
 whole-with c (Bounds_slot number slot) whole =
     whole-last (λ b. with_slot b number slot) c.points (λ b. refl) (λ b. length-set b.slots number slot) whole
 whole-with c (Bounds_channel channel) whole = whole
+whole-with c (Begins_authority program) whole = whole
+whole-with c (Bounds_grant ceiling) whole = whole
+whole-with c (Holds_end held) whole = whole
 
 -- All blocks of a certificate are whole.
 whole : (c : Certificate) → IsCertificate c → AreWhole c.points
 unfolding AreWhole
 whole _ (begins version) = tt
-whole d (grows {c = c} is line proper take) =
+whole d (grows {c = c} is line proper own take) =
     let made = (taken-is c d line take).1 in
     subst (λ e. AreWhole e.points) made (whole-with c line (whole c is))
 
@@ -197,11 +202,12 @@ blocks-begin points program point mode = flat_map-append block_lines points ((re
 
 -- CERTIFICATES
 
--- where there are no channels, a line of the blocks is the last one
-behind-blocks : (before after : List Line) (channels : List ChannelBound) (line : Line) → has_none channels ≡ true → after ≡ before ++ line ∷ []
-    → after ++ map Bounds_channel channels ≡ (before ++ map Bounds_channel channels) ++ line ∷ []
-behind-blocks before after [] line none more = one-more after before line more
-behind-blocks before after (channel ∷ channels) line none more = absurd cc
+-- where nothing stands behind blocks, a line of the blocks is the last one
+behind-blocks : (before after rest : List Line) (line : Line) → rest ≡ [] → after ≡ before ++ line ∷ [] → after ++ rest ≡ (before ++ rest) ++ line ∷ []
+behind-blocks before after rest line nothing more = ap (λ lines. lines ++ rest) more ∙ behind_nothing before (line ∷ []) rest nothing
+
+no-rest : (c : Certificate) → c.channels ≡ [] → c.authorities ≡ [] → rest_lines c ≡ []
+no-rest c no_channels no_authorities = λ i. map Bounds_channel (no_channels i) ++ flat_map authority_lines (no_authorities i)
 
 -- a slot that a line bounds isn't closed
 open-slot : (s : Slot) → is_bound_slot s ≡ true → is_closed s ≡ false
@@ -209,29 +215,36 @@ open-slot Closed is = absurd cc
 open-slot (Open h) is = refl
 open-slot (Maybe h) is = refl
 
+-- a line behind blocks
+behind-lines : (c : Certificate) (line : Line) → is_behind_blocks line ≡ true → stands c line ≡ true → (with_line c line).points ≡ c.points
+    → lines_of (with_line c line) ≡ lines_of c ++ line ∷ []
+behind-lines c line behind stand same =
+    (λ i. flat_map block_lines (same i) ++ rest_grows c line behind stand i) ∙ sym (append_assoc (flat_map block_lines c.points) (rest_lines c) (line ∷ []))
+
 grown-lines : (c : Certificate) (line : Line) → AreWhole c.points → is_line line ≡ true → stands c line ≡ true → lines_of (with_line c line) ≡ lines_of c ++ line ∷ []
 grown-lines c (Begins_block program point mode) whole is stand =
-    let each = and_parts (has_none c.channels) _ stand in
-    behind-blocks (flat_map block_lines c.points) _ c.channels (Begins_block program point mode) each.0 (blocks-begin c.points program point mode)
+    behind-blocks (flat_map block_lines c.points) _ (rest_lines c) (Begins_block program point mode)
+    (no-rest c (no_channels c _ stand) (no_authorities c _ stand)) (blocks-begin c.points program point mode)
 grown-lines c (Bounds_register register interval) whole is stand =
-    let each = and_parts (has_none c.channels) _ stand in
     let parts = and_parts _ _ is in
     let numbers = and_parts (nat_lt register 8) _ parts.1 in
     let proper = and_parts _ (not (is_full interval)) parts.0 in
-    behind-blocks (flat_map block_lines c.points) _ c.channels (Bounds_register register interval) each.0 (
-    blocks-register c.points register interval whole (ltb-true register 8 numbers.0) each.1 (not_true (is_full interval) proper.1)
+    behind-blocks (flat_map block_lines c.points) _ (rest_lines c) (Bounds_register register interval)
+    (no-rest c (no_channels c _ stand) (no_authorities c _ stand)) (
+    blocks-register c.points register interval whole (ltb-true register 8 numbers.0) (block_stands c _ stand) (not_true (is_full interval) proper.1)
     )
 grown-lines c (Bounds_slot number slot) whole is stand =
-    let each = and_parts (has_none c.channels) _ stand in
     let parts = and_parts _ _ is in
     let names = and_parts _ (is_bound_slot slot) parts.0 in
     let numbers = and_parts (nat_lt number 16) _ parts.1 in
-    behind-blocks (flat_map block_lines c.points) _ c.channels (Bounds_slot number slot) each.0 (
-    blocks-slot c.points number slot whole (ltb-true number 16 numbers.0) each.1 (open-slot slot names.1)
+    behind-blocks (flat_map block_lines c.points) _ (rest_lines c) (Bounds_slot number slot)
+    (no-rest c (no_channels c _ stand) (no_authorities c _ stand)) (
+    blocks-slot c.points number slot whole (ltb-true number 16 numbers.0) (block_stands c _ stand) (open-slot slot names.1)
     )
-grown-lines c (Bounds_channel channel) whole is stand =
-    ap (λ lines. flat_map block_lines c.points ++ lines) (map-append Bounds_channel c.channels (channel ∷ []))
-    ∙ sym (append_assoc (flat_map block_lines c.points) (map Bounds_channel c.channels) (Bounds_channel channel ∷ []))
+grown-lines c (Bounds_channel channel) whole is stand = behind-lines c (Bounds_channel channel) refl stand refl
+grown-lines c (Begins_authority program) whole is stand = behind-lines c (Begins_authority program) refl stand refl
+grown-lines c (Bounds_grant ceiling) whole is stand = behind-lines c (Bounds_grant ceiling) refl stand refl
+grown-lines c (Holds_end held) whole is stand = behind-lines c (Holds_end held) refl stand refl
 
 -- The lines of a certificate that takes one more are its lines and then that one.
 pub lines-grow : (c d : Certificate) (line : Line) → IsCertificate c → is_line line ≡ true → taken c line ≡ Ok d → lines_of d ≡ lines_of c ++ line ∷ []

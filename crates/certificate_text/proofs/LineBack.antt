@@ -1,7 +1,7 @@
 -- The text of a line is read as that line, and is one line of a text, which isn't the last one.
 use Rattle.std.proofs.Common.{◌≡◌, ℕ, zero, suc, ◌^◌, ◌<◌, ◌≤◌, Bool, true, false, not, cond, List, [], ◌∷◌, ◌++◌, length, decimal, refl, ap, sym, ◌∙◌, arith, eqb-true, leb-true}
 use Rattle.std.proofs.Common.{ltb-true, le-leb}
-use Rattle.std.specs.Prelude.{◌==◌, ◌&&◌, nat_le, nat_lt, bit_and, Option, Some, None, Result, Ok, Err}
+use Rattle.std.specs.Prelude.{◌==◌, ◌&&◌, codes, nat_le, nat_lt, bit_and, Option, Some, None, Result, Ok, Err}
 use Rattle.std.specs.List.{list_all}
 use Rattle.std.specs.Str.{bytes_eq}
 use Rattle.std.proofs.lemmas.Bool.{and_from, and_parts}
@@ -19,12 +19,13 @@ use Rattle.texts.specs.Parts.{joined, parts}
 use Rattle.texts.proofs.HexTexts.{digits-hex, hex-back}
 use Rattle.texts.proofs.NumberTexts.{digits-decimal, number-decimal}
 use Rattle.texts.proofs.WordLaws.{lacks, lacks-by, parts-joined, parts-more, parts-one}
-use Rattle.certificate.specs.Bounds.{ModeBound, Off, On, Either, Interval, Target, In_grant, Any_node, Socket, Unknown, Held, Slot, Closed, Open, Maybe, full_interval, held_in}
-use Rattle.certificate.specs.Lines.{Line, Begins_block, Bounds_register, Bounds_slot, Bounds_channel, are_held, are_named, are_numbered, is_bound_slot, is_held_bound, is_interval, is_line}
-use Rattle.certificate.specs.Lines.{is_named_class, is_named_target, is_numbered_class, is_numbered_target, is_range}
+use Rattle.certificate.specs.Bounds.{ModeBound, Off, On, Either, Interval, Target, In_grant, Any_node, Socket, Unknown, Held, Slot, Closed, Open, Maybe, Version, One, Two, Three, full_interval, has_authorities, held_in}
+use Rattle.certificate.specs.Lines.{Line, Begins_block, Bounds_register, Bounds_slot, Bounds_channel, Begins_authority, Bounds_grant, Holds_end, are_held, are_named, are_numbered, is_bound_slot, is_held_bound, is_interval, is_line}
+use Rattle.certificate.specs.Lines.{is_ceiling, is_of_version, is_named_class, is_named_target, is_numbered_class, is_numbered_target, is_range}
 use Rattle.certificate_text.specs.Faults.{Fault, Syntax, Limit, both, formed, with_part}
 use Rattle.certificate_text.specs.Readings.{line_of_text}
 use Rattle.certificate_text.specs.Texts.{class_word, held_words, end_line, line_text, line_words, mode_word, side_word, slot_words, sends_words, target_words}
+use Rattle.certificate_text.specs.Words.{authority_of_words, ceiling_from, ceiling_of_words, ceiling_with, end_of_words, end_with, other_line, register_of_words}
 use Rattle.certificate_text.specs.Words.{block_with, channel_with, class_of_word, held_behind, held_of_words, held_with, interval_from, line_of_words, mode_of_word, name_of_word}
 use Rattle.certificate_text.specs.Words.{point_of_program, range_from, sends_of_words, side_of_word, slot_of_words, up_to}
 
@@ -164,6 +165,15 @@ dark-line (Bounds_channel channel) is =
     let numbers = and_parts (is_numbered_class channel.class) (are_numbered channel.sends) each.2 in
     dark-more (class_word channel.class) (side_word channel.side ∷ sends_words channel.sends) (dark-class channel.class names.0 numbers.0)
     (dark-more (side_word channel.side) (sends_words channel.sends) (dark-side channel.side) (dark-sends channel.sends names.2 numbers.1))
+dark-line (Begins_authority program) is =
+    let each = three-parts (is_name program) true true is in dark-more program [] (dark-name program each.0) refl
+dark-line (Bounds_grant ceiling) is =
+    let each = three-parts (is_name ceiling.grant) (is_ceiling ceiling.rights) true is in
+    dark-more ceiling.grant (hex_text 4 ceiling.rights ∷ []) (dark-name ceiling.grant each.0) (dark-more (hex_text 4 ceiling.rights) [] (dark-set 4 ceiling.rights) refl)
+dark-line (Holds_end held) is =
+    let each = three-parts (is_named_class held.class && nat_lt held.side 2) true (is_numbered_class held.class) is in
+    let names = and_parts (is_named_class held.class) (nat_lt held.side 2) each.0 in
+    dark-more (class_word held.class) (side_word held.side ∷ []) (dark-class held.class names.0 each.2) (dark-more (side_word held.side) [] (dark-side held.side) refl)
 
 -- WORDS ARE READ BACK
 
@@ -281,31 +291,55 @@ slot-back Closed named numbered is = absurd cc
 slot-back (Open held) named numbered is = ap (with_part Open) (held-back held named numbered is)
 slot-back (Maybe held) named numbered is = ap (with_part Maybe) (held-back held named numbered is)
 
-words-back : (line : Line) → is_line line ≡ true → line_of_words (line_words line) ≡ Ok line
-words-back (Begins_block program point mode) is =
+-- a register's line is read alike in all versions
+either_way : {A : Type 0} (b : Bool) (x : A) → cond b x x ≡ x
+either_way true x = refl
+either_way false x = refl
+
+words-back : (version : Version) (line : Line) → is_line line ≡ true → is_of_version version line ≡ true → line_of_words version (line_words line) ≡ Ok line
+words-back version (Begins_block program point mode) is own =
     let each = three-parts (is_name program) true (nat_lt point 256) is in
     let below = ltb-true point 256 each.2 in
     let number = up-to-back 255 point (omega (arith, below)) (omega arith) in
     λ k. both (λ (given : ModeBound → Line) mode. given mode) (both block_with (name-back program each.0 k) (number k)) (mode-back mode k)
-words-back (Bounds_register register interval) is =
+words-back version (Bounds_register register interval) is own =
     let each = three-parts true (is_interval interval) (nat_lt register 8 && nat_le interval.high full_interval.high) is in
     let numbers = and_parts (nat_lt register 8) _ each.2 in
     let below = ltb-true register 8 numbers.0 in
     let number = up-to-back 7 register (omega (arith, below)) (omega arith) in
-    λ k. both Bounds_register (number k) (interval-back interval each.1 numbers.1 k)
-words-back (Bounds_slot number slot) is =
+    either_way (has_authorities version) (register_of_words (decimal register) (decimal interval.low ∷ decimal interval.high ∷ []))
+    ∙ (λ k. both Bounds_register (number k) (interval-back interval each.1 numbers.1 k))
+words-back version (Bounds_slot number slot) is own =
     let each = three-parts (are_named (held_in slot)) (is_bound_slot slot) (nat_lt number 16 && are_numbered (held_in slot)) is in
     let numbers = and_parts (nat_lt number 16) (are_numbered (held_in slot)) each.2 in
     let below = ltb-true number 16 numbers.0 in
     let first = up-to-back 15 number (omega (arith, below)) (omega arith) in
     λ k. both Bounds_slot (first k) (slot-back slot each.0 numbers.1 each.1 k)
-words-back (Bounds_channel channel) is =
+words-back version (Bounds_channel channel) is own =
     let all_named = is_named_class channel.class && nat_lt channel.side 2 && are_named channel.sends in
     let each = three-parts all_named (are_held channel.sends) (is_numbered_class channel.class && are_numbered channel.sends) is in
     let names = three-parts (is_named_class channel.class) (nat_lt channel.side 2) (are_named channel.sends) each.0 in
     let numbers = and_parts (is_numbered_class channel.class) (are_numbered channel.sends) each.2 in
     λ k. both (λ (given : Option Held → Line) sends. given sends)
     (both channel_with (class-back channel.class names.0 numbers.0 k) (side-back channel.side names.1 k)) (sends-back channel.sends names.2 numbers.1 each.1 k)
+words-back version (Begins_authority program) is own =
+    let each = three-parts (is_name program) true true is in
+    ap (λ (b : Bool). cond b (authority_of_words (program ∷ [])) (other_line (codes "auth") (program ∷ []))) own
+    ∙ ap (with_part Begins_authority) (name-back program each.0)
+words-back version (Bounds_grant ceiling) is own =
+    let each = three-parts (is_name ceiling.grant) (is_ceiling ceiling.rights) true is in
+    let words = ceiling.grant ∷ hex_text 4 ceiling.rights ∷ [] in
+    let known = and_parts (is_within ceiling.rights all_rights) (not (ceiling.rights == 0)) each.1 in
+    let most = within-most ceiling.rights all_rights known.0 in
+    ap (λ (b : Bool). cond b (ceiling_of_words words) (other_line (codes "ceil") words)) own
+    ∙ (λ k. both ceiling_with (name-back ceiling.grant each.0 k) (ceiling_from (hex-back 4 ceiling.rights (omega (arith, most)) k)))
+    ∙ ap (λ (b : Bool). both ceiling_with (Ok ceiling.grant) (cond b (Ok ceiling.rights) (Err Syntax))) each.1
+words-back version (Holds_end held) is own =
+    let each = three-parts (is_named_class held.class && nat_lt held.side 2) true (is_numbered_class held.class) is in
+    let names = and_parts (is_named_class held.class) (nat_lt held.side 2) each.0 in
+    let words = class_word held.class ∷ side_word held.side ∷ [] in
+    ap (λ (b : Bool). cond b (end_of_words words) (other_line (codes "hold") words)) own
+    ∙ (λ k. both end_with (class-back held.class names.0 each.2 k) (side-back held.side names.1 k))
 
 -- LINES
 
@@ -315,6 +349,9 @@ some-word (Begins_block program point mode) = refl
 some-word (Bounds_register register interval) = refl
 some-word (Bounds_slot number slot) = refl
 some-word (Bounds_channel channel) = refl
+some-word (Begins_authority program) = refl
+some-word (Bounds_grant ceiling) = refl
+some-word (Holds_end held) = refl
 
 dark-lack : (separator : ℕ) (words : List (List ℕ)) → is_dark separator ≡ false → are_dark words ≡ true → list_all (lacks separator) words ≡ true
 dark-lack separator [] not_dark dark = refl
@@ -328,9 +365,10 @@ parts-words [] some dark = absurd cc
 parts-words (word ∷ words) some dark = parts-joined 32 word words (dark-lack 32 (word ∷ words) refl dark)
 
 -- The text of a line is read as that line.
-pub line-back : (line : Line) → is_line line ≡ true → line_of_text (line_text line) ≡ Ok line
+pub line-back : (version : Version) (line : Line) → is_line line ≡ true → is_of_version version line ≡ true → line_of_text version (line_text line) ≡ Ok line
 unfolding line_of_text line_text
-line-back line is = ap line_of_words (parts-words (line_words line) (some-word line) (dark-line line is)) ∙ words-back line is
+line-back version line is own =
+    ap (line_of_words version) (parts-words (line_words line) (some-word line) (dark-line line is)) ∙ words-back version line is own
 
 joined-lacks : (byte separator : ℕ) (words : List (List ℕ)) → (separator == byte) ≡ false → list_all (lacks byte) words ≡ true → lacks byte (joined separator words) ≡ true
 joined-lacks byte separator [] other lack = refl
@@ -347,16 +385,18 @@ pub text-lacks : (line : Line) → is_line line ≡ true → lacks 10 (line_text
 unfolding line_text is_dark
 text-lacks line is = joined-lacks 10 32 (line_words line) refl (dark-lack 10 (line_words line) refl (dark-line line is))
 
-last-fails : line_of_text end_line ≡ Err Syntax
+last-fails : (version : Version) → line_of_text version end_line ≡ Err Syntax
 unfolding line_of_text
-last-fails = refl
+last-fails One = refl
+last-fails Two = refl
+last-fails Three = refl
 
 -- It isn't the last line.
-pub text-goes-on : (line : Line) → is_line line ≡ true → bytes_eq (line_text line) end_line ≡ false
-text-goes-on line is = go (bytes_eq (line_text line) end_line) refl
+pub text-goes-on : (version : Version) (line : Line) → is_line line ≡ true → is_of_version version line ≡ true → bytes_eq (line_text line) end_line ≡ false
+text-goes-on version line is own = go (bytes_eq (line_text line) end_line) refl
   where
     go : (same : Bool) → bytes_eq (line_text line) end_line ≡ same → same ≡ false
     go false same = refl
     go true same =
-        let read : line_of_text end_line ≡ Ok line = ap line_of_text (sym (same_bytes (line_text line) end_line same)) ∙ line-back line is in
-        absurd (let fails : Err Syntax ≡ Ok line = sym last-fails ∙ read in cc)
+        let read : line_of_text version end_line ≡ Ok line = ap (line_of_text version) (sym (same_bytes (line_text line) end_line same)) ∙ line-back version line is own in
+        absurd (let fails : Err Syntax ≡ Ok line = sym (last-fails version) ∙ read in cc)

@@ -13,12 +13,13 @@ use Rattle.texts.specs.Parts.{joined, parts}
 use Rattle.texts.proofs.HexTexts.{hex-text}
 use Rattle.texts.proofs.NumberTexts.{decimal-number}
 use Rattle.texts.proofs.WordLaws.{joined-parts}
-use Rattle.certificate.specs.Bounds.{ModeBound, Off, On, Either, Interval, Target, In_grant, Any_node, Socket, Unknown, Held, Slot, Open, Maybe, full_interval, held_in}
-use Rattle.certificate.specs.Lines.{Line, Bounds_register, Bounds_slot, are_held, are_named, are_numbered, is_bound_slot, is_held_bound, is_interval, is_line}
-use Rattle.certificate.specs.Lines.{is_named_class, is_named_target, is_numbered_class, is_numbered_target, is_range}
+use Rattle.certificate.specs.Bounds.{ModeBound, Off, On, Either, Interval, Target, In_grant, Any_node, Socket, Unknown, Held, Slot, Open, Maybe, Version, full_interval, has_authorities, held_in}
+use Rattle.certificate.specs.Lines.{Line, Begins_authority, Bounds_register, Bounds_slot, are_held, are_named, are_numbered, is_bound_slot, is_held_bound, is_interval, is_line}
+use Rattle.certificate.specs.Lines.{is_ceiling, is_of_version, is_named_class, is_named_target, is_numbered_class, is_numbered_target, is_range}
 use Rattle.certificate_text.specs.Faults.{Fault, Syntax, Limit, both, formed, with_part}
 use Rattle.certificate_text.specs.Readings.{line_of_text}
 use Rattle.certificate_text.specs.Texts.{class_word, held_words, line_text, line_words, mode_word, sends_words, side_word, slot_words, target_words}
+use Rattle.certificate_text.specs.Words.{authority_of_words, ceiling_from, ceiling_of_words, ceiling_with, end_of_words, end_with, later_line}
 use Rattle.certificate_text.specs.Words.{block_of_words, block_with, channel_of_words, channel_with, class_of_word, descriptor_of_words, fcntls_of_words, grant_behind, held_behind}
 use Rattle.certificate_text.specs.Words.{held_of_words, held_with, interval_from, line_of_words, mode_of_word, name_of_word, other_line, point_of_program, range_from, register_of_words}
 use Rattle.certificate_text.specs.Words.{rights_of_words, sends_of_words, side_of_word, slot_of_words, socket_behind, up_to}
@@ -347,93 +348,172 @@ sends-are (what ∷ next ∷ words) sends is = some-sends (what ∷ next ∷ wor
 
 -- LINES
 
-record LineIs (words : List (List ℕ)) (line : Line) : Type 0 where
+-- in a certificate of this version
+record LineIs (version : Version) (words : List (List ℕ)) (line : Line) : Type 0 where
   words_are : line_words line ≡ words
   proper : is_line line ≡ true
+  own : is_of_version version line ≡ true
 
-block-is : (words : List (List ℕ)) (line : Line) → block_of_words words ≡ Ok line → LineIs (codes "at" ∷ words) line
-block-is [] line is = absurd cc
-block-is (program ∷ []) line is = absurd cc
-block-is (program ∷ point ∷ []) line is = absurd cc
-block-is (program ∷ point ∷ mode ∷ []) line is =
+block-is : (version : Version) (words : List (List ℕ)) (line : Line) → block_of_words words ≡ Ok line → LineIs version (codes "at" ∷ words) line
+block-is version [] line is = absurd cc
+block-is version (program ∷ []) line is = absurd cc
+block-is version (program ∷ point ∷ []) line is = absurd cc
+block-is version (program ∷ point ∷ mode ∷ []) line is =
     let outer = both-is (λ (given : ModeBound → Line) mode. given mode) (both block_with (name_of_word program) (up_to 255 (number_of point))) (formed (mode_of_word mode)) line is in
     let inner = both-is block_with (name_of_word program) (up_to 255 (number_of point)) outer.left outer.left_is in
     let name = name-is program inner.left inner.left_is in
     let number = up-to-is 255 inner.right point (omega arith) inner.right_is in
     let last = mode-is mode outer.right (formed-is (mode_of_word mode) outer.right outer.right_is) in
     let low = number.1 in
-    subst (LineIs (codes "at" ∷ program ∷ point ∷ mode ∷ [])) (ap (λ (given : ModeBound → Line). given outer.right) inner.whole ∙ outer.whole) (record {
+    subst (LineIs version (codes "at" ∷ program ∷ point ∷ mode ∷ [])) (ap (λ (given : ModeBound → Line). given outer.right) inner.whole ∙ outer.whole) (record {
       words_are = λ i. codes "at" ∷ name.0 i ∷ number.0 i ∷ last i ∷ [];
       proper = and_from _ _ (and_from _ _ name.1 refl) (lt-ltb inner.right 256 (omega (arith, low)));
+      own = refl;
     })
-block-is (program ∷ point ∷ mode ∷ more ∷ words) line is = absurd cc
+block-is version (program ∷ point ∷ mode ∷ more ∷ words) line is = absurd cc
 
-register-is : (register : List ℕ) (words : List (List ℕ)) (line : Line) → register_of_words register words ≡ Ok line → LineIs ((114 ∷ register) ∷ words) line
-register-is register [] line is = absurd cc
-register-is register (low ∷ []) line is = absurd cc
-register-is register (low ∷ high ∷ []) line is =
+register-is : (version : Version) (register : List ℕ) (words : List (List ℕ)) (line : Line) → register_of_words register words ≡ Ok line → LineIs version ((114 ∷ register) ∷ words) line
+register-is version register [] line is = absurd cc
+register-is version register (low ∷ []) line is = absurd cc
+register-is version register (low ∷ high ∷ []) line is =
     let parts_are = both-is Bounds_register (up_to 7 (number_of register)) (interval_from (number_of low) (number_of high)) line is in
     let number = up-to-is 7 parts_are.left register (omega arith) parts_are.left_is in
     let interval = interval-is low high parts_are.right parts_are.right_is in
     let few = number.1 in
-    subst (LineIs ((114 ∷ register) ∷ low ∷ high ∷ [])) parts_are.whole (record {
+    subst (LineIs version ((114 ∷ register) ∷ low ∷ high ∷ [])) parts_are.whole (record {
       words_are = λ i. (114 ∷ number.0 i) ∷ interval.low_is i ∷ interval.high_is i ∷ [];
       proper = and_from _ _ interval.proper (and_from _ _ (lt-ltb parts_are.left 8 (omega (arith, few))) interval.numbered);
+      own = refl;
     })
-register-is register (low ∷ high ∷ more ∷ words) line is = absurd cc
+register-is version register (low ∷ high ∷ more ∷ words) line is = absurd cc
 
-descriptor-is : (words : List (List ℕ)) (line : Line) → descriptor_of_words words ≡ Ok line → LineIs (codes "fd" ∷ words) line
-descriptor-is [] line is = absurd cc
-descriptor-is (number ∷ words) line is =
+descriptor-is : (version : Version) (words : List (List ℕ)) (line : Line) → descriptor_of_words words ≡ Ok line → LineIs version (codes "fd" ∷ words) line
+descriptor-is version [] line is = absurd cc
+descriptor-is version (number ∷ words) line is =
     let parts_are = both-is Bounds_slot (up_to 15 (number_of number)) (slot_of_words words) line is in
     let first = up-to-is 15 parts_are.left number (omega arith) parts_are.left_is in
     let slot = slot-is words parts_are.right parts_are.right_is in
     let few = first.1 in
-    subst (LineIs (codes "fd" ∷ number ∷ words)) parts_are.whole (record {
+    subst (LineIs version (codes "fd" ∷ number ∷ words)) parts_are.whole (record {
       words_are = λ i. codes "fd" ∷ first.0 i ∷ slot.words_are i;
       proper = and_from _ _ (and_from _ _ slot.named slot.proper) (and_from _ _ (lt-ltb parts_are.left 16 (omega (arith, few))) slot.numbered);
+      own = refl;
     })
 
-channel-is : (words : List (List ℕ)) (line : Line) → channel_of_words words ≡ Ok line → LineIs (codes "chan" ∷ words) line
-channel-is [] line is = absurd cc
-channel-is (class ∷ []) line is = absurd cc
-channel-is (class ∷ side ∷ words) line is =
+channel-is : (version : Version) (words : List (List ℕ)) (line : Line) → channel_of_words words ≡ Ok line → LineIs version (codes "chan" ∷ words) line
+channel-is version [] line is = absurd cc
+channel-is version (class ∷ []) line is = absurd cc
+channel-is version (class ∷ side ∷ words) line is =
     let ends = both channel_with (class_of_word class) (formed (side_of_word side)) in
     let outer = both-is (λ (given : Option Held → Line) sends. given sends) ends (sends_of_words words) line is in
     let inner = both-is channel_with (class_of_word class) (formed (side_of_word side)) outer.left outer.left_is in
     let first = class-is class inner.left inner.left_is in
     let second = side-is side inner.right (formed-is (side_of_word side) inner.right inner.right_is) in
     let sends = sends-are words outer.right outer.right_is in
-    subst (LineIs (codes "chan" ∷ class ∷ side ∷ words)) (ap (λ (given : Option Held → Line). given outer.right) inner.whole ∙ outer.whole) (record {
+    subst (LineIs version (codes "chan" ∷ class ∷ side ∷ words)) (ap (λ (given : Option Held → Line). given outer.right) inner.whole ∙ outer.whole) (record {
       words_are = λ i. codes "chan" ∷ first.word_is i ∷ second.0 i ∷ sends.words_are i;
       proper = and_from _ _ (and_from _ _ (and_from _ _ (and_from _ _ first.named second.1) sends.named) sends.proper) (and_from _ _ first.numbered sends.numbered);
+      own = refl;
     })
 
-other-is : (first : List ℕ) (words : List (List ℕ)) (line : Line) → other_line first words ≡ Ok line → LineIs (first ∷ words) line
-other-is [] words line is = absurd cc
-other-is (b ∷ register) words line is = go (b == 114) refl is
+other-is : (version : Version) (first : List ℕ) (words : List (List ℕ)) (line : Line) → other_line first words ≡ Ok line → LineIs version (first ∷ words) line
+other-is version [] words line is = absurd cc
+other-is version (b ∷ register) words line is = go (b == 114) refl is
   where
-    go : (letter : Bool) → (b == 114) ≡ letter → cond letter (register_of_words register words) (Err Syntax) ≡ Ok line → LineIs ((b ∷ register) ∷ words) line
-    go true letter is = subst (λ c. LineIs ((c ∷ register) ∷ words) line) (sym (eqb-true b 114 letter)) (register-is register words line is)
+    go : (letter : Bool) → (b == 114) ≡ letter → cond letter (register_of_words register words) (Err Syntax) ≡ Ok line → LineIs version ((b ∷ register) ∷ words) line
+    go true letter is = subst (λ c. LineIs version ((c ∷ register) ∷ words) line) (sym (eqb-true b 114 letter)) (register-is version register words line is)
     go false letter is = absurd cc
 
-words-are : (words : List (List ℕ)) (line : Line) → line_of_words words ≡ Ok line → LineIs words line
-words-are [] line is = absurd cc
-words-are (first ∷ words) line is = go (bytes_eq first (codes "at")) (bytes_eq first (codes "fd")) (bytes_eq first (codes "chan")) refl refl refl is
+authority-is : (version : Version) → has_authorities version ≡ true → (words : List (List ℕ)) (line : Line) → authority_of_words words ≡ Ok line → LineIs version (codes "auth" ∷ words) line
+authority-is version has [] line is = absurd cc
+authority-is version has (program ∷ []) line is =
+    let part = with-is Begins_authority (name_of_word program) line is in
+    let name = name-is program part.0 part.1 in
+    subst (LineIs version (codes "auth" ∷ program ∷ [])) part.2 (record {
+      words_are = λ i. codes "auth" ∷ name.0 i ∷ [];
+      proper = and_from _ _ (and_from _ _ name.1 refl) refl;
+      own = has;
+    })
+authority-is version has (program ∷ more ∷ words) line is = absurd cc
+
+record RightsAre (word : List ℕ) (rights : ℕ) : Type 0 where
+  word_is : hex_text 4 rights ≡ word
+  proper : is_ceiling rights ≡ true
+
+rights-are : (word : List ℕ) (rights : ℕ) → ceiling_from (hex_of 4 word) ≡ Ok rights → RightsAre word rights
+rights-are word rights is = go (hex_of 4 word) refl is
   where
-    behind : (word : List ℕ) → bytes_eq first word ≡ true → LineIs (word ∷ words) line → LineIs (first ∷ words) line
-    behind word same read = subst (λ w. LineIs (w ∷ words) line) (sym (same_bytes first word same)) read
+    within : (n : ℕ) (proper : Bool) → hex_of 4 word ≡ Some n → is_ceiling n ≡ proper → cond proper (Ok n) (Err Syntax) ≡ Ok rights → RightsAre word rights
+    within n false read p is = absurd cc
+    within n true read p is =
+        let same : n ≡ rights = cc in subst (RightsAre word) same (record { word_is = sym (hex-text 4 word n read).0; proper = p })
 
-    go : (at fd chan : Bool) → bytes_eq first (codes "at") ≡ at → bytes_eq first (codes "fd") ≡ fd → bytes_eq first (codes "chan") ≡ chan
-        → cond at (block_of_words words) (cond fd (descriptor_of_words words) (cond chan (channel_of_words words) (other_line first words))) ≡ Ok line → LineIs (first ∷ words) line
-    go true fd chan a b c is = behind (codes "at") a (block-is words line is)
-    go false true chan a b c is = behind (codes "fd") b (descriptor-is words line is)
-    go false false true a b c is = behind (codes "chan") c (channel-is words line is)
-    go false false false a b c is = other-is first words line is
+    go : (o : Option ℕ) → hex_of 4 word ≡ o → ceiling_from o ≡ Ok rights → RightsAre word rights
+    go None read is = absurd cc
+    go (Some n) read is = within n (is_ceiling n) read refl is
 
--- Bytes that are read as a line are its text, and the line may stand in a certificate.
-pub line-text : (text : List ℕ) (line : Line) → line_of_text text ≡ Ok line → (line_text line ≡ text) × (is_line line ≡ true)
+ceiling-is : (version : Version) → has_authorities version ≡ true → (words : List (List ℕ)) (line : Line) → ceiling_of_words words ≡ Ok line → LineIs version (codes "ceil" ∷ words) line
+ceiling-is version has [] line is = absurd cc
+ceiling-is version has (grant ∷ []) line is = absurd cc
+ceiling-is version has (grant ∷ rights ∷ []) line is =
+    let parts_are = both-is ceiling_with (name_of_word grant) (ceiling_from (hex_of 4 rights)) line is in
+    let name = name-is grant parts_are.left parts_are.left_is in
+    let set = rights-are rights parts_are.right parts_are.right_is in
+    subst (LineIs version (codes "ceil" ∷ grant ∷ rights ∷ [])) parts_are.whole (record {
+      words_are = λ i. codes "ceil" ∷ name.0 i ∷ set.word_is i ∷ [];
+      proper = and_from _ _ (and_from _ _ name.1 set.proper) refl;
+      own = has;
+    })
+ceiling-is version has (grant ∷ rights ∷ more ∷ words) line is = absurd cc
+
+end-is : (version : Version) → has_authorities version ≡ true → (words : List (List ℕ)) (line : Line) → end_of_words words ≡ Ok line → LineIs version (codes "hold" ∷ words) line
+end-is version has [] line is = absurd cc
+end-is version has (class ∷ []) line is = absurd cc
+end-is version has (class ∷ side ∷ []) line is =
+    let parts_are = both-is end_with (class_of_word class) (formed (side_of_word side)) line is in
+    let first = class-is class parts_are.left parts_are.left_is in
+    let second = side-is side parts_are.right (formed-is (side_of_word side) parts_are.right parts_are.right_is) in
+    subst (LineIs version (codes "hold" ∷ class ∷ side ∷ [])) parts_are.whole (record {
+      words_are = λ i. codes "hold" ∷ first.word_is i ∷ second.0 i ∷ [];
+      proper = and_from _ _ (and_from _ _ (and_from _ _ first.named second.1) refl) first.numbered;
+      own = has;
+    })
+end-is version has (class ∷ side ∷ more ∷ words) line is = absurd cc
+
+later-is : (version : Version) → has_authorities version ≡ true → (first : List ℕ) (words : List (List ℕ)) (line : Line) → later_line first words ≡ Ok line → LineIs version (first ∷ words) line
+later-is version has first words line is = go (bytes_eq first (codes "auth")) (bytes_eq first (codes "ceil")) (bytes_eq first (codes "hold")) refl refl refl is
+  where
+    behind : (word : List ℕ) → bytes_eq first word ≡ true → LineIs version (word ∷ words) line → LineIs version (first ∷ words) line
+    behind word same read = subst (λ w. LineIs version (w ∷ words) line) (sym (same_bytes first word same)) read
+
+    go : (auth ceil hold : Bool) → bytes_eq first (codes "auth") ≡ auth → bytes_eq first (codes "ceil") ≡ ceil → bytes_eq first (codes "hold") ≡ hold
+        → cond auth (authority_of_words words) (cond ceil (ceiling_of_words words) (cond hold (end_of_words words) (other_line first words))) ≡ Ok line → LineIs version (first ∷ words) line
+    go true ceil hold a b c is = behind (codes "auth") a (authority-is version has words line is)
+    go false true hold a b c is = behind (codes "ceil") b (ceiling-is version has words line is)
+    go false false true a b c is = behind (codes "hold") c (end-is version has words line is)
+    go false false false a b c is = other-is version first words line is
+
+words-are : (version : Version) (words : List (List ℕ)) (line : Line) → line_of_words version words ≡ Ok line → LineIs version words line
+words-are version [] line is = absurd cc
+words-are version (first ∷ words) line is =
+    go (bytes_eq first (codes "at")) (bytes_eq first (codes "fd")) (bytes_eq first (codes "chan")) (has_authorities version) refl refl refl refl is
+  where
+    behind : (word : List ℕ) → bytes_eq first word ≡ true → LineIs version (word ∷ words) line → LineIs version (first ∷ words) line
+    behind word same read = subst (λ w. LineIs version (w ∷ words) line) (sym (same_bytes first word same)) read
+
+    go : (at fd chan has : Bool) → bytes_eq first (codes "at") ≡ at → bytes_eq first (codes "fd") ≡ fd → bytes_eq first (codes "chan") ≡ chan → has_authorities version ≡ has
+        → cond at (block_of_words words) (cond fd (descriptor_of_words words) (cond chan (channel_of_words words) (cond has (later_line first words) (other_line first words)))) ≡ Ok line
+        → LineIs version (first ∷ words) line
+    go true fd chan has a b c d is = behind (codes "at") a (block-is version words line is)
+    go false true chan has a b c d is = behind (codes "fd") b (descriptor-is version words line is)
+    go false false true has a b c d is = behind (codes "chan") c (channel-is version words line is)
+    go false false false true a b c d is = later-is version d first words line is
+    go false false false false a b c d is = other-is version first words line is
+
+-- Bytes that are read as a line are its text, and the line may stand in a certificate of that version.
+pub line-text : (version : Version) (text : List ℕ) (line : Line) → line_of_text version text ≡ Ok line
+    → (line_text line ≡ text) × (is_line line ≡ true) × (is_of_version version line ≡ true)
 unfolding line_of_text line_text
-line-text text line is =
-    let read = words-are (parts 32 text) line is in
-    (ap (joined 32) read.words_are ∙ joined-parts 32 text, read.proper)
+line-text version text line is =
+    let read = words-are version (parts 32 text) line is in
+    (ap (joined 32) read.words_are ∙ joined-parts 32 text, read.proper, read.own)

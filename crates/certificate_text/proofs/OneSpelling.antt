@@ -8,9 +8,9 @@ use Rattle.rights.proofs.Words.{same_bytes}
 use Rattle.texts.specs.Lines.{Line as TextLine, lines_from}
 use Rattle.texts.specs.Parts.{joined, parts, parts_from}
 use Rattle.texts.proofs.WordLaws.{lacks, joined-parts, parts-more}
-use Rattle.certificate.specs.Bounds.{Version, One, Two, Certificate}
+use Rattle.certificate.specs.Bounds.{Version, One, Two, Three, Certificate}
 use Rattle.certificate.specs.Growth.{IsCertificate, begins, grows, empty, No_room, Out_of_order, Refused, taken}
-use Rattle.certificate.specs.Lines.{Line, is_line, lines_of}
+use Rattle.certificate.specs.Lines.{Line, is_line, is_of_version, lines_of}
 use Rattle.certificate.proofs.Growing.{taken_keeps}
 use Rattle.certificate_text.specs.Faults.{Fault, Syntax}
 use Rattle.certificate_text.specs.Readings.{line_taken, certificate_of_text, closed, fails, going_on, grown_by_line, line_of_text, read_behind, read_lines, read_versioned, version_of_line}
@@ -69,26 +69,26 @@ first-line offset line rest lack =
     ∙ ap (lines_from offset) (parts-more 10 line rest lack) ∙ lines-more offset line rest []
 
 -- reading goes on behind a line that the certificate takes
-one-line : (c d : Certificate) (line : Line) (offset : ℕ) (lines : List TextLine) → is_line line ≡ true → taken c line ≡ Ok d
+one-line : (c d : Certificate) (line : Line) (offset : ℕ) (lines : List TextLine) → is_line line ≡ true → is_of_version c.version line ≡ true → taken c line ≡ Ok d
     → read_behind c ((record { text = line_text line; offset = offset; is_ended = true }) ∷ lines) ≡ read_behind d lines
 unfolding read_behind
-one-line c d line offset lines proper take =
-    ap (λ (last : Bool). cond last (closed c lines) (going_on offset (λ e. read_behind e lines) (grown_by_line c (line_of_text (line_text line))))) (text-goes-on line proper)
-    ∙ ap (λ read. going_on offset (λ e. read_behind e lines) (grown_by_line c read)) (line-back line proper)
+one-line c d line offset lines proper own take =
+    ap (λ (last : Bool). cond last (closed c lines) (going_on offset (λ e. read_behind e lines) (grown_by_line c (line_of_text c.version (line_text line))))) (text-goes-on c.version line proper own)
+    ∙ ap (λ read. going_on offset (λ e. read_behind e lines) (grown_by_line c read)) (line-back c.version line proper own)
     ∙ ap (λ after. going_on offset (λ e. read_behind e lines) (line_taken after)) take
 
 -- the lines of a certificate are read as it, whatever follows them
 read-body : (c : Certificate) → IsCertificate c → (offset : ℕ) (rest : List ℕ)
     → (behind : ℕ) × (read_behind (empty c.version) (lines_from offset (parts 10 (body (lines_of c) ++ rest))) ≡ read_behind c (lines_from behind (parts 10 rest)))
 read-body _ (begins version) offset rest = (offset, refl)
-read-body d (grows {c = c} is line proper take) offset rest =
+read-body d (grows {c = c} is line proper own take) offset rest =
     let before = read-body c is offset (ended_line (line_text line) ++ rest) in
     let text = ap (λ lines. body lines ++ rest) (lines-grow c d line is proper take) ∙ body-more (lines_of c) line rest in (
       before.0 + length (line_text line) + 1,
       ap (λ version. read_behind (empty version) (lines_from offset (parts 10 (body (lines_of d) ++ rest)))) (taken_keeps c d line take)
           ∙ ap (λ t. read_behind (empty c.version) (lines_from offset (parts 10 t))) text ∙ before.1
           ∙ ap (read_behind c) (first-line before.0 (line_text line) rest (text-lacks line proper))
-          ∙ one-line c d line before.0 (lines_from (before.0 + length (line_text line) + 1) (parts 10 rest)) proper take,
+          ∙ one-line c d line before.0 (lines_from (before.0 + length (line_text line) + 1) (parts 10 rest)) proper own take,
     )
 
 at-end : (c : Certificate) (offset : ℕ) → read_behind c (lines_from offset (parts 10 (ended_line end_line))) ≡ Ok c
@@ -99,10 +99,12 @@ at-end c offset = refl
 version-back : (version : Version) (lines : List TextLine) → read_versioned 0 (version_of_line (first_line version)) lines ≡ read_behind (empty version) lines
 version-back One lines = refl
 version-back Two lines = refl
+version-back Three lines = refl
 
 version-lacks : (version : Version) → lacks 10 (first_line version) ≡ true
 version-lacks One = refl
 version-lacks Two = refl
+version-lacks Three = refl
 
 -- The text of a certificate is read as that certificate.
 pub text-back : (c : Certificate) → IsCertificate c → certificate_of_text (certificate_text c) ≡ Ok c
@@ -146,30 +148,30 @@ end-line c d first next texts offset is last closes =
     }
 
 -- a line that the certificate takes
-taken-line : (c d e : Certificate) (line : Line) (first rest : List ℕ) → IsCertificate c → line_of_text first ≡ Ok line → taken c line ≡ Ok e
+taken-line : (c d e : Certificate) (line : Line) (first rest : List ℕ) → IsCertificate c → line_of_text c.version first ≡ Ok line → taken c line ≡ Ok e
     → (IsCertificate e → Spelled e.version (body (lines_of e) ++ rest) d) → Spelled c.version (body (lines_of c) ++ (first ++ 10 ∷ rest)) d
 taken-line c d e line first rest is read take more =
-    let fact = line-text first line read in
+    let fact = line-text c.version first line read in
     let bytes =
     ap (λ lines. body lines ++ rest) (lines-grow c e line is fact.1 take) ∙ body-more (lines_of c) line rest
     ∙ ap (λ text. body (lines_of c) ++ (ended_line text ++ rest)) fact.0 ∙ ap (λ text. body (lines_of c) ++ text) (append_assoc first (10 ∷ []) rest)
     in
     subst (λ version. Spelled version (body (lines_of c) ++ (first ++ 10 ∷ rest)) d) (taken_keeps c e line take)
-    (subst (λ text. Spelled e.version text d) bytes (more (grows is line fact.1 take)))
+    (subst (λ text. Spelled e.version text d) bytes (more (grows is line fact.1 fact.2 take)))
 
 -- a line that isn't the last one
 next-line : (c d : Certificate) (first rest : List ℕ) (offset : ℕ) (lines : List TextLine) → IsCertificate c
     → ((e : Certificate) → IsCertificate e → read_behind e lines ≡ Ok d → Spelled e.version (body (lines_of e) ++ rest) d)
-    → going_on offset (λ e. read_behind e lines) (grown_by_line c (line_of_text first)) ≡ Ok d → Spelled c.version (body (lines_of c) ++ (first ++ 10 ∷ rest)) d
-next-line c d first rest offset lines is more reads = go (line_of_text first) refl reads
+    → going_on offset (λ e. read_behind e lines) (grown_by_line c (line_of_text c.version first)) ≡ Ok d → Spelled c.version (body (lines_of c) ++ (first ++ 10 ∷ rest)) d
+next-line c d first rest offset lines is more reads = go (line_of_text c.version first) refl reads
   where
-    grow : (line : Line) → line_of_text first ≡ Ok line → (after : Result Certificate Refused) → taken c line ≡ after
+    grow : (line : Line) → line_of_text c.version first ≡ Ok line → (after : Result Certificate Refused) → taken c line ≡ after
         → going_on offset (λ e. read_behind e lines) (line_taken after) ≡ Ok d → Spelled c.version (body (lines_of c) ++ (first ++ 10 ∷ rest)) d
     grow line read (Ok e) take reads = taken-line c d e line first rest is read take (λ made. more e made reads)
     grow line read (Err No_room) take reads = absurd cc
     grow line read (Err Out_of_order) take reads = absurd cc
 
-    go : (read : Result Line Fault) → line_of_text first ≡ read → going_on offset (λ e. read_behind e lines) (grown_by_line c read) ≡ Ok d →
+    go : (read : Result Line Fault) → line_of_text c.version first ≡ read → going_on offset (λ e. read_behind e lines) (grown_by_line c read) ≡ Ok d →
         Spelled c.version (body (lines_of c) ++ (first ++ 10 ∷ rest)) d
     go (Ok line) read reads = grow line read (taken c line) refl reads
     go (Err fault) read reads = absurd cc
@@ -187,20 +189,22 @@ read-texts c d first (next ∷ texts) offset is reads =
 
     go : (last : Bool) → bytes_eq first end_line ≡ last
         → ((e : Certificate) → IsCertificate e → read_behind e lines ≡ Ok d → Spelled e.version (body (lines_of e) ++ joined 10 (next ∷ texts)) d)
-        → cond last (closed c lines) (going_on offset (λ e. read_behind e lines) (grown_by_line c (line_of_text first))) ≡ Ok d
+        → cond last (closed c lines) (going_on offset (λ e. read_behind e lines) (grown_by_line c (line_of_text c.version first))) ≡ Ok d
         → Spelled c.version (body (lines_of c) ++ joined 10 (first ∷ next ∷ texts)) d
     go true last more reads = end-line c d first next texts (offset + length first + 1) is last reads
     go false last more reads = next-line c d first (joined 10 (next ∷ texts)) offset lines is more reads
 
 -- a line that tells a version is that version's first one
 version-line : (text : List ℕ) (version : Version) → version_of_line text ≡ Some version → text ≡ first_line version
-version-line text version tells = go (bytes_eq text (first_line One)) (bytes_eq text (first_line Two)) refl refl tells
+version-line text version tells =
+    go (bytes_eq text (first_line One)) (bytes_eq text (first_line Two)) (bytes_eq text (first_line Three)) refl refl refl tells
   where
-    go : (first second : Bool) → bytes_eq text (first_line One) ≡ first → bytes_eq text (first_line Two) ≡ second
-        → cond first (Some One) (cond second (Some Two) None) ≡ Some version → text ≡ first_line version
-    go true second one two tells = let is : One ≡ version = cc in same_bytes text (first_line One) one ∙ ap first_line is
-    go false true one two tells = let is : Two ≡ version = cc in same_bytes text (first_line Two) two ∙ ap first_line is
-    go false false one two tells = absurd cc
+    go : (first second third : Bool) → bytes_eq text (first_line One) ≡ first → bytes_eq text (first_line Two) ≡ second → bytes_eq text (first_line Three) ≡ third
+        → cond first (Some One) (cond second (Some Two) (cond third (Some Three) None)) ≡ Some version → text ≡ first_line version
+    go true second third one two three tells = let is : One ≡ version = cc in same_bytes text (first_line One) one ∙ ap first_line is
+    go false true third one two three tells = let is : Two ≡ version = cc in same_bytes text (first_line Two) two ∙ ap first_line is
+    go false false true one two three tells = let is : Three ≡ version = cc in same_bytes text (first_line Three) three ∙ ap first_line is
+    go false false false one two three tells = absurd cc
 
 -- the lines of a text, from the first one on
 whole-text : (c : Certificate) (texts : List (List ℕ)) → is_some_text texts ≡ true → read_lines (lines_from 0 texts) ≡ Ok c → (certificate_text c ≡ joined 10 texts) × IsCertificate c

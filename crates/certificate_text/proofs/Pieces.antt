@@ -1,9 +1,9 @@
 -- The text of a certificate is that of its pieces.
 use Rattle.std.proofs.Common.{◌≡◌, ℕ, ◌+◌, Bool, true, false, cond, List, [], ◌∷◌, ◌++◌, map, refl, ap, sym, ◌∙◌, append_assoc}
 use Rattle.std.specs.List.{flat_map}
-use Rattle.certificate.specs.Bounds.{Interval, Slot, PointBound, ChannelBound, Certificate}
-use Rattle.certificate.specs.Lines.{Begins_block, Bounds_channel, Bounds_register, Bounds_slot, block_lines, is_closed, is_full, lines_of, register_lines, slot_lines}
-use Rattle.certificate_text.specs.Pieces.{block_text, channel_text, in_order, line_ended, register_text, slot_text}
+use Rattle.certificate.specs.Bounds.{Interval, Slot, PointBound, ChannelBound, Ceiling, End, Authority, Certificate}
+use Rattle.certificate.specs.Lines.{Begins_authority, Begins_block, Bounds_channel, Bounds_grant, Bounds_register, Bounds_slot, Holds_end, authority_lines, block_lines, is_closed, is_full, lines_of, register_lines, rest_lines, slot_lines}
+use Rattle.certificate_text.specs.Pieces.{authority_text, block_text, ceiling_text, channel_text, end_text, in_order, line_ended, register_text, slot_text}
 use Rattle.certificate_text.specs.Texts.{certificate_text, ended_line, first_line, end_line}
 
 pub flat-more : {A : Type 0} (f : A → List ℕ) (xs ys : List A) → flat_map f (xs ++ ys) ≡ flat_map f xs ++ flat_map f ys
@@ -50,12 +50,41 @@ unfolding in_order
 channels-text n [] = refl
 channels-text n (channel ∷ channels) = ap (λ rest. channel_text channel ++ rest) (channels-text (n + 1) channels)
 
+pub ceilings-text : (n : ℕ) (ceilings : List Ceiling) → in_order (λ n. ceiling_text) n ceilings ≡ flat_map line_ended (map Bounds_grant ceilings)
+unfolding in_order
+ceilings-text n [] = refl
+ceilings-text n (ceiling ∷ ceilings) = ap (λ rest. ceiling_text ceiling ++ rest) (ceilings-text (n + 1) ceilings)
+
+pub ends-text : (n : ℕ) (holds : List End) → in_order (λ n. end_text) n holds ≡ flat_map line_ended (map Holds_end holds)
+unfolding in_order
+ends-text n [] = refl
+ends-text n (held ∷ holds) = ap (λ rest. end_text held ++ rest) (ends-text (n + 1) holds)
+
+pub authority-text : (a : Authority) → line_ended (Begins_authority a.program) ++ (in_order (λ n. ceiling_text) 0 a.ceilings ++ in_order (λ n. end_text) 0 a.holds) ≡ authority_text a
+authority-text a =
+    ap (λ rest. line_ended (Begins_authority a.program) ++ rest)
+    (ap (λ text. text ++ in_order (λ n. end_text) 0 a.holds) (ceilings-text 0 a.ceilings)
+    ∙ ap (λ text. flat_map line_ended (map Bounds_grant a.ceilings) ++ text) (ends-text 0 a.holds)
+    ∙ sym (flat-more line_ended (map Bounds_grant a.ceilings) (map Holds_end a.holds)))
+
+pub authorities-text : (n : ℕ) (authorities : List Authority) → in_order (λ n. authority_text) n authorities ≡ flat_map line_ended (flat_map authority_lines authorities)
+unfolding in_order
+authorities-text n [] = refl
+authorities-text n (a ∷ authorities) =
+    ap (λ rest. authority_text a ++ rest) (authorities-text (n + 1) authorities) ∙ sym (flat-more line_ended (authority_lines a) (flat_map authority_lines authorities))
+
 pub whole-text : (c : Certificate) → ended_line (first_line c.version)
-    ++ (in_order (λ n. block_text) 0 c.points ++ (in_order (λ n. channel_text) 0 c.channels ++ ended_line end_line)) ≡ certificate_text c
+    ++ (in_order (λ n. block_text) 0 c.points
+    ++ (in_order (λ n. channel_text) 0 c.channels ++ (in_order (λ n. authority_text) 0 c.authorities ++ ended_line end_line))) ≡ certificate_text c
 whole-text c =
+    let blocks = flat_map block_lines c.points in
+    let channels = map Bounds_channel c.channels in
+    let authorities = flat_map authority_lines c.authorities in
     ap (λ rest. ended_line (first_line c.version) ++ rest)
-    (ap (λ text. text ++ (in_order (λ n. channel_text) 0 c.channels ++ ended_line end_line)) (blocks-text 0 c.points)
-    ∙ ap (λ text. flat_map line_ended (flat_map block_lines c.points) ++ (text ++ ended_line end_line)) (channels-text 0 c.channels)
-    ∙ sym (append_assoc (flat_map line_ended (flat_map block_lines c.points)) (flat_map line_ended (map Bounds_channel c.channels)) (ended_line end_line))
-    ∙ ap (λ text. text ++ ended_line end_line) (sym (flat-more line_ended (flat_map block_lines c.points) (map Bounds_channel c.channels))))
+    ((λ i. blocks-text 0 c.points i ++ (channels-text 0 c.channels i ++ (authorities-text 0 c.authorities i ++ ended_line end_line)))
+    ∙ ap (λ rest. flat_map line_ended blocks ++ rest)
+    (sym (append_assoc (flat_map line_ended channels) (flat_map line_ended authorities) (ended_line end_line))
+    ∙ ap (λ text. text ++ ended_line end_line) (sym (flat-more line_ended channels authorities)))
+    ∙ sym (append_assoc (flat_map line_ended blocks) (flat_map line_ended (rest_lines c)) (ended_line end_line))
+    ∙ ap (λ text. text ++ ended_line end_line) (sym (flat-more line_ended blocks (rest_lines c))))
     ∙ sym (append_assoc (ended_line (first_line c.version)) (flat_map line_ended (lines_of c)) (ended_line end_line))

@@ -2,7 +2,7 @@
 use Rattle.std.specs.Prelude.{ℕ, List, [], ◌∷◌, ◌++◌, codes, Some, None}
 use Rattle.std.specs.List.{flat_map}
 use Rattle.rights.specs.Classes.{Initial, Made_at}
-use Rattle.certificate.specs.Bounds.{ModeBound, Off, On, Either, In_grant, Socket, Unknown, Held, Open, Maybe, Bound, PointBound, One, Certificate, with_interval, with_slot}
+use Rattle.certificate.specs.Bounds.{ModeBound, Off, On, Either, In_grant, Socket, Unknown, Held, Open, Maybe, Bound, PointBound, One, Three, Certificate, with_interval, with_slot}
 use Rattle.certificate.specs.Growth.{open_bound}
 use Rattle.certificate_text.specs.Texts.{ended_line}
 
@@ -21,7 +21,7 @@ at_main point bound = record { program = codes "main"; point = point; bound = bo
 
 -- three points of one program, with two directories open
 abbrev pub three_points : Certificate
-three_points = record { version = One; points = at_main 0 (two_grants Off) ∷ at_main 1 (two_grants On) ∷ at_main 2 (two_grants On) ∷ []; channels = [] }
+three_points = record { version = One; points = at_main 0 (two_grants Off) ∷ at_main 1 (two_grants On) ∷ at_main 2 (two_grants On) ∷ []; channels = []; authorities = [] }
 
 abbrev pub work_line : List ℕ
 work_line = codes "fd 0 open grant work 3fff 3fff 3 3"
@@ -60,6 +60,7 @@ with_channels = record {
       ∷ [];
   channels =
       (record { class = Initial 31; side = 0; sends = None }) ∷ (record { class = Made_at (codes "main") 7; side = 1; sends = Some anything }) ∷ [];
+  authorities = [];
 }
 
 abbrev pub channel_lines : List (List ℕ)
@@ -67,3 +68,32 @@ channel_lines =
     codes "capcert 1" ∷ codes "at main 255 maybe" ∷ codes "r7 1 4294967295" ∷ codes "fd 0 maybe sock @0 b 0001 0003 0 2"
     ∷ codes "fd 3 open sock main:7 a 0000 3fff 0 3" ∷ codes "fd 15 maybe unknown 0000 3fff 0 3" ∷ codes "chan @31 a none"
     ∷ codes "chan main:7 b unknown 0000 3fff 0 3" ∷ codes "end" ∷ []
+
+-- two programs that share a pair, of which one may hold no more than its authority
+abbrev pub few_in_work : ℕ → Held
+few_in_work greatest = record { target = In_grant (codes "work"); least = 0x81; greatest = greatest; least_fcntls = 3; greatest_fcntls = 3 }
+
+abbrev pub first_end : Held
+first_end = record { target = Socket (Initial 0) 0; least = 0x3fff; greatest = 0x3fff; least_fcntls = 3; greatest_fcntls = 3 }
+
+abbrev pub with_authority : Certificate
+with_authority = record {
+  version = Three;
+  points =
+      at_main 0 (with_slot (two_grants Off) 2 (Open first_end))
+      ∷ at_main 2 (with_slot (with_slot (two_grants Off) 0 (Open (few_in_work 0x3fff))) 2 (Open first_end)) ∷ [];
+  channels =
+      (record { class = Initial 0; side = 0; sends = Some (few_in_work 0x81) }) ∷ (record { class = Initial 0; side = 1; sends = Some anything }) ∷ [];
+  authorities =
+      (record {
+        program = codes "child";
+        ceilings = (record { grant = codes "work"; rights = 0x81 }) ∷ [];
+        holds = (record { class = Initial 0; side = 1 }) ∷ [];
+      }) ∷ [];
+}
+
+abbrev pub authority_lines : List (List ℕ)
+authority_lines =
+    codes "capcert 3" ∷ codes "at main 0 off" ∷ work_line ∷ log_line ∷ codes "fd 2 open sock @0 a 3fff 3fff 3 3" ∷ codes "at main 2 off"
+    ∷ codes "fd 0 open grant work 0081 3fff 3 3" ∷ log_line ∷ codes "fd 2 open sock @0 a 3fff 3fff 3 3" ∷ codes "chan @0 a grant work 0081 0081 3 3"
+    ∷ codes "chan @0 b unknown 0000 3fff 0 3" ∷ codes "auth child" ∷ codes "ceil work 0081" ∷ codes "hold @0 b" ∷ codes "end" ∷ []

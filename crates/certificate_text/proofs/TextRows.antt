@@ -2,13 +2,13 @@
 use Rattle.std.proofs.Common.{◌≡◌, ap, arith, refl}
 use Rattle.std.specs.List.{slice_index_or}
 use Rattle.std.specs.Prelude.{[], ◌∷◌, codes, length, Ok}
-use Rattle.certificate.specs.Bounds.{Off, Version, One, Two, Certificate}
-use Rattle.certificate.specs.Growth.{empty, open_bound, taken, distinct_behind, above_blocks, above_channels, may_bound_register, may_bound_slot, all_from, on_last}
+use Rattle.certificate.specs.Bounds.{Off, Version, One, Two, Three, Certificate}
+use Rattle.certificate.specs.Growth.{asked_of_last, with_last, empty, open_bound, taken, distinct_behind, above_blocks, above_channels, may_bound_register, may_bound_slot, all_from, on_last}
 use Rattle.certificate.specs.Lines.{register_lines, slot_lines}
 use Rattle.std.specs.Fmt.{digits}
 use Rattle.certificate_text.specs.Texts.{certificate_text, line_text}
 use Rattle.certificate_text.specs.Readings.{certificate_of_text, line_of_text, read_behind}
-use Rattle.certificate_text.proofs.Samples.{at_main, channel_lines, text, three_blocks, three_points, with_channels}
+use Rattle.certificate_text.proofs.Samples.{at_main, authority_lines, channel_lines, text, three_blocks, three_points, with_authority, with_channels}
 
 three_points_text : certificate_text three_points ≡ three_blocks
 unfolding digits line_text register_lines slot_lines
@@ -39,7 +39,7 @@ nothing_of_version_2_read = refl
 
 -- a block without lines is another certificate than none
 abbrev empty_block : Version → Certificate
-empty_block version = record { version = version; points = at_main 0 (open_bound Off) ∷ []; channels = [] }
+empty_block version = record { version = version; points = at_main 0 (open_bound Off) ∷ []; channels = []; authorities = [] }
 
 empty_block_text : certificate_text (empty_block One) ≡ text (codes "capcert 1" ∷ codes "at main 0 off" ∷ codes "end" ∷ [])
 unfolding digits line_text register_lines slot_lines
@@ -57,6 +57,25 @@ block_of_version_2_text = refl
 block_of_version_2_read : certificate_of_text (text (codes "capcert 2" ∷ codes "at main 0 off" ∷ codes "end" ∷ [])) ≡ Ok (empty_block Two)
 unfolding certificate_of_text read_behind line_of_text taken distinct_behind above_blocks above_channels may_bound_register may_bound_slot all_from on_last
 block_of_version_2_read = refl
+
+-- version 3, with an authority and without
+with_authority_text : certificate_text with_authority ≡ text authority_lines
+unfolding digits line_text register_lines slot_lines
+with_authority_text = refl
+
+with_authority_read : certificate_of_text (text authority_lines) ≡ Ok with_authority
+unfolding certificate_of_text read_behind line_of_text taken distinct_behind above_blocks above_channels may_bound_register may_bound_slot all_from on_last asked_of_last with_last
+with_authority_read = refl
+
+nothing_of_version_3_read : certificate_of_text (text (codes "capcert 3" ∷ codes "end" ∷ [])) ≡ Ok (empty Three)
+unfolding certificate_of_text read_behind
+nothing_of_version_3_read = refl
+
+-- an authority without lines is another certificate than none
+empty_authority_read : certificate_of_text (text (codes "capcert 3" ∷ codes "auth main" ∷ codes "end" ∷ []))
+    ≡ Ok (record (empty Three) { authorities = (record { program = codes "main"; ceilings = []; holds = [] }) ∷ [] })
+unfolding certificate_of_text read_behind line_of_text taken distinct_behind asked_of_last with_last
+empty_authority_read = refl
 
 -- Certificates that differ in their version alone have different texts.
 versions_differ : (c : Certificate) → certificate_text (record c { version = One }) ≡ certificate_text (record c { version = Two }) → ⊥

@@ -4,15 +4,16 @@ use Rattle.std.specs.Str.{bytes_eq}
 use Rattle.texts.specs.Bytes.{space}
 use Rattle.texts.specs.Lines.{Line as TextLine, lines_of}
 use Rattle.texts.specs.Parts.{parts}
-use Rattle.certificate.specs.Bounds.{Version, One, Two, Certificate}
+use Rattle.certificate.specs.Bounds.{Version, One, Two, Three, Certificate}
 use Rattle.certificate.specs.Growth.{Refused, No_room, Out_of_order, empty, taken}
 use Rattle.certificate.specs.Lines.{Line}
 use Rattle.certificate_text.specs.Faults.{Fault, Syntax, Limit, Order, Faulty}
 use Rattle.certificate_text.specs.Texts.{first_line, end_line}
 use Rattle.certificate_text.specs.Words.{line_of_words}
 
-unfoldable pub line_of_text : List ℕ → Result Line Fault
-line_of_text text = line_of_words (parts space text)
+-- the line that a text is in a certificate of a version
+unfoldable pub line_of_text : Version → List ℕ → Result Line Fault
+line_of_text version text = line_of_words version (parts space text)
 
 -- what a certificate makes of a line: one more line of it, or the fault
 abbrev pub line_taken : Result Certificate Refused → Result Certificate Fault
@@ -49,7 +50,7 @@ unfoldable pub read_behind : Certificate → List TextLine → Reading
 read_behind c [] = fails Syntax 0
 read_behind c (line ∷ lines) =
     if line.is_ended
-    then (if bytes_eq line.text end_line then closed c lines else going_on line.offset (λ d. read_behind d lines) (grown_by_line c (line_of_text line.text)))
+    then (if bytes_eq line.text end_line then closed c lines else going_on line.offset (λ d. read_behind d lines) (grown_by_line c (line_of_text c.version line.text)))
     else fails Syntax line.offset
 
 -- the version that a first line tells, if it is one
@@ -57,6 +58,7 @@ abbrev pub version_of_line : List ℕ → Option Version
 version_of_line text =
     if bytes_eq text (first_line One) then Some One
     else if bytes_eq text (first_line Two) then Some Two
+    else if bytes_eq text (first_line Three) then Some Three
     else None
 
 -- The lines behind the first one, which begins there and may tell a version.

@@ -6,8 +6,8 @@ use Rattle.rights.specs.Classes.{Class, Initial, Made_at}
 use Rattle.texts.specs.Bytes.{colon, line_feed, space}
 use Rattle.texts.specs.Hex.{hex_text}
 use Rattle.texts.specs.Parts.{joined}
-use Rattle.certificate.specs.Bounds.{ModeBound, Off, On, Either, Target, In_grant, Any_node, Socket, Unknown, Held, Slot, Closed, Open, Maybe, Version, One, Two, Certificate}
-use Rattle.certificate.specs.Lines.{Line, Begins_block, Bounds_register, Bounds_slot, Bounds_channel, lines_of}
+use Rattle.certificate.specs.Bounds.{ModeBound, Off, On, Either, Target, In_grant, Any_node, Socket, Unknown, Held, Slot, Closed, Open, Maybe, Version, One, Two, Three, Certificate}
+use Rattle.certificate.specs.Lines.{Line, Begins_block, Bounds_register, Bounds_slot, Bounds_channel, Begins_authority, Bounds_grant, Holds_end, lines_of}
 
 -- the bytes `@` and `r`
 abbrev pub at_sign : ℕ
@@ -57,6 +57,9 @@ line_words (Begins_block program point mode) = codes "at" ∷ program ∷ decima
 line_words (Bounds_register register interval) = (register_letter ∷ decimal register) ∷ decimal interval.low ∷ decimal interval.high ∷ []
 line_words (Bounds_slot number slot) = codes "fd" ∷ decimal number ∷ slot_words slot
 line_words (Bounds_channel channel) = codes "chan" ∷ class_word channel.class ∷ side_word channel.side ∷ sends_words channel.sends
+line_words (Begins_authority program) = codes "auth" ∷ program ∷ []
+line_words (Bounds_grant ceiling) = codes "ceil" ∷ ceiling.grant ∷ hex_text 4 ceiling.rights ∷ []
+line_words (Holds_end held) = codes "hold" ∷ class_word held.class ∷ side_word held.side ∷ []
 
 unfoldable pub line_text : Line → List ℕ
 line_text line = joined space (line_words line)
@@ -65,6 +68,7 @@ line_text line = joined space (line_words line)
 abbrev pub first_line : Version → List ℕ
 first_line One = codes "capcert 1"
 first_line Two = codes "capcert 2"
+first_line Three = codes "capcert 3"
 
 abbrev pub end_line : List ℕ
 end_line = codes "end"

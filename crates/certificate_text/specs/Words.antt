@@ -9,8 +9,8 @@ use Rattle.texts.specs.Hex.{hex_of}
 use Rattle.texts.specs.Names.{is_name}
 use Rattle.texts.specs.Numbers.{number_of}
 use Rattle.texts.specs.Parts.{parts}
-use Rattle.certificate.specs.Bounds.{ModeBound, Off, On, Either, Interval, Target, In_grant, Any_node, Socket, Unknown, Held, Slot, Open, Maybe, full_interval}
-use Rattle.certificate.specs.Lines.{is_interval, is_range, Line, Begins_block, Bounds_register, Bounds_slot, Bounds_channel}
+use Rattle.certificate.specs.Bounds.{ModeBound, Off, On, Either, Interval, Target, In_grant, Any_node, Socket, Unknown, Held, Slot, Open, Maybe, Version, full_interval, has_authorities}
+use Rattle.certificate.specs.Lines.{is_ceiling, is_interval, is_range, Line, Begins_block, Bounds_register, Bounds_slot, Bounds_channel, Begins_authority, Bounds_grant, Holds_end}
 use Rattle.certificate_text.specs.Faults.{Fault, Syntax, Limit, both, formed, with_part}
 use Rattle.certificate_text.specs.Texts.{at_sign, register_letter}
 
@@ -153,10 +153,47 @@ abbrev pub other_line : List ℕ → List (List ℕ) → Result Line Fault
 other_line [] words = Err Syntax
 other_line (b ∷ register) words = if b == register_letter then register_of_words register words else Err Syntax
 
-abbrev pub line_of_words : List (List ℕ) → Result Line Fault
-line_of_words [] = Err Syntax
-line_of_words (first ∷ words) =
+abbrev pub authority_of_words : List (List ℕ) → Result Line Fault
+authority_of_words [] = Err Syntax
+authority_of_words (program ∷ []) = with_part Begins_authority (name_of_word program)
+authority_of_words (program ∷ more ∷ words) = Err Syntax
+
+-- the rights of a ceiling, of which there are some
+abbrev pub ceiling_from : Option ℕ → Result ℕ Fault
+ceiling_from None = Err Syntax
+ceiling_from (Some rights) = if is_ceiling rights then Ok rights else Err Syntax
+
+abbrev pub ceiling_with : List ℕ → ℕ → Line
+ceiling_with grant rights = Bounds_grant (record { grant = grant; rights = rights })
+
+abbrev pub ceiling_of_words : List (List ℕ) → Result Line Fault
+ceiling_of_words [] = Err Syntax
+ceiling_of_words (grant ∷ []) = Err Syntax
+ceiling_of_words (grant ∷ rights ∷ []) = both ceiling_with (name_of_word grant) (ceiling_from (hex_of 4 rights))
+ceiling_of_words (grant ∷ rights ∷ more ∷ words) = Err Syntax
+
+abbrev pub end_with : Class → ℕ → Line
+end_with class side = Holds_end (record { class = class; side = side })
+
+abbrev pub end_of_words : List (List ℕ) → Result Line Fault
+end_of_words [] = Err Syntax
+end_of_words (class ∷ []) = Err Syntax
+end_of_words (class ∷ side ∷ []) = both end_with (class_of_word class) (formed (side_of_word side))
+end_of_words (class ∷ side ∷ more ∷ words) = Err Syntax
+
+-- a line of a version with authorities that begins with none of the words that lines of all versions begin with
+abbrev pub later_line : List ℕ → List (List ℕ) → Result Line Fault
+later_line first words =
+    if bytes_eq first (codes "auth") then authority_of_words words
+    else if bytes_eq first (codes "ceil") then ceiling_of_words words
+    else if bytes_eq first (codes "hold") then end_of_words words
+    else other_line first words
+
+abbrev pub line_of_words : Version → List (List ℕ) → Result Line Fault
+line_of_words version [] = Err Syntax
+line_of_words version (first ∷ words) =
     if bytes_eq first (codes "at") then block_of_words words
     else if bytes_eq first (codes "fd") then descriptor_of_words words
     else if bytes_eq first (codes "chan") then channel_of_words words
+    else if has_authorities version then later_line first words
     else other_line first words

@@ -3,15 +3,17 @@
 ghost use Rattle.std.specs.Prelude.{◌≡◌, ◌+◌, ◌++◌, ◌∷◌, ◌<◌, ◌≤◌, [], length, map, true};
 ghost use Rattle.rights.specs.Sets.{all_commands, is_within};
 ghost use Rattle.texts.specs.Hex.{hex_text};
-ghost use Rattle.certificate.specs.Lines.{Begins_block, Bounds_channel, Bounds_register, Bounds_slot};
-ghost use Rattle.certificate.specs.Views.{channel_of, held_of, interval_of, line_of, mode_of, name_of, side_of, slot_of, target_of};
+ghost use Rattle.certificate.specs.Lines.{Begins_authority, Begins_block, Bounds_channel, Bounds_grant, Bounds_register, Bounds_slot, Holds_end};
+ghost use Rattle.certificate.specs.Views.{ceiling_of, channel_of, end_of, held_of, interval_of, line_of, mode_of, name_of, side_of, slot_of, target_of};
 ghost use Rattle.certificate_text.specs.KeywordViews.{keyword_text};
 ghost use Rattle.certificate_text.specs.Texts.{held_words, line_words, mode_word, side_word, target_words};
 ghost use Rattle.certificate_text.specs.WordViews.{word_text};
 
 use crate::keywords::Keyword;
 use bitflags::Flags;
-use certificate::{Channel, Class, Held, Interval, Line, ModeBound, Name, Side, Slot, Target};
+use certificate::{
+    Ceiling, Channel, Class, End, Held, Interval, Line, ModeBound, Name, Side, Slot, Target,
+};
 use rights::{Fcntls, Rights};
 use std::marker::Model;
 use texts::one_digit;
@@ -205,6 +207,38 @@ fn channel_words(channel: &Channel) -> LineWords
     line
 }
 
+/// The words of an authority's first line.
+fn authority_words(program: &Name) -> LineWords
+    ensures { result ≡ line_words (Begins_authority (name_of program.now)) }
+{
+    let mut line = LineWords::new();
+    line.push(Word::Keyword(Keyword::Auth));
+    line.push(Word::Name(*program));
+    line
+}
+
+/// The words of a ceiling's line.
+fn ceiling_words(ceiling: &Ceiling) -> LineWords
+    ensures { result ≡ line_words (Bounds_grant (ceiling_of ceiling.now)) }
+{
+    let mut line = LineWords::new();
+    line.push(Word::Keyword(Keyword::Ceil));
+    line.push(Word::Name(*ceiling.grant()));
+    line.push(Word::Rights(ceiling.rights()));
+    line
+}
+
+/// The words of an end's line.
+fn end_words(held: &End) -> LineWords
+    ensures { result ≡ line_words (Holds_end (end_of held.now)) }
+{
+    let mut line = LineWords::new();
+    line.push(Word::Keyword(Keyword::Hold));
+    line.push(Word::Class(held.class()));
+    line.push(Word::Keyword(side_keyword(held.side())));
+    line
+}
+
 /// The words of a line.
 pub(crate) fn words_of_line(line: &Line) -> LineWords
     ensures { result ≡ line_words (line_of line.now) }
@@ -218,5 +252,8 @@ pub(crate) fn words_of_line(line: &Line) -> LineWords
         Line::Register { register, interval } => register_words(*register, interval),
         Line::Slot { number, slot } => slot_words(*number, slot),
         Line::Channel(channel) => channel_words(channel),
+        Line::Authority(program) => authority_words(program),
+        Line::Ceiling(ceiling) => ceiling_words(ceiling),
+        Line::Hold(held) => end_words(held),
     }
 }

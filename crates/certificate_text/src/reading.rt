@@ -14,9 +14,9 @@ use texts::Lines;
 
 /// Adds a line of the body, which begins at this offset.
 fn take_line(cert: &mut Cert, text: &[u8], offset: usize) -> Result<(), CertFault>
-    ensures { TakesLine result cert.new offset (grown_by_line cert.old (line_of_text text.now)) }
+    ensures { TakesLine result cert.new offset (grown_by_line cert.old (line_of_text cert.old.version text.now)) }
 {
-    let line = match read_line(text) {
+    let line = match read_line(cert.version(), text) {
         Ok(line) => line,
         Err(fault) => return Err(fault.at(offset)),
     };
@@ -66,6 +66,8 @@ fn read_version(text: &[u8]) -> Option<Version>
         Some(Version::One)
     } else if text == b"capcert 2".as_slice() {
         Some(Version::Two)
+    } else if text == b"capcert 3".as_slice() {
+        Some(Version::Three)
     } else {
         None
     }
@@ -87,7 +89,7 @@ fn read_lines(alloc: Global, mut lines: Lines<'_>) -> Result<Cert, CertFault>
     read_body(Cert::new(alloc, version), lines)
 }
 
-/// Reads a certificate of either version: the one whose text the bytes are, or the fault of their first faulty line, and of
+/// Reads a certificate of any version: the one whose text the bytes are, or the fault of their first faulty line, and of
 /// that line's faults the first of `Syntax`, `Limit` and `Order`, with where the line begins. Only want of memory may come
 /// instead. No other bytes are read as that certificate. (own)
 #[tactic(auto, unfolding(crate::specs::Readings::certificate_of_text))]

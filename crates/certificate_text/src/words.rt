@@ -1,11 +1,13 @@
 //! The words of a line.
 
-ghost use Rattle.std.specs.Prelude.{◌≡◌, ◌≤◌, IfOk, option_map};
+ghost use Rattle.std.specs.Prelude.{◌≡◌, ◌≤◌, IfOk, option_map, true};
 ghost use Rattle.std.specs.Result.{result_map_both};
+ghost use Rattle.texts.specs.Hex.{hex_of};
 ghost use Rattle.texts.specs.Numbers.{number_of};
+ghost use Rattle.certificate.specs.Lines.{is_ceiling};
 ghost use Rattle.certificate.specs.Views.{class_of, interval_of, mode_of, name_of, side_of};
 ghost use Rattle.certificate_text.specs.Views.{fault_of, fcntls_in, rights_in};
-ghost use Rattle.certificate_text.specs.Words.{class_of_word, fcntls_of_words, interval_from, mode_of_word, name_of_word, point_of_program, rights_of_words, side_of_word, up_to};
+ghost use Rattle.certificate_text.specs.Words.{ceiling_from, class_of_word, fcntls_of_words, interval_from, mode_of_word, name_of_word, point_of_program, rights_of_words, side_of_word, up_to};
 ghost use Rattle.texts.specs.Parts.{parts};
 
 use crate::faults::LineFault;
@@ -143,4 +145,19 @@ pub(crate) fn read_fcntls(least: &[u8], greatest: &[u8]) -> Result<FcntlsRange, 
         return Err(LineFault::Syntax);
     }
     Ok(FcntlsRange::new(least, greatest))
+}
+
+/// The rights of a ceiling, in four digits; there are some.
+pub(crate) fn read_ceiling_rights(word: &[u8]) -> Result<Rights, LineFault>
+    ensures value { result_map_both (λ rights. rights.0) fault_of result ≡ ceiling_from (hex_of 4 word.now) }
+    ensures some { IfOk result (λ rights. is_ceiling rights.0 ≡ true) }
+{
+    let Some(rights) = read_hex(word, 4) else {
+        return Err(LineFault::Syntax);
+    };
+    let rights = Rights::from_bits_retain(rights as u16);
+    if !Rights::all().contains(rights) || rights.bits() == 0 {
+        return Err(LineFault::Syntax);
+    }
+    Ok(rights)
 }

@@ -4,17 +4,19 @@ ghost use Rattle.std.specs.Prelude.{◌≡◌, ◌++◌, ◌∷◌, ◌<◌, ◌
 ghost use Rattle.std.specs.Fmt.{decimal};
 ghost use Rattle.texts.specs.Bytes.{colon, space};
 ghost use Rattle.texts.specs.Parts.{joined};
-ghost use Rattle.certificate.specs.Lines.{Begins_block};
-ghost use Rattle.certificate.specs.Views.{bound_of, channel_of, channels_of, class_of, interval_of, line_of, point_of, points_of, slot_of, version_of};
+ghost use Rattle.certificate.specs.Lines.{Begins_authority, Begins_block};
+ghost use Rattle.certificate.specs.Views.{authorities_of, authority_of, bound_of, ceiling_of, channel_of, channels_of, class_of, end_of, interval_of, line_of, point_of, points_of, slot_of, version_of};
 ghost use Rattle.certificate_text.specs.Texts.{certificate_text, class_word, ended_line, first_line, end_line, line_text};
 ghost use Rattle.certificate_text.specs.Readings.{certificate_of_text};
-ghost use Rattle.certificate_text.specs.Pieces.{block_text, channel_text, in_order, register_text, slot_text};
+ghost use Rattle.certificate_text.specs.Pieces.{authority_text, block_text, ceiling_text, channel_text, end_text, in_order, register_text, slot_text};
 ghost use Rattle.certificate_text.specs.WordViews.{word_text};
 ghost use Rattle.certificate_text.specs.WritingViews.{Writes};
 
 use crate::line_words::{Word, words_of_line};
 use bitflags::Flags;
-use certificate::{Bound, Cert, Channel, Class, Interval, Line, Point, Slot, Version};
+use certificate::{
+    Authority, Bound, Ceiling, Cert, Channel, Class, End, Interval, Line, Point, Slot, Version,
+};
 use rights::{Out, Stop, write_all};
 use texts::{Decimal, four_digits};
 
@@ -246,25 +248,127 @@ fn write_channels<W: Out>(out: &mut W, channels: &[Channel]) -> Result<(), Stop>
     Ok(())
 }
 
-/// Writes the channels, and the last line behind them.
-fn write_end<W: Out>(out: &mut W, channels: &[Channel]) -> Result<(), Stop>
+/// Writes the line of a ceiling.
+fn write_ceiling<W: Out>(out: &mut W, ceiling: &Ceiling) -> Result<(), Stop>
     requires { W.faults out.old < 2 ^ 64 - 1 }
     ensures { Writes result (W.taken out.old) (W.taken out.new) (W.faults out.old) (W.faults out.new)
-        (in_order (λ n. channel_text) 0 (channels_of channels.now) ++ ended_line end_line) }
+        (ceiling_text (ceiling_of ceiling.now)) }
 {
-    write_channels(out, channels)?;
+    write_line(out, &Line::Ceiling(*ceiling))
+}
+
+/// Writes the lines of ceilings, one after another.
+fn write_ceilings<W: Out>(out: &mut W, ceilings: &[Ceiling]) -> Result<(), Stop>
+    requires { W.faults out.old < 2 ^ 64 - 1 }
+    ensures { Writes result (W.taken out.old) (W.taken out.new) (W.faults out.old) (W.faults out.new)
+        (in_order (λ n. ceiling_text) 0 (map ceiling_of ceilings.now)) }
+{
+    for ceiling in ceilings {
+        write_ceiling(out, ceiling)?;
+    }
+    Ok(())
+}
+
+/// Writes the line of an end.
+fn write_end<W: Out>(out: &mut W, held: &End) -> Result<(), Stop>
+    requires { W.faults out.old < 2 ^ 64 - 1 }
+    ensures { Writes result (W.taken out.old) (W.taken out.new) (W.faults out.old) (W.faults out.new)
+        (end_text (end_of held.now)) }
+{
+    write_line(out, &Line::Hold(*held))
+}
+
+/// Writes the lines of ends, one after another.
+fn write_ends<W: Out>(out: &mut W, holds: &[End]) -> Result<(), Stop>
+    requires { W.faults out.old < 2 ^ 64 - 1 }
+    ensures { Writes result (W.taken out.old) (W.taken out.new) (W.faults out.old) (W.faults out.new)
+        (in_order (λ n. end_text) 0 (map end_of holds.now)) }
+{
+    for held in holds {
+        write_end(out, held)?;
+    }
+    Ok(())
+}
+
+/// Writes the ceilings and the ends of an authority.
+fn write_holdings<W: Out>(out: &mut W, authority: &Authority) -> Result<(), Stop>
+    requires { W.faults out.old < 2 ^ 64 - 1 }
+    ensures { Writes result (W.taken out.old) (W.taken out.new) (W.faults out.old) (W.faults out.new)
+        (in_order (λ n. ceiling_text) 0 (authority_of authority.now).ceilings ++ in_order (λ n. end_text) 0 (authority_of authority.now).holds) }
+{
+    write_ceilings(out, authority.ceilings())?;
+    write_ends(out, authority.holds())
+}
+
+/// The first line of an authority.
+fn authority_line(authority: &Authority) -> Line
+    ensures { line_of result ≡ Begins_authority (authority_of authority.now).program }
+{
+    Line::Authority(*authority.program())
+}
+
+/// Writes the lines of an authority.
+fn write_authority<W: Out>(out: &mut W, authority: &Authority) -> Result<(), Stop>
+    requires { W.faults out.old < 2 ^ 64 - 1 }
+    ensures { Writes result (W.taken out.old) (W.taken out.new) (W.faults out.old) (W.faults out.new)
+        (authority_text (authority_of authority.now)) }
+{
+    write_line(out, &authority_line(authority))?;
+    write_holdings(out, authority)
+}
+
+/// Writes the lines of authorities, one after another.
+fn write_authorities<W: Out>(out: &mut W, authorities: &[Authority]) -> Result<(), Stop>
+    requires { W.faults out.old < 2 ^ 64 - 1 }
+    ensures { Writes result (W.taken out.old) (W.taken out.new) (W.faults out.old) (W.faults out.new)
+        (in_order (λ n. authority_text) 0 (authorities_of authorities.now)) }
+{
+    for authority in authorities {
+        write_authority(out, authority)?;
+    }
+    Ok(())
+}
+
+/// Writes the lines of authorities, and the last line behind them.
+fn write_last<W: Out>(out: &mut W, authorities: &[Authority]) -> Result<(), Stop>
+    requires { W.faults out.old < 2 ^ 64 - 1 }
+    ensures { Writes result (W.taken out.old) (W.taken out.new) (W.faults out.old) (W.faults out.new)
+        (in_order (λ n. authority_text) 0 (authorities_of authorities.now) ++ ended_line end_line) }
+{
+    write_authorities(out, authorities)?;
     write_bytes(out, b"end\n")
 }
 
-/// Writes the blocks of points, the lines of channels, and the last line.
-fn write_body<W: Out>(out: &mut W, points: &[Point], channels: &[Channel]) -> Result<(), Stop>
+/// Writes the channels and what stands behind them.
+fn write_rest<W: Out>(
+    out: &mut W,
+    channels: &[Channel],
+    authorities: &[Authority],
+) -> Result<(), Stop>
+    requires { W.faults out.old < 2 ^ 64 - 1 }
+    ensures { Writes result (W.taken out.old) (W.taken out.new) (W.faults out.old) (W.faults out.new)
+        (in_order (λ n. channel_text) 0 (channels_of channels.now)
+        ++ (in_order (λ n. authority_text) 0 (authorities_of authorities.now) ++ ended_line end_line)) }
+{
+    write_channels(out, channels)?;
+    write_last(out, authorities)
+}
+
+/// Writes the blocks of points, and what stands behind them.
+fn write_body<W: Out>(
+    out: &mut W,
+    points: &[Point],
+    channels: &[Channel],
+    authorities: &[Authority],
+) -> Result<(), Stop>
     requires { W.faults out.old < 2 ^ 64 - 1 }
     ensures { Writes result (W.taken out.old) (W.taken out.new) (W.faults out.old) (W.faults out.new)
         (in_order (λ n. block_text) 0 (points_of points.now)
-        ++ (in_order (λ n. channel_text) 0 (channels_of channels.now) ++ ended_line end_line)) }
+        ++ (in_order (λ n. channel_text) 0 (channels_of channels.now)
+        ++ (in_order (λ n. authority_text) 0 (authorities_of authorities.now) ++ ended_line end_line))) }
 {
     write_points(out, points)?;
-    write_end(out, channels)
+    write_rest(out, channels, authorities)
 }
 
 /// The first line of a certificate of this version, with its line feed.
@@ -274,10 +378,11 @@ fn version_line(version: Version) -> &'static [u8]
     match version {
         Version::One => b"capcert 1\n",
         Version::Two => b"capcert 2\n",
+        Version::Three => b"capcert 3\n",
     }
 }
 
-/// Writes the text of a certificate of either version. `Device` is answered only after a failure of the writer, and what it
+/// Writes the text of a certificate of any version. `Device` is answered only after a failure of the writer, and what it
 /// took then is a beginning of the text; nothing else is answered, since it takes no memory. That text is read as this
 /// certificate, and no other is. (own)
 pub fn write_cert<W: Out>(cert: &Cert, out: &mut W) -> Result<(), Stop>
@@ -288,6 +393,7 @@ pub fn write_cert<W: Out>(cert: &Cert, out: &mut W) -> Result<(), Stop>
     ensures alone { (text : List ℕ) → certificate_of_text text ≡ Ok cert.now → text ≡ certificate_text cert.now }
 {
     let (points, channels) = (cert.points(), cert.channels());
+    let authorities = cert.authorities();
     write_bytes(out, version_line(cert.version()))?;
-    write_body(out, points, channels)
+    write_body(out, points, channels, authorities)
 }

@@ -5,7 +5,7 @@ use Rattle.std.specs.Prelude.{Option, Some, None, Result, Ok, Err, if◌then◌e
 use Rattle.std.specs.List.{flat_map, slice_index_or}
 use Rattle.std.specs.Str.{bytes_eq}
 use Rattle.std.proofs.lemmas.List.{take_rest}
-use Rattle.certificate.specs.Bounds.{Bound, PointBound, Version, One, Two, Certificate}
+use Rattle.certificate.specs.Bounds.{Bound, PointBound, Version, One, Two, Three, Certificate, has_authorities}
 use Rattle.certificate.specs.declared.points.Point.{Point as PointCode}
 use Rattle.certificate.specs.declared.lines.Refusal.{Refusal}
 use Rattle.certificate.specs.declared.lines.Refusal.TheVariants.{Limit, Order, Memory}
@@ -13,13 +13,13 @@ use Rattle.certificate.specs.Growths.{grown, grown_by, then_grown}
 use Rattle.certificate.specs.GrowthViews.{Grows}
 use Rattle.certificate.specs.Views.{name_of, points_of}
 use Rattle.certificate.specs.Growth.{IsCertificate, empty}
-use Rattle.certificate.specs.Lines.{Bounds_channel, block_lines, lines_of}
+use Rattle.certificate.specs.Lines.{block_lines, lines_of, rest_lines}
 use Rattle.certificate.proofs.Growths.{by_append, grown_append}
 use Rattle.task.specs.Plans.{Plan}
 use Rattle.rules.proofs.expansions.GrownExpansions.{expansion_grown}
 use Rattle.rules.specs.Verdicts.{MeetsRules, IsFirstFound}
 use Rattle.checker.specs.Verdicts.{Verdict, Yes, No, IsVerdict}
-use Rattle.rules.specs.Expansions.{bound_with, carried_past, expanded, expansion, points_along, programs_behind, programs_given, with_bound}
+use Rattle.rules.specs.Expansions.{bound_with, carried_past, expanded, expanded_version, expansion, points_along, programs_behind, programs_given, with_bound}
 
 -- an error that is passed on
 pub passed_on : {A E : Type 0} (r : Result A E) (e : E) → IsErr r × IsErrAnd r (λ x. x ≡ e) → r ≡ Err e
@@ -127,32 +127,35 @@ by_lines [] c = refl
 by_lines (b ∷ points) c =
     then_lines b points (by_lines points) (grown (block_lines b) c) ∙ sym (grown_append (block_lines b) (flat_map block_lines points) c)
 
-channels_stay : (version : Version) (plan : Plan) (c : Certificate) → (expanded version plan c).channels ≡ c.channels
-channels_stay One plan c = refl
-channels_stay Two plan c = refl
+rest_stays : (version : Version) (plan : Plan) (c : Certificate) → rest_lines (expanded version plan c) ≡ rest_lines c
+rest_stays One plan c = refl
+rest_stays Two plan c = refl
+rest_stays Three plan c = refl
 
--- The lines of an expansion are those of its points, and then the certificate's channels.
+-- The lines of an expansion are those of its points, and then those behind the certificate's blocks.
 pub lines_grown : (plan : Plan) (c d : Certificate)
-    → grown (lines_of (expansion plan c)) d ≡ then_grown (grown (map Bounds_channel c.channels)) (grown_by (expansion plan c).points d)
+    → grown (lines_of (expansion plan c)) d ≡ then_grown (grown (rest_lines c)) (grown_by (expansion plan c).points d)
 lines_grown plan c d =
     let e = expansion plan c in
-    ap (λ channels. grown (flat_map block_lines e.points ++ map Bounds_channel channels) d) (channels_stay c.version plan c)
-    ∙ grown_append (flat_map block_lines e.points) (map Bounds_channel c.channels) d
-    ∙ ap (then_grown (grown (map Bounds_channel c.channels))) (sym (by_lines e.points d))
+    ap (λ rest. grown (flat_map block_lines e.points ++ rest) d) (rest_stays c.version plan c)
+    ∙ grown_append (flat_map block_lines e.points) (rest_lines c) d
+    ∙ ap (then_grown (grown (rest_lines c))) (sym (by_lines e.points d))
 
--- An expansion is its own.
-pub expanded_twice : (version : Version) (plan : Plan) (c : Certificate) → c.version ≡ version → expansion plan (expanded version plan c) ≡ expanded version plan c
-expanded_twice One plan c is = ap (λ version. expanded version plan c) is
-expanded_twice Two plan c is = refl
+version_is : (version : Version) (plan : Plan) (c : Certificate) → c.version ≡ version → (expanded version plan c).version ≡ expanded_version version
+version_is One plan c is = is
+version_is Two plan c is = refl
+version_is Three plan c is = is
 
-expansion_is_one : (version : Version) (plan : Plan) (c : Certificate) → c.version ≡ version → (expanded version plan c).version ≡ One
-expansion_is_one One plan c is = is
-expansion_is_one Two plan c is = refl
+pub same_authorities : (version : Version) → has_authorities (expanded_version version) ≡ has_authorities version
+same_authorities One = refl
+same_authorities Two = refl
+same_authorities Three = refl
 
 -- No line of an expansion is refused.
-pub lines_taken : (plan : Plan) (c start : Certificate) → IsCertificate c → start ≡ empty One → grown (lines_of (expansion plan c)) start ≡ Some (expansion plan c)
+pub lines_taken : (plan : Plan) (c start : Certificate) → IsCertificate c → start ≡ empty (expanded_version c.version)
+    → grown (lines_of (expansion plan c)) start ≡ Some (expansion plan c)
 lines_taken plan c start made begun =
-    ap (grown (lines_of (expansion plan c))) (begun ∙ sym (ap empty (expansion_is_one c.version plan c refl))) ∙ expansion_grown plan c made
+    ap (grown (lines_of (expansion plan c))) (begun ∙ sym (ap empty (version_is c.version plan c refl))) ∙ expansion_grown plan c made
 
 -- Lines that are all taken are refused for want of memory alone.
 pub wants_memory : (stop : Refusal) (new d : Certificate) (whole : Option Certificate) → whole ≡ Some d → Grows (Err stop) new whole → stop ≡ Memory

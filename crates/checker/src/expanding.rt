@@ -1,18 +1,21 @@
-//! The expansion of a certificate: the one of version 1 in which each carried bound is written.
+//! The expansion of a certificate: the one in which each carried bound is written.
 
 ghost use Rattle.std.specs.Prelude.{◌≡◌, ◌↔◌, None, IfOk, option_map};
 ghost use Rattle.std.specs.List.{flat_map};
 ghost use Rattle.certificate.specs.Growths.{grown, grown_by};
 ghost use Rattle.certificate.specs.GrowthViews.{Grows};
-ghost use Rattle.certificate.specs.Lines.{lines_of};
-ghost use Rattle.certificate.specs.Views.{bound_of, name_of, points_of};
+ghost use Rattle.certificate.specs.Lines.{lines_of, rest_lines};
+ghost use Rattle.certificate.specs.Views.{bound_of, name_of, points_of, version_of};
+ghost use Rattle.certificate.specs.Bounds.{has_authorities};
 ghost use Rattle.checker.specs.Verdicts.{Verdict, IsVerdict};
 ghost use Rattle.rights.specs.Limits.{most_instructions};
-ghost use Rattle.rules.specs.Expansions.{expanded_points, expansion, points_along, programs_behind, with_bound};
+ghost use Rattle.rules.specs.Expansions.{expanded_points, expanded_version, expansion, points_along, programs_behind, with_bound};
 
 use crate::carrying::{bound_with, carried_past};
 use crate::points::code_named;
-use certificate::{Bound, Cert, Name, Point, Refusal, Version, push_block, push_channels};
+use certificate::{
+    Bound, Cert, Name, Point, Refusal, Version, push_authorities, push_block, push_channels,
+};
 use rights::Memory;
 use rights::limits::MAX_INSTRUCTIONS;
 use std::alloc::Global;
@@ -77,7 +80,7 @@ fn push_behind(
     }
 }
 
-/// Adds the points of the expansion of a certificate of version 2.
+/// Adds the points of the expansion of a certificate in which bounds are carried.
 #[tactic(auto, using(certificate::proofs::Growths::by_append), unfolding(certificate::specs::Growths::grown_by))]
 fn push_programs(expanded: &mut Cert, task: &Task, cert: &Cert) -> Result<(), Refusal>
     ensures { Grows result expanded.new (grown_by (expanded_points task.now cert.now) expanded.old) }
@@ -111,26 +114,50 @@ fn push_expanded(expanded: &mut Cert, task: &Task, cert: &Cert) -> Result<(), Re
 {
     match cert.version() {
         Version::One => push_points(expanded, cert.points()),
-        Version::Two => push_programs(expanded, task, cert),
+        Version::Two | Version::Three => push_programs(expanded, task, cert),
     }
+}
+
+/// Adds channels and authorities as they are.
+fn push_rest(expanded: &mut Cert, cert: &Cert) -> Result<(), Refusal>
+    requires { has_authorities expanded.old.version ≡ has_authorities cert.now.version }
+    ensures { Grows result expanded.new (grown (rest_lines cert.now) expanded.old) }
+{
+    push_channels(expanded, cert.channels())?;
+    if !cert.version().has_authorities() {
+        return Ok(());
+    }
+    push_authorities(expanded, cert.authorities())
 }
 
 /// Adds the lines of the expansion.
 fn push_expansion(expanded: &mut Cert, task: &Task, cert: &Cert) -> Result<(), Refusal>
+    requires { expanded.old.version ≡ expanded_version cert.now.version }
     ensures { Grows result expanded.new (grown (lines_of (expansion task.now cert.now)) expanded.old) }
 {
     push_expanded(expanded, task, cert)?;
-    push_channels(expanded, cert.channels())
+    push_rest(expanded, cert)
 }
 
-/// The expansion of a certificate: that of version 1 with all bounds that it gives and all that are carried, and the same
-/// channels. `check` gives both the same verdict. Its one error is `Memory`. (own)
+/// The version of a certificate's expansion.
+fn version_of_expansion(version: Version) -> Version
+    ensures { version_of result ≡ expanded_version (version_of version) }
+{
+    match version {
+        Version::One | Version::Two => Version::One,
+        Version::Three => Version::Three,
+    }
+}
+
+/// The expansion of a certificate: that of version 1, or of version 3 where it is of that, with all bounds that it gives and all
+/// that are carried, and the same channels and authorities. `check` gives both the same verdict. Its one error is `Memory`.
+/// (own)
 pub fn expand(alloc: Global, task: &Task, cert: &Cert) -> Result<Cert, Memory>
     ensures value { IfOk result (λ expanded. expanded ≡ expansion task.now cert.now) }
     ensures same { IfOk result (λ expanded. (verdict : Verdict) → IsVerdict task.now expanded verdict ↔ IsVerdict task.now cert.now verdict) }
 {
     cert.note_made();
-    let mut expanded = Cert::new(alloc, Version::One);
+    let mut expanded = Cert::new(alloc, version_of_expansion(cert.version()));
     match push_expansion(&mut expanded, task, cert) {
         Ok(()) => Ok(expanded),
         Err(Refusal::Memory) => Err(Memory),

@@ -129,6 +129,7 @@ passing_certificate = record {
       (at_main Off (Open side_a ∷ []) ∷ bound_of_slots Off (Open few_held ∷ Open in_log ∷ Open side_a ∷ [])
       ∷ bound_of_slots Off (Open few_at_least ∷ Open in_log ∷ Open side_a ∷ []) ∷ []);
   channels = channel 0 (Some few_held) ∷ [];
+  authorities = [];
 }
 
 abbrev pub forking_certificate : Certificate
@@ -139,6 +140,7 @@ forking_certificate = record {
       (at_main Off [] ∷ at_main On [] ∷ with_interval (at_main On []) 0 (from_to 0 15) ∷ at_main On [] ∷ at_main On []
       ∷ at_main On (Maybe in_work ∷ []) ∷ []);
   channels = [];
+  authorities = [];
 }
 
 abbrev pub renaming_certificate : Certificate
@@ -146,6 +148,7 @@ renaming_certificate = record {
   version = One;
   points = blocks (codes "main") 0 (at_main Off [] ∷ at_main On [] ∷ at_main On [] ∷ []);
   channels = [];
+  authorities = [];
 }
 
 -- ## What they show

@@ -38,4 +38,5 @@ halting_certificate = record {
   version = One;
   points = record { program = codes "main"; point = 0; bound = with_slot (open_bound Off) 0 (Open few_in_work) } ∷ [];
   channels = [];
+  authorities = [];
 }

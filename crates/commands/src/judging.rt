@@ -60,7 +60,6 @@ pub(crate) fn text_of_verdict(
 /// Checks a certificate against a task, writes the verdict, and gives its status: 0 for a yes, and else 1. Its errors are
 /// `Device`, after a failure of the writer, which then has taken a beginning of that, and `Memory`, before anything is
 /// written. (own)
-#[tactic(auto, using(crate::proofs::Verdicts::verdict_begun))]
 pub fn judge<W: Out>(alloc: Global, task: &Task, cert: &Cert, out: &mut W) -> Result<u8, Stop>
     requires { W.faults out.old < 2 ^ 64 - 1 }
     ensures judged { IfOk result (λ status. Judges task.now cert.now status (W.taken out.old) (W.taken out.new)) }

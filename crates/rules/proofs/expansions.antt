@@ -1,4 +1,4 @@
--- Expansions of certificates of version 2.
+-- Expansions of certificates of versions 2 and 3.
 pub mod Expanded
 pub mod Channelled
 pub mod Goes
@@ -7,3 +7,4 @@ pub mod FitBounds
 pub mod FitOutcomes
 pub mod RisingPoints
 pub mod GrownExpansions
+pub mod Twice

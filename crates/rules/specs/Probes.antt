@@ -77,6 +77,7 @@ probed_certificate p = record {
   version = One;
   points = block (codes "main") 0 p.main ∷ block (codes "probe") 0 p.here ∷ block_if (codes "probe") 1 p.next;
   channels = p.channels;
+  authorities = [];
 }
 
 -- The instruction of `probe` under these bounds.

@@ -62,6 +62,7 @@ three_points rights = record {
       ∷ record { program = codes "main"; point = 2; bound = bound_with rights }
       ∷ [];
   channels = [];
+  authorities = [];
 }
 
 flat_of_a_reader : flat (sample enters_and_reads all_rights) ≡ Some (three_points all_rights)
@@ -103,6 +104,6 @@ none_of_one_program = refl
 abbrev at_its_start : List ℕ → PointBound
 at_its_start name = record { program = name; point = 0; bound = open_bound On }
 
-by_their_names : flat (of_two 0 1) ≡ Some (record { version = Two; points = at_its_start (codes "child") ∷ at_its_start (codes "main") ∷ []; channels = [] })
+by_their_names : flat (of_two 0 1) ≡ Some (record { version = Two; points = at_its_start (codes "child") ∷ at_its_start (codes "main") ∷ []; channels = []; authorities = [] })
 unfolding flat grant_target points_from next_behind points_behind
 by_their_names = refl

@@ -1,21 +1,21 @@
 -- The short form of a certificate is made by its own lines, and is its own short form.
-use Rattle.std.proofs.Common.{◌≡◌, ◌≤◌, ◌<◌, ◌+◌, ◌++◌, ℕ, Bool, true, false, List, [], ◌∷◌, length, map, drop, refl, ap, sym, ◌∙◌}
-use Rattle.std.specs.Prelude.{Some, if◌then◌else◌}
+use Rattle.std.proofs.Common.{◌≡◌, ◌≤◌, ◌<◌, ◌+◌, ◌++◌, ℕ, Bool, true, false, List, [], ◌∷◌, length, map, drop, refl, ap, sym, ◌∙◌, append_assoc, append-nil}
+use Rattle.std.specs.Prelude.{Some, Result, Ok, Err, if◌then◌else◌}
 use Rattle.std.specs.List.{filter, flat_map, list_all, slice_index_or}
 use Rattle.std.proofs.Math.ListN.{drop_of_length-le}
 use Rattle.std.proofs.lemmas.List.{drop_more}
 use Rattle.std.proofs.lemmas.List.Folds.{list_all-map}
-use Rattle.certificate.specs.Bounds.{PointBound, Two, Certificate}
-use Rattle.certificate.specs.Growth.{IsCertificate, empty, programs_named}
-use Rattle.certificate.specs.Growths.{grown, grown_by, then_grown}
-use Rattle.certificate.specs.Lines.{Bounds_channel, block_lines, lines_of}
+use Rattle.certificate.specs.Bounds.{PointBound, ChannelBound, Version, Two, Certificate}
+use Rattle.certificate.specs.Growth.{IsCertificate, Refused, empty, programs_named, taken}
+use Rattle.certificate.specs.Growths.{grown, grown_behind, grown_by, then_grown}
+use Rattle.certificate.specs.Lines.{Line, Bounds_channel, authority_lines, block_lines, lines_of, rest_lines}
 use Rattle.certificate.specs.Rising.{places_of, precedes, rises}
 use Rattle.certificate.specs.Views.{point_of, points_of}
 use Rattle.certificate.specs.declared.points.Point.{Point as PointCode}
 use Rattle.certificate.proofs.Fits.{is_fit_point}
-use Rattle.certificate.proofs.Growing.{and_left, and_right, both_true}
+use Rattle.certificate.proofs.Growing.{and_left, and_right, both_true, taken-back}
 use Rattle.certificate.proofs.Growths.{by_append, grown_append}
-use Rattle.certificate.proofs.Makes.{Fits, makes_itself}
+use Rattle.certificate.proofs.Makes.{Fits, beside, makes_itself}
 use Rattle.certificate.proofs.Whole.{fits_itself}
 use Rattle.checker.proofs.Along.{by_lines}
 use Rattle.task.specs.Plans.{Plan}
@@ -57,6 +57,31 @@ rises_left keep (b ∷ points) up =
     go true first rest = both_true (list_all (precedes (b.program, b.point)) (places_of (filter keep points))) (rises (places_of (filter keep points))) first rest
     go false first rest = rest
 
+-- CHANNELS that are taken before more are taken without it.
+one_channel_more : (c e : Certificate) (channel : ChannelBound) (channels : List ChannelBound) → taken c (Bounds_channel channel) ≡ Ok e
+    → record e { channels = e.channels ++ channels } ≡ record c { channels = c.channels ++ channel ∷ channels }
+one_channel_more c e channel channels took =
+    ap (λ (d : Certificate). record d { channels = d.channels ++ channels }) (sym (taken-back c (Bounds_channel channel) e took).made)
+    ∙ ap (λ list. record c { channels = list }) (append_assoc c.channels (channel ∷ []) channels)
+
+channels_first : (channels : List ChannelBound) (more : List Line) (c d : Certificate) → grown (map Bounds_channel channels ++ more) c ≡ Some d
+    → grown (map Bounds_channel channels) c ≡ Some (record c { channels = c.channels ++ channels })
+unfolding grown
+channels_first [] more c d grew = ap (λ list. Some (record c { channels = list })) (sym (append-nil c.channels))
+channels_first (channel ∷ channels) more c d grew = go (taken c (Bounds_channel channel)) refl grew (λ e. channels_first channels more e d)
+  where
+    go : (r : Result Certificate Refused) → taken c (Bounds_channel channel) ≡ r → grown_behind (grown (map Bounds_channel channels ++ more)) r ≡ Some d
+        → ((e : Certificate) → grown (map Bounds_channel channels ++ more) e ≡ Some d → grown (map Bounds_channel channels) e ≡ Some (record e { channels = e.channels ++ channels }))
+        → grown_behind (grown (map Bounds_channel channels)) r ≡ Some (record c { channels = c.channels ++ channel ∷ channels })
+    go (Ok e) took grew rest = rest e grew ∙ ap Some (one_channel_more c e channel channels took)
+    go (Err refused) took grew rest = absurd cc
+
+channels_alone : (version : Version) (c : Certificate) → grown (rest_lines c) (empty version) ≡ Some (beside version [] c)
+    → grown (map Bounds_channel c.channels ++ []) (empty version) ≡ Some (record (empty version) { channels = c.channels })
+channels_alone version c grew =
+    ap (λ lines. grown lines (empty version)) (append-nil (map Bounds_channel c.channels))
+    ∙ channels_first c.channels (flat_map authority_lines c.authorities) (empty version) (beside version [] c) grew
+
 -- THE SHORT FORM is a certificate,
 short_fits : (plan : Plan) (c : Certificate) → IsCertificate c → Fits (programs_named c) (short_form plan c)
 unfolding short_form
@@ -67,8 +92,8 @@ short_fits plan c valid =
       fit = all_left (is_fit_point (programs_named c)) (is_at_named plan) c.points fits.fit;
       up = rises_left (is_at_named plan) c.points fits.up;
       among = fits.among;
-      stand = fits.stand;
-      classes = fits.classes;
+      holders = refl;
+      rest = λ version. channels_alone version c (fits.rest version);
     }
 
 pub short_taken : (plan : Plan) (c start : Certificate) → IsCertificate c → start ≡ empty Two
@@ -85,7 +110,7 @@ short_is_two plan c = refl
 -- and has no shorter one.
 pub short_twice : (plan : Plan) (c : Certificate) → short_form plan (short_form plan c) ≡ short_form plan c
 unfolding short_form
-short_twice plan c = ap (λ points. record { version = Two; points = points; channels = c.channels }) (left_twice (is_at_named plan) c.points)
+short_twice plan c = ap (λ points. record { version = Two; points = points; channels = c.channels; authorities = [] }) (left_twice (is_at_named plan) c.points)
 
 -- ITS LINES are those of its points, and then the channels.
 pub short_lines : (plan : Plan) (c d : Certificate)
@@ -93,7 +118,8 @@ pub short_lines : (plan : Plan) (c d : Certificate)
 unfolding short_form
 short_lines plan c d =
     let points = filter (is_at_named plan) c.points in
-    grown_append (flat_map block_lines points) (map Bounds_channel c.channels) d
+    ap (λ rest. grown (flat_map block_lines points ++ rest) d) (append-nil (map Bounds_channel c.channels))
+    ∙ grown_append (flat_map block_lines points) (map Bounds_channel c.channels) d
     ∙ ap (then_grown (grown (map Bounds_channel c.channels))) (sym (by_lines points d))
 
 -- One point after another is added, if it is named.

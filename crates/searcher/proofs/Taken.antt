@@ -25,7 +25,7 @@ use Rattle.prog_asm.specs.Programs.{Instruction}
 
 -- a certificate without channels
 abbrev pub of_points : List PointBound → Certificate
-of_points points = record { version = Two; points = points; channels = [] }
+of_points points = record { version = Two; points = points; channels = []; authorities = [] }
 
 abbrev pub names : List PointBound → List (List ℕ)
 names points = flat_map programs_of_block points
@@ -83,7 +83,7 @@ room_from program list few = (λ k. few k && few_classes k)
 begin_room : (points : List PointBound) (program : List ℕ) (point : ℕ) (mode : ModeBound) → few_names (names points ++ program ∷ []) ≡ true
     → has_room (of_points points) (Begins_block program point mode) ≡ true
 begin_room points program point mode few =
-    ap (λ list. few_names (list ++ program ∷ []) && nat_le (length (distinct same_class [])) 32) (append-nil (names points))
+    ap (λ list. few_names (list ++ program ∷ []) && nat_le (length (distinct same_class [])) 32) (append-nil (names points ++ []) ∙ append-nil (names points))
     ∙ room_from program (names points ++ program ∷ []) few
 
 slot_room : (points : List PointBound) (program : List ℕ) (point : ℕ) (mode : ModeBound) (slots : List Slot) (n : ℕ) (s : Slot) → AllPlain slots
@@ -91,8 +91,8 @@ slot_room : (points : List PointBound) (program : List ℕ) (point : ℕ) (mode 
     → has_room (of_points (points ++ block_with program point mode slots ∷ [])) (Bounds_slot n s) ≡ true
 slot_room points program point mode slots n s plain is few =
     let all = names (points ++ block_with program point mode slots ∷ []) in
-    let same : (all ++ []) ++ programs_of_slot s ≡ names points ++ program ∷ [] =
-    ap (λ rest. (all ++ []) ++ rest) is ∙ append-nil (all ++ []) ∙ append-nil all ∙ names_behind points program point mode slots plain in
+    let same : ((all ++ []) ++ []) ++ programs_of_slot s ≡ names points ++ program ∷ [] =
+    ap (λ rest. ((all ++ []) ++ []) ++ rest) is ∙ append-nil ((all ++ []) ++ []) ∙ append-nil (all ++ []) ∙ append-nil all ∙ names_behind points program point mode slots plain in
     ap (λ list. few_names list && nat_le (length (distinct same_class [])) 32) same
     ∙ room_from program (names points ++ program ∷ []) few
 

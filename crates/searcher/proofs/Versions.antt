@@ -2,24 +2,13 @@
 use Rattle.std.proofs.Common.{◌≡◌, Bool, true, false, List, [], ◌∷◌, sym, ◌∙◌, refl}
 use Rattle.std.specs.Prelude.{IfSome, OnOk, Option, Some, None, Result, Ok, Err, if◌then◌else◌}
 use Rattle.certificate.specs.Bounds.{Two, Certificate}
-use Rattle.certificate.specs.Growth.{Refused, taken}
-use Rattle.certificate.specs.Growths.{grown, grown_behind}
+use Rattle.certificate.specs.Growths.{grown}
 use Rattle.certificate.specs.GrowthViews.{Grows}
 use Rattle.certificate.specs.declared.lines.Refusal.{Refusal}
 use Rattle.certificate.specs.Lines.{Line}
-use Rattle.certificate.proofs.Growing.{taken_keeps}
+use Rattle.certificate.proofs.Growths.{grown_keeps}
 use Rattle.searcher.specs.Flat.{flat, flat_points, have_own}
 use Rattle.task.specs.Plans.{Plan}
-
-pub grown_keeps : (lines : List Line) (c d : Certificate) → grown lines c ≡ Some d → d.version ≡ c.version
-unfolding grown
-grown_keeps [] c d is = cc
-grown_keeps (line ∷ lines) c d is = behind (grown_keeps lines) (taken c line) refl is
-  where
-    behind : ((e f : Certificate) → grown lines e ≡ Some f → f.version ≡ e.version) → (r : Result Certificate Refused) → taken c line ≡ r
-        → grown_behind (grown lines) r ≡ Some d → d.version ≡ c.version
-    behind rest (Ok e) took is = rest e d is ∙ taken_keeps c e line took
-    behind rest (Err refused) took is = absurd cc
 
 pub grows_keep : (lines : List Line) (c d : Certificate) (r : Result (Unit {0}) Refusal) → Grows r d (grown lines c) → OnOk r (d.version ≡ c.version)
 grows_keep lines c d (Ok _) grows = grown_keeps lines c d grows
@@ -29,7 +18,7 @@ flat_is_two : (plan : Plan) (c : Certificate) → flat plan ≡ Some c → c.ver
 unfolding flat
 flat_is_two plan c is = go (have_own plan.starts) is
   where
-    go : (own : Bool) → (if own then Some (record { version = Two; points = flat_points plan; channels = [] }) else None) ≡ Some c → c.version ≡ Two
+    go : (own : Bool) → (if own then Some (record { version = Two; points = flat_points plan; channels = []; authorities = [] }) else None) ≡ Some c → c.version ≡ Two
     go true is = cc
     go false is = absurd cc
 

@@ -99,4 +99,4 @@ have_own starts = all_apart (λ (s t : Start). not (s.program == t.program)) sta
 
 -- THE FLAT CERTIFICATE, of version 2. A task has none in which two of the first processes have one program.
 unfoldable pub flat : Plan → Option Certificate
-flat plan = if have_own plan.starts then Some (record { version = Two; points = flat_points plan; channels = [] }) else None
+flat plan = if have_own plan.starts then Some (record { version = Two; points = flat_points plan; channels = []; authorities = [] }) else None

@@ -1,5 +1,5 @@
 -- The short form of a certificate: bounds at named points alone, in version 2, where others are carried. (own)
-use Rattle.std.specs.Prelude.{Bool}
+use Rattle.std.specs.Prelude.{Bool, []}
 use Rattle.std.specs.List.{filter}
 use Rattle.certificate.specs.Bounds.{PointBound, Two, Certificate}
 use Rattle.rules.specs.Expansions.{code_named, is_named}
@@ -10,4 +10,4 @@ abbrev pub is_at_named : Plan → PointBound → Bool
 is_at_named plan b = is_named (code_named plan.programs b.program) b.point
 
 unfoldable pub short_form : Plan → Certificate → Certificate
-short_form plan c = record { version = Two; points = filter (is_at_named plan) c.points; channels = c.channels }
+short_form plan c = record { version = Two; points = filter (is_at_named plan) c.points; channels = c.channels; authorities = [] }

@@ -7,8 +7,8 @@ use Rattle.std.proofs.lemmas.Bool.{eqb-true, leb-true, ltb-true}
 use Rattle.std.proofs.lemmas.Bool.Decides.{nat_tests}
 use Rattle.rights.proofs.Tests.{both_left, both_right, not_true}
 use Rattle.rights.specs.Limits.{most_instructions, most_programs}
-use Rattle.certificate.specs.Bounds.{Bound, PointBound, Version, One, Two, Certificate, bound_in, bound_at, with_interval, with_slot}
-use Rattle.certificate.specs.Lines.{Line, Begins_block, Bounds_register, Bounds_slot, Bounds_channel, is_line}
+use Rattle.certificate.specs.Bounds.{Bound, PointBound, Version, One, Two, Three, Certificate, bound_in, bound_at, with_interval, with_slot}
+use Rattle.certificate.specs.Lines.{Line, Begins_block, Bounds_register, Bounds_slot, Bounds_channel, Begins_authority, Bounds_grant, Holds_end, is_line}
 use Rattle.certificate.specs.Growth.{IsCertificate, begins, grows, on_last, with_line}
 use Rattle.certificate.proofs.Growing.{both_true, taken-back}
 use Rattle.std.proofs.lemmas.List.Folds.{list_all-append}
@@ -76,7 +76,7 @@ programs_few plan name valid =
     (both_left (nat_le (length plan.programs) most_programs && list_all limits.is_program_named plan.programs) (all_apart are_named_apart plan.programs) (programs_valid plan valid)))
 
 -- A CERTIFICATE bounds no point past 255.
-abbrev is_low : PointBound → Bool
+abbrev pub is_low : PointBound → Bool
 is_low b = nat_lt b.point most_instructions
 
 low_none : (points : List PointBound) (name : List ℕ) (n : ℕ) → list_all is_low points ≡ true → most_instructions ≤ n → bound_in points name n ≡ None
@@ -102,10 +102,13 @@ low_made c (Begins_block program point mode) proper low =
 low_made c (Bounds_register register interval) proper low = low_last (λ b. with_interval b register interval) c.points ∙ low
 low_made c (Bounds_slot number slot) proper low = low_last (λ b. with_slot b number slot) c.points ∙ low
 low_made c (Bounds_channel channel) proper low = low
+low_made c (Begins_authority program) proper low = low
+low_made c (Bounds_grant ceiling) proper low = low
+low_made c (Holds_end held) proper low = low
 
-points_low : (c : Certificate) → IsCertificate c → list_all is_low c.points ≡ true
+pub points_low : (c : Certificate) → IsCertificate c → list_all is_low c.points ≡ true
 points_low _ (begins version) = refl
-points_low _ (grows {c} {d} made line proper took) =
+points_low _ (grows {c} {d} made line proper own took) =
     let is = taken-back c line d took in
     subst (λ (e : Certificate). list_all is_low e.points ≡ true) is.made (low_made c line proper (points_low c made))
 
@@ -118,11 +121,15 @@ any_at (j ∷ code) zero n i here names =
 any_at (j ∷ code) (suc point) n i here names =
     ap (λ is. names_point n j || is) (any_at code point n i here names) ∙ or_right (names_point n j)
 
-named_not : (v : Version) (code : List Instruction) (n : ℕ) → list_any (names_point n) code ≡ true → may_carry v code n ≡ false
-named_not One code n named = refl
-named_not Two code n named =
+not_carried_there : (code : List Instruction) (n : ℕ) → list_any (names_point n) code ≡ true → (nat_lt n (length code) && not (along.is_named code n)) ≡ false
+not_carried_there code n named =
     let is : along.is_named code n ≡ true = ap (λ any. (n == 0) || any) named ∙ or_right (n == 0) in
     both_false_right (nat_lt n (length code)) (not (along.is_named code n)) (ap not is)
+
+named_not : (v : Version) (code : List Instruction) (n : ℕ) → list_any (names_point n) code ≡ true → may_carry v code n ≡ false
+named_not One code n named = refl
+named_not Two code n named = not_carried_there code n named
+named_not Three code n named = not_carried_there code n named
 
 all_same : (test f g : Outcome → Bool) (outs : List Outcome) → list_all test outs ≡ true → ((o : Outcome) → test o ≡ true → f o ≡ g o) → list_all f outs ≡ list_all g outs
 all_same test f g [] all same = refl

@@ -2,7 +2,7 @@
 use Rattle.std.proofs.Common.{◌≡◌, ℕ, List, [], refl}
 use Rattle.std.specs.Prelude.{◌&&◌, not, Option, Some, None, if◌then◌else◌}
 use Rattle.std.specs.List.{flat_map, list_all}
-use Rattle.certificate.specs.Bounds.{Target, In_grant, Any_node, Socket, Unknown, Held, Bound, PointBound, Version, One, Two, Certificate}
+use Rattle.certificate.specs.Bounds.{Target, In_grant, Any_node, Socket, Unknown, Held, Bound, PointBound, Version, One, Two, Three, Certificate}
 use Rattle.fd_table.specs.Descriptions.{other_side}
 use Rattle.prog_asm.specs.Programs.{Syscall, Open, Openat, Read, Write, Sendfd, Recvfd, Lseek, Ftruncate, Fsync, Fstat, Fcntl_getfl, Fcntl_setfl, Fstatat, Stat, Mkdirat, Mkdir}
 use Rattle.prog_asm.specs.Programs.{Unlinkat, Unlink, Renameat, Dup, Close, Cap_rights_limit, Cap_fcntls_limit, Cap_enter, Cap_getmode, Socketpair, Fork, Instruction, Set, Mov}
@@ -15,10 +15,10 @@ use Rattle.rules.specs.Channels.{channel_at, sends_into, keeps_channel_bound, se
 use Rattle.rules.specs.Outcomes.{is_formed, is_surely_on, opens_beneath, comes, receives_at, successes_of, successes, beneath_target}
 use Rattle.rules.specs.Expansions.{expanded, expanded_points, expansion}
 
--- the certificate with other points
-module _ (points : List PointBound) (c : Certificate) where
+-- the certificate with other points, and in another version
+module _ (version : Version) (points : List PointBound) (c : Certificate) where
   abbrev with_points : Certificate
-  with_points = record { version = One; points = points; channels = c.channels }
+  with_points = record c { version = version; points = points }
 
   sends_known_same : (t : Target) → sends_known with_points t ≡ sends_known c t
   unfolding channel_at
@@ -103,7 +103,7 @@ module _ (points : List PointBound) (c : Certificate) where
     call_same Socketpair = refl
     call_same Fork = refl
 
-    instruction_same : (i : Instruction) → successes grants with_points name point b i ≡ successes grants c name point b i
+    pub instruction_same : (i : Instruction) → successes grants with_points name point b i ≡ successes grants c name point b i
     unfolding successes
     instruction_same (Set r value) = refl
     instruction_same (Mov r source) = refl
@@ -119,14 +119,16 @@ module _ (points : List PointBound) (c : Certificate) where
 module _ (plan : Plan) (c : Certificate) where
   channels-in : (v : Version) (through : List Use) → all_have_channels (expanded v plan c) through ≡ all_have_channels c through
   channels-in One through = refl
-  channels-in Two through = all_have_same (expanded_points plan c) c through
+  channels-in Two through = all_have_same One (expanded_points plan c) c through
+  channels-in Three through = all_have_same c.version (expanded_points plan c) c through
 
   pub expansion_channels : (through : List Use) → all_have_channels (expansion plan c) through ≡ all_have_channels c through
   expansion_channels through = channels-in c.version through
 
   keeps-in : (v : Version) (u : Use) (p : Passing) → keeps_channel_bound (expanded v plan c) u p ≡ keeps_channel_bound c u p
   keeps-in One u p = refl
-  keeps-in Two u p = keeps_same (expanded_points plan c) c u p
+  keeps-in Two u p = keeps_same One (expanded_points plan c) c u p
+  keeps-in Three u p = keeps_same c.version (expanded_points plan c) c u p
 
   pub expansion_keeps : (u : Use) (p : Passing) → keeps_channel_bound (expansion plan c) u p ≡ keeps_channel_bound c u p
   expansion_keeps u p = keeps-in c.version u p
@@ -134,7 +136,8 @@ module _ (plan : Plan) (c : Certificate) where
   successes-in : (v : Version) (name : List ℕ) (point : ℕ) (b : Bound) (i : Instruction)
       → successes plan.grants (expanded v plan c) name point b i ≡ successes plan.grants c name point b i
   successes-in One name point b i = refl
-  successes-in Two name point b i = instruction_same (expanded_points plan c) c plan.grants name point b i
+  successes-in Two name point b i = instruction_same One (expanded_points plan c) c plan.grants name point b i
+  successes-in Three name point b i = instruction_same c.version (expanded_points plan c) c plan.grants name point b i
 
   pub expansion_successes : (name : List ℕ) (point : ℕ) (b : Bound) (i : Instruction)
       → successes plan.grants (expansion plan c) name point b i ≡ successes plan.grants c name point b i

@@ -6,7 +6,7 @@ use Rattle.std.specs.Str.{bytes_eq}
 use Rattle.std.proofs.lemmas.Bool.{eq-eqb, eqb-true, ltb-true}
 use Rattle.std.proofs.lemmas.Bool.Decides.{nat_tests}
 use Rattle.rights.proofs.Words.{same_bytes}
-use Rattle.certificate.specs.Bounds.{Bound, PointBound, Version, One, Two, Certificate, bound_in, bound_at}
+use Rattle.certificate.specs.Bounds.{Bound, PointBound, Version, One, Two, Three, Certificate, bound_in, bound_at}
 use Rattle.rights.specs.Limits.{most_instructions}
 use Rattle.prog_asm.specs.Programs.{Instruction}
 use Rattle.task.specs.Plans.{Plan}
@@ -214,11 +214,15 @@ module _ (plan : Plan) (c : Certificate) where
   nothing_there name n lacks = ap (λ o. or_carried o (carried_to plan c name n)) (lacks n) ∙ nothing_carried name n lacks
 
   -- Nothing is carried past a program's end.
-  may_not : (v : Version) (code : List Instruction) (n : ℕ) → length code ≤ n → may_carry v code n ≡ false
-  may_not One code n past = refl
-  may_not Two code n past =
+  past_end : (code : List Instruction) (n : ℕ) → length code ≤ n → (nat_lt n (length code) && not (is_named code n)) ≡ false
+  past_end code n past =
       let end : nat_lt n (length code) ≡ false = grind (arith, nat_tests, past) in
       both_false_left (nat_lt n (length code)) (not (is_named code n)) end
+
+  may_not : (v : Version) (code : List Instruction) (n : ℕ) → length code ≤ n → may_carry v code n ≡ false
+  may_not One code n past = refl
+  may_not Two code n past = past_end code n past
+  may_not Three code n past = past_end code n past
 
   not_carried : (name : List ℕ) (point : ℕ) (i : Option Instruction) (b : Option Bound) → may_carry c.version (code_named plan.programs name) (suc point) ≡ false
       → carried_by plan c name point i b ≡ None
@@ -236,18 +240,21 @@ module _ (plan : Plan) (c : Certificate) where
   one_carries : (name : List ℕ) (n : ℕ) → c.version ≡ One → carried_to plan c name n ≡ None
   one_carries name n is = carried_within name n (ap (λ v. may_carry v (code_named plan.programs name) n) is)
 
+  -- A point of the first 256 is bounded so, whatever is beyond.
+  pub there_low : (name : List ℕ) (n : ℕ) → n < most_instructions → bound_in (expanded_points plan c) name n ≡ bound_there plan c name n
+  there_low name n low = go (has_name name (programs_given c.points)) refl
+    where
+      go : (has : Bool) → has_name name (programs_given c.points) ≡ has → bound_in (expanded_points plan c) name n ≡ bound_there plan c name n
+      go true has = all_of name (programs_given c.points) n low has
+      go false has = none_of name (programs_given c.points) n has ∙ sym (nothing_there name n (λ m. lacking name c.points m has))
+
   there_of : (name : List ℕ) (n : ℕ) → length (code_named plan.programs name) ≤ most_instructions
       → ((m : ℕ) → most_instructions ≤ m → bound_at c name m ≡ None)
       → bound_in (expanded_points plan c) name n ≡ bound_there plan c name n
   there_of name n few high = go (nat_lt n most_instructions) refl
     where
-      given : (has : Bool) → has_name name (programs_given c.points) ≡ has → n < most_instructions → bound_in (expanded_points plan c) name n ≡ bound_there plan c name n
-      given true has low = all_of name (programs_given c.points) n low has
-      given false has low =
-          none_of name (programs_given c.points) n has ∙ sym (nothing_there name n (λ m. lacking name c.points m has))
-
       go : (low : Bool) → nat_lt n most_instructions ≡ low → bound_in (expanded_points plan c) name n ≡ bound_there plan c name n
-      go true low = given (has_name name (programs_given c.points)) refl (ltb-true n most_instructions low)
+      go true low = there_low name n (ltb-true n most_instructions low)
       go false low =
           let past : most_instructions ≤ n = grind (arith, nat_tests, low) in
           past_all name (programs_given c.points) n past
@@ -259,6 +266,7 @@ module _ (plan : Plan) (c : Certificate) where
       → bound_at (expanded v plan c) name n ≡ bound_there plan c name n
   expanded_there One name n is few high = sym (ap (or_carried (bound_at c name n)) (one_carries name n is) ∙ or_none (bound_at c name n))
   expanded_there Two name n is few high = there_of name n few high
+  expanded_there Three name n is few high = there_of name n few high
 
   -- THE EXPANSION bounds each point by what is given or carried there.
   pub expansion_there : (name : List ℕ) (n : ℕ) → length (code_named plan.programs name) ≤ most_instructions

@@ -5,7 +5,7 @@ use Rattle.std.specs.List.{flat_map, list_all, slice_get}
 use Rattle.std.specs.Str.{bytes_eq}
 use Rattle.std.proofs.lemmas.List.Folds.{list_all-append}
 use Rattle.rights.specs.Limits.{most_instructions}
-use Rattle.certificate.specs.Bounds.{Bound, PointBound, Version, One, Two, Certificate, bound_at}
+use Rattle.certificate.specs.Bounds.{Bound, PointBound, Version, One, Two, Three, Certificate, bound_at}
 use Rattle.certificate.specs.Growth.{programs_named, programs_of_channel}
 use Rattle.certificate.proofs.Fewer.{are_among, is_among}
 use Rattle.certificate.proofs.Fits.{is_fit, is_fit_point}
@@ -106,8 +106,16 @@ expanded_fits Two plan c names fits = record {
   fit = expanded_fit names plan c fits.fit fits.among;
   up = expanded_rise plan c fits.up;
   among = fits.among;
-  stand = fits.stand;
-  classes = fits.classes;
+  holders = fits.holders;
+  rest = fits.rest;
+}
+expanded_fits Three plan c names fits = record {
+  few = fits.few;
+  fit = expanded_fit names plan c fits.fit fits.among;
+  up = expanded_rise plan c fits.up;
+  among = fits.among;
+  holders = fits.holders;
+  rest = fits.rest;
 }
 
 pub expansion_grown : ExpansionIsGrown

@@ -141,7 +141,7 @@ abbrev pub main_blocks : List Bound → List PointBound
 main_blocks bounds = blocks_from (codes "main") 0 bounds
 
 abbrev pub certificate_of : List PointBound → List ChannelBound → Certificate
-certificate_of points channels = record { version = One; points = points; channels = channels }
+certificate_of points channels = record { version = One; points = points; channels = channels; authorities = [] }
 
 -- at a point of `main`: the directories of both grants, and what more there is
 abbrev pub at_main : ModeBound → List Slot → Bound

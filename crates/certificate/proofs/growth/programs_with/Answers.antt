@@ -18,6 +18,9 @@ returns-in_err-with_class-in-Channel c =
 pub returns-in-Register : goal.returns-in-Register
 returns-in-Register c = rw c.in-Register.is (programs_alone c.args.programs)
 
+pub returns-in-Ceiling : goal.returns-in-Ceiling
+returns-in-Ceiling c = rw c.in-Ceiling.is (programs_alone c.args.programs)
+
 pub returns-in_ok-with_class-in-Channel : goal.returns-in_ok-with_class-in-Channel
 returns-in_ok-with_class-in-Channel c =
     let channel = channel_of c.in-Channel.channel in

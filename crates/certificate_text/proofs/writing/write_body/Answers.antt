@@ -5,4 +5,4 @@ pub returns-in_err-write_points : goal.returns-in_err-write_points
 returns-in_err-write_points g c = written-front _ _ _ _ _ _ c.in_err-write_points.field-0.0 _ (passed_on _ _ c.from_residual.ensures) c.in_err-write_points.ensures
 
 pub returns : goal.returns
-returns g c = written-both _ _ _ _ _ _ _ _ _ _ c.in_ok-write_points.ensures c.write_end.ensures
+returns g c = written-both _ _ _ _ _ _ _ _ _ _ c.in_ok-write_points.ensures c.write_rest.ensures

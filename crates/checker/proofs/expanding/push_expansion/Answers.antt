@@ -1,20 +1,28 @@
-use Rattle.std.proofs.Common.{map, sym, ◌∙◌, ap, subst}
-use Rattle.certificate.specs.Growths.{grown, then_grown}
+use Rattle.std.proofs.Common.{◌≡◌, ap, sym, ◌∙◌, subst}
+use Rattle.std.specs.Prelude.{Some}
+use Rattle.certificate.specs.Bounds.{Certificate, has_authorities}
+use Rattle.certificate.specs.Growths.{grown, grown_by, then_grown}
 use Rattle.certificate.specs.GrowthViews.{Grows}
-use Rattle.certificate.specs.Lines.{Bounds_channel}
-use Rattle.checker.proofs.Along.{failed_first, lines_grown, passed_on}
+use Rattle.certificate.specs.Lines.{rest_lines}
+use Rattle.rules.specs.Expansions.{expansion}
+use Rattle.certificate.proofs.Growths.{by_keeps}
+use Rattle.checker.proofs.Along.{failed_first, lines_grown, passed_on, same_authorities}
 use Rattle.checker.proofs.expanding.push_expansion.Goals as goal
 
 pub returns-in_err-push_expanded : goal.returns-in_err-push_expanded
 returns-in_err-push_expanded c =
     failed_first c.from_residual.result c.in_err-push_expanded.field-0.0 c.push_expanded.new.expanded _
-    (grown (map Bounds_channel c.args.cert.now.channels)) _ (passed_on c.from_residual.result c.in_err-push_expanded.field-0.0 c.from_residual.ensures)
+    (grown (rest_lines c.args.cert.now)) _ (passed_on c.from_residual.result c.in_err-push_expanded.field-0.0 c.from_residual.ensures)
     c.in_err-push_expanded.ensures (lines_grown c.args.task.now c.args.cert.now c.args.expanded.now)
+
+pub push_rest-requires : goal.push_rest-requires
+push_rest-requires c =
+    let cert = c.args.cert.now in
+    ap has_authorities (by_keeps (expansion c.args.task.now cert).points c.args.expanded.now c.push_expanded.new.expanded c.in_ok-push_expanded.ensures ∙ c.requires)
+    ∙ same_authorities cert.version
 
 pub returns : goal.returns
 returns c =
-    subst (Grows c.push_channels.result c.push_channels.new.cert)
-    (ap (λ channels. grown (map Bounds_channel channels) c.push_expanded.new.expanded) c.channels.ensures.channels
-    ∙ sym (lines_grown c.args.task.now c.args.cert.now c.args.expanded.now
-    ∙ ap (then_grown (grown (map Bounds_channel c.args.cert.now.channels))) c.in_ok-push_expanded.ensures))
-    c.push_channels.ensures
+    subst (Grows c.push_rest.result c.push_rest.new.expanded)
+    (sym (lines_grown c.args.task.now c.args.cert.now c.args.expanded.now ∙ ap (then_grown (grown (rest_lines c.args.cert.now))) c.in_ok-push_expanded.ensures))
+    c.push_rest.ensures

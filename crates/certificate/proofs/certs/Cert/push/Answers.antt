@@ -3,46 +3,52 @@ use Rattle.std.specs.Prelude.{Option, Some, None, Ok, option_map}
 use Rattle.std.specs.Str.{bytes_eq}
 use Rattle.certificate.specs.declared.points.Point.{Point}
 use Rattle.certificate.specs.declared.lines.Channel.{Channel}
-use Rattle.certificate.specs.Bounds.{ChannelBound}
-use Rattle.certificate.specs.Lines.{Line}
+use Rattle.certificate.specs.declared.authorities.Authority.{Authority}
+use Rattle.rights.specs.Classes.{Class}
+use Rattle.certificate.specs.Bounds.{Certificate}
+use Rattle.certificate.specs.Lines.{Line, is_of_version}
 use Rattle.certificate.specs.Order.{same_class}
-use Rattle.certificate.specs.Growth.{IsCertificate, classes_in, classes_in_line, classes_of, distinct, most_classes, programs_named, stands, taken}
+use Rattle.certificate.specs.Growth.{IsCertificate, all_classes, classes_in_line, classes_of, distinct, most_classes, programs_named, stands, taken}
 use Rattle.certificate.specs.Room.{listed_with}
 use Rattle.certificate.specs.CountViews.{programs_listed}
-use Rattle.certificate.specs.Views.{certificate_with, channels_of, line_of, version_of}
-use Rattle.certificate.proofs.Growing.{classes_few, room_no_class, room_no_program, room_yes, taken_no_room, taken_ok, taken_out_of_order}
+use Rattle.certificate.specs.Views.{authorities_of, certificate_with, channels_of, line_of, version_of}
+use Rattle.certificate.proofs.Behind.{classes_few}
+use Rattle.certificate.proofs.Growing.{line_keeps, room_no_class, room_no_program, room_yes, taken_no_room, taken_ok, taken_out_of_order}
 use Rattle.certificate.proofs.Made.{grown}
 use Rattle.certificate.proofs.certs.Cert.push.Goals as goal
 
-abbrev counted : Line → List ChannelBound → Option ℕ
-counted line channels = option_map length (listed_with same_class most_classes (distinct same_class (classes_in channels)) (classes_in_line line))
+abbrev counted : Line → List Class → Option ℕ
+counted line classes = option_map length (listed_with same_class most_classes (distinct same_class classes) (classes_in_line line))
 
-pub returns-in_default : goal.returns-in_default
-returns-in_default c =
+pub returns-in_default-clause-taken : goal.returns-in_default-clause-taken
+returns-in_default-clause-taken c =
     let version = version_of c.self.inside.version in
     let line = line_of c.args.line.now in
-    let old = certificate_with version c.self.inside.points.items c.self.inside.channels.items in
+    let old = certificate_with version c.self.inside.points.items c.self.inside.channels.items c.self.inside.authorities.items in
     (ap (λ v. taken v line) (sym c.self.view_is) ∙ taken_no_room old line (room_no_program old line _ c.self.invariant.1 c.in_default.ensures), refl)
 
 pub classes_with-requires-clause-few : goal.classes_with-requires-clause-few
 classes_with-requires-clause-few c = subst (λ n. n ≤ 32) (sym c.self.invariant.2) (classes_few _ c.self.invariant.0)
 
-pub returns-in_default-classes_with : goal.returns-in_default-classes_with
-returns-in_default-classes_with c =
+pub returns-in_default-classes_with-clause-taken : goal.returns-in_default-classes_with-clause-taken
+returns-in_default-classes_with-clause-taken c =
     let version = version_of c.self.inside.version in
     let line = line_of c.args.line.now in
-    let old = certificate_with version c.self.inside.points.items c.self.inside.channels.items in
-    let asked = subst (λ channels. None ≡ counted line (channels_of channels)) c.deref.ensures.value c.in_default-classes_with.ensures in
+    let old = certificate_with version c.self.inside.points.items c.self.inside.channels.items c.self.inside.authorities.items in
+    let asked = subst (λ (lists : List Channel × List Authority). None ≡ counted line (all_classes (channels_of lists.0) (authorities_of lists.1)))
+    (λ i. (c.deref.ensures.value i, c.deref-2.ensures.value i)) c.in_default-classes_with.ensures in
     (ap (λ v. taken v line) (sym c.self.view_is) ∙ taken_no_room old line (room_no_class old line asked), refl)
 
-pub returns-then-not-stands : goal.returns-then-not-stands
-returns-then-not-stands c =
+pub returns-then-not-stands-clause-taken : goal.returns-then-not-stands-clause-taken
+returns-then-not-stands-clause-taken c =
     let version = version_of c.self.inside.version in
     let line = line_of c.args.line.now in
-    let old = certificate_with version c.self.inside.points.items c.self.inside.channels.items in
-    let asked = subst (λ channels. Some c.in-Some-classes_with.classes ≡ counted line (channels_of channels)) c.deref.ensures.value c.in-Some-classes_with.ensures in
+    let old = certificate_with version c.self.inside.points.items c.self.inside.channels.items c.self.inside.authorities.items in
+    let asked = subst (λ (lists : List Channel × List Authority). Some c.in-Some-classes_with.classes ≡ counted line (all_classes (channels_of lists.0) (authorities_of lists.1)))
+    (λ i. (c.deref.ensures.value i, c.deref-2.ensures.value i)) c.in-Some-classes_with.ensures in
     let has = room_yes old line _ _ _ c.self.invariant.1 c.in-Some.ensures asked in
-    let here = ap (λ (lists : List Point × List Channel). stands (certificate_with version lists.0 lists.1) line) (λ i. (c.deref-2.ensures.value i, c.deref-3.ensures.value i)) in
+    let here : stands (certificate_with version c.deref-3.result.now c.deref-4.result.now c.deref-5.result.now) line ≡ stands old line =
+    λ i. stands (certificate_with version (c.deref-3.ensures.value i) (c.deref-4.ensures.value i) (c.deref-5.ensures.value i)) line in
     let astray = sym here ∙ sym (c.stands.ensures version) ∙ c.if-not-stands.true in
     (ap (λ v. taken v line) (sym c.self.view_is) ∙ taken_out_of_order old line has.room astray, refl)
 
@@ -50,21 +56,25 @@ pub invariant_of-self-2 : goal.invariant_of-self-2
 invariant_of-self-2 c =
     let version = version_of c.self.inside.version in
     let line = line_of c.args.line.now in
-    let old = certificate_with version c.self.inside.points.items c.self.inside.channels.items in
-    let asked = subst (λ channels. Some c.in-Some-classes_with.classes ≡ counted line (channels_of channels)) c.deref.ensures.value c.in-Some-classes_with.ensures in
+    let old = certificate_with version c.self.inside.points.items c.self.inside.channels.items c.self.inside.authorities.items in
+    let asked = subst (λ (lists : List Channel × List Authority). Some c.in-Some-classes_with.classes ≡ counted line (all_classes (channels_of lists.0) (authorities_of lists.1)))
+    (λ i. (c.deref.ensures.value i, c.deref-2.ensures.value i)) c.in-Some-classes_with.ensures in
     let has = room_yes old line _ _ _ c.self.invariant.1 c.in-Some.ensures asked in
-    let here = ap (λ (lists : List Point × List Channel). stands (certificate_with version lists.0 lists.1) line) (λ i. (c.deref-2.ensures.value i, c.deref-3.ensures.value i)) in
+    let here : stands (certificate_with version c.deref-3.result.now c.deref-4.result.now c.deref-5.result.now) line ≡ stands old line =
+    λ i. stands (certificate_with version (c.deref-3.ensures.value i) (c.deref-4.ensures.value i) (c.deref-5.ensures.value i)) line in
     let place = sym here ∙ sym (c.stands.ensures version) ∙ c.if-not-stands.false in
-    grown old _ line _ _ c.self.invariant.0 c.requires has place (c.in_ok-extend.ensures.ok version)
+    grown old _ line _ _ c.self.invariant.0 c.requires.line (ap (λ (v : Certificate). is_of_version v.version line) c.self.view_is ∙ c.requires.version) has place (c.in_ok-extend.ensures.ok version)
 
-pub returns : goal.returns
-returns c =
+pub returns-clause-taken : goal.returns-clause-taken
+returns-clause-taken c =
     let version = version_of c.self.inside.version in
     let line = line_of c.args.line.now in
-    let old = certificate_with version c.self.inside.points.items c.self.inside.channels.items in
-    let asked = subst (λ channels. Some c.in-Some-classes_with.classes ≡ counted line (channels_of channels)) c.deref.ensures.value c.in-Some-classes_with.ensures in
+    let old = certificate_with version c.self.inside.points.items c.self.inside.channels.items c.self.inside.authorities.items in
+    let asked = subst (λ (lists : List Channel × List Authority). Some c.in-Some-classes_with.classes ≡ counted line (all_classes (channels_of lists.0) (authorities_of lists.1)))
+    (λ i. (c.deref.ensures.value i, c.deref-2.ensures.value i)) c.in-Some-classes_with.ensures in
     let has = room_yes old line _ _ _ c.self.invariant.1 c.in-Some.ensures asked in
-    let here = ap (λ (lists : List Point × List Channel). stands (certificate_with version lists.0 lists.1) line) (λ i. (c.deref-2.ensures.value i, c.deref-3.ensures.value i)) in
+    let here : stands (certificate_with version c.deref-3.result.now c.deref-4.result.now c.deref-5.result.now) line ≡ stands old line =
+    λ i. stands (certificate_with version (c.deref-3.ensures.value i) (c.deref-4.ensures.value i) (c.deref-5.ensures.value i)) line in
     let place = sym here ∙ sym (c.stands.ensures version) ∙ c.if-not-stands.false in
     ap (λ v. taken v line) (sym c.self.view_is) ∙ taken_ok old line has.room place ∙ ap Ok (sym (c.in_ok-extend.ensures.ok version))
 
@@ -74,10 +84,10 @@ invariant_of-self c =
     subst (λ d. IsCertificate d × (programs_listed c.self.inside.programs ≡ distinct bytes_eq (programs_named d)) × (c.self.inside.classes ≡ length (distinct same_class (classes_of d))))
     (sym (c.in_err-extend.ensures.err version)) c.self.invariant
 
-pub returns-in_err-extend : goal.returns-in_err-extend
-returns-in_err-extend c =
+pub returns-in_err-extend-clause-taken : goal.returns-in_err-extend-clause-taken
+returns-in_err-extend-clause-taken c =
     let version = version_of c.self.inside.version in
-    let same : certificate_with version c.extend.new.points.items c.extend.new.channels.items ≡ c.args.self.now =
+    let same : certificate_with version c.extend.new.points.items c.extend.new.channels.items c.extend.new.authorities.items ≡ c.args.self.now =
     c.in_err-extend.ensures.err version ∙ c.self.view_is
     in
     search (rules, same)

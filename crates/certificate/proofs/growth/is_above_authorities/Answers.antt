@@ -1,0 +1,21 @@
+use Rattle.std.proofs.Common.{ap, sym, ◌∙◌, true}
+use Rattle.std.specs.Ordering.{is_lt}
+use Rattle.certificate.specs.Bounds.{Authority}
+use Rattle.certificate.specs.Growth.{name_order, asked_of_last}
+use Rattle.certificate.specs.Views.{name_of, authority_of}
+use Rattle.certificate.proofs.Last.{at_last, at_none}
+use Rattle.certificate.proofs.LastOnes.{asked-last, asked-none}
+use Rattle.certificate.proofs.growth.is_above_authorities.Goals as goal
+
+pub returns-in-None : goal.returns-in-None
+returns-in-None c =
+    let given = name_of c.args.program.now in
+    let test = λ (a : Authority). is_lt (name_order a.program given) in
+    sym (at_none authority_of (asked_of_last true test) c.args.authorities.now c.in-None.ensures.cases ∙ asked-none true test)
+
+pub returns-in-Some : goal.returns-in-Some
+returns-in-Some c =
+    let given = name_of c.args.program.now in
+    let test = λ (a : Authority). is_lt (name_order a.program given) in
+    let at = at_last authority_of (asked_of_last true test) test (asked-last true test) c.args.authorities.now _ c.in-Some.last.now c.in-Some.ensures.cases.0 in
+    c.is_lt.ensures ∙ ap is_lt (c.cmp.ensures ∙ (λ i. name_order (c.as_bytes.ensures.bytes i) (c.as_bytes-in-Some.ensures.bytes i))) ∙ sym at
