@@ -12,7 +12,7 @@ use Rattle.certificate.specs.Bounds.{Authority, Ceiling, End, Certificate, Chann
 use Rattle.certificate.specs.Lines.{Line, Begins_block, Bounds_register, Bounds_slot, Bounds_channel, Begins_authority, Bounds_grant, Holds_end, authority_lines, is_of_version, rest_lines}
 use Rattle.certificate.specs.Growth.{IsCertificate, begins, grows, above_blocks, above_ceilings, above_channels, above_ends, classes_held, classes_in_line, classes_of, classes_of_ends}
 use Rattle.certificate.specs.Growth.{distinct, distinct_behind, has_none, most_classes, may_bound_register, may_bound_slot, open_authority, programs_in_line, programs_named, programs_of_authority, programs_of_block}
-use Rattle.certificate.specs.Growth.{programs_of_channel, programs_of_end, stands, with_ceiling, with_end, with_line}
+use Rattle.certificate.specs.Growth.{programs_of_channel, programs_of_end, stands, with_ceiling, with_held_end, with_line}
 use Rattle.certificate.proofs.LastOnes.{behind_nothing, none, told_kept, told_more}
 use Rattle.certificate.proofs.Growing.{and_left, and_right, le_true, taken-back, taken_keeps}
 
@@ -55,7 +55,7 @@ one_ceiling_more ceiling a may =
     (ap (λ lines. lines ++ map Holds_end a.holds) (map-append Bounds_grant a.ceilings (ceiling ∷ []))
     ∙ behind_nothing (map Bounds_grant a.ceilings) (Bounds_grant ceiling ∷ []) (map Holds_end a.holds) no_ends)
 
-one_end_more : (held : End) (a : Authority) → takes_end held a ≡ true → authority_lines (with_end held a) ≡ authority_lines a ++ Holds_end held ∷ []
+one_end_more : (held : End) (a : Authority) → takes_end held a ≡ true → authority_lines (with_held_end held a) ≡ authority_lines a ++ Holds_end held ∷ []
 one_end_more held a may =
     ap (λ lines. Begins_authority a.program ∷ lines)
     (ap (λ lines. map Bounds_grant a.ceilings ++ lines) (map-append Holds_end a.holds (held ∷ []))
@@ -82,11 +82,11 @@ rest_grows c (Bounds_grant ceiling) behind place =
     (told_more (with_ceiling ceiling) authority_lines (Bounds_grant ceiling ∷ []) (takes_ceiling ceiling) (one_ceiling_more ceiling) c.authorities place)
 rest_grows c (Holds_end held) behind place =
     second_more (map Bounds_channel c.channels) (flat_map authority_lines c.authorities) _ (Holds_end held ∷ [])
-    (told_more (with_end held) authority_lines (Holds_end held ∷ []) (takes_end held) (one_end_more held) c.authorities place)
+    (told_more (with_held_end held) authority_lines (Holds_end held ∷ []) (takes_end held) (one_end_more held) c.authorities place)
 
 -- PROGRAMS that are named
 one_name_more : (held : End) (a : Authority) → takes_end held a ≡ true
-    → programs_of_authority (with_end held a) ≡ programs_of_authority a ++ programs_of_end held
+    → programs_of_authority (with_held_end held a) ≡ programs_of_authority a ++ programs_of_end held
 one_name_more held a may =
     ap (λ names. a.program ∷ names)
     (flat_map-append programs_of_end a.holds (held ∷ []) ∙ ap (λ names. flat_map programs_of_end a.holds ++ names) (append-nil (programs_of_end held)))
@@ -114,7 +114,7 @@ rest_named c (Bounds_grant ceiling) behind place =
     ∙ sym (append-nil (programs_named c))
 rest_named c (Holds_end held) behind place =
     second_more (flat_map programs_of_block c.points ++ flat_map programs_of_channel c.channels) (flat_map programs_of_authority c.authorities) _ (programs_of_end held)
-    (told_more (with_end held) programs_of_authority (programs_of_end held) (takes_end held) (one_name_more held) c.authorities place)
+    (told_more (with_held_end held) programs_of_authority (programs_of_end held) (takes_end held) (one_name_more held) c.authorities place)
 
 -- the names on the lines are those that are named
 channel_names : (channels : List ChannelBound) → flat_map programs_in_line (map Bounds_channel channels) ≡ flat_map programs_of_channel channels
@@ -168,7 +168,7 @@ classes_made c (Bounds_grant ceiling) place =
     ∙ sym (append-nil (classes_of c))
 classes_made c (Holds_end held) place =
     second_more (map (λ (a : ChannelBound). a.class) c.channels) (flat_map classes_held c.authorities) _ (held.class ∷ [])
-    (told_more (with_end held) classes_held (held.class ∷ []) (takes_end held)
+    (told_more (with_held_end held) classes_held (held.class ∷ []) (takes_end held)
     (λ a may. map-append (λ (e : End). e.class) a.holds (held ∷ [])) c.authorities place)
 
 -- a certificate's channels and ends are of 32 classes at most

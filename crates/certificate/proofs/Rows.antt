@@ -91,14 +91,14 @@ ends_within = (refl, refl, refl, refl, refl, refl, refl, refl)
 abbrev held_by_a : Holds
 held_by_a name place = bytes_eq name (97 ∷ [])
 
-abbrev end_of : ℕ → Subject
-end_of side = End_of (Initial 0) side
+abbrev held_end_of : ℕ → Subject
+held_end_of side = End_of (Initial 0) side
 
 targets_describe : (target_describes held_by_a a (Node_at []) ≡ true) × (target_describes held_by_a b (Node_at []) ≡ false)
-    × (target_describes held_by_a a (end_of 0) ≡ false) × (target_describes held_by_a Any_node (end_of 0) ≡ false)
-    × (target_describes held_by_a (end 0) (Node_at []) ≡ false) × (target_describes held_by_a (end 0) (end_of 0) ≡ true)
-    × (target_describes held_by_a (end 0) (end_of 1) ≡ false) × (target_describes held_by_a other_end (end_of 0) ≡ false)
-    × (target_describes held_by_a Unknown (end_of 0) ≡ true)
+    × (target_describes held_by_a a (held_end_of 0) ≡ false) × (target_describes held_by_a Any_node (held_end_of 0) ≡ false)
+    × (target_describes held_by_a (end 0) (Node_at []) ≡ false) × (target_describes held_by_a (end 0) (held_end_of 0) ≡ true)
+    × (target_describes held_by_a (end 0) (held_end_of 1) ≡ false) × (target_describes held_by_a other_end (held_end_of 0) ≡ false)
+    × (target_describes held_by_a Unknown (held_end_of 0) ≡ true)
 targets_describe = (refl, refl, refl, refl, refl, refl, refl, refl, refl)
 
 -- each part of a descriptor's bound is asked

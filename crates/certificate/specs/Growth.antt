@@ -208,8 +208,8 @@ with_last f (x ∷ y ∷ xs) = x ∷ with_last f (y ∷ xs)
 abbrev pub with_ceiling : Ceiling → Authority → Authority
 with_ceiling ceiling a = record a { ceilings = a.ceilings ++ ceiling ∷ [] }
 
-abbrev pub with_end : End → Authority → Authority
-with_end held a = record a { holds = a.holds ++ held ∷ [] }
+abbrev pub with_held_end : End → Authority → Authority
+with_held_end held a = record a { holds = a.holds ++ held ∷ [] }
 
 abbrev pub open_authority : Name → Authority
 open_authority program = record { program = program; ceilings = []; holds = [] }
@@ -222,7 +222,7 @@ with_line c (Bounds_slot number slot) = record c { points = on_last (λ b. with_
 with_line c (Bounds_channel channel) = record c { channels = c.channels ++ channel ∷ [] }
 with_line c (Begins_authority program) = record c { authorities = c.authorities ++ open_authority program ∷ [] }
 with_line c (Bounds_grant ceiling) = record c { authorities = with_last (with_ceiling ceiling) c.authorities }
-with_line c (Holds_end held) = record c { authorities = with_last (with_end held) c.authorities }
+with_line c (Holds_end held) = record c { authorities = with_last (with_held_end held) c.authorities }
 
 -- why a line isn't taken: a ninth program or a 33rd class; or it is out of its place, or not above the line before it
 pub data Refused : Type 0 where

@@ -98,11 +98,11 @@ channels_of channels = map channel_of channels
 abbrev pub ceiling_of : CeilingCode → Ceiling
 ceiling_of c = record { grant = name_of c.grant; rights = c.rights.0 }
 
-abbrev pub end_of : EndCode → End
-end_of e = record { class = class_of e.class; side = side_of e.side }
+abbrev pub held_end_of : EndCode → End
+held_end_of e = record { class = class_of e.class; side = side_of e.side }
 
 abbrev pub authority_of : AuthorityCode → Authority
-authority_of a = record { program = name_of a.program; ceilings = map ceiling_of a.ceilings.items; holds = map end_of a.holds.items }
+authority_of a = record { program = name_of a.program; ceilings = map ceiling_of a.ceilings.items; holds = map held_end_of a.holds.items }
 
 abbrev pub authorities_of : List AuthorityCode → List Authority
 authorities_of authorities = map authority_of authorities
@@ -127,4 +127,4 @@ line_of (line.Slot number s) = Bounds_slot number (slot_of s)
 line_of (line.Channel channel) = Bounds_channel (channel_of channel)
 line_of (line.Authority name) = Begins_authority (name_of name)
 line_of (line.Ceiling ceiling) = Bounds_grant (ceiling_of ceiling)
-line_of (line.Hold held) = Holds_end (end_of held)
+line_of (line.Hold held) = Holds_end (held_end_of held)

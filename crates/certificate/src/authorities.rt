@@ -62,32 +62,32 @@ impl Ceiling {
 
 impl End {
     ghost use Rattle.certificate.specs.Growth.{end_order};
-    ghost use Rattle.certificate.specs.Views.{class_of, end_of, side_of};
+    ghost use Rattle.certificate.specs.Views.{class_of, held_end_of, side_of};
 
     /// This side of the pairs of this class.
     pub fn new(class: Class, side: Side) -> End
-        ensures { end_of result ≡ record { class = class_of class; side = side_of side } }
+        ensures { held_end_of result ≡ record { class = class_of class; side = side_of side } }
     {
         End { class, side }
     }
 
     /// The class of its pairs.
     pub fn class(&self) -> Class
-        ensures { class_of result ≡ (end_of self.now).class }
+        ensures { class_of result ≡ (held_end_of self.now).class }
     {
         self.class
     }
 
     /// The side of them.
     pub fn side(&self) -> Side
-        ensures { side_of result ≡ (end_of self.now).side }
+        ensures { side_of result ≡ (held_end_of self.now).side }
     {
         self.side
     }
 
     /// How it stands to another: by class and then by side.
     pub(crate) fn compare(&self, other: &End) -> Ordering
-        ensures { result ≡ end_order (end_of self.now) (end_of other.now) }
+        ensures { result ≡ end_order (held_end_of self.now) (held_end_of other.now) }
     {
         self.class
             .compare(&other.class)
@@ -97,8 +97,8 @@ impl End {
 
 impl Authority {
     ghost use Rattle.std.specs.Prelude.{IfErr, OnErr, OnOk};
-    ghost use Rattle.certificate.specs.Growth.{open_authority, with_ceiling, with_end};
-    ghost use Rattle.certificate.specs.Views.{authority_of, ceiling_of, end_of, name_of};
+    ghost use Rattle.certificate.specs.Growth.{open_authority, with_ceiling, with_held_end};
+    ghost use Rattle.certificate.specs.Views.{authority_of, ceiling_of, held_end_of, name_of};
     ghost use Rattle.certificate.specs.declared.lines.Refusal.TheVariants as refusal;
 
     /// The authority with which a program's lines begin: it holds nothing. Takes no memory.
@@ -124,7 +124,7 @@ impl Authority {
 
     /// Adds an end. A refused growth changes nothing.
     pub(crate) fn hold_end(&mut self, held: End) -> Result<(), Refusal>
-        ensures ok { OnOk result (authority_of self.new ≡ with_end (end_of held) (authority_of self.old)) }
+        ensures ok { OnOk result (authority_of self.new ≡ with_held_end (held_end_of held) (authority_of self.old)) }
         ensures err { OnErr result (authority_of self.new ≡ authority_of self.old) }
         ensures memory { IfErr result (λ reason. reason ≡ refusal.Memory) }
     {
@@ -148,7 +148,7 @@ impl Authority {
 
     /// The ends that it may hold, rising.
     pub fn holds(&self) -> &[End]
-        ensures { map end_of result.now ≡ (authority_of self.now).holds }
+        ensures { map held_end_of result.now ≡ (authority_of self.now).holds }
     {
         &self.holds
     }

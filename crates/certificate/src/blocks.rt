@@ -4,7 +4,7 @@ ghost use Rattle.std.specs.Prelude.{◌≡◌, ◌+◌, ◌≤◌, ◌<◌, leng
 ghost use Rattle.certificate.specs.Bounds.{Version, has_authorities};
 ghost use Rattle.certificate.specs.Lines.{Begins_authority, Bounds_channel, Bounds_grant, Bounds_register, Bounds_slot, Holds_end, authority_lines, block_lines, is_closed, is_full, is_line};
 ghost use Rattle.certificate.specs.Lines.{is_of_version, register_lines, slot_lines};
-ghost use Rattle.certificate.specs.Views.{authorities_of, authority_of, bound_of, ceiling_of, channel_of, channels_of, end_of, interval_of, line_of, name_of, slot_of};
+ghost use Rattle.certificate.specs.Views.{authorities_of, authority_of, bound_of, ceiling_of, channel_of, channels_of, held_end_of, interval_of, line_of, name_of, slot_of};
 ghost use Rattle.certificate.specs.Growths.{grown, grown_with};
 ghost use Rattle.certificate.specs.GrowthViews.{Grows};
 
@@ -134,7 +134,7 @@ fn push_ceilings(cert: &mut Cert, ceilings: &[Ceiling]) -> Result<(), Refusal>
 
 /// The line of an end.
 fn end_line(held: End) -> Line
-    ensures value { line_of result ≡ Holds_end (end_of held) }
+    ensures value { line_of result ≡ Holds_end (held_end_of held) }
     ensures valid { is_line (line_of result) ≡ true }
 {
     Line::Hold(held)
@@ -144,7 +144,7 @@ fn end_line(held: End) -> Line
 #[tactic(auto, unfolding(crate::specs::Growths::grown))]
 fn push_ends(cert: &mut Cert, holds: &[End]) -> Result<(), Refusal>
     requires { has_authorities cert.old.version ≡ true }
-    ensures grows { Grows result cert.new (grown (map Holds_end (map end_of holds.now)) cert.old) }
+    ensures grows { Grows result cert.new (grown (map Holds_end (map held_end_of holds.now)) cert.old) }
     ensures version { cert.new.version ≡ cert.old.version }
 {
     match holds {

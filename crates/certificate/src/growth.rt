@@ -9,10 +9,10 @@ ghost use Rattle.certificate.specs.Bounds.{Version, with_interval, with_slot};
 ghost use Rattle.certificate.specs.Lines.{is_closed, is_full};
 ghost use Rattle.certificate.specs.Growth.{above_authorities, above_blocks, above_ceilings, above_channels, above_ends, all_classes, all_from, classes_held, classes_in, classes_in_line};
 ghost use Rattle.certificate.specs.Growth.{classes_of_ends, distinct, may_bound_grant, may_bound_register, may_bound_slot, may_hold_end, most_classes};
-ghost use Rattle.certificate.specs.Growth.{on_last, programs_in_line, programs_of_class, programs_of_held, stands, with_ceiling, with_end, with_last, with_line};
+ghost use Rattle.certificate.specs.Growth.{on_last, programs_in_line, programs_of_class, programs_of_held, stands, with_ceiling, with_held_end, with_last, with_line};
 ghost use Rattle.certificate.specs.Room.{listed_with};
 ghost use Rattle.certificate.specs.CountViews.{programs_listed};
-ghost use Rattle.certificate.specs.Views.{authorities_of, ceiling_of, certificate_with, channel_of, channels_of, class_of, end_of, held_of, interval_of, line_of, name_of, points_of, slot_of};
+ghost use Rattle.certificate.specs.Views.{authorities_of, ceiling_of, certificate_with, channel_of, channels_of, class_of, held_end_of, held_of, interval_of, line_of, name_of, points_of, slot_of};
 ghost use Rattle.certificate.specs.declared.lines.Refusal.TheVariants as refusal;
 
 use crate::authorities::{Authority, Ceiling, End};
@@ -81,7 +81,7 @@ fn has_class(channels: &[Channel], class: Class) -> bool
 
 /// Whether an end is of this class.
 fn is_class_of_ends(holds: &[End], class: Class) -> bool
-    ensures { result ≡ list_any (λ y. same_class y (class_of class)) (classes_of_ends (map end_of holds.now)) }
+    ensures { result ≡ list_any (λ y. same_class y (class_of class)) (classes_of_ends (map held_end_of holds.now)) }
 {
     for held in holds {
         if held.class.is(&class) {
@@ -238,7 +238,7 @@ fn is_above_ceilings(ceilings: &[Ceiling], grant: &Name) -> bool
 
 /// Whether an end may stand behind these.
 fn is_above_ends(holds: &[End], held: &End) -> bool
-    ensures { result ≡ above_ends (map end_of holds.now) (end_of held.now) }
+    ensures { result ≡ above_ends (map held_end_of holds.now) (held_end_of held.now) }
 {
     match holds.split_last() {
         None => true,
@@ -258,7 +258,7 @@ fn may_bound_grant(authorities: &[Authority], grant: &Name) -> bool
 
 /// Whether the last authority may have this end.
 fn may_hold_end(authorities: &[Authority], held: &End) -> bool
-    ensures { result ≡ may_hold_end (authorities_of authorities.now) (end_of held.now) }
+    ensures { result ≡ may_hold_end (authorities_of authorities.now) (held_end_of held.now) }
 {
     match authorities.split_last() {
         None => false,
@@ -323,7 +323,7 @@ fn bound_grant(authorities: &mut [Authority], ceiling: Ceiling) -> Result<(), Re
 
 /// Adds an end to the last authority. A refused growth changes nothing.
 fn hold_end(authorities: &mut [Authority], held: End) -> Result<(), Refusal>
-    ensures ok { OnOk result (authorities_of authorities.new ≡ with_last (with_end (end_of held)) (authorities_of authorities.old)) }
+    ensures ok { OnOk result (authorities_of authorities.new ≡ with_last (with_held_end (held_end_of held)) (authorities_of authorities.old)) }
     ensures err { OnErr result (authorities_of authorities.new ≡ authorities_of authorities.old) }
     ensures memory { IfErr result (λ reason. reason ≡ refusal.Memory) }
 {

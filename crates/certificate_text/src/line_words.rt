@@ -4,7 +4,7 @@ ghost use Rattle.std.specs.Prelude.{◌≡◌, ◌+◌, ◌++◌, ◌∷◌, ◌
 ghost use Rattle.rights.specs.Sets.{all_commands, is_within};
 ghost use Rattle.texts.specs.Hex.{hex_text};
 ghost use Rattle.certificate.specs.Lines.{Begins_authority, Begins_block, Bounds_channel, Bounds_grant, Bounds_register, Bounds_slot, Holds_end};
-ghost use Rattle.certificate.specs.Views.{ceiling_of, channel_of, end_of, held_of, interval_of, line_of, mode_of, name_of, side_of, slot_of, target_of};
+ghost use Rattle.certificate.specs.Views.{ceiling_of, channel_of, held_end_of, held_of, interval_of, line_of, mode_of, name_of, side_of, slot_of, target_of};
 ghost use Rattle.certificate_text.specs.KeywordViews.{keyword_text};
 ghost use Rattle.certificate_text.specs.Texts.{held_words, line_words, mode_word, side_word, target_words};
 ghost use Rattle.certificate_text.specs.WordViews.{word_text};
@@ -230,7 +230,7 @@ fn ceiling_words(ceiling: &Ceiling) -> LineWords
 
 /// The words of an end's line.
 fn end_words(held: &End) -> LineWords
-    ensures { result ≡ line_words (Holds_end (end_of held.now)) }
+    ensures { result ≡ line_words (Holds_end (held_end_of held.now)) }
 {
     let mut line = LineWords::new();
     line.push(Word::Keyword(Keyword::Hold));

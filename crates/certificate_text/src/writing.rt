@@ -5,7 +5,7 @@ ghost use Rattle.std.specs.Fmt.{decimal};
 ghost use Rattle.texts.specs.Bytes.{colon, space};
 ghost use Rattle.texts.specs.Parts.{joined};
 ghost use Rattle.certificate.specs.Lines.{Begins_authority, Begins_block};
-ghost use Rattle.certificate.specs.Views.{authorities_of, authority_of, bound_of, ceiling_of, channel_of, channels_of, class_of, end_of, interval_of, line_of, point_of, points_of, slot_of, version_of};
+ghost use Rattle.certificate.specs.Views.{authorities_of, authority_of, bound_of, ceiling_of, channel_of, channels_of, class_of, held_end_of, interval_of, line_of, point_of, points_of, slot_of, version_of};
 ghost use Rattle.certificate_text.specs.Texts.{certificate_text, class_word, ended_line, first_line, end_line, line_text};
 ghost use Rattle.certificate_text.specs.Readings.{certificate_of_text};
 ghost use Rattle.certificate_text.specs.Pieces.{authority_text, block_text, ceiling_text, channel_text, end_text, in_order, register_text, slot_text};
@@ -273,7 +273,7 @@ fn write_ceilings<W: Out>(out: &mut W, ceilings: &[Ceiling]) -> Result<(), Stop>
 fn write_end<W: Out>(out: &mut W, held: &End) -> Result<(), Stop>
     requires { W.faults out.old < 2 ^ 64 - 1 }
     ensures { Writes result (W.taken out.old) (W.taken out.new) (W.faults out.old) (W.faults out.new)
-        (end_text (end_of held.now)) }
+        (end_text (held_end_of held.now)) }
 {
     write_line(out, &Line::Hold(*held))
 }
@@ -282,7 +282,7 @@ fn write_end<W: Out>(out: &mut W, held: &End) -> Result<(), Stop>
 fn write_ends<W: Out>(out: &mut W, holds: &[End]) -> Result<(), Stop>
     requires { W.faults out.old < 2 ^ 64 - 1 }
     ensures { Writes result (W.taken out.old) (W.taken out.new) (W.faults out.old) (W.faults out.new)
-        (in_order (λ n. end_text) 0 (map end_of holds.now)) }
+        (in_order (λ n. end_text) 0 (map held_end_of holds.now)) }
 {
     for held in holds {
         write_end(out, held)?;

@@ -40,7 +40,7 @@ use Rattle.lookup.specs.UnderWay.{IsUnderWay}
 use Rattle.lookup.specs.Walks.{WalkState, Progress, Done, More, first_handled, handled}
 use Rattle.lookup.proofs.UnderWay.{IsSureProgress, MayMake, Sure, begun_sure, begun_under_way, sure_fault, there_if_opened, under_way_sure}
 use Rattle.process.specs.State.{Walking, One, Two}
-use Rattle.kernel.specs.Walks.{Fits, FitsIfWalking, IfOne, IfTwo, IsDirectory, IsDirectoryOf, lookups_of}
+use Rattle.kernel.specs.Walks.{FitsLookups, FitsIfWalking, IfOne, IfTwo, IsDirectory, IsDirectoryOf, lookups_of}
 use Rattle.kernel.proofs.FittingWalks.{both_under, directory_under, root_under}
 use Rattle.kernel.proofs.Looking.{IsEvent, looks_any, looks_twice_any}
 use Rattle.kernel.proofs.Lookups.{moved_over, path_bytes}
@@ -381,7 +381,7 @@ module _ (programs : Programs) (g : Ground) (standing : Standing programs g) (p 
   -- ## Every call
   -- What a call leaves under way fits it.
   abbrev Leaves : Syscall → Type 0
-  Leaves call = (walking : Walking) → Fits w.tree w.files.objects (w.files.table p) s (lookups_of call) walking → g.Left walking
+  Leaves call = (walking : Walking) → FitsLookups w.tree w.files.objects (w.files.table p) s (lookups_of call) walking → g.Left walking
 
   pub sound : (call : Syscall) → is_syscall call ≡ true → IsFit call s.walk → Leaves call → Sound g (answer w p s e call)
   unfolding answer lookups_of

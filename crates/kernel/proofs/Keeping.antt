@@ -23,7 +23,7 @@ use Rattle.kernel.specs.Changes.{table_after, second_number, given, processes_af
 use Rattle.kernel.specs.Steps.{Programs, register, with_register, goes_on, with_process, halted, failed, answered, jumped, executed, stepped_at, stepped_by, stepped, step}
 use Rattle.kernel.specs.WellFormed.{ArePrograms, Numbering, HasNone, IsDescriptor, IsProcessIfMade, IsPoint, IsProcess, IsWorld, IsWellFormed}
 use Rattle.kernel.specs.Runs.{NextWorldExists, FreshNumbersExist, MayChoose}
-use Rattle.kernel.specs.Walks.{Fits, lookups_of, under_way}
+use Rattle.kernel.specs.Walks.{FitsLookups, lookups_of, under_way}
 use Rattle.kernel.proofs.Brings.{Ground, ground, Known, BringsTable, Brings, Sound}
 use Rattle.kernel.proofs.KeptWalks.{AreWalkers, call_here, slice_get-more_cases, walk_fits, walkers_changed, walkers_halted, walkers_moved, walkers_on}
 use Rattle.kernel.proofs.Brought.{sound}
@@ -206,7 +206,7 @@ module _ (programs : Programs) (valid : ArePrograms programs) (numbering : Numbe
   well_moved t fine alive none = well (with_process w e.process t) (kept-process programs numbering w good e.process t fine alive) (walkers_moved programs w walkers e.process t none)
 
   abbrev left : ProcessState → Syscall → Ground
-  left s call = record (ground numbering w (IsApart w.files choice)) { Left = Fits w.tree w.files.objects (w.files.table e.process) s (lookups_of call) }
+  left s call = record (ground numbering w (IsApart w.files choice)) { Left = FitsLookups w.tree w.files.objects (w.files.table e.process) s (lookups_of call) }
 
   kept-answered : (s : ProcessState) (call : Syscall) (otherwise : ℕ) (a : Answer) → slice_get w.processes e.process ≡ Some s → IsProcess programs s → s.alive ≡ true →
       under_way programs s ≡ Some call → IsPoint (slice_get (programs s.program) otherwise) → IsPoint (slice_get (programs s.program) (s.point + 1)) →

@@ -18,7 +18,7 @@ use Rattle.kernel.specs.World.{World, Choice, IsFresh}
 use Rattle.kernel.specs.Answers.{TreeChange, TableChange, Same_table, Set_entry, Clear_entry, New_file, New_pair, New_process, operand_value, value_of}
 use Rattle.kernel.specs.Changes.{tree_after, objects_after, table_after, processes_after}
 use Rattle.kernel.specs.Steps.{Programs, with_process, halted}
-use Rattle.kernel.specs.Walks.{Fits, FitsIfWalking, From_directories, From_directory, From_root, IsDirectory, IsDirectoryOf, IsWalker, IsWalkerIfMade, Lookups, No_path, call_in, lookups_of, under_way}
+use Rattle.kernel.specs.Walks.{FitsLookups, FitsIfWalking, From_directories, From_directory, From_root, IsDirectory, IsDirectoryOf, IsWalker, IsWalkerIfMade, Lookups, No_path, call_in, lookups_of, under_way}
 use Rattle.kernel.specs.WellFormed.{Numbering, IsWorld}
 use Rattle.kernel.proofs.Brings.{ground, Known}
 use Rattle.kernel.proofs.Fresh.{IsApart, known_entries}
@@ -79,7 +79,7 @@ module _ (t u : List Node) (objects later : ℕ → Object) (row new : ℕ → O
   operand_later x dir =
       subst (λ n. IsDirectory u later (new n)) (sym (same_value s v registers x)) (subst (IsDirectory u later) (sym (rows (value_of s x))) (start_later (value_of s x) dir))
 
-  fits_later : (looks : Lookups) (walking : Walking) → Fits t objects row s looks walking → Fits u later new v looks walking
+  fits_later : (looks : Lookups) (walking : Walking) → FitsLookups t objects row s looks walking → FitsLookups u later new v looks walking
   fits_later No_path walking fits = absurd fits
   fits_later (From_root path last) (One walk) fits = under_later path _ last walk fits
   fits_later (From_root path last) (Two one other) fits = absurd fits
@@ -117,7 +117,7 @@ module _ (programs : Programs) (w : World) (walkers : AreWalkers programs w) (p 
 
   -- what its call has under way now is of the call
   pub walkers_on : (walking : Walking) (call : Syscall) → t.alive ≡ true → under_way programs t ≡ Some call →
-      Fits w.tree w.files.objects (w.files.table p) t (lookups_of call) walking → AreWalkers programs (with_process w p (record t { walk = Some walking }))
+      FitsLookups w.tree w.files.objects (w.files.table p) t (lookups_of call) walking → AreWalkers programs (with_process w p (record t { walk = Some walking }))
   unfolding under_way
   walkers_on walking call alive here fits q =
       set_other_cases (IsWalkerIfMade programs w.tree w.files.objects (w.files.table q)) w.processes p (record t { walk = Some walking }) q tt

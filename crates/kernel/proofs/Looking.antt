@@ -10,7 +10,7 @@ use Rattle.process.specs.State.{ProcessState, Walking, One, Two}
 use Rattle.kernel.specs.World.{World}
 use Rattle.kernel.specs.Answers.{Event, Answer, Fails, Walks, lookup_fails}
 use Rattle.kernel.specs.Walks.{IfOne, IfTwo}
-use Rattle.kernel.specs.Calls.{found_last, is_at_last, looks, looks_twice, lost, resumed, resumed_twice, unless_lost, walked, walked_both, walked_first, walked_second}
+use Rattle.kernel.specs.Calls.{found_last, is_at_last, looks, looks_twice, lost, resumed_one, resumed_both, or_fails, walked, walked_both, walked_first, walked_second}
 
 -- an event ends in a finding that is good, or leaves names, and what is under way is good
 abbrev pub IsEvent : (Finding → Type 0) → (WalkState → Type 0) → Progress → Type 0
@@ -42,7 +42,7 @@ module _ (P : Answer → Type 0) (w : World) (p : ℕ) (s : ProcessState) (e : E
 
     event_is : (o : Option Walking) → IfOne Under o → IsEvent Good Under (first_handled w.tree start path way last) →
         ((walk : WalkState) → Under walk → IsEvent Good Under (handled w.tree walk)) →
-        IsEvent Good Under (resumed o (first_handled w.tree start path way last) (handled w.tree))
+        IsEvent Good Under (resumed_one o (first_handled w.tree start path way last) (handled w.tree))
     event_is None under first later = first
     event_is (Some (One walk)) under first later = later walk under
     event_is (Some (Two one other)) under first later = first
@@ -53,7 +53,7 @@ module _ (P : Answer → Type 0) (w : World) (p : ℕ) (s : ProcessState) (e : E
         P (looks w p s e start way path last rest)
     unfolding looks
     looks_any under first later found walks =
-        walked_any (resumed s.walk (first_handled w.tree start path way last) (handled w.tree)) (event_is s.walk under first later) found walks
+        walked_any (resumed_one s.walk (first_handled w.tree start path way last) (handled w.tree)) (event_is s.walk under first later) found walks
 
   -- ## Two paths
   pub fault_any : ((errno : Errno) (cause : Cause) → P (Fails errno cause)) → (fault : LookupFault) → P (lookup_fails fault)
@@ -70,9 +70,9 @@ module _ (P : Answer → Type 0) (w : World) (p : ℕ) (s : ProcessState) (e : E
     lost_any (Found_node n) = faults No_entry
     lost_any (Found_free d) = faults No_entry
 
-    unless_lost_any : (fault : Option LookupFault) (rest : Answer) → (fault ≡ None → P rest) → P (unless_lost fault rest)
-    unless_lost_any None rest good = good refl
-    unless_lost_any (Some fault) rest good = faults fault
+    or_fails_any : (fault : Option LookupFault) (rest : Answer) → (fault ≡ None → P rest) → P (or_fails fault rest)
+    or_fails_any None rest good = good refl
+    or_fails_any (Some fault) rest good = faults fault
 
     module _ (n : ℕ) (from : List ℕ) (m : ℕ) (to : List ℕ) (rest : Finding → Finding → Answer) (Good Also : Finding → Type 0) (First Second : WalkState → Type 0) where
       walked_first_any : (other : WalkState) → Second other → (event : Progress) → IsEvent Good First event →
@@ -116,15 +116,15 @@ module _ (P : Answer → Type 0) (w : World) (p : ℕ) (s : ProcessState) (e : E
       unfolding looks_twice
       looks_twice_any under begun_one begun_other none nor one_event other_event found walks = by_walk s.walk under
         where
-          first_event : P (unless_lost (lookup_fault w.tree n from Beneath Keep)
-              (unless_lost (lookup_fault w.tree m to Beneath Keep) (walked_both w p s e rest (begun n from Beneath Keep) (begun m to Beneath Keep))))
+          first_event : P (or_fails (lookup_fault w.tree n from Beneath Keep)
+              (or_fails (lookup_fault w.tree m to Beneath Keep) (walked_both w p s e rest (begun n from Beneath Keep) (begun m to Beneath Keep))))
           first_event =
-              unless_lost_any _ _ (λ one. unless_lost_any _ _ (λ other.
+              or_fails_any _ _ (λ one. or_fails_any _ _ (λ other.
               walked_both_any (begun n from Beneath Keep) (begun m to Beneath Keep) (begun_one one) (begun_other other) none nor one_event other_event found walks))
 
-          by_walk : (o : Option Walking) → IfTwo First Second o → P (resumed_twice o
-              (unless_lost (lookup_fault w.tree n from Beneath Keep)
-              (unless_lost (lookup_fault w.tree m to Beneath Keep) (walked_both w p s e rest (begun n from Beneath Keep) (begun m to Beneath Keep))))
+          by_walk : (o : Option Walking) → IfTwo First Second o → P (resumed_both o
+              (or_fails (lookup_fault w.tree n from Beneath Keep)
+              (or_fails (lookup_fault w.tree m to Beneath Keep) (walked_both w p s e rest (begun n from Beneath Keep) (begun m to Beneath Keep))))
               (walked_both w p s e rest))
           by_walk None under = first_event
           by_walk (Some (One walk)) under = first_event

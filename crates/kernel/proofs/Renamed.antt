@@ -21,7 +21,7 @@ use Rattle.kernel.specs.Answers.{Event, Effect, TableChange, Same_table, Set_ent
 use Rattle.kernel.specs.Answers.{Same_state, Set_state, Fill, Change, Answer, Fails, Waits, Gives, Walks, same, gives, does, unless, held, at_object, at_number, lookup_fails, value_of}
 use Rattle.rights.specs.Limits.{most_messages}
 use Rattle.kernel.specs.Calls.{looks, looks_twice, answer, opened, opened_as, read_byte, read_node, read_end, write_node, write_at, write_offset, sent_end, received, receive_end}
-use Rattle.kernel.specs.Calls.{found_last, is_at_last, lost, resumed, resumed_twice, unless_lost, walked, walked_both, walked_first, walked_second}
+use Rattle.kernel.specs.Calls.{found_last, is_at_last, lost, resumed_one, resumed_both, or_fails, walked, walked_both, walked_first, walked_second}
 use Rattle.kernel.specs.Calls.{stats_at, made_directory, unlinks, renamed_to, renamed_from, pair_at, blocked, in_directory, at_file, at_socket}
 use Rattle.kernel.specs.Renamings.{Renaming, SameObject, SameFiles, renamed_object, renamed_descriptor, renamed_entry, renamed_message, renamed_messages}
 
@@ -271,7 +271,7 @@ module _ (r : Renaming) (w : World) (g : OpenFiles) (alike : SameFiles r w.files
       ((found : lookups.Finding) → Matches r (rest found) (more found)) →
       Matches r (looks w p s e start way path last rest) (looks other p s e start way path last more)
   unfolding looks
-  both-looks start way path last rest more is = by_event (resumed s.walk (first_handled w.tree start path way last) (handled w.tree))
+  both-looks start way path last rest more is = by_event (resumed_one s.walk (first_handled w.tree start path way last) (handled w.tree))
     where
       by_event : (event : Progress) → Matches r (walked rest event) (walked more event)
       by_event (Done found) = is found
@@ -301,21 +301,21 @@ module _ (r : Renaming) (w : World) (g : OpenFiles) (alike : SameFiles r w.files
           both-if r (not (is_at_last one)) _ _ _ _ (both-first two (handled w.tree one))
           (both-if r (not (is_at_last two)) _ _ _ _ (both-second one (handled w.tree two)) (is (found_last (handled w.tree one)) (found_last (handled w.tree two))))
 
-      both-unlost : (fault : Option LookupFault) (a b : Answer) → Matches r a b → Matches r (unless_lost fault a) (unless_lost fault b)
+      both-unlost : (fault : Option LookupFault) (a b : Answer) → Matches r a b → Matches r (or_fails fault a) (or_fails fault b)
       both-unlost None a b same = same
       both-unlost (Some fault) a b same = both-lookup_fails r fault
 
       first_event : Matches r
-          (unless_lost (lookup_fault w.tree n from Beneath Keep) (unless_lost (lookup_fault w.tree m to Beneath Keep) (walked_both w p s e rest (begun n from Beneath Keep) (begun m to Beneath Keep))))
-          (unless_lost (lookup_fault w.tree n from Beneath Keep) (unless_lost (lookup_fault w.tree m to Beneath Keep) (walked_both other p s e more (begun n from Beneath Keep) (begun m to Beneath Keep))))
+          (or_fails (lookup_fault w.tree n from Beneath Keep) (or_fails (lookup_fault w.tree m to Beneath Keep) (walked_both w p s e rest (begun n from Beneath Keep) (begun m to Beneath Keep))))
+          (or_fails (lookup_fault w.tree n from Beneath Keep) (or_fails (lookup_fault w.tree m to Beneath Keep) (walked_both other p s e more (begun n from Beneath Keep) (begun m to Beneath Keep))))
       first_event = both-unlost _ _ _ (both-unlost _ _ _ (both-walked (begun n from Beneath Keep) (begun m to Beneath Keep)))
 
       by_walk : (o : Option Walking) → Matches r
-          (resumed_twice o
-          (unless_lost (lookup_fault w.tree n from Beneath Keep) (unless_lost (lookup_fault w.tree m to Beneath Keep) (walked_both w p s e rest (begun n from Beneath Keep) (begun m to Beneath Keep))))
+          (resumed_both o
+          (or_fails (lookup_fault w.tree n from Beneath Keep) (or_fails (lookup_fault w.tree m to Beneath Keep) (walked_both w p s e rest (begun n from Beneath Keep) (begun m to Beneath Keep))))
           (walked_both w p s e rest))
-          (resumed_twice o
-          (unless_lost (lookup_fault w.tree n from Beneath Keep) (unless_lost (lookup_fault w.tree m to Beneath Keep) (walked_both other p s e more (begun n from Beneath Keep) (begun m to Beneath Keep))))
+          (resumed_both o
+          (or_fails (lookup_fault w.tree n from Beneath Keep) (or_fails (lookup_fault w.tree m to Beneath Keep) (walked_both other p s e more (begun n from Beneath Keep) (begun m to Beneath Keep))))
           (walked_both other p s e more))
       by_walk None = first_event
       by_walk (Some (One walk)) = first_event

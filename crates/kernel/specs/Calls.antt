@@ -57,13 +57,13 @@ abbrev pub write_offset : State → Content → ℕ
 write_offset state content = if state.append then length content else state.offset
 
 -- the event of a call that has nothing under way yet, or the one that goes on with what it has
-abbrev pub resumed : Option Walking → Progress → (WalkState → Progress) → Progress
-resumed (Some (One walk)) first later = later walk
-resumed _ first later = first
+abbrev pub resumed_one : Option Walking → Progress → (WalkState → Progress) → Progress
+resumed_one (Some (One walk)) first later = later walk
+resumed_one _ first later = first
 
-abbrev pub resumed_twice : Option Walking → Answer → (WalkState → WalkState → Answer) → Answer
-resumed_twice (Some (Two one other)) first later = later one other
-resumed_twice _ first later = first
+abbrev pub resumed_both : Option Walking → Answer → (WalkState → WalkState → Answer) → Answer
+resumed_both (Some (Two one other)) first later = later one other
+resumed_both _ first later = first
 
 -- The call ends with what is found, or has names left.
 abbrev pub walked : (lookups.Finding → Answer) → Progress → Answer
@@ -71,9 +71,9 @@ walked rest (Done finding) = rest finding
 walked rest (More walk) = Walks (One walk)
 
 -- why a call with two paths ends before both are found
-abbrev pub unless_lost : Option LookupFault → Answer → Answer
-unless_lost None rest = rest
-unless_lost (Some fault) rest = lookup_fails fault
+abbrev pub or_fails : Option LookupFault → Answer → Answer
+or_fails None rest = rest
+or_fails (Some fault) rest = lookup_fails fault
 
 -- A lookup that has names left ends in a fault alone; the other two never come.
 abbrev pub lost : lookups.Finding → Answer
@@ -150,7 +150,7 @@ module _ (w : World) (p : ℕ) (s : ProcessState) (e : Event) where
   -- Every lookup of a call is one of these two. An event looks one name up: the first event of the call begins, and a later one goes
   -- on with what the process has under way. What is found at the end goes to the rest of the call.
   unfoldable pub looks : NodeNumber → Way → PathText → Last → (lookups.Finding → Answer) → Answer
-  looks start way path last rest = walked rest (resumed s.walk (first_handled w.tree start path way last) (handled w.tree))
+  looks start way path last rest = walked rest (resumed_one s.walk (first_handled w.tree start path way last) (handled w.tree))
 
   -- The old path is walked until one name is left, then the new one. Both last names are looked up in one event. What is wrong with
   -- the text or the start of either is told in the first event, the old one's first. (own)
@@ -162,9 +162,9 @@ module _ (w : World) (p : ℕ) (s : ProcessState) (e : Event) where
 
   unfoldable pub looks_twice : NodeNumber → PathText → NodeNumber → PathText → (lookups.Finding → lookups.Finding → Answer) → Answer
   looks_twice n from m to rest =
-      resumed_twice s.walk
-      (unless_lost (lookup_fault w.tree n from Beneath Keep)
-      (unless_lost (lookup_fault w.tree m to Beneath Keep) (walked_both rest (begun n from Beneath Keep) (begun m to Beneath Keep))))
+      resumed_both s.walk
+      (or_fails (lookup_fault w.tree n from Beneath Keep)
+      (or_fails (lookup_fault w.tree m to Beneath Keep) (walked_both rest (begun n from Beneath Keep) (begun m to Beneath Keep))))
       (walked_both rest)
 
   -- ## open and openat (open(2))

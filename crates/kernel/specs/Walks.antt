@@ -63,21 +63,21 @@ IsDirectory tree objects (Some d) = IsDirectoryOf tree (objects d.description)
 -- A process at s, with this tree, these descriptions and this table, has under way what its call looks up. The call's descriptors
 -- are open and of directories.
 module _ (tree : List Node) (objects : DescriptionNumber → Object) (row : DescriptorNumber → Option Descriptor) (s : ProcessState) where
-  abbrev pub Fits : Lookups → Walking → Type 0
-  Fits No_path walking = ⊥
-  Fits (From_root path last) (One walk) = IsUnderWay tree path Global last walk
-  Fits (From_root path last) (Two one other) = ⊥
-  Fits (From_directory x path last) (One walk) = IsDirectory tree objects (row (value_of s x)) × IsUnderWay tree path Beneath last walk
-  Fits (From_directory x path last) (Two one other) = ⊥
-  Fits (From_directories x from y to) (One walk) = ⊥
-  Fits (From_directories x from y to) (Two one other) =
+  abbrev pub FitsLookups : Lookups → Walking → Type 0
+  FitsLookups No_path walking = ⊥
+  FitsLookups (From_root path last) (One walk) = IsUnderWay tree path Global last walk
+  FitsLookups (From_root path last) (Two one other) = ⊥
+  FitsLookups (From_directory x path last) (One walk) = IsDirectory tree objects (row (value_of s x)) × IsUnderWay tree path Beneath last walk
+  FitsLookups (From_directory x path last) (Two one other) = ⊥
+  FitsLookups (From_directories x from y to) (One walk) = ⊥
+  FitsLookups (From_directories x from y to) (Two one other) =
       IsDirectory tree objects (row (value_of s x)) × IsDirectory tree objects (row (value_of s y))
       × IsUnderWay tree from Beneath Keep one × IsUnderWay tree to Beneath Keep other
 
   abbrev pub FitsIfWalking : Option Syscall → Option Walking → Type 0
   FitsIfWalking call None = Unit {0}
   FitsIfWalking None (Some walking) = ⊥
-  FitsIfWalking (Some call) (Some walking) = Fits (lookups_of call) walking
+  FitsIfWalking (Some call) (Some walking) = FitsLookups (lookups_of call) walking
 
 -- A process that walks lives, and what it has under way is of the call at its point.
 pub record IsWalker (programs : Programs) (tree : List Node) (objects : DescriptionNumber → Object) (row : DescriptorNumber → Option Descriptor) (s : ProcessState) : Type 0 where

@@ -9,6 +9,6 @@ abbrev pub walking_of : WalkingCode → Walking
 walking_of (walking.One walk) = One walk
 walking_of (walking.Two first second) = Two first second
 
-abbrev pub walk_of : Option WalkingCode → Option Walking
-walk_of None = None
-walk_of (Some walking) = Some (walking_of walking)
+abbrev pub walking_in : Option WalkingCode → Option Walking
+walking_in None = None
+walking_in (Some walking) = Some (walking_of walking)

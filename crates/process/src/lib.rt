@@ -4,7 +4,7 @@
 
 ghost use Rattle.std.specs.Prelude.{◌≡◌, true, None, Some, is_some};
 ghost use Rattle.process.specs.State.{moved_to, ended, forked, new_process};
-ghost use Rattle.process.specs.Views.{walk_of, walking_of};
+ghost use Rattle.process.specs.Views.{walking_in, walking_of};
 
 pub mod walking;
 
@@ -30,12 +30,12 @@ pub struct Process {
 
 impl Model for Process {
     ghost use Rattle.process.specs.State.{ProcessState};
-    ghost use Rattle.process.specs.Views.{walk_of};
+    ghost use Rattle.process.specs.Views.{walking_in};
 
     ghost Value = { ProcessState };
 
     ghost view = { λ p. record {
-        program = p.program; point = p.point; registers = p.registers; mode = p.mode; alive = p.alive; walk = walk_of p.walk } };
+        program = p.program; point = p.point; registers = p.registers; mode = p.mode; alive = p.alive; walk = walking_in p.walk } };
 }
 
 impl Process {
@@ -92,7 +92,7 @@ impl Process {
 
     /// Takes what its call has under way out of the process. `walk_on` puts it back.
     pub fn take_walk(&mut self) -> Option<Walking>
-        ensures taken { walk_of result ≡ self.old.walk }
+        ensures taken { walking_in result ≡ self.old.walk }
         ensures left { self.new ≡ record self.old { walk = None } }
     {
         self.walk.take()

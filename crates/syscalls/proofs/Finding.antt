@@ -10,7 +10,7 @@ use Rattle.lookup.specs.UnderWay.{IsUnderWay}
 use Rattle.lookup.specs.Walks.{WalkState, Progress, Done, More, first_handled, handled}
 use Rattle.lookup.proofs.UnderWay.{IsSureProgress, MayMake, Sure, begun_sure, sure_fault, under_way_sure}
 use Rattle.process.specs.State.{Walking, One, Two}
-use Rattle.kernel.specs.Calls.{found_last, resumed, walked}
+use Rattle.kernel.specs.Calls.{found_last, resumed_one, walked}
 use Rattle.kernel.specs.Walks.{IfOne}
 use Rattle.lookup.specs.declared.ways.Found.{Found}
 use Rattle.kernel.specs.World.{World}
@@ -57,7 +57,7 @@ event_sure t path way last (Done finding) found sure is = let same : finding ≡
 event_sure t path way last (More walk) found sure is = absurd cc
 
 pub sure_found : (t : List Node) (start : ℕ) (path : List ℕ) (way : Way) (last : Last) (o : Option Walking) (found : Finding) → IsTree t → is_link (node t start).kind ≡ false →
-    IfOne (IsUnderWay t path way last) o → resumed o (first_handled t start path way last) (handled t) ≡ Done found → Sure t path last found
+    IfOne (IsUnderWay t path way last) o → resumed_one o (first_handled t start path way last) (handled t) ≡ Done found → Sure t path last found
 sure_found t start path way last None found tree opened under is = event_sure t path way last _ found (begun_sure t path way last tree start opened) is
 sure_found t start path way last (Some (One walk)) found tree opened under is = event_sure t path way last _ found (under_way_sure t path way last tree walk under) is
 sure_found t start path way last (Some (Two one other)) found tree opened under is = event_sure t path way last _ found (begun_sure t path way last tree start opened) is

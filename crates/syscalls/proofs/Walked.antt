@@ -11,14 +11,14 @@ use Rattle.lookup.specs.Views.{found_of}
 use Rattle.lookup.specs.Walks.{WalkState, Progress, Done, More, IsInTree, begun, first_handled, handled}
 use Rattle.lookup.proofs.UnderWay.{Sure, under_way_in_tree}
 use Rattle.process.specs.State.{ProcessState, One, Two}
-use Rattle.process.specs.Views.{walk_of}
+use Rattle.process.specs.Views.{walking_in}
 use Rattle.process.specs.declared.walking.Walking.{Walking}
 use Rattle.process.specs.declared.walking.Walking.TheVariants as walking
 use Rattle.prog_asm.specs.Programs.{Syscall}
 use Rattle.fd_table.specs.OpenFiles.{OpenFiles}
 use Rattle.kernel.specs.World.{World}
 use Rattle.kernel.specs.Answers.{Answer, Event, lookup_fails}
-use Rattle.kernel.specs.Calls.{found_last, is_at_last, looks_twice, lost, unless_lost, walked_both, walked_first, walked_second}
+use Rattle.kernel.specs.Calls.{found_last, is_at_last, looks_twice, lost, or_fails, walked_both, walked_first, walked_second}
 use Rattle.kernel.specs.Walks.{IfOne, IfTwo}
 use Rattle.syscalls.specs.declared.lookups.Both.{Both}
 use Rattle.syscalls.specs.declared.outcomes.Refusal.{Refusal}
@@ -75,20 +75,20 @@ first_lost t start path way last None is = tt
 first_lost t start path way last (Some fault) is = rw is refl
 
 -- why a rename ends in its first event
-pub told_lost : (refused : Refusal) (fault o : Option LookupFault) (rest : Answer) → RefusesFault o refused → fault ≡ o → Refuses refused (unless_lost fault rest)
-told_lost refused fault o rest all is = subst (λ f. Refuses refused (unless_lost f rest)) (sym is) (by_fault o all)
+pub told_lost : (refused : Refusal) (fault o : Option LookupFault) (rest : Answer) → RefusesFault o refused → fault ≡ o → Refuses refused (or_fails fault rest)
+told_lost refused fault o rest all is = subst (λ f. Refuses refused (or_fails f rest)) (sym is) (by_fault o all)
   where
-    by_fault : (o : Option LookupFault) → RefusesFault o refused → Refuses refused (unless_lost o rest)
+    by_fault : (o : Option LookupFault) → RefusesFault o refused → Refuses refused (or_fails o rest)
     by_fault None all = but_for_memory refused rest (λ other. absurd (no_fault_is_memory refused all other))
     by_fault (Some fault) all = but_for_memory refused (lookup_fails fault) (λ other. lost_as refused fault (all (Done (Not_found fault)) refl other))
 
 -- ## What is under way
-pub one_is : (Under : WalkState → Type 0) (o : Option Walking) (w : Walking) (walk : WalkState) → o ≡ Some w → w ≡ walking.One walk → IfOne Under (walk_of o) → Under walk
-one_is Under o w walk is one under = subst (λ x. IfOne Under (walk_of x)) (is ∙ ap Some one) under
+pub one_is : (Under : WalkState → Type 0) (o : Option Walking) (w : Walking) (walk : WalkState) → o ≡ Some w → w ≡ walking.One walk → IfOne Under (walking_in o) → Under walk
+one_is Under o w walk is one under = subst (λ x. IfOne Under (walking_in x)) (is ∙ ap Some one) under
 
 pub two_are : (First Second : WalkState → Type 0) (o : Option Walking) (w : Walking) (one other : WalkState) → o ≡ Some w → w ≡ walking.Two one other →
-    IfTwo First Second (walk_of o) → First one × Second other
-two_are First Second o w one other is two under = subst (λ x. IfTwo First Second (walk_of x)) (is ∙ ap Some two) under
+    IfTwo First Second (walking_in o) → First one × Second other
+two_are First Second o w one other is two under = subst (λ x. IfTwo First Second (walking_in x)) (is ∙ ap Some two) under
 
 -- ## Two paths
 pub renames_as : (look as_look : (Finding → Finding → Answer) → Answer) (from : Finding → (ℕ → Answer) → Answer) (r : Result Both Refusal) →
@@ -114,8 +114,8 @@ module _ (w : World) (p : ℕ) (s : ProcessState) (e : Event) (one other : WalkS
 module _ (w : World) (p : ℕ) (s : ProcessState) (e : Event) (n : ℕ) (from : PathText) (m : ℕ) (to : PathText) where
   abbrev pub both_first : (Finding → Finding → Answer) → Answer
   both_first rest =
-      unless_lost (lookup_fault w.tree n from Beneath Keep)
-      (unless_lost (lookup_fault w.tree m to Beneath Keep) (walked_both w p s e rest (begun n from Beneath Keep) (begun m to Beneath Keep)))
+      or_fails (lookup_fault w.tree n from Beneath Keep)
+      (or_fails (lookup_fault w.tree m to Beneath Keep) (walked_both w p s e rest (begun n from Beneath Keep) (begun m to Beneath Keep)))
 
   pub looks_none : (rest : Finding → Finding → Answer) → s.walk ≡ None → looks_twice w p s e n from m to rest ≡ both_first rest
   unfolding looks_twice
@@ -141,7 +141,7 @@ are_found t path new_path one other (Err refused) tree under also node place = t
 
 -- a call that looks nothing up has nothing under way
 pub performs_at_rest : (t : List Node) (f : OpenFiles) (caller : Caller) (walk : Option Walking) (after : List Node) (left : OpenFiles) (r : Result Success Refusal) (call known : Syscall) →
-    call ≡ known → walk_of walk ≡ None → caller.process.now.walk ≡ None → Performs t f caller caller.process.now after left r known →
+    call ≡ known → walking_in walk ≡ None → caller.process.now.walk ≡ None → Performs t f caller caller.process.now after left r known →
     Performs t f caller (state_with caller walk) after left r call
 performs_at_rest t f caller walk after left r call known same none rests performs =
     subst (Performs t f caller (state_with caller walk) after left r) (sym same)

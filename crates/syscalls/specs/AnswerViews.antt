@@ -17,7 +17,7 @@ use Rattle.lookup.specs.Views.{found_of}
 use Rattle.lookup.specs.Walks.{WalkState, Progress, Done, More}
 use Rattle.process.specs.declared.walking.Walking.{Walking as WalkingCode}
 use Rattle.process.specs.State.{One}
-use Rattle.process.specs.Views.{walk_of, walking_of}
+use Rattle.process.specs.Views.{walking_in, walking_of}
 use Rattle.lookup.specs.Answers as lookups
 use Rattle.lookup.specs.Promises.{IsFindingThere, IsFreeName, IsLinked, IsUnderName, MayBeMade}
 use Rattle.rights.specs.Values.{PathText}
@@ -210,7 +210,7 @@ Calls t f caller after left r call =
 
 -- The process that calls, with what its call has under way.
 abbrev pub state_with : Caller → Option WalkingCode → ProcessState
-state_with caller walk = record caller.process.now { walk = walk_of walk }
+state_with caller walk = record caller.process.now { walk = walking_in walk }
 
 -- The same of a call with a path, which goes on with that.
 abbrev pub GoesOn : List Node → OpenFiles → Caller → Option WalkingCode → List Node → OpenFiles → Result Success Refusal → Syscall → Type 0

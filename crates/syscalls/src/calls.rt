@@ -1,7 +1,7 @@
 //! The calls, each with its function: what it answers, and what it does to the tree and to what is open.
 
 ghost use Rattle.std.specs.Prelude.{◌≡◌, ℕ, None, Some};
-ghost use Rattle.process.specs.Views.{walk_of};
+ghost use Rattle.process.specs.Views.{walking_in};
 ghost use Rattle.fd_table.specs.Kept.{open_files};
 ghost use Rattle.prog_asm.specs.Views.{syscall_of};
 ghost use Rattle.kernel.specs.Walks.{FitsIfWalking};
@@ -39,7 +39,7 @@ pub(crate) fn perform<T: Tree>(
     requires unmade { (n : ℕ) → (open_files files.old).table caller.now.made n ≡ None }
     requires rests { caller.now.process.now.walk ≡ None }
     requires fits { FitsIfWalking (T.nodes tree.old) (open_files files.old).objects ((open_files files.old).table caller.now.number) caller.now.process.now
-        (Some (syscall_of call.now)) (walk_of walk) }
+        (Some (syscall_of call.now)) (walking_in walk) }
     ensures { Performs (T.nodes tree.old) (open_files files.old) caller.now (state_with caller.now walk) (T.nodes tree.new) (open_files files.new) result (syscall_of call.now) }
 {
     match call {

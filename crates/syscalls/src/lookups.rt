@@ -11,9 +11,9 @@ ghost use Rattle.lookup.specs.Views.{fault_of, found_of, last_of, way_of};
 ghost use Rattle.lookup.specs.Walks as walks;
 ghost use Rattle.lookup.specs.Walks.{IsInTree, first_handled, handled};
 ghost use Rattle.process.specs.State.{ProcessState};
-ghost use Rattle.process.specs.Views.{walk_of};
+ghost use Rattle.process.specs.Views.{walking_in};
 ghost use Rattle.kernel.specs.Calls as model;
-ghost use Rattle.kernel.specs.Calls.{found_last, resumed, unless_lost};
+ghost use Rattle.kernel.specs.Calls.{found_last, resumed_one, or_fails};
 ghost use Rattle.kernel.specs.Walks.{IfOne, IfTwo};
 ghost use Rattle.rights.specs.Values.{PathText};
 ghost use Rattle.syscalls.specs.AnswerViews.{AreFound, Finds, FindsLast, LeavesNames, Refuses, RenamesIn};
@@ -83,8 +83,8 @@ fn step_of<T: Tree>(
     walk: Option<Walking>,
 ) -> Result<Found, Refusal>
     requires there { start < length (T.nodes tree.now) }
-    requires under { IfOne (IsUnderWay (T.nodes tree.now) path.now (way_of way) (last_of last)) (walk_of walk) }
-    ensures { Finds (resumed (walk_of walk) (first_handled (T.nodes tree.now) start path.now (way_of way) (last_of last)) (handled (T.nodes tree.now))) result }
+    requires under { IfOne (IsUnderWay (T.nodes tree.now) path.now (way_of way) (last_of last)) (walking_in walk) }
+    ensures { Finds (resumed_one (walking_in walk) (first_handled (T.nodes tree.now) start path.now (way_of way) (last_of last)) (handled (T.nodes tree.now))) result }
 {
     match walk {
         None => step_first(alloc, tree, start, path, way, last),
@@ -108,8 +108,8 @@ pub(crate) fn look_up<T: Tree>(
     requires tree { IsTree (T.nodes tree.now) }
     requires there { start < length (T.nodes tree.now) }
     requires opened { is_link (node (T.nodes tree.now) start).kind ≡ false }
-    requires under { IfOne (IsUnderWay (T.nodes tree.now) path.now (way_of way) (last_of last)) (walk_of walk) }
-    ensures finds { Finds (resumed (walk_of walk) (first_handled (T.nodes tree.now) start path.now (way_of way) (last_of last)) (handled (T.nodes tree.now))) result }
+    requires under { IfOne (IsUnderWay (T.nodes tree.now) path.now (way_of way) (last_of last)) (walking_in walk) }
+    ensures finds { Finds (resumed_one (walking_in walk) (first_handled (T.nodes tree.now) start path.now (way_of way) (last_of last)) (handled (T.nodes tree.now))) result }
     ensures there { IfOk result (λ found. IsFindingThere (T.nodes tree.now) (found_of found)) }
     ensures named { last ≡ Last.Keep → IfOk result (λ found. IsUnderName (T.nodes tree.now) path.now (found_of found)) }
     ensures free { IfOk result (λ found. IsFreeName (T.nodes tree.now) path.now (found_of found)) }
@@ -229,8 +229,8 @@ fn step_both_first<T: Tree>(
     requires target_there { target < length (T.nodes tree.now) }
     requires target_opened { is_link (node (T.nodes tree.now) target).kind ≡ false }
     ensures leads { (s : ProcessState) → RenamesIn (T.nodes tree.now) s (λ w p s e rest.
-        unless_lost (lookup_fault (T.nodes tree.now) start path.now lookups.Beneath lookups.Keep)
-        (unless_lost (lookup_fault (T.nodes tree.now) target new_path.now lookups.Beneath lookups.Keep)
+        or_fails (lookup_fault (T.nodes tree.now) start path.now lookups.Beneath lookups.Keep)
+        (or_fails (lookup_fault (T.nodes tree.now) target new_path.now lookups.Beneath lookups.Keep)
         (model.walked_both w p s e rest (walks.begun start path.now lookups.Beneath lookups.Keep) (walks.begun target new_path.now lookups.Beneath lookups.Keep)))) result }
     ensures found { IfOk result (AreFound (T.nodes tree.now) path.now new_path.now) }
 {
@@ -261,8 +261,8 @@ pub(crate) fn look_up_both<T: Tree>(
     requires target_there { target < length (T.nodes tree.now) }
     requires target_opened { is_link (node (T.nodes tree.now) target).kind ≡ false }
     requires under { IfTwo (IsUnderWay (T.nodes tree.now) path.now lookups.Beneath lookups.Keep)
-        (IsUnderWay (T.nodes tree.now) new_path.now lookups.Beneath lookups.Keep) (walk_of walk) }
-    ensures leads { (s : ProcessState) → s.walk ≡ walk_of walk → RenamesIn (T.nodes tree.now) s (λ w p s e rest.
+        (IsUnderWay (T.nodes tree.now) new_path.now lookups.Beneath lookups.Keep) (walking_in walk) }
+    ensures leads { (s : ProcessState) → s.walk ≡ walking_in walk → RenamesIn (T.nodes tree.now) s (λ w p s e rest.
         model.looks_twice w p s e start path.now target new_path.now rest) result }
     ensures found { IfOk result (AreFound (T.nodes tree.now) path.now new_path.now) }
 {

@@ -11,7 +11,7 @@ ghost use Rattle.lookup.specs.Answers as lookups;
 ghost use Rattle.lookup.specs.Promises.{IsFreeName, IsFindingThere, IsUnderName, MayBeMade};
 ghost use Rattle.lookup.specs.UnderWay.{IsUnderWay};
 ghost use Rattle.lookup.specs.Views.{found_of, last_of};
-ghost use Rattle.process.specs.Views.{walk_of};
+ghost use Rattle.process.specs.Views.{walking_in};
 ghost use Rattle.prog_asm.specs.Programs as programs;
 ghost use Rattle.prog_asm.specs.Programs.{Syscall, is_path};
 ghost use Rattle.prog_asm.specs.Views.{operand_of};
@@ -64,7 +64,7 @@ fn find_beneath<T: Tree>(
     walk: Option<Walking>,
 ) -> Result<Found, Refusal>
     requires ready { IsReady (T.nodes tree.now) (open_files files.now) caller.now.number }
-    requires under { IfOne (IsUnderWay (T.nodes tree.now) path.now lookups.Beneath (last_of last)) (walk_of walk) }
+    requires under { IfOne (IsUnderWay (T.nodes tree.now) path.now lookups.Beneath (last_of last)) (walking_in walk) }
     ensures leads { LooksUpIn (T.nodes tree.now) (open_files files.now) (state_with caller.now walk) (λ w p s e rest.
         answers.through (need call) ((open_files files.now).table caller.now.number (answers.value_of caller.now.process.now (operand_of operand)))
         (λ d. model.in_directory w p s e d.description (λ n. model.looks w p s e n lookups.Beneath path.now (last_of last) rest))) result }
@@ -88,7 +88,7 @@ fn find_from_root<T: Tree>(
     last: Last,
     walk: Option<Walking>,
 ) -> Result<Found, Refusal>
-    requires { IfOne (IsUnderWay (T.nodes tree.now) path.now lookups.Global (last_of last)) (walk_of walk) }
+    requires { IfOne (IsUnderWay (T.nodes tree.now) path.now lookups.Global (last_of last)) (walking_in walk) }
     ensures leads { (f : OpenFiles) → LooksUpIn (T.nodes tree.now) f (state_with caller.now walk) (λ w p s e rest.
         model.outside_mode w p s e (model.looks w p s e 0 lookups.Global path.now (last_of last) rest)) result }
     ensures there { IfOk result (λ found. IsFindingThere (T.nodes tree.now) (found_of found)) }
@@ -113,7 +113,7 @@ pub(crate) fn stat_beneath<T: Tree>(
     walk: Option<Walking>,
 ) -> Result<Success, Refusal>
     requires ready { IsReady (T.nodes tree.now) (open_files files.now) caller.now.number }
-    requires under { IfOne (IsUnderWay (T.nodes tree.now) path.now lookups.Beneath lookups.Follow) (walk_of walk) }
+    requires under { IfOne (IsUnderWay (T.nodes tree.now) path.now lookups.Beneath lookups.Follow) (walking_in walk) }
     ensures { GoesOn (T.nodes tree.now) (open_files files.now) caller.now walk (T.nodes tree.now) (open_files files.now) result (programs.Fstatat (operand_of operand) path.now) }
 {
     let call = Call::Fstatat;
@@ -134,7 +134,7 @@ pub(crate) fn stat_path<T: Tree>(
     walk: Option<Walking>,
 ) -> Result<Success, Refusal>
     requires ready { IsReady (T.nodes tree.now) (open_files files.now) caller.now.number }
-    requires under { IfOne (IsUnderWay (T.nodes tree.now) path.now lookups.Global lookups.Follow) (walk_of walk) }
+    requires under { IfOne (IsUnderWay (T.nodes tree.now) path.now lookups.Global lookups.Follow) (walking_in walk) }
     ensures { GoesOn (T.nodes tree.now) (open_files files.now) caller.now walk (T.nodes tree.now) (open_files files.now) result (programs.Stat path.now) }
 {
     match find_from_root(alloc, tree, caller, path, Last::Follow, walk) {
@@ -155,7 +155,7 @@ pub(crate) fn make_beneath<T: Tree>(
 ) -> Result<Success, Refusal>
     requires ready { IsReady (T.nodes tree.old) (open_files files.now) caller.now.number }
     requires text { is_path path.now ≡ true }
-    requires under { IfOne (IsUnderWay (T.nodes tree.old) path.now lookups.Beneath lookups.Keep) (walk_of walk) }
+    requires under { IfOne (IsUnderWay (T.nodes tree.old) path.now lookups.Beneath lookups.Keep) (walking_in walk) }
     ensures { GoesOn (T.nodes tree.old) (open_files files.now) caller.now walk (T.nodes tree.new) (open_files files.now) result (programs.Mkdirat (operand_of operand) path.now) }
 {
     let call = Call::Mkdirat;
@@ -176,7 +176,7 @@ pub(crate) fn make_path<T: Tree>(
 ) -> Result<Success, Refusal>
     requires ready { IsReady (T.nodes tree.old) (open_files files.now) caller.now.number }
     requires text { is_path path.now ≡ true }
-    requires under { IfOne (IsUnderWay (T.nodes tree.old) path.now lookups.Global lookups.Keep) (walk_of walk) }
+    requires under { IfOne (IsUnderWay (T.nodes tree.old) path.now lookups.Global lookups.Keep) (walking_in walk) }
     ensures { GoesOn (T.nodes tree.old) (open_files files.now) caller.now walk (T.nodes tree.new) (open_files files.now) result (programs.Mkdir path.now) }
 {
     match find_from_root(alloc, tree, caller, path, Last::Keep, walk) {
@@ -197,7 +197,7 @@ pub(crate) fn remove_beneath<T: Tree>(
     walk: Option<Walking>,
 ) -> Result<Success, Refusal>
     requires ready { IsReady (T.nodes tree.old) (open_files files.now) caller.now.number }
-    requires under { IfOne (IsUnderWay (T.nodes tree.old) path.now lookups.Beneath lookups.Keep) (walk_of walk) }
+    requires under { IfOne (IsUnderWay (T.nodes tree.old) path.now lookups.Beneath lookups.Keep) (walking_in walk) }
     ensures { GoesOn (T.nodes tree.old) (open_files files.now) caller.now walk (T.nodes tree.new) (open_files files.now) result (programs.Unlinkat (operand_of operand) path.now directory) }
 {
     let call = Call::Unlinkat;
@@ -218,7 +218,7 @@ pub(crate) fn remove_path<T: Tree>(
     walk: Option<Walking>,
 ) -> Result<Success, Refusal>
     requires ready { IsReady (T.nodes tree.old) (open_files files.now) caller.now.number }
-    requires under { IfOne (IsUnderWay (T.nodes tree.old) path.now lookups.Global lookups.Keep) (walk_of walk) }
+    requires under { IfOne (IsUnderWay (T.nodes tree.old) path.now lookups.Global lookups.Keep) (walking_in walk) }
     ensures { GoesOn (T.nodes tree.old) (open_files files.now) caller.now walk (T.nodes tree.new) (open_files files.now) result (programs.Unlink path.now directory) }
 {
     match find_from_root(alloc, tree, caller, path, Last::Keep, walk) {
@@ -250,7 +250,7 @@ pub(crate) fn open_path<T: Tree>(
 ) -> Result<Success, Refusal>
     requires ready { IsReady (T.nodes tree.old) (open_files files.old) caller.now.number }
     requires text { is_path path.now ≡ true }
-    requires under { IfOne (IsUnderWay (T.nodes tree.old) path.now lookups.Global (model.last_if flags.create)) (walk_of walk) }
+    requires under { IfOne (IsUnderWay (T.nodes tree.old) path.now lookups.Global (model.last_if flags.create)) (walking_in walk) }
     ensures { GoesOn (T.nodes tree.old) (open_files files.old) caller.now walk (T.nodes tree.new) (open_files files.new) result (programs.Open path.now flags) }
 {
     let found = match find_from_root(alloc, tree, caller, path, last_if(flags), walk) {
@@ -314,7 +314,7 @@ pub(crate) fn open_beneath<T: Tree>(
 ) -> Result<Success, Refusal>
     requires ready { IsReady (T.nodes tree.old) (open_files files.old) caller.now.number }
     requires text { is_path path.now ≡ true }
-    requires under { IfOne (IsUnderWay (T.nodes tree.old) path.now lookups.Beneath (model.last_if flags.create)) (walk_of walk) }
+    requires under { IfOne (IsUnderWay (T.nodes tree.old) path.now lookups.Beneath (model.last_if flags.create)) (walking_in walk) }
     ensures { GoesOn (T.nodes tree.old) (open_files files.old) caller.now walk (T.nodes tree.new) (open_files files.new) result (programs.Openat (operand_of operand) path.now flags) }
 {
     let beneath = match opening_beneath(files, caller, operand, flags) {
@@ -348,7 +348,7 @@ pub(crate) fn rename_beneath<T: Tree>(
     requires ready { IsReady (T.nodes tree.old) (open_files files.now) caller.now.number }
     requires text { is_path new_path.now ≡ true }
     requires under { IfTwo (IsUnderWay (T.nodes tree.old) path.now lookups.Beneath lookups.Keep)
-        (IsUnderWay (T.nodes tree.old) new_path.now lookups.Beneath lookups.Keep) (walk_of walk) }
+        (IsUnderWay (T.nodes tree.old) new_path.now lookups.Beneath lookups.Keep) (walking_in walk) }
     ensures { GoesOn (T.nodes tree.old) (open_files files.now) caller.now walk (T.nodes tree.new) (open_files files.now) result
         (programs.Renameat (operand_of operand) path.now (operand_of target) new_path.now) }
 {

@@ -3,7 +3,7 @@
 ghost use Rattle.std.specs.Prelude.{◌≡◌, ◌<◌, ◌+◌, [], IfOk, None, OnOk, Some, length, slice_set};
 ghost use Rattle.std.specs.List.{slice_get};
 ghost use Rattle.process.specs.State.{ProcessState};
-ghost use Rattle.process.specs.Views.{walk_of, walking_of};
+ghost use Rattle.process.specs.Views.{walking_in, walking_of};
 ghost use Rattle.rights.specs.Views.{cause_of, errno_of};
 ghost use Rattle.prog_asm.specs.Programs as programs;
 ghost use Rattle.prog_asm.specs.Views.{instruction_of, syscall_of};
@@ -95,7 +95,7 @@ fn fail(alloc: Global, process: &mut Process, otherwise: u8, errno: Errno, cause
 /// Takes what the call of a process has under way out of the process.
 fn take_walk(processes: &mut Vec<Process>, number: u8) -> Option<Walking>
     requires { number < length processes.old.items }
-    ensures taken { (s : ProcessState) → slice_get processes.old.items number ≡ Some s → walk_of result ≡ s.walk }
+    ensures taken { (s : ProcessState) → slice_get processes.old.items number ≡ Some s → walking_in result ≡ s.walk }
     ensures left { (s : ProcessState) → slice_get processes.old.items number ≡ Some s
         → processes.new.items ≡ slice_set processes.old.items number (record s { walk = None }) }
 {

@@ -5,7 +5,7 @@ use Rattle.std.proofs.lemmas.List.{nil_from_length}
 use Rattle.certificate.specs.declared.authorities.Authority.{Authority as AuthorityCode}
 use Rattle.certificate.specs.Bounds.{Authority}
 use Rattle.certificate.specs.Growth.{above_ceilings, asked_of_last, has_none, may_bound_grant}
-use Rattle.certificate.specs.Views.{authorities_of, authority_of, ceiling_of, end_of, name_of}
+use Rattle.certificate.specs.Views.{authorities_of, authority_of, ceiling_of, held_end_of, name_of}
 use Rattle.certificate.proofs.Last.{at_last, at_none}
 use Rattle.certificate.proofs.LastOnes.{asked-last, asked-none}
 use Rattle.certificate.proofs.growth.may_bound_grant.Goals as goal
@@ -23,7 +23,7 @@ none_by_length f [] false same = sym same
 none_by_length f (x ∷ xs) false same = refl
 
 asked_at_last : (authorities rest : List AuthorityCode) (last : AuthorityCode) (grant : List ℕ) → authorities ≡ rest ++ last ∷ []
-    → may_bound_grant (authorities_of authorities) grant ≡ (has_none (map end_of last.holds.items) && above_ceilings (map ceiling_of last.ceilings.items) grant)
+    → may_bound_grant (authorities_of authorities) grant ≡ (has_none (map held_end_of last.holds.items) && above_ceilings (map ceiling_of last.ceilings.items) grant)
 asked_at_last authorities rest last grant is =
     let test = λ (a : Authority). has_none a.holds && above_ceilings a.ceilings grant in
     at_last authority_of (asked_of_last false test) test (asked-last false test) authorities rest last is
@@ -33,7 +33,7 @@ returns-then-is_empty c =
     let last = c.in-Some.last.now in
     let grant = name_of c.args.grant.now in
     let counted : vec_len last.holds ≡ length last.holds.items = search rules in
-    let no_ends = none_by_length end_of last.holds.items true (sym c.if-is_empty.true ∙ c.is_empty.ensures ∙ ap (λ n. n == 0) counted) in
+    let no_ends = none_by_length held_end_of last.holds.items true (sym c.if-is_empty.true ∙ c.is_empty.ensures ∙ ap (λ n. n == 0) counted) in
     c.is_above_ceilings.ensures ∙ ap (λ ceilings. above_ceilings (map ceiling_of ceilings) grant) c.deref.ensures.value
     ∙ sym (asked_at_last c.args.authorities.now _ last grant c.in-Some.ensures.cases.0
     ∙ ap (λ b. b && above_ceilings (map ceiling_of last.ceilings.items) grant) no_ends)
@@ -43,7 +43,7 @@ returns-else-is_empty c =
     let last = c.in-Some.last.now in
     let grant = name_of c.args.grant.now in
     let counted : vec_len last.holds ≡ length last.holds.items = search rules in
-    let some_ends = none_by_length end_of last.holds.items false (sym c.if-is_empty.false ∙ c.is_empty.ensures ∙ ap (λ n. n == 0) counted) in
+    let some_ends = none_by_length held_end_of last.holds.items false (sym c.if-is_empty.false ∙ c.is_empty.ensures ∙ ap (λ n. n == 0) counted) in
     c.if-is_empty.false
     ∙ sym (asked_at_last c.args.authorities.now _ last grant c.in-Some.ensures.cases.0
     ∙ ap (λ b. b && above_ceilings (map ceiling_of last.ceilings.items) grant) some_ends)

@@ -1,5 +1,5 @@
 use Rattle.std.proofs.Common.{drop, map}
-use Rattle.certificate.specs.Views.{end_of}
+use Rattle.certificate.specs.Views.{held_end_of}
 use Rattle.certificate_text.specs.Pieces.{in_order, end_text}
 use Rattle.certificate_text.proofs.Written.{Written}
 use Rattle.certificate_text.proofs.writing.write_ends.Given as goal
@@ -8,4 +8,4 @@ use Rattle.certificate_text.proofs.writing.write_ends.Given as goal
 abbrev pub invariant-loop-held : goal.invariant-loop-held
 invariant-loop-held g l =
     Written (g.W.Out.taken l.fn.out) (g.W.Out.taken l.out) (g.W.Out.faults l.fn.out) (g.W.Out.faults l.out)
-    (in_order (λ n. end_text) 0 (map end_of l.holds)) (in_order (λ n. end_text) l.held-index (map end_of (drop l.held-index l.holds)))
+    (in_order (λ n. end_text) 0 (map held_end_of l.holds)) (in_order (λ n. end_text) l.held-index (map held_end_of (drop l.held-index l.holds)))

@@ -2,7 +2,7 @@ use Rattle.std.proofs.Common.{◌≡◌, Some, None, ap, ◌∙◌}
 use Rattle.lookup.specs.Answers.{Beneath, Keep}
 use Rattle.lookup.specs.UnderWay.{IsUnderWay}
 use Rattle.lookup.proofs.UnderWay.{under_way_in_tree}
-use Rattle.process.specs.Views.{walk_of}
+use Rattle.process.specs.Views.{walking_in}
 use Rattle.kernel.specs.Calls.{looks_twice, renamed_from, walked_both}
 use Rattle.syscalls.specs.Views.{world_with}
 use Rattle.syscalls.proofs.Walked.{both_first, looks_none, looks_one, looks_two, renames_as, two_are}
@@ -11,7 +11,7 @@ use Rattle.syscalls.proofs.lookups.look_up_both.Goals as goal
 pub returns-in-None-clause-leads : goal.returns-in-None-clause-leads
 returns-in-None-clause-leads g c = λ s same f processes p e.
     let w = world_with (g.T.Tree.nodes c.args.tree.now) f processes in
-    let is : s.walk ≡ None = same ∙ ap walk_of c.in-None.is in
+    let is : s.walk ≡ None = same ∙ ap walking_in c.in-None.is in
     renames_as (λ rest. looks_twice w p s e c.args.start c.args.path.now c.args.target c.args.new_path.now rest)
     (both_first w p s e c.args.start c.args.path.now c.args.target c.args.new_path.now) (renamed_from w p s e) c.step_both_first.result
     (λ rest. looks_none w p s e c.args.start c.args.path.now c.args.target c.args.new_path.now rest is) (c.step_both_first.ensures.leads s f processes p e)
@@ -19,7 +19,7 @@ returns-in-None-clause-leads g c = λ s same f processes p e.
 pub returns-in-One-clause-leads : goal.returns-in-One-clause-leads
 returns-in-One-clause-leads g c = λ s same f processes p e.
     let w = world_with (g.T.Tree.nodes c.args.tree.now) f processes in
-    let is = same ∙ ap walk_of (c.in-Some.is ∙ ap Some c.in-One.is) in
+    let is = same ∙ ap walking_in (c.in-Some.is ∙ ap Some c.in-One.is) in
     renames_as (λ rest. looks_twice w p s e c.args.start c.args.path.now c.args.target c.args.new_path.now rest)
     (both_first w p s e c.args.start c.args.path.now c.args.target c.args.new_path.now) (renamed_from w p s e) c.step_both_first-in-One.result
     (λ rest. looks_one w p s e c.args.start c.args.path.now c.args.target c.args.new_path.now rest c.in-One.field-0 is) (c.step_both_first-in-One.ensures.leads s f processes p e)
@@ -41,7 +41,7 @@ step_both-requires-clause-other g c =
 pub returns-clause-leads : goal.returns-clause-leads
 returns-clause-leads g c = λ s same f processes p e.
     let w = world_with (g.T.Tree.nodes c.args.tree.now) f processes in
-    let is = same ∙ ap walk_of (c.in-Some.is ∙ ap Some c.in-Two.is) in
+    let is = same ∙ ap walking_in (c.in-Some.is ∙ ap Some c.in-Two.is) in
     renames_as (λ rest. looks_twice w p s e c.args.start c.args.path.now c.args.target c.args.new_path.now rest)
     (λ rest. walked_both w p s e rest c.in-Two.one c.in-Two.other) (renamed_from w p s e) c.step_both.result
     (λ rest. looks_two w p s e c.args.start c.args.path.now c.args.target c.args.new_path.now rest c.in-Two.one c.in-Two.other is) (c.step_both.ensures.leads s f processes p e)

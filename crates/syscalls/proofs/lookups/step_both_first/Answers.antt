@@ -6,7 +6,7 @@ use Rattle.lookup.specs.Views.{fault_of}
 use Rattle.lookup.specs.Walks.{begun}
 use Rattle.lookup.proofs.UnderWay.{begun_under_way}
 use Rattle.kernel.specs.Answers.{Answer}
-use Rattle.kernel.specs.Calls.{renamed_from, unless_lost, walked_both}
+use Rattle.kernel.specs.Calls.{renamed_from, or_fails, walked_both}
 use Rattle.syscalls.specs.AnswerViews.{Refuses}
 use Rattle.syscalls.specs.Views.{world_with}
 use Rattle.syscalls.proofs.Walked.{renames_as, told_lost}
@@ -20,8 +20,8 @@ returns-in-Err-clause-leads g c = λ s f processes p e rest tells.
 pub returns-in-Err-begin-clause-leads : goal.returns-in-Err-begin-clause-leads
 returns-in-Err-begin-clause-leads g c = λ s f processes p e rest tells.
     let refused = c.refusal_of-in-Err-begin.result in
-    let other = unless_lost (lookup_fault (g.T.Tree.nodes c.args.tree.now) c.args.target c.args.new_path.now Beneath Keep) _ in
-    subst (λ fault. Refuses refused (unless_lost fault other)) (sym c.in-Ok.ensures.allowed)
+    let other = or_fails (lookup_fault (g.T.Tree.nodes c.args.tree.now) c.args.target c.args.new_path.now Beneath Keep) _ in
+    subst (λ fault. Refuses refused (or_fails fault other)) (sym c.in-Ok.ensures.allowed)
     (told_lost refused (lookup_fault (g.T.Tree.nodes c.args.tree.now) c.args.target c.args.new_path.now Beneath Keep) (fault_of c.in-Err-begin.fault) _ c.refusal_of-in-Err-begin.ensures
     c.in-Err-begin.ensures.refused)
 
@@ -31,11 +31,11 @@ returns-clause-leads g c = λ s f processes p e.
     let w = world_with t f processes in
     let one = begun c.args.start c.args.path.now Beneath Keep in
     let other = begun c.args.target c.args.new_path.now Beneath Keep in
-    renames_as (λ rest. unless_lost (lookup_fault t c.args.start c.args.path.now Beneath Keep)
-    (unless_lost (lookup_fault t c.args.target c.args.new_path.now Beneath Keep) (walked_both w p s e rest one other)))
+    renames_as (λ rest. or_fails (lookup_fault t c.args.start c.args.path.now Beneath Keep)
+    (or_fails (lookup_fault t c.args.target c.args.new_path.now Beneath Keep) (walked_both w p s e rest one other)))
     (λ rest. walked_both w p s e rest c.in-Ok.walk c.in-Ok-begin.walk) (renamed_from w p s e) c.step_both.result
-    (λ rest. ap (λ fault. unless_lost fault (unless_lost (lookup_fault t c.args.target c.args.new_path.now Beneath Keep) (walked_both w p s e rest one other))) c.in-Ok.ensures.allowed
-    ∙ ap (λ fault. unless_lost fault (walked_both w p s e rest one other)) c.in-Ok-begin.ensures.allowed
+    (λ rest. ap (λ fault. or_fails fault (or_fails (lookup_fault t c.args.target c.args.new_path.now Beneath Keep) (walked_both w p s e rest one other))) c.in-Ok.ensures.allowed
+    ∙ ap (λ fault. or_fails fault (walked_both w p s e rest one other)) c.in-Ok-begin.ensures.allowed
     ∙ ap (λ first. walked_both w p s e rest first other) (sym c.in-Ok.ensures.begun)
     ∙ ap (λ second. walked_both w p s e rest c.in-Ok.walk second) (sym c.in-Ok-begin.ensures.begun))
     (c.step_both.ensures.leads s f processes p e)

@@ -4,8 +4,8 @@ use Rattle.fd_table.specs.Kept.{open_files}
 use Rattle.lookup.specs.Answers.{Beneath, Last}
 use Rattle.lookup.specs.Views.{found_of}
 use Rattle.lookup.specs.Walks.{first_handled, handled}
-use Rattle.process.specs.Views.{walk_of}
-use Rattle.kernel.specs.Calls.{answer, last_if, looks, opened, resumed, walked}
+use Rattle.process.specs.Views.{walking_in}
+use Rattle.kernel.specs.Calls.{answer, last_if, looks, opened, resumed_one, walked}
 use Rattle.syscalls.specs.AnswerViews.{Finds, Meets, Refuses, state_with}
 use Rattle.syscalls.specs.Views.{world_with}
 use Rattle.syscalls.proofs.Finding.{refused_alone, refused_look}
@@ -36,7 +36,7 @@ returns-in-Err-look_up g c = λ processes e same.
     let dir = c.in-Ok-directory_of.dir in
     let path = c.args.path.now in
     let refused = c.in-Err-look_up.refused in
-    let event = λ (last : Last). resumed (walk_of c.args.walk) (first_handled t dir path Beneath last) (handled t) in
+    let event = λ (last : Last). resumed_one (walking_in c.args.walk) (first_handled t dir path Beneath last) (handled t) in
     refused_alone refused w _ _ _
     (subst (Refuses refused) (sym (c.in-Ok.ensures.passes _ ∙ c.in-Ok-directory_of.ensures.passes processes p s e _))
     (refused_look refused (event (last_if c.args.flags.create)) (opened w p s e c.args.flags how.rights.0 how.fcntls.0 path) (λ fault. refl)
@@ -54,7 +54,7 @@ returns-in-Ok-look_up g c = λ processes e same.
     let dir = c.in-Ok-directory_of.dir in
     let path = c.args.path.now in
     let found = found_of c.in-Ok-look_up.found in
-    let event = λ (last : Last). resumed (walk_of c.args.walk) (first_handled t dir path Beneath last) (handled t) in
+    let event = λ (last : Last). resumed_one (walking_in c.args.walk) (first_handled t dir path Beneath last) (handled t) in
     let after = Meets w p (g.T.Tree.nodes c.open_found.new.tree) (open_files c.open_found.new.files) c.open_found.result in
     subst after
     (sym (c.in-Ok.ensures.passes _ ∙ c.in-Ok-directory_of.ensures.passes processes p s e _

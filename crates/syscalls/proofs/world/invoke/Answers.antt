@@ -3,7 +3,7 @@ use Rattle.std.specs.Prelude.{None, Some}
 use Rattle.std.specs.List.{slice_get}
 use Rattle.fd_table.specs.Kept.{open_files}
 use Rattle.process.specs.State.{ProcessState}
-use Rattle.process.specs.Views.{walk_of}
+use Rattle.process.specs.Views.{walking_in}
 use Rattle.prog_asm.specs.Views.{syscall_of}
 use Rattle.kernel.specs.Calls.{answer}
 use Rattle.syscalls.specs.AnswerViews.{Meets}
@@ -47,7 +47,7 @@ pub perform-came-requires-clause-fits : goal.perform-came-requires-clause-fits
 perform-came-requires-clause-fits g c =
     let s = c.requires.process in
     let f = open_files c.args.world.now.files in
-    fits_rested (g.T.Tree.nodes c.args.world.now.tree) f (f.table c.args.number) s c.index.result.now (syscall_of c.args.call.now) (walk_of c.take_walk-walk.result)
+    fits_rested (g.T.Tree.nodes c.args.world.now.tree) f (f.table c.args.number) s c.index.result.now (syscall_of c.args.call.now) (walking_in c.take_walk-walk.result)
     (stands_rested c.args.world.now.processes.items c.take_walk-walk.new.processes.items c.args.number s c.requires.made (c.take_walk-walk.ensures.left s c.requires.made)
     c.index.result.now c.index.ensures)
     (c.take_walk-walk.ensures.taken s c.requires.made) c.requires.fits
@@ -76,7 +76,7 @@ returns g c =
     let call = syscall_of c.args.call.now in
     let after = g.T.Tree.nodes c.perform-came.new.tree in
     let open_after = open_files c.perform-came.new.files in
-    let whole = whole_again s c.index.result.now (walk_of c.take_walk-walk.result) (stands_rested processes others p s made left c.index.result.now c.index.ensures)
+    let whole = whole_again s c.index.result.now (walking_in c.take_walk-walk.result) (stands_rested processes others p s made left c.index.result.now c.index.ensures)
       (c.take_walk-walk.ensures.taken s made) in
     let meets = subst (λ x. Meets (world_with t f processes) p after open_after c.perform-came.result (answer (world_with t f processes) p x e call)) whole
       (c.perform-came.ensures processes e refl (sym (c.len.ensures ∙ c.take_walk-walk.new.processes.ok.0 ∙ as_many processes others p s made left))) in
