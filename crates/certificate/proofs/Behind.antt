@@ -11,7 +11,8 @@ use Rattle.certificate.specs.Order.{same_class}
 use Rattle.certificate.specs.Bounds.{Authority, Ceiling, End, Certificate, ChannelBound, PointBound, Version, has_authorities}
 use Rattle.certificate.specs.Lines.{Line, Begins_block, Bounds_register, Bounds_slot, Bounds_channel, Begins_authority, Bounds_grant, Holds_end, authority_lines, is_of_version, rest_lines}
 use Rattle.certificate.specs.Growth.{IsCertificate, begins, grows, above_blocks, above_ceilings, above_channels, above_ends, classes_held, classes_in_line, classes_of, classes_of_ends}
-use Rattle.certificate.specs.Growth.{distinct, distinct_behind, has_none, most_classes, may_bound_register, may_bound_slot, open_authority, programs_in_line, programs_named, programs_of_authority, programs_of_block}
+use Rattle.certificate.specs.Growth.{distinct, distinct_behind, has_none, most_classes, may_bound_register, may_bound_slot, open_authority, programs_in_line, programs_named}
+use Rattle.certificate.specs.Growth.{programs_of_authority, programs_of_block}
 use Rattle.certificate.specs.Growth.{programs_of_channel, programs_of_end, stands, with_ceiling, with_held_end, with_line}
 use Rattle.certificate.proofs.LastOnes.{behind_nothing, none, told_kept, told_more}
 use Rattle.certificate.proofs.Growing.{and_left, and_right, le_true, taken-back, taken_keeps}

@@ -9,7 +9,8 @@ use Rattle.std.proofs.lemmas.List.{length_push, map-append}
 use Rattle.std.proofs.lemmas.List.Folds.{list_all-append}
 use Rattle.std.proofs.Math.Seq.{set-append_seam}
 use Rattle.rights.specs.Limits.{most_descriptors, most_programs, register_count}
-use Rattle.certificate.specs.Bounds.{ModeBound, Interval, Slot, Closed, Open, Maybe, Bound, PointBound, ChannelBound, Ceiling, End, Authority, Version, Certificate, full_interval, with_interval, with_slot}
+use Rattle.certificate.specs.Bounds.{ModeBound, Interval, Slot, Closed, Open, Maybe, Bound, PointBound, ChannelBound, Ceiling, End, Authority, Version, Certificate, full_interval, with_interval}
+use Rattle.certificate.specs.Bounds.{with_slot}
 use Rattle.certificate.specs.Order.{same_class}
 use Rattle.certificate.specs.Lines.{Line, Begins_block, Bounds_register, Bounds_slot, Bounds_channel, Begins_authority, Bounds_grant, Holds_end, authority_lines, block_lines, is_closed, is_full}
 use Rattle.certificate.specs.Lines.{register_lines, rest_lines, slot_lines}

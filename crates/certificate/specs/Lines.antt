@@ -6,7 +6,8 @@ use Rattle.rights.specs.Classes.{Class, Initial, Made_at}
 use Rattle.rights.specs.Limits.{most_descriptors, most_instructions, most_pairs, register_count}
 use Rattle.rights.specs.Sets.{all_commands, all_rights, is_within}
 use Rattle.texts.specs.Names.{is_name}
-use Rattle.certificate.specs.Bounds.{ModeBound, Interval, full_interval, Target, In_grant, Any_node, Socket, Unknown, Held, Slot, Closed, Open, Maybe, PointBound, ChannelBound, Ceiling, End, Authority, Version, Certificate, has_authorities, held_in}
+use Rattle.certificate.specs.Bounds.{ModeBound, Interval, full_interval, Target, In_grant, Any_node, Socket, Unknown, Held, Slot, Closed, Open, Maybe, PointBound, ChannelBound, Ceiling, End}
+use Rattle.certificate.specs.Bounds.{Authority, Version, Certificate, has_authorities, held_in}
 
 -- The block of a point begins, with its mode; then a register of it isn't full, then a slot of it isn't closed; what one
 -- side of a class of pairs sends; and the authority of a program begins, then a ceiling of it, then an end that it may hold.

@@ -11,7 +11,8 @@ use Rattle.certificate.specs.Growth.{IsCertificate, begins, grows, all_from, has
 use Rattle.certificate.specs.Growth.{taken, with_line}
 use Rattle.certificate.proofs.LastOnes.{behind_nothing}
 use Rattle.certificate.proofs.Behind.{block_stands, is_behind_blocks, no_authorities, no_channels, rest_grows}
-use Rattle.certificate.specs.Lines.{Line, Begins_block, Bounds_register, Bounds_slot, Bounds_channel, Begins_authority, Bounds_grant, Holds_end, authority_lines, block_lines, is_bound_slot, is_closed, is_full, is_line, lines_of, register_lines, rest_lines}
+use Rattle.certificate.specs.Lines.{Line, Begins_block, Bounds_register, Bounds_slot, Bounds_channel, Begins_authority, Bounds_grant, Holds_end, authority_lines, block_lines, is_bound_slot}
+use Rattle.certificate.specs.Lines.{is_closed, is_full, is_line, lines_of, register_lines, rest_lines}
 use Rattle.certificate.specs.Lines.{slot_lines}
 
 -- each block has eight registers and sixteen slots

@@ -19,8 +19,10 @@ use Rattle.texts.specs.Parts.{joined, parts}
 use Rattle.texts.proofs.HexTexts.{digits-hex, hex-back}
 use Rattle.texts.proofs.NumberTexts.{digits-decimal, number-decimal}
 use Rattle.texts.proofs.WordLaws.{lacks, lacks-by, parts-joined, parts-more, parts-one}
-use Rattle.certificate.specs.Bounds.{ModeBound, Off, On, Either, Interval, Target, In_grant, Any_node, Socket, Unknown, Held, Slot, Closed, Open, Maybe, Version, One, Two, Three, full_interval, has_authorities, held_in}
-use Rattle.certificate.specs.Lines.{Line, Begins_block, Bounds_register, Bounds_slot, Bounds_channel, Begins_authority, Bounds_grant, Holds_end, are_held, are_named, are_numbered, is_bound_slot, is_held_bound, is_interval, is_line}
+use Rattle.certificate.specs.Bounds.{ModeBound, Off, On, Either, Interval, Target, In_grant, Any_node, Socket, Unknown, Held, Slot, Closed, Open, Maybe, Version, One, Two, Three, full_interval}
+use Rattle.certificate.specs.Bounds.{has_authorities, held_in}
+use Rattle.certificate.specs.Lines.{Line, Begins_block, Bounds_register, Bounds_slot, Bounds_channel, Begins_authority, Bounds_grant, Holds_end, are_held, are_named, are_numbered, is_bound_slot}
+use Rattle.certificate.specs.Lines.{is_held_bound, is_interval, is_line}
 use Rattle.certificate.specs.Lines.{is_ceiling, is_of_version, is_named_class, is_named_target, is_numbered_class, is_numbered_target, is_range}
 use Rattle.certificate_text.specs.Faults.{Fault, Syntax, Limit, both, formed, with_part}
 use Rattle.certificate_text.specs.Readings.{line_of_text}

@@ -44,7 +44,8 @@ use Rattle.kernel.specs.Walks.{FitsLookups, FitsIfWalking, IfOne, IfTwo, IsDirec
 use Rattle.kernel.proofs.FittingWalks.{both_under, directory_under, root_under}
 use Rattle.kernel.proofs.Looking.{IsEvent, looks_any, looks_twice_any}
 use Rattle.kernel.proofs.Lookups.{moved_over, path_bytes}
-use Rattle.kernel.proofs.Brings.{Ground, Known, Brings, Sound, free_low, second_low, directory_kind, file_kind, no_directory, sound-fails, sound-waits, sound-gives, sound-walks, sound-unless, sound-if}
+use Rattle.kernel.proofs.Brings.{Ground, Known, Brings, Sound, free_low, second_low, directory_kind, file_kind, no_directory, sound-fails, sound-waits, sound-gives, sound-walks, sound-unless}
+use Rattle.kernel.proofs.Brings.{sound-if}
 use Rattle.kernel.proofs.Brings.{sound-held, sound-object, sound-number, sound-lookup_fails}
 
 dir_opened : (kind : Kind) → is_dir kind ≡ true → is_link kind ≡ false
@@ -392,7 +393,8 @@ module _ (programs : Programs) (g : Ground) (standing : Standing programs g) (p 
   sound (Openat x path f) valid fits left =
       sound-start (value_of s x) _ (λ d is fine. sound-unless g _ _ _ _ (λ has.
       sound-directory d _ fine (λ n opened dir.
-      sound-looks _ _ _ _ _ opened (directory_under w.tree w.files.objects (w.files.table p) s (Openat x path f) x path (last_if f.create) s.walk refl fits) (λ walk under. left (One walk) (is_start _ d is dir, under)) (λ found sure.
+      sound-looks _ _ _ _ _ opened (directory_under w.tree w.files.objects (w.files.table p) s (Openat x path f) x path (last_if f.create) s.walk refl fits)
+        (λ walk under. left (One walk) (is_start _ d is dir, under)) (λ found sure.
       sound-opened f d.rights d.fcntls path found fine.0.rights fine.0.fcntls (path_bytes path (both_right (is_operand x) _ (both_left _ _ valid))) sure.vacant))))
   sound (Read x) valid fits left =
       sound-entry (value_of s x) _ (λ d low fine. sound-unless g _ _ _ _ (λ has.
@@ -445,14 +447,17 @@ module _ (programs : Programs) (g : Ground) (standing : Standing programs g) (p 
   sound (Fstatat x path) valid fits left =
       sound-start (value_of s x) _ (λ d is fine. sound-unless g _ _ _ _ (λ has.
       sound-directory d _ fine (λ n opened dir.
-      sound-looks _ _ _ _ _ opened (directory_under w.tree w.files.objects (w.files.table p) s (Fstatat x path) x path Follow s.walk refl fits) (λ walk under. left (One walk) (is_start _ d is dir, under)) (λ found sure. sound-looked_at found))))
+      sound-looks _ _ _ _ _ opened (directory_under w.tree w.files.objects (w.files.table p) s (Fstatat x path) x path Follow s.walk refl fits)
+        (λ walk under. left (One walk) (is_start _ d is dir, under)) (λ found sure. sound-looked_at found))))
   sound (Stat path) valid fits left =
       sound-unless g _ _ _ _ (λ outside.
-      sound-looks _ _ _ _ _ root_opened (root_under w.tree w.files.objects (w.files.table p) s (Stat path) path Follow s.walk refl fits) (λ walk is. left (One walk) is) (λ found sure. sound-looked_at found))
+      sound-looks _ _ _ _ _ root_opened (root_under w.tree w.files.objects (w.files.table p) s (Stat path) path Follow s.walk refl fits) (λ walk is. left (One walk) is)
+        (λ found sure. sound-looked_at found))
   sound (Mkdirat x path) valid fits left =
       sound-start (value_of s x) _ (λ d is fine. sound-unless g _ _ _ _ (λ has.
       sound-directory d _ fine (λ n opened dir.
-      sound-looks _ _ _ _ _ opened (directory_under w.tree w.files.objects (w.files.table p) s (Mkdirat x path) x path Keep s.walk refl fits) (λ walk under. left (One walk) (is_start _ d is dir, under)) (λ found sure.
+      sound-looks _ _ _ _ _ opened (directory_under w.tree w.files.objects (w.files.table p) s (Mkdirat x path) x path Keep s.walk refl fits)
+        (λ walk under. left (One walk) (is_start _ d is dir, under)) (λ found sure.
       sound-made_directory path found (path_bytes path (both_right (is_operand x) _ valid)) sure.vacant))))
   sound (Mkdir path) valid fits left =
       sound-unless g _ _ _ _ (λ outside.
@@ -461,7 +466,8 @@ module _ (programs : Programs) (g : Ground) (standing : Standing programs g) (p 
   sound (Unlinkat x path directory) valid fits left =
       sound-start (value_of s x) _ (λ d is fine. sound-unless g _ _ _ _ (λ has.
       sound-directory d _ fine (λ n opened dir.
-      sound-looks _ _ _ _ _ opened (directory_under w.tree w.files.objects (w.files.table p) s (Unlinkat x path directory) x path Keep s.walk refl fits) (λ walk under. left (One walk) (is_start _ d is dir, under)) (λ found sure.
+      sound-looks _ _ _ _ _ opened (directory_under w.tree w.files.objects (w.files.table p) s (Unlinkat x path directory) x path Keep s.walk refl fits)
+        (λ walk under. left (One walk) (is_start _ d is dir, under)) (λ found sure.
       sound-unlinked directory path found sure.there (sure.named refl)))))
   sound (Unlink path directory) valid fits left =
       sound-unless g _ _ _ _ (λ outside.

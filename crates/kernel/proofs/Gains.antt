@@ -11,7 +11,8 @@ use Rattle.process.specs.State.{ProcessState, ended, forked}
 use Rattle.prog_asm.specs.Programs.{Syscall, Fork, Instruction, Set, Mov, Add, In, Jmp, Jeq, Jlt, Halt, Invoke}
 use Rattle.fd_table.specs.Descriptions.{Descriptor, Message, descriptor_of, IfHeld, EachPassed}
 use Rattle.kernel.specs.World.{World, Choice}
-use Rattle.kernel.specs.Answers.{Event, TableChange, Same_table, Set_entry, Clear_entry, New_file, New_pair, New_process, QueueChange, Same_queue, Push, Pop, Change, Answer, Fails, Waits, Gives, Walks}
+use Rattle.kernel.specs.Answers.{Event, TableChange, Same_table, Set_entry, Clear_entry, New_file, New_pair, New_process, QueueChange, Same_queue, Push, Pop, Change, Answer, Fails, Waits, Gives}
+use Rattle.kernel.specs.Answers.{Walks}
 use Rattle.kernel.specs.Calls.{answer}
 use Rattle.kernel.specs.Changes.{table_after, queue_after, given, processes_after, files_after, changed}
 use Rattle.kernel.specs.Origins.{Caller, calls, calls_at, calls_by, caller_of, IsMade, ComesFrom, stood, was_made, was_copied, IsSent, QueuedFrom, had_waited, was_sent, origin}
@@ -159,7 +160,8 @@ module _ (w : World) (e : Event) (choice : Choice) (caller : Option Caller) wher
     halt_gains =
         let none : ℕ → Option Descriptor = λ n. None in
         record {
-          modes = λ m. subst (λ o. StaysIn o (slice_get w.processes m) (slice_get (slice_set w.processes e.process (ended s)) m)) (sym there) (modes_set w.processes e.process s (ended s) there (λ on. on) m);
+          modes = λ m. subst (λ o. StaysIn o (slice_get w.processes m) (slice_get (slice_set w.processes e.process (ended s)) m)) (sym there)
+              (modes_set w.processes e.process s (ended s) there (λ on. on) m);
           entries = λ q n. put-cases (λ (row : ℕ → Option Descriptor). IfHeld (ComesFrom w caller q n) (row n)) w.files.table e.process none q (λ _. tt) (λ _. entry_stays w caller q n);
           messages = queue_waits w caller;
         }

@@ -18,7 +18,8 @@ use Rattle.kernel.specs.World.{World, Choice, IsFresh}
 use Rattle.kernel.specs.Answers.{TreeChange, TableChange, Same_table, Set_entry, Clear_entry, New_file, New_pair, New_process, operand_value, value_of}
 use Rattle.kernel.specs.Changes.{tree_after, objects_after, table_after, processes_after}
 use Rattle.kernel.specs.Steps.{Programs, with_process, halted}
-use Rattle.kernel.specs.Walks.{FitsLookups, FitsIfWalking, From_directories, From_directory, From_root, IsDirectory, IsDirectoryOf, IsWalker, IsWalkerIfMade, Lookups, No_path, call_in, lookups_of, under_way}
+use Rattle.kernel.specs.Walks.{FitsLookups, FitsIfWalking, From_directories, From_directory, From_root, IsDirectory, IsDirectoryOf, IsWalker, IsWalkerIfMade, Lookups, No_path, call_in}
+use Rattle.kernel.specs.Walks.{lookups_of, under_way}
 use Rattle.kernel.specs.WellFormed.{Numbering, IsWorld}
 use Rattle.kernel.proofs.Brings.{ground, Known}
 use Rattle.kernel.proofs.Fresh.{IsApart, known_entries}
@@ -126,7 +127,8 @@ module _ (programs : Programs) (w : World) (walkers : AreWalkers programs w) (p 
       fits_on : FitsIfWalking w.tree w.files.objects (w.files.table p) (record t { walk = Some walking }) (under_way programs t) (Some walking)
       fits_on =
           subst (λ o. FitsIfWalking w.tree w.files.objects (w.files.table p) (record t { walk = Some walking }) o (Some walking)) (sym here)
-          (fits_later w.tree w.tree w.files.objects w.files.objects (w.files.table p) (w.files.table p) t (record t { walk = Some walking }) (λ n opened. refl) (λ n d is. refl) (λ n. refl) refl (lookups_of call) walking fits)
+          (fits_later w.tree w.tree w.files.objects w.files.objects (w.files.table p) (w.files.table p) t (record t { walk = Some walking }) (λ n opened. refl) (λ n d is. refl) (λ n. refl)
+            refl (lookups_of call) walking fits)
 
       is : IsWalker programs w.tree w.files.objects (w.files.table p) (record t { walk = Some walking })
       is = record { lives = λ gone. absurd (let clash : true ≡ false = sym alive ∙ gone in cc); fits = fits_on }

@@ -18,7 +18,8 @@ use Rattle.prog_asm.specs.Programs.{Instruction, Set, Mov, Add, In, Jmp, Jeq, Jl
 use Rattle.prog_asm.specs.Programs.{Syscall, Open, Openat, Fstatat, Stat, Mkdirat, Mkdir, Unlinkat, Unlink, Renameat}
 use Rattle.fd_table.specs.Descriptions.{Access, Object, At_node, At_end, Descriptor}
 use Rattle.kernel.specs.World.{World, Choice, IsFresh}
-use Rattle.kernel.specs.Answers.{Event, AreEvents, TableChange, Same_table, Set_entry, Clear_entry, New_file, New_pair, New_process, Answer, Fails, Waits, Gives, Walks, unless, held, at_object, at_number, lookup_fails, value_of}
+use Rattle.kernel.specs.Answers.{Event, AreEvents, TableChange, Same_table, Set_entry, Clear_entry, New_file, New_pair, New_process, Answer, Fails, Waits, Gives, Walks, unless, held, at_object}
+use Rattle.kernel.specs.Answers.{at_number, lookup_fails, value_of}
 use Rattle.kernel.specs.Calls.{answer, in_directory, last_if, looks, looks_twice, made_directory, no_request, opened, opened_as, renamed_from, renamed_over, renamed_to, stats_at, unlinks}
 use Rattle.kernel.specs.Changes.{changed, files_after, given, processes_after, table_after}
 use Rattle.kernel.specs.Steps.{Programs, answered, executed, failed, goes_on, halted, jumped, register, step, stepped, stepped_at, stepped_by, with_process, with_register}

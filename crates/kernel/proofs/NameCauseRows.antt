@@ -208,7 +208,8 @@ unfolding ℕ_discrete base created removed filled first_handled handled looks l
 renameat_asks_the_right_to_replace_first = refl
 
 -- a directory over a file below it
-renameat_asks_into_itself_before_the_kinds : answer (holding (root ∷ dir ∷ []) (all 0 ∷ all 1 ∷ [])) 0 free_process quiet (Renameat (Number 0) (codes "work") (Number 1) (codes "in")) ≡ Fails EINVAL Path
+renameat_asks_into_itself_before_the_kinds : answer (holding (root ∷ dir ∷ []) (all 0 ∷ all 1 ∷ [])) 0 free_process quiet (Renameat (Number 0) (codes "work") (Number 1) (codes "in")) ≡
+    Fails EINVAL Path
 unfolding ℕ_discrete base created removed filled first_handled handled looks looks_twice lookup_fault path_fault path_components last_component
     by_nodes node_at child_of parent_of unless held at_object at_number any_below lowest_from answer
 renameat_asks_into_itself_before_the_kinds = refl
@@ -221,7 +222,8 @@ unfolding ℕ_discrete base created removed filled first_handled handled looks l
 renameat_asks_into_itself_before_what_is_below = refl
 
 -- a file over a directory that isn't empty
-renameat_asks_the_kinds_before_what_is_below : answer (holding (dir ∷ root ∷ []) (all 0 ∷ all 1 ∷ [])) 0 free_process quiet (Renameat (Number 0) (codes "in") (Number 1) (codes "workshop")) ≡ Fails EISDIR Path
+renameat_asks_the_kinds_before_what_is_below : answer (holding (dir ∷ root ∷ []) (all 0 ∷ all 1 ∷ [])) 0 free_process quiet (Renameat (Number 0) (codes "in") (Number 1) (codes "workshop"))
+    ≡ Fails EISDIR Path
 unfolding ℕ_discrete base created removed filled first_handled handled looks looks_twice lookup_fault path_fault path_components last_component
     by_nodes node_at child_of parent_of unless held at_object at_number any_below lowest_from answer
 renameat_asks_the_kinds_before_what_is_below = refl

@@ -128,7 +128,8 @@ module _ (r : Renaming) (programs : Programs) (valid : ArePrograms programs) (nu
   answered_alike s otherwise (Gives value change effects) brings = record { world = changed_alike s value change brings; outcome = refl; effects = refl }
   answered_alike s otherwise (Walks walking) brings = record { world = process_alike (record s { walk = Some walking }); outcome = refl; effects = refl }
 
-  executed_alike : (s : ProcessState) (i : Instruction) → slice_get w.processes e.process ≡ Some s → slice_get (programs s.program) s.point ≡ Some i → SameDone r (executed w e j s i) (executed other e k s i)
+  executed_alike : (s : ProcessState) (i : Instruction) → slice_get w.processes e.process ≡ Some s → slice_get (programs s.program) s.point ≡ Some i →
+      SameDone r (executed w e j s i) (executed other e k s i)
   unfolding executed
   executed_alike s (Set register value) made here = plain_alike _
   executed_alike s (Mov register source) made here = plain_alike _
@@ -151,7 +152,8 @@ module _ (r : Renaming) (programs : Programs) (valid : ArePrograms programs) (nu
       e.process s e call (both_left _ _ (placed (programs s.program) s.point (Invoke call otherwise) (valid s.program) here).fits)
       (walk_fits programs w walkers e.process s call otherwise made here) (λ walking fits. tt)))
 
-  at_alike : (s : ProcessState) (o : Option Instruction) → slice_get w.processes e.process ≡ Some s → slice_get (programs s.program) s.point ≡ o → SameStep r (stepped_at w e j s o) (stepped_at other e k s o)
+  at_alike : (s : ProcessState) (o : Option Instruction) → slice_get w.processes e.process ≡ Some s → slice_get (programs s.program) s.point ≡ o →
+      SameStep r (stepped_at w e j s o) (stepped_at other e k s o)
   unfolding stepped_at
   at_alike s None made here = record { line = refl; world = same_world }
   at_alike s (Some i) made here =

@@ -152,7 +152,8 @@ unfolding assembly_of line_read written_at syscall_at register_at number_at oper
 walks_beside_another = refl
 
 -- the other process closes its own copy of the directory
-goes_on_where_another_closes : trace (programs_of (code_of (assembly_of (codes "fork else e\njeq r0 0 c\nopenat 0 \"out/f\" read else e\nhalt\nc: close 0 else e\ne: halt\n")) ∷ [])) (alone deeper []) 0 (turns (0 ∷ 0 ∷ 0 ∷ 1 ∷ 1 ∷ 0 ∷ [])) ≡
+goes_on_where_another_closes : trace (programs_of (code_of (assembly_of (codes "fork else e\njeq r0 0 c\nopenat 0 \"out/f\" read else e\nhalt\nc: close 0 else e\ne: halt\n")) ∷ []))
+    (alone deeper []) 0 (turns (0 ∷ 0 ∷ 0 ∷ 1 ∷ 1 ∷ 0 ∷ [])) ≡
     codes "0 main:0 = 1\n0 main:1 ok\n0 main:2 walk\n1 main:1 ok\n1 main:4 = 0\n0 main:2 = 2\n"
 unfolding assembly_of line_read written_at syscall_at register_at number_at operand_at path_at flags_at rights_at commands_at label_at directory_at
     else_at ℕ_discrete digits base created removed filled first_handled handled looks looks_twice lookup_fault path_fault path_components
@@ -190,7 +191,8 @@ unfolding assembly_of line_read written_at syscall_at register_at number_at oper
 escapes_from_a_moved_start = refl
 
 -- a path without names, and a link to one, take one event
-takes_one_event_for_the_root : trace (programs_of (code_of (assembly_of (codes "stat \"/\" else e\nstat \"/root\" else e\ne: halt\n")) ∷ [])) (alone (created base 0 (codes "root") Link (codes "/")) []) 0 (times 2) ≡
+takes_one_event_for_the_root : trace (programs_of (code_of (assembly_of (codes "stat \"/\" else e\nstat \"/root\" else e\ne: halt\n")) ∷ []))
+    (alone (created base 0 (codes "root") Link (codes "/")) []) 0 (times 2) ≡
     codes "0 main:0 = 2 look /\n0 main:1 = 2 look /\n"
 unfolding assembly_of line_read written_at syscall_at register_at number_at operand_at path_at flags_at rights_at commands_at label_at directory_at
     else_at ℕ_discrete digits base created removed filled first_handled handled looks looks_twice lookup_fault path_fault path_components

@@ -191,7 +191,8 @@ module _ (t : List Node) (path : List ℕ) (way : Way) (last : Last) (tree : IsT
     not_found = λ fault. record { there = tt; vacant = tt; named = λ keep. tt; followed = λ follow. tt };
   }
 
-  stood_under_way : (walk : WalkState) → walk.way ≡ way → walk.last ≡ last → (left : List (List ℕ)) → walk.stand.left ≡ left → HasNamesLeft path last left → Stood walk.stand.spot left → IsUnderWay t path way last walk
+  stood_under_way : (walk : WalkState) → walk.way ≡ way → walk.last ≡ last → (left : List (List ℕ)) → walk.stand.left ≡ left → HasNamesLeft path last left → Stood walk.stand.spot left →
+      IsUnderWay t path way last walk
   stood_under_way walk way_is last_is [] is has h = absurd has
   stood_under_way walk way_is last_is (name ∷ left) is has h = record { same_way = way_is; same_last = last_is; text = text; opened = h.0; left = rw is h.1 }
 

@@ -73,5 +73,6 @@ last_sure : (t : List Node) (path : List ℕ) (way : Way) (last : Last) (event :
 last_sure t path way last (Done finding) tree sure = sure
 last_sure t path way last (More walk) tree sure = sure_fault t path way last tree No_entry
 
-pub last_found_sure : (t : List Node) (path : List ℕ) (walk : WalkState) (found : Finding) → IsTree t → IsUnderWay t path Beneath Keep walk → found_last (handled t walk) ≡ found → Sure t path Keep found
+pub last_found_sure : (t : List Node) (path : List ℕ) (walk : WalkState) (found : Finding) → IsTree t → IsUnderWay t path Beneath Keep walk → found_last (handled t walk) ≡ found →
+    Sure t path Keep found
 last_found_sure t path walk found tree under is = subst (Sure t path Keep) is (last_sure t path Beneath Keep (handled t walk) tree (under_way_sure t path Beneath Keep tree walk under))

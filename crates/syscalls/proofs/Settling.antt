@@ -89,7 +89,8 @@ module _ (programs : Programs) (t : List Node) (f : OpenFiles) (processes : List
   abbrev w : World
   w = world_with t f processes
 
-  told_as : (told other : LineResult) (shows more : List Shown) (v u : World) → told ≡ other → shows ≡ more → v ≡ u → Comes w p s e call otherwise other more u → Comes w p s e call otherwise told shows v
+  told_as : (told other : LineResult) (shows more : List Shown) (v u : World) → told ≡ other → shows ≡ more → v ≡ u → Comes w p s e call otherwise other more u →
+      Comes w p s e call otherwise told shows v
   told_as told other shows more v u one two three comes = rw (one, two, three) comes
 
   unchanged : (others more : List ProcessState) → DoesNothing w after left → others ≡ more → world_with after left others ≡ world_with t f more
