@@ -1,5 +1,5 @@
 -- What processes have under way stays of their calls, whatever a step of one of them changes.
-use Rattle.std.proofs.Common.{◌≡◌, ℕ, zero, suc, ◌<◌, Bool, true, false, List, [], ◌∷◌, ◌++◌, refl, length, arith, subst, ap, sym, ◌∙◌, append-nil}
+use Rattle.std.proofs.Common.{◌≡◌, ℕ, zero, suc, ◌<◌, true, false, List, [], ◌∷◌, ◌++◌, refl, length, arith, subst, ap, sym, ◌∙◌, append-nil}
 use Rattle.std.specs.Prelude.{◌≢◌, Option, Some, None, slice_set}
 use Rattle.std.specs.List.{slice_get}
 use Rattle.std.proofs.lemmas.Option.{slice_get_within}

@@ -10,23 +10,23 @@ use Rattle.rights.specs.Opens.{OpenRequest}
 use Rattle.rights.specs.Sets.{is_within}
 use Rattle.rights.specs.Needs.{First, Second, needs_of}
 use Rattle.rights.proofs.Changes.{put-other}
-use Rattle.file_tree.specs.Nodes.{Kind, Dir, File, Link, Node, is_dir, node}
+use Rattle.file_tree.specs.Nodes.{Kind, Dir, File, Link, is_dir, node}
 use Rattle.lookup.specs.Answers.{Way, Beneath, Last, Follow, Keep, LookupFault, Escape, No_entry, Not_dir, Loop, Too_long, Bad_last, Finding, Found_node, Found_free, Not_found}
 use Rattle.lookup.specs.Walks.{first_handled, handled}
 use Rattle.process.specs.State.{ProcessState, Walking, One, Two, ended, forked}
 use Rattle.prog_asm.specs.Programs.{Instruction, Set, Mov, Add, In, Jmp, Jeq, Jlt, Halt, Invoke, Operand, called}
 use Rattle.prog_asm.specs.Programs.{Syscall, Open, Openat, Fstatat, Stat, Mkdirat, Mkdir, Unlinkat, Unlink, Renameat}
-use Rattle.fd_table.specs.Descriptions.{Access, Object, At_node, At_end, Descriptor}
-use Rattle.kernel.specs.World.{World, Choice, IsFresh}
+use Rattle.fd_table.specs.Descriptions.{Object, At_node, At_end, Descriptor}
+use Rattle.kernel.specs.World.{World, Choice}
 use Rattle.kernel.specs.Answers.{Event, AreEvents, TableChange, Same_table, Set_entry, Clear_entry, New_file, New_pair, New_process, Answer, Fails, Waits, Gives, Walks, unless, held, at_object}
 use Rattle.kernel.specs.Answers.{at_number, lookup_fails, value_of}
 use Rattle.kernel.specs.Calls.{answer, in_directory, last_if, looks, looks_twice, made_directory, no_request, opened, opened_as, renamed_from, renamed_over, renamed_to, stats_at, unlinks}
 use Rattle.kernel.specs.Changes.{changed, files_after, given, processes_after, table_after}
-use Rattle.kernel.specs.Steps.{Programs, answered, executed, failed, goes_on, halted, jumped, register, step, stepped, stepped_at, stepped_by, with_process, with_register}
+use Rattle.kernel.specs.Steps.{Programs, answered, executed, failed, halted, jumped, register, step, stepped, stepped_at, stepped_by, with_process}
 use Rattle.kernel.specs.Walks.{FitsIfWalking, From_directory, IsDirectory, IsDirectoryOf, IsWalker, IsWalkerIfMade, lookups_of, under_way}
 use Rattle.kernel.proofs.FittingWalks.{both_starts, directory_start}
 use Rattle.kernel.specs.WellFormed.{ArePrograms, IsWellFormed}
-use Rattle.kernel.specs.LaterEvents.{AskAgain, AsksAgain, FailsLate, IsResting, LacksRemoval, LaterEventsFailLate, is_early}
+use Rattle.kernel.specs.LaterEvents.{AskAgain, AsksAgain, FailsLate, LacksRemoval, LaterEventsFailLate, is_early}
 use Rattle.kernel.proofs.Keeping.{kept}
 use Rattle.kernel.proofs.KeptWalks.{call_here, set_other_cases, slice_get-more_cases, table-kept}
 use Rattle.kernel.proofs.Looking.{any_event, any_one, any_two, looks_any, looks_twice_any}

@@ -2,7 +2,6 @@
 use Rattle.std.proofs.Common.{◌≡◌, ℕ, Bool, true, false, List, Option, Some, None, refl, cond}
 use Rattle.std.specs.Prelude.{not}
 use Rattle.rights.specs.Errors.{Errno, Cause}
-use Rattle.file_tree.specs.Nodes.{Node}
 use Rattle.lookup.specs.Answers.{Way, Beneath, Last, Keep, LookupFault, Escape, No_entry, Not_dir, Loop, Too_long, Bad_last, Finding, Found_node, Found_free, Not_found}
 use Rattle.lookup.specs.Looks.{lookup_fault}
 use Rattle.lookup.specs.Walks.{WalkState, Progress, Done, More, begun, first_handled, handled}

@@ -1,22 +1,18 @@
 -- What a call may rely on of its paths, and of what is found.
-use Rattle.std.proofs.Common.{◌≡◌, ℕ, List, [], ◌∷◌, Bool, true, false, None, ap, sym, ◌∙◌, subst, refl}
+use Rattle.std.proofs.Common.{◌≡◌, ℕ, List, [], ◌∷◌, Bool, true, false, ap, sym, ◌∙◌, subst, refl}
 use Rattle.std.specs.Prelude.{◌&&◌, ◌||◌, not, nat_eq, nat_le}
 use Rattle.std.specs.List.{list_all}
 use Rattle.std.proofs.lemmas.Bool.{and_parts}
 use Rattle.std.specs.Cmp.Derive.{both_true}
 use Rattle.std.proofs.lemmas.List.Folds.{list_all-append}
 use Rattle.file_tree.specs.Places.{is_file_name, at_name, begins}
-use Rattle.file_tree.specs.Nodes.{Dir, Node, node, child_of, is_link, has_below}
+use Rattle.file_tree.specs.Nodes.{Node, node, has_below}
 use Rattle.file_tree.specs.WellFormed.{IsTree}
 use Rattle.file_tree.proofs.TreeLaws.{Parent, parent_is, parent_is_directory}
 use Rattle.file_tree.proofs.KeptByCreate.{names_kept}
-use Rattle.lookup.specs.Answers.{Way, Last, Follow, Keep, Finding, Found_node, Found_free, Not_found}
 use Rattle.lookup.specs.Paths.{last_component, has_path_bytes}
 use Rattle.lookup.specs.Paths as paths
-use Rattle.lookup.specs.Looks.{find_of}
-use Rattle.lookup.specs.Promises.{IsFindingThere, IsFreeName, HasName, IsUnderName, IsFollowed, MayBeMade}
-use Rattle.lookup.proofs.LookLaws.{find_looks}
-use Rattle.lookup.proofs.PlaceLaws.{looks_there, kept_named, kept_free, kept_may_be_made, followed_good}
+use Rattle.lookup.specs.Promises.{HasName}
 use Rattle.prog_asm.specs.Programs.{is_path, is_path_byte}
 use Rattle.kernel.specs.Answers.{Move}
 use Rattle.kernel.specs.Changes.{tree_after}

@@ -1,5 +1,5 @@
 -- Runs: any list of events, one step after another.
-use Rattle.std.specs.Prelude.{◌≡◌, ◌≢◌, ℕ, List, [], ◌∷◌, Option, Some, None}
+use Rattle.std.specs.Prelude.{◌≡◌, ◌≢◌, ℕ, List, [], ◌∷◌, Option}
 use Rattle.fd_table.specs.OpenFiles.{OpenFiles, IsUnnamed, IsUnused}
 use Rattle.kernel.specs.World.{World, Choice, IsFresh}
 use Rattle.kernel.specs.Answers.{Event, IsEvent, AreEvents}

@@ -1,5 +1,5 @@
 -- The lookups of a call, and when what a process has under way is of its call. (own)
-use Rattle.std.specs.Prelude.{◌≡◌, ℕ, false, List, Option, Some, None}
+use Rattle.std.specs.Prelude.{◌≡◌, false, List, Option, Some, None}
 use Rattle.std.specs.List.{slice_get}
 use Rattle.rights.specs.Values.{PathText, DescriptionNumber, DescriptorNumber}
 use Rattle.file_tree.specs.Nodes.{Dir, Node, node}

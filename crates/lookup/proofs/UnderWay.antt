@@ -1,17 +1,17 @@
 -- A lookup that is under way stays so from event to event, whatever becomes of the tree in between; and what it finds.
 use Rattle.std.proofs.Common.{◌≡◌, ℕ, ◌<◌, zero, suc, List, [], ◌∷◌, ◌++◌, Bool, true, false, Option, Some, None, length, ap, subst, sym, ◌∙◌, refl, arith}
-use Rattle.std.specs.Prelude.{not, ◌&&◌, ◌||◌}
+use Rattle.std.specs.Prelude.{not, ◌&&◌}
 use Rattle.file_tree.specs.Places.{at_name, is_file_name, path_components}
-use Rattle.file_tree.specs.Nodes.{Kind, Dir, File, Link, Node, node, child_of, parent_of, is_dir, is_link}
+use Rattle.file_tree.specs.Nodes.{Dir, Node, node, child_of, parent_of, is_dir, is_link}
 use Rattle.file_tree.specs.WellFormed.{IsTree}
 use Rattle.file_tree.proofs.NodeLaws.{linked_there}
-use Rattle.file_tree.proofs.TreeLaws.{child_is, child_parent, parent_is, parent_is_directory}
+use Rattle.file_tree.proofs.TreeLaws.{child_is, child_parent, parent_is}
 use Rattle.lookup.specs.Answers.{Way, Beneath, Global, Last, Follow, Keep, LookupFault, Finding, Found_node, Found_free, Not_found, is_kept}
 use Rattle.lookup.specs.Paths.{has_path_bytes, is_bad_last, is_dot, is_dot_dot, is_unkept, last_component, last_or, path_fault}
 use Rattle.lookup.specs.Leads.{Stand, Next, Goes, Ends, next}
 use Rattle.lookup.specs.ByNodes.{Walked, by_nodes, from_node}
 use Rattle.lookup.specs.Looks.{is_start_gone, lookup_fault, start_node}
-use Rattle.lookup.specs.Promises.{HasName, IsFindingThere, IsFollowed, IsUnderName, Lacks}
+use Rattle.lookup.specs.Promises.{HasName, IsFindingThere, IsFollowed, IsUnderName}
 use Rattle.lookup.specs.UnderWay.{AreOpened, HasNamesLeft, IsUnderWay}
 use Rattle.lookup.specs.Walks.{WalkState, Progress, Done, More, AreInTree, IsInTree, begun, first_handled, handled, settled, settled_at, unless_faulty}
 use Rattle.lookup.proofs.Handling.{Handles, IsGoodProgress, handled_good}

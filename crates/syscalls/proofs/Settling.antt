@@ -1,5 +1,5 @@
 -- From what a call came to, and what became of its process, to the whole.
-use Rattle.std.proofs.Common.{◌≡◌, ◌<◌, ◌+◌, ℕ, zero, suc, List, [], ◌∷◌, ◌++◌, length, map, slice_set, refl, ap, sym, subst, ◌∙◌}
+use Rattle.std.proofs.Common.{◌≡◌, ◌<◌, ◌+◌, ℕ, zero, suc, List, [], ◌∷◌, ◌++◌, length, slice_set, refl, ap, sym, subst, ◌∙◌}
 use Rattle.std.specs.Prelude.{Option, Some, None, Result, Ok, Err, IfOk}
 use Rattle.std.proofs.Math.ListN.{get_or, length-set}
 use Rattle.std.proofs.lemmas.Option.{slice_get_within}
@@ -12,7 +12,7 @@ use Rattle.fd_table.specs.OpenFiles.{OpenFiles}
 use Rattle.prog_asm.specs.Programs.{Syscall}
 use Rattle.rights.specs.Views.{errno_of, cause_of}
 use Rattle.kernel.specs.World.{World}
-use Rattle.kernel.specs.Answers.{Event, Waits, Walks}
+use Rattle.kernel.specs.Answers.{Event, Waits}
 use Rattle.kernel.specs.Calls.{answer}
 use Rattle.kernel.specs.Changes.{children}
 use Rattle.kernel.specs.Steps.{LineResult, Programs, Value, Failed, Waiting, Walks_on, failed}
@@ -20,12 +20,11 @@ use Rattle.kernel.specs.Walks.{FitsIfWalking}
 use Rattle.kernel.specs.WellFormed.{Numbering, IsWorld}
 use Rattle.kernel.proofs.FittingWalks.{none_under}
 use Rattle.kernel.proofs.KeptWalks.{if_walking_later}
-use Rattle.syscalls.specs.declared.outcomes.Besides.{Besides}
 use Rattle.syscalls.specs.declared.outcomes.Refusal.{Refusal}
 use Rattle.syscalls.specs.declared.outcomes.Refusal.TheVariants as refusal
 use Rattle.syscalls.specs.declared.outcomes.Success.{Success}
 use Rattle.syscalls.specs.AnswerViews.{DoesNothing, Meets}
-use Rattle.syscalls.specs.CallViews.{Comes, Settles, processes_as, succeeded_as}
+use Rattle.syscalls.specs.CallViews.{Comes, Settles, succeeded_as}
 use Rattle.syscalls.specs.Shows.{Shown}
 use Rattle.syscalls.specs.Views.{change_of, effects_of, world_with}
 use Rattle.syscalls.proofs.Calling.{fails, same_process, same_world, stands, succeeds_as, waits, walks}

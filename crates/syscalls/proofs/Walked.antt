@@ -1,6 +1,6 @@
 -- From what the code's walks do at an event to what the model's lookups do.
-use Rattle.std.proofs.Common.{◌≡◌, ◌≢◌, ℕ, List, Bool, true, false, cond, ap, refl, subst, sym, ◌∙◌}
-use Rattle.std.specs.Prelude.{not, Option, Some, None, Result, Ok, Err, IfOk, IfSome}
+use Rattle.std.proofs.Common.{◌≡◌, ◌≢◌, ℕ, List, true, false, ap, refl, subst, sym, ◌∙◌}
+use Rattle.std.specs.Prelude.{Option, Some, None, Result, Ok, Err, IfOk, IfSome}
 use Rattle.rights.specs.Values.{PathText}
 use Rattle.file_tree.specs.Nodes.{Node}
 use Rattle.file_tree.specs.WellFormed.{IsTree}
@@ -8,8 +8,8 @@ use Rattle.lookup.specs.Answers.{Way, Beneath, Last, Keep, LookupFault, Finding,
 use Rattle.lookup.specs.Looks.{lookup_fault}
 use Rattle.lookup.specs.UnderWay.{IsUnderWay}
 use Rattle.lookup.specs.Views.{found_of}
-use Rattle.lookup.specs.Walks.{WalkState, Progress, Done, More, IsInTree, begun, first_handled, handled}
-use Rattle.lookup.proofs.UnderWay.{Sure, under_way_in_tree}
+use Rattle.lookup.specs.Walks.{WalkState, Progress, Done, begun, first_handled, handled}
+use Rattle.lookup.proofs.UnderWay.{Sure}
 use Rattle.process.specs.State.{ProcessState, One, Two}
 use Rattle.process.specs.Views.{walking_in}
 use Rattle.process.specs.declared.walking.Walking.{Walking}
@@ -18,7 +18,7 @@ use Rattle.prog_asm.specs.Programs.{Syscall}
 use Rattle.fd_table.specs.OpenFiles.{OpenFiles}
 use Rattle.kernel.specs.World.{World}
 use Rattle.kernel.specs.Answers.{Answer, Event, lookup_fails}
-use Rattle.kernel.specs.Calls.{found_last, is_at_last, looks_twice, lost, or_fails, walked_both, walked_first, walked_second}
+use Rattle.kernel.specs.Calls.{found_last, is_at_last, looks_twice, or_fails, walked_both, walked_first, walked_second}
 use Rattle.kernel.specs.Walks.{IfOne, IfTwo}
 use Rattle.syscalls.specs.declared.lookups.Both.{Both}
 use Rattle.syscalls.specs.declared.outcomes.Refusal.{Refusal}

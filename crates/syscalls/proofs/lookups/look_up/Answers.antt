@@ -1,7 +1,6 @@
 use Rattle.std.proofs.Common.{ap}
 use Rattle.lookup.specs.Views.{found_of, last_of, way_of}
 use Rattle.process.specs.Views.{walking_in}
-use Rattle.lookup.proofs.UnderWay.{Sure}
 use Rattle.syscalls.proofs.Finding.{free_name, sure_found}
 use Rattle.syscalls.proofs.lookups.look_up.Goals as goal
 

@@ -1,4 +1,4 @@
-use Rattle.std.proofs.Common.{◌≡◌, Bool, true, false, not, sym, ◌∙◌, refl}
+use Rattle.std.proofs.Common.{sym, ◌∙◌}
 use Rattle.kernel.specs.Calls.{renamed_from, walked_both}
 use Rattle.syscalls.specs.Views.{world_with}
 use Rattle.syscalls.proofs.Walked.{are_found, last_is, renames_as}

@@ -1,11 +1,10 @@
-use Rattle.std.proofs.Common.{◌≡◌, None, refl, subst, sym, ap, ◌∙◌}
+use Rattle.std.proofs.Common.{refl, subst, sym, ap, ◌∙◌}
 use Rattle.lookup.specs.Answers.{Beneath, Keep}
 use Rattle.lookup.specs.Looks.{lookup_fault}
 use Rattle.lookup.specs.UnderWay.{IsUnderWay}
 use Rattle.lookup.specs.Views.{fault_of}
 use Rattle.lookup.specs.Walks.{begun}
 use Rattle.lookup.proofs.UnderWay.{begun_under_way}
-use Rattle.kernel.specs.Answers.{Answer}
 use Rattle.kernel.specs.Calls.{renamed_from, or_fails, walked_both}
 use Rattle.syscalls.specs.AnswerViews.{Refuses}
 use Rattle.syscalls.specs.Views.{world_with}

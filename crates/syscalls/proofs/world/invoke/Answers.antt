@@ -1,6 +1,5 @@
 use Rattle.std.proofs.Common.{◌≡◌, ◌<◌, ◌∙◌, ℕ, ap, refl, subst, sym}
-use Rattle.std.specs.Prelude.{None, Some}
-use Rattle.std.specs.List.{slice_get}
+use Rattle.std.specs.Prelude.{None}
 use Rattle.fd_table.specs.Kept.{open_files}
 use Rattle.process.specs.State.{ProcessState}
 use Rattle.process.specs.Views.{walking_in}
