@@ -196,7 +196,7 @@ steps_alike programs w v e j k valid good fine d fresh also =
     let files : SameFiles r w.files v.files = aimed_worlds d.renaming w v good.numbering fine.numbering j k programs good.world fine.world d.files fresh also in
     let both : SameStep r (step programs w e j) (step programs v e k) =
     steps_same r programs valid good.numbering w v good.world good.walks (record { tree = d.tree; processes = d.processes; files = files }) fine.world.idle j k
-        (aims d.renaming j k fresh.apart also.apart) e
+    (aims d.renaming j k fresh.apart also.apart) e
     in
     record {
       line = both.line;

@@ -232,7 +232,7 @@ module _ (programs : Programs) (numbering : Numbering) (w : World) (good : IsWor
       steps_same own_numbers programs valid numbering w v good walkers (record { tree = refl; processes = refl; files = same_files w.files g alike }) alike.idle choice choice (aims_own choice) e
       in
       let after : IsWellFormed programs (step programs v e choice).world = kept programs valid numbering v well_formed (walkers_alike programs w walkers g alike) e byte choice
-        (fresh_there choice fresh) in
+      (fresh_there choice fresh) in
       record {
         line = both.line;
         next = record {

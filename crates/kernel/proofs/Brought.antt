@@ -394,7 +394,7 @@ module _ (programs : Programs) (g : Ground) (standing : Standing programs g) (p 
       sound-start (value_of s x) _ (λ d is fine. sound-unless g _ _ _ _ (λ has.
       sound-directory d _ fine (λ n opened dir.
       sound-looks _ _ _ _ _ opened (directory_under w.tree w.files.objects (w.files.table p) s (Openat x path f) x path (last_if f.create) s.walk refl fits)
-        (λ walk under. left (One walk) (is_start _ d is dir, under)) (λ found sure.
+      (λ walk under. left (One walk) (is_start _ d is dir, under)) (λ found sure.
       sound-opened f d.rights d.fcntls path found fine.0.rights fine.0.fcntls (path_bytes path (both_right (is_operand x) _ (both_left _ _ valid))) sure.vacant))))
   sound (Read x) valid fits left =
       sound-entry (value_of s x) _ (λ d low fine. sound-unless g _ _ _ _ (λ has.
@@ -448,16 +448,16 @@ module _ (programs : Programs) (g : Ground) (standing : Standing programs g) (p 
       sound-start (value_of s x) _ (λ d is fine. sound-unless g _ _ _ _ (λ has.
       sound-directory d _ fine (λ n opened dir.
       sound-looks _ _ _ _ _ opened (directory_under w.tree w.files.objects (w.files.table p) s (Fstatat x path) x path Follow s.walk refl fits)
-        (λ walk under. left (One walk) (is_start _ d is dir, under)) (λ found sure. sound-looked_at found))))
+      (λ walk under. left (One walk) (is_start _ d is dir, under)) (λ found sure. sound-looked_at found))))
   sound (Stat path) valid fits left =
       sound-unless g _ _ _ _ (λ outside.
       sound-looks _ _ _ _ _ root_opened (root_under w.tree w.files.objects (w.files.table p) s (Stat path) path Follow s.walk refl fits) (λ walk is. left (One walk) is)
-        (λ found sure. sound-looked_at found))
+      (λ found sure. sound-looked_at found))
   sound (Mkdirat x path) valid fits left =
       sound-start (value_of s x) _ (λ d is fine. sound-unless g _ _ _ _ (λ has.
       sound-directory d _ fine (λ n opened dir.
       sound-looks _ _ _ _ _ opened (directory_under w.tree w.files.objects (w.files.table p) s (Mkdirat x path) x path Keep s.walk refl fits)
-        (λ walk under. left (One walk) (is_start _ d is dir, under)) (λ found sure.
+      (λ walk under. left (One walk) (is_start _ d is dir, under)) (λ found sure.
       sound-made_directory path found (path_bytes path (both_right (is_operand x) _ valid)) sure.vacant))))
   sound (Mkdir path) valid fits left =
       sound-unless g _ _ _ _ (λ outside.
@@ -467,7 +467,7 @@ module _ (programs : Programs) (g : Ground) (standing : Standing programs g) (p 
       sound-start (value_of s x) _ (λ d is fine. sound-unless g _ _ _ _ (λ has.
       sound-directory d _ fine (λ n opened dir.
       sound-looks _ _ _ _ _ opened (directory_under w.tree w.files.objects (w.files.table p) s (Unlinkat x path directory) x path Keep s.walk refl fits)
-        (λ walk under. left (One walk) (is_start _ d is dir, under)) (λ found sure.
+      (λ walk under. left (One walk) (is_start _ d is dir, under)) (λ found sure.
       sound-unlinked directory path found sure.there (sure.named refl)))))
   sound (Unlink path directory) valid fits left =
       sound-unless g _ _ _ _ (λ outside.

@@ -128,7 +128,7 @@ module _ (programs : Programs) (w : World) (walkers : AreWalkers programs w) (p 
       fits_on =
           subst (λ o. FitsIfWalking w.tree w.files.objects (w.files.table p) (record t { walk = Some walking }) o (Some walking)) (sym here)
           (fits_later w.tree w.tree w.files.objects w.files.objects (w.files.table p) (w.files.table p) t (record t { walk = Some walking }) (λ n opened. refl) (λ n d is. refl) (λ n. refl)
-            refl (lookups_of call) walking fits)
+          refl (lookups_of call) walking fits)
 
       is : IsWalker programs w.tree w.files.objects (w.files.table p) (record t { walk = Some walking })
       is = record { lives = λ gone. absurd (let clash : true ≡ false = sym alive ∙ gone in cc); fits = fits_on }

@@ -280,12 +280,12 @@ module _ (t : List Node) (path : List ℕ) (way : Way) (last : Last) (tree : IsT
     pub begun_under_way : last ≡ Keep → lookup_fault t start path way last ≡ None → IsUnderWay t path way last (begun start path way last)
     unfolding last_component
     begun_under_way keep none = record {
-          same_way = refl;
-          same_last = refl;
-          text = good.0;
-          opened = (start_opened way, tt);
-          left = some_names (path_components path) refl;
-        }
+      same_way = refl;
+      same_last = refl;
+      text = good.0;
+      opened = (start_opened way, tt);
+      left = some_names (path_components path) refl;
+    }
       where
         good : (path_fault path way last ≡ None) × (is_start_gone t start way ≡ false)
         good = no_fault t start path way last none
@@ -293,7 +293,6 @@ module _ (t : List Node) (path : List ℕ) (way : Way) (last : Last) (tree : IsT
         some_names : (names : List (List ℕ)) → path_components path ≡ names → HasNamesLeft path last names
         some_names [] is = let bad : true ≡ false = rw is at (good_last t path way last tree good.0 keep) in absurd cc
         some_names (name ∷ names) is = λ keep. ap (last_or []) (sym is)
-
 
     -- So does its first event.
     pub begun_sure : IsSureProgress t path way last (first_handled t start path way last)

@@ -8,10 +8,9 @@ ghost use Rattle.process.specs.Views.{walking_in, walking_of};
 
 pub mod walking;
 
-pub use walking::Walking;
-
 use rights::limits::REGISTERS;
 use std::marker::Model;
+pub use walking::Walking;
 
 /// A process. Its mode goes from off to on and never back. (cap_enter(2))
 #[derive(Drop)]
@@ -35,7 +34,13 @@ impl Model for Process {
     ghost Value = { ProcessState };
 
     ghost view = { λ p. record {
-        program = p.program; point = p.point; registers = p.registers; mode = p.mode; alive = p.alive; walk = walking_in p.walk } };
+      program = p.program;
+      point = p.point;
+      registers = p.registers;
+      mode = p.mode;
+      alive = p.alive;
+      walk = walking_in p.walk;
+    } };
 }
 
 impl Process {

@@ -159,7 +159,17 @@ pub(crate) fn make_beneath<T: Tree>(
     ensures { GoesOn (T.nodes tree.old) (open_files files.now) caller.now walk (T.nodes tree.new) (open_files files.now) result (programs.Mkdirat (operand_of operand) path.now) }
 {
     let call = Call::Mkdirat;
-    match find_beneath(alloc, tree, files, caller, operand, path, call, Last::Keep, walk) {
+    match find_beneath(
+        alloc,
+        tree,
+        files,
+        caller,
+        operand,
+        path,
+        call,
+        Last::Keep,
+        walk,
+    ) {
         Err(refused) => Err(refused),
         Ok(found) => make_directory(alloc, tree, found, path, caller.refuse),
     }
@@ -201,7 +211,17 @@ pub(crate) fn remove_beneath<T: Tree>(
     ensures { GoesOn (T.nodes tree.old) (open_files files.now) caller.now walk (T.nodes tree.new) (open_files files.now) result (programs.Unlinkat (operand_of operand) path.now directory) }
 {
     let call = Call::Unlinkat;
-    match find_beneath(alloc, tree, files, caller, operand, path, call, Last::Keep, walk) {
+    match find_beneath(
+        alloc,
+        tree,
+        files,
+        caller,
+        operand,
+        path,
+        call,
+        Last::Keep,
+        walk,
+    ) {
         Err(refused) => Err(refused),
         Ok(found) => remove(alloc, tree, found, directory),
     }

@@ -18,7 +18,7 @@ differ_order stop order memory = cc
 pub unreachable-requires : goal.unreachable-requires
 unreachable-requires c =
     let taken = lines_taken c.args.task.now c.args.cert.now c.new-expanded.result c.note_made.ensures
-      (c.new-expanded.ensures ∙ ap empty (c.version_of_expansion.ensures ∙ ap expanded_version c.version.ensures)) in
+    (c.new-expanded.ensures ∙ ap empty (c.version_of_expansion.ensures ∙ ap expanded_version c.version.ensures)) in
     let stop = c.in-Err-Limit.field-0 in
     let wants = wants_memory stop c.push_expansion.new.expanded (expansion c.args.task.now c.args.cert.now) _ taken c.in-Err-Limit.ensures in
     differ_limit stop c.in-Err-Limit.field-0-is wants
@@ -26,7 +26,7 @@ unreachable-requires c =
 pub unreachable-requires-in-Err-Order : goal.unreachable-requires-in-Err-Order
 unreachable-requires-in-Err-Order c =
     let taken = lines_taken c.args.task.now c.args.cert.now c.new-expanded.result c.note_made.ensures
-      (c.new-expanded.ensures ∙ ap empty (c.version_of_expansion.ensures ∙ ap expanded_version c.version.ensures)) in
+    (c.new-expanded.ensures ∙ ap empty (c.version_of_expansion.ensures ∙ ap expanded_version c.version.ensures)) in
     let stop = c.in-Err-Order.field-0 in
     let wants = wants_memory stop c.push_expansion.new.expanded (expansion c.args.task.now c.args.cert.now) _ taken c.in-Err-Order.ensures in
     differ_order stop c.in-Err-Order.field-0-is wants
@@ -37,7 +37,7 @@ same_some c d same = cc
 value : (c : goal.In-Ok) → c.push_expansion.new.expanded ≡ expansion c.args.task.now c.args.cert.now
 value c =
     let taken = lines_taken c.args.task.now c.args.cert.now c.new-expanded.result c.note_made.ensures
-      (c.new-expanded.ensures ∙ ap empty (c.version_of_expansion.ensures ∙ ap expanded_version c.version.ensures)) in
+    (c.new-expanded.ensures ∙ ap empty (c.version_of_expansion.ensures ∙ ap expanded_version c.version.ensures)) in
     same_some c.push_expansion.new.expanded (expansion c.args.task.now c.args.cert.now) (sym c.in-Ok.ensures ∙ taken)
 
 pub returns-in-Ok-clause-value : goal.returns-in-Ok-clause-value

@@ -25,7 +25,7 @@ open_beneath-requires-clause-under g c =
     subst (λ path. IfOne (IsUnderWay (g.T.Tree.nodes c.args.tree.now) path Beneath (last_if c.in-Openat.flags.create)) (walking_in c.args.walk)) (sym c.bytes-in-Openat.ensures.value)
     (directory_under (g.T.Tree.nodes c.args.tree.now) (open_files c.args.files.now).objects ((open_files c.args.files.now).table c.args.caller.now.number) c.args.caller.now.process.now
     (syscall_of c.args.call.now) (operand_of c.in-Openat.descriptor) c.in-Openat.path (last_if c.in-Openat.flags.create) (walking_in c.args.walk)
-      (ap (λ k. lookups_of (syscall_of k)) c.in-Openat.is) c.requires.fits)
+    (ap (λ k. lookups_of (syscall_of k)) c.in-Openat.is) c.requires.fits)
 
 pub stat_beneath-requires-clause-under : goal.stat_beneath-requires-clause-under
 unfolding lookups_of
@@ -96,7 +96,7 @@ returns-in-Write g c =
     let f = open_files c.args.files.now in
     let call = syscall_of c.args.call.now in
     performs_at_rest t f c.args.caller.now c.args.walk (g.T.Tree.nodes c.write.new.tree) (open_files c.write.new.files) c.write.result call
-      (programs.Write (operand_of c.in-Write.descriptor) (operand_of c.in-Write.value)) (ap syscall_of c.in-Write.is)
+    (programs.Write (operand_of c.in-Write.descriptor) (operand_of c.in-Write.value)) (ap syscall_of c.in-Write.is)
     (none_under t f.objects (f.table c.args.caller.now.number) c.args.caller.now.process.now call (walking_in c.args.walk) (ap (λ k. lookups_of (syscall_of k)) c.in-Write.is) c.requires.fits)
     c.requires.rests (λ processes e same made. c.write.ensures processes e same)
 
@@ -107,7 +107,7 @@ returns-in-Sendfd g c =
     let f = open_files c.args.files.now in
     let call = syscall_of c.args.call.now in
     performs_at_rest t f c.args.caller.now c.args.walk t (open_files c.send_descriptor.new.files) c.send_descriptor.result call
-      (programs.Sendfd (operand_of c.in-Sendfd.descriptor) (operand_of c.in-Sendfd.sent) (operand_of c.in-Sendfd.value)) (ap syscall_of c.in-Sendfd.is)
+    (programs.Sendfd (operand_of c.in-Sendfd.descriptor) (operand_of c.in-Sendfd.sent) (operand_of c.in-Sendfd.value)) (ap syscall_of c.in-Sendfd.is)
     (none_under t f.objects (f.table c.args.caller.now.number) c.args.caller.now.process.now call (walking_in c.args.walk) (ap (λ k. lookups_of (syscall_of k)) c.in-Sendfd.is) c.requires.fits)
     c.requires.rests (λ processes e same made. c.send_descriptor.ensures t processes e same)
 
@@ -118,7 +118,7 @@ returns-in-Recvfd g c =
     let f = open_files c.args.files.now in
     let call = syscall_of c.args.call.now in
     performs_at_rest t f c.args.caller.now c.args.walk t (open_files c.receive_descriptor.new.files) c.receive_descriptor.result call (programs.Recvfd (operand_of c.in-Recvfd.descriptor))
-      (ap syscall_of c.in-Recvfd.is)
+    (ap syscall_of c.in-Recvfd.is)
     (none_under t f.objects (f.table c.args.caller.now.number) c.args.caller.now.process.now call (walking_in c.args.walk) (ap (λ k. lookups_of (syscall_of k)) c.in-Recvfd.is) c.requires.fits)
     c.requires.rests (λ processes e same made. c.receive_descriptor.ensures t processes e same)
 
@@ -129,7 +129,7 @@ returns-in-Lseek g c =
     let f = open_files c.args.files.now in
     let call = syscall_of c.args.call.now in
     performs_at_rest t f c.args.caller.now c.args.walk t (open_files c.seek.new.files) c.seek.result call (programs.Lseek (operand_of c.in-Lseek.descriptor) (operand_of c.in-Lseek.offset))
-      (ap syscall_of c.in-Lseek.is)
+    (ap syscall_of c.in-Lseek.is)
     (none_under t f.objects (f.table c.args.caller.now.number) c.args.caller.now.process.now call (walking_in c.args.walk) (ap (λ k. lookups_of (syscall_of k)) c.in-Lseek.is) c.requires.fits)
     c.requires.rests (λ processes e same made. c.seek.ensures processes e same)
 
@@ -140,7 +140,7 @@ returns-in-Ftruncate g c =
     let f = open_files c.args.files.now in
     let call = syscall_of c.args.call.now in
     performs_at_rest t f c.args.caller.now c.args.walk (g.T.Tree.nodes c.truncate.new.tree) f c.truncate.result call
-      (programs.Ftruncate (operand_of c.in-Ftruncate.descriptor) (operand_of c.in-Ftruncate.len)) (ap syscall_of c.in-Ftruncate.is)
+    (programs.Ftruncate (operand_of c.in-Ftruncate.descriptor) (operand_of c.in-Ftruncate.len)) (ap syscall_of c.in-Ftruncate.is)
     (none_under t f.objects (f.table c.args.caller.now.number) c.args.caller.now.process.now call (walking_in c.args.walk) (ap (λ k. lookups_of (syscall_of k)) c.in-Ftruncate.is) c.requires.fits)
     c.requires.rests (λ processes e same made. c.truncate.ensures processes e same)
 
@@ -181,7 +181,7 @@ returns-in-FcntlSetfl g c =
     let f = open_files c.args.files.now in
     let call = syscall_of c.args.call.now in
     performs_at_rest t f c.args.caller.now c.args.walk t (open_files c.set_status.new.files) c.set_status.result call
-      (programs.Fcntl_setfl (operand_of c.in-FcntlSetfl.descriptor) (operand_of c.in-FcntlSetfl.flags)) (ap syscall_of c.in-FcntlSetfl.is)
+    (programs.Fcntl_setfl (operand_of c.in-FcntlSetfl.descriptor) (operand_of c.in-FcntlSetfl.flags)) (ap syscall_of c.in-FcntlSetfl.is)
     (none_under t f.objects (f.table c.args.caller.now.number) c.args.caller.now.process.now call (walking_in c.args.walk) (ap (λ k. lookups_of (syscall_of k)) c.in-FcntlSetfl.is) c.requires.fits)
     c.requires.rests (λ processes e same made. c.set_status.ensures t processes e same)
 
@@ -212,7 +212,7 @@ returns-in-CapRightsLimit g c =
     let f = open_files c.args.files.now in
     let call = syscall_of c.args.call.now in
     performs_at_rest t f c.args.caller.now c.args.walk t (open_files c.limit_rights.new.files) c.limit_rights.result call
-      (programs.Cap_rights_limit (operand_of c.in-CapRightsLimit.descriptor) c.in-CapRightsLimit.rights.0) (ap syscall_of c.in-CapRightsLimit.is)
+    (programs.Cap_rights_limit (operand_of c.in-CapRightsLimit.descriptor) c.in-CapRightsLimit.rights.0) (ap syscall_of c.in-CapRightsLimit.is)
     (none_under t f.objects (f.table c.args.caller.now.number) c.args.caller.now.process.now call (walking_in c.args.walk) (ap (λ k. lookups_of (syscall_of k)) c.in-CapRightsLimit.is) c.requires.fits)
     c.requires.rests (λ processes e same made. c.limit_rights.ensures t processes e same)
 
@@ -223,7 +223,7 @@ returns-in-CapFcntlsLimit g c =
     let f = open_files c.args.files.now in
     let call = syscall_of c.args.call.now in
     performs_at_rest t f c.args.caller.now c.args.walk t (open_files c.limit_fcntls.new.files) c.limit_fcntls.result call
-      (programs.Cap_fcntls_limit (operand_of c.in-CapFcntlsLimit.descriptor) c.in-CapFcntlsLimit.commands.0) (ap syscall_of c.in-CapFcntlsLimit.is)
+    (programs.Cap_fcntls_limit (operand_of c.in-CapFcntlsLimit.descriptor) c.in-CapFcntlsLimit.commands.0) (ap syscall_of c.in-CapFcntlsLimit.is)
     (none_under t f.objects (f.table c.args.caller.now.number) c.args.caller.now.process.now call (walking_in c.args.walk) (ap (λ k. lookups_of (syscall_of k)) c.in-CapFcntlsLimit.is) c.requires.fits)
     c.requires.rests (λ processes e same made. c.limit_fcntls.ensures t processes e same)
 

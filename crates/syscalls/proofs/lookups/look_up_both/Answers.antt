@@ -50,5 +50,5 @@ pub returns-clause-found : goal.returns-clause-found
 returns-clause-found g c =
     let t = g.T.Tree.nodes c.args.tree.now in
     let under = two_are (IsUnderWay t c.args.path.now Beneath Keep) (IsUnderWay t c.args.new_path.now Beneath Keep) c.args.walk c.in-Some.walking c.in-Two.one c.in-Two.other
-      c.in-Some.is c.in-Two.is c.requires.under in
+    c.in-Some.is c.in-Two.is c.requires.under in
     c.step_both.ensures.found c.args.path.now c.args.new_path.now c.requires.tree under.0 under.1

@@ -76,9 +76,9 @@ returns g c =
     let after = g.T.Tree.nodes c.perform-came.new.tree in
     let open_after = open_files c.perform-came.new.files in
     let whole = whole_again s c.index.result.now (walking_in c.take_walk-walk.result) (stands_rested processes others p s made left c.index.result.now c.index.ensures)
-      (c.take_walk-walk.ensures.taken s made) in
+    (c.take_walk-walk.ensures.taken s made) in
     let meets = subst (λ x. Meets (world_with t f processes) p after open_after c.perform-came.result (answer (world_with t f processes) p x e call)) whole
-      (c.perform-came.ensures processes e refl (sym (c.len.ensures ∙ c.take_walk-walk.new.processes.ok.0 ∙ as_many processes others p s made left))) in
+    (c.perform-came.ensures processes e refl (sym (c.len.ensures ∙ c.take_walk-walk.new.processes.ok.0 ∙ as_many processes others p s made left))) in
     if_ok_map c.settle.result _ _ (λ called settles. λ x there.
     subst (λ y. Comes (world_with t f processes) p y e call c.args.otherwise (result_of called.outcome) (effects_of called.effects.items)
     (world_with after open_after c.settle.new.processes.items)) (same_process processes p s x made there)
