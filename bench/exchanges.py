@@ -20,6 +20,10 @@ FIRST = "first_need (Renameat x from y to) no_request"
 SECOND = "needs_of (called (Renameat x from y to)) no_request Second false"
 BOTH = "held (entry x) (λ d. held (entry y) (λ target."
 RENAMED = "renamed_from source (λ k. renamed_to (Renameat x from y to) target k to place)"
+FIRST_FAULT = """or_fails (lookup_fault w.tree n from Beneath Keep)
+      (or_fails (lookup_fault w.tree m to Beneath Keep)"""
+SECOND_FAULT_FIRST = """or_fails (lookup_fault w.tree m to Beneath Keep)
+      (or_fails (lookup_fault w.tree n from Beneath Keep)"""
 MOVED = """(Gives 0 (moves n (at m).place)
       (record { operation = Removes; place = (at m).place } ∷ record { operation = Removes; place = (at n).place }
       ∷ record { operation = Creates; place = (at m).place } ∷ []))"""
@@ -249,12 +253,10 @@ PAIRS = [
       (λ m access. looks_twice n from m to (λ source place. renamed_from source (λ k.
       unless (is_dir (at m).kind) ENOTDIR errors.Kind (renamed_to (Renameat x from y to) target k to place))))
       {NO_DIR}"""),
-    ("renameat_asks_the_first_path_before_the_second",
-        "renamed_from source (λ k. renamed_to (Renameat x from y to) target k to place)",
-        """(elim place [
-        Not_found fault ↦ lookup_fails fault
-        | other ↦ renamed_from source (λ k. renamed_to (Renameat x from y to) target k to other)
-      ]"""),
+    ("renameat_asks_the_first_path_before_the_second", FIRST_FAULT, SECOND_FAULT_FIRST),
+    ("renameat_asks_the_first_start_before_the_second_path", FIRST_FAULT, SECOND_FAULT_FIRST),
+    ("renameat_asks_the_text_of_the_target_before_the_source", FIRST_FAULT, """or_fails (lookup_fault w.tree n from Beneath Keep)
+      (or_fails None"""),
     ("renameat_asks_for_the_same_node_before_the_right_to_replace", "renamed_to call target n path (Found_node m) =",
         "granted (needs_of (called call) no_request Second true) target (if n == m then gives 0 else renamed_over n m"),
     ("renameat_asks_the_source_before_the_target",

@@ -28,8 +28,8 @@ pub fn accepted_tasks_act_in_the_mode()
         (codes "0 main:0 = 0\n0 main:1 = 1\n1 child:0 = 1\n1 child:1 = 2\n") }
     ensures forking { ActsAccepted forking_plan forking_certificate (0 ∷ 0 ∷ 1 ∷ 1 ∷ [])
         (codes "0 main:0 = 0\n0 main:1 = 1\n1 main:2 ok\n1 main:4 = 2\n") }
-    ensures renaming { ActsAccepted renaming_plan renaming_certificate (0 ∷ 0 ∷ [])
-        (codes "0 main:0 = 0\n0 main:1 = 0 remove /work/in create /work/out/in\n") }
+    ensures renaming { ActsAccepted renaming_plan renaming_certificate (0 ∷ 0 ∷ 0 ∷ [])
+        (codes "0 main:0 = 0\n0 main:1 walk\n0 main:1 = 0 remove /work/in create /work/out/in\n") }
 {}
 
 /// What is reported of a small task: of its one point with a bound, the rights in its one grant, by their names.
