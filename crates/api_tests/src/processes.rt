@@ -9,11 +9,12 @@ fn a_child_has_its_parents_mode(rt: HostRuntime) {
     assert!(rt; parent.alive && !parent.mode());
     assert!(rt; (parent.program, parent.point) == (3, 0));
     assert!(rt; parent.registers == [0; REGISTERS]);
-    parent.point = 7;
     parent.registers = [1, 2, 3, 4, 5, 6, 7, 8];
+    parent.move_to(7);
     assert!(rt; !parent.fork_of().mode());
     parent.enter();
     parent.enter();
+    parent.move_to(7);
     let child = parent.fork_of();
     assert!(rt; child.mode() && child.alive);
     assert!(rt; (child.program, child.point) == (3, 7));
