@@ -17,6 +17,7 @@ pub mod Points
 pub mod Later
 pub mod KeptWalks
 pub mod Keeping
+mod LateFailures
 pub mod LaterEvents
 pub mod Opens
 pub mod Renamed

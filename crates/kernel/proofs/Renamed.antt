@@ -302,8 +302,8 @@ module _ (r : Renaming) (w : World) (g : OpenFiles) (alike : SameFiles r w.files
           (both-if r (not (is_at_last two)) _ _ _ _ (both-second one (handled w.tree two)) (is (found_last (handled w.tree one)) (found_last (handled w.tree two))))
 
       both-unlost : (fault : Option LookupFault) (a b : Answer) → Matches r a b → Matches r (or_fails fault a) (or_fails fault b)
-      both-unlost None a b same = same
-      both-unlost (Some fault) a b same = both-lookup_fails r fault
+      both-unlost None a b matches = matches
+      both-unlost (Some fault) a b matches = both-lookup_fails r fault
 
       first_event : Matches r
           (or_fails (lookup_fault w.tree n from Beneath Keep) (or_fails (lookup_fault w.tree m to Beneath Keep) (walked_both w p s e rest (begun n from Beneath Keep) (begun m to Beneath Keep))))
