@@ -15,6 +15,8 @@ mod instructions;
 #[cfg(test)]
 mod lookups;
 #[cfg(test)]
+mod marks;
+#[cfg(test)]
 mod open_files;
 #[cfg(test)]
 mod orders;

@@ -4,3 +4,4 @@ pub mod Named
 pub mod Standing
 pub mod KnownLimits
 pub mod Along
+pub mod Marked

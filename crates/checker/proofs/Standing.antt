@@ -52,25 +52,6 @@ module _ (plan : Plan) (c : Certificate) (program point : ℕ) (name : List ℕ)
   unfolding found_at
   found_is i o here same = λ k. found_with plan (expansion plan c) program point (here k) (bound_is o same k)
 
--- A point without a bound: point 0 of a program that a process starts has to have one.
-pub unbounded : (plan : Plan) (program point : ℕ) → point ≡ 0 → is_started plan program ≡ true → least_broken (tests_without plan program point) ≡ Some 16
-unfolding tests_without
-unbounded plan program point first started =
-    ap (λ p. if not ((p == 0) && is_started plan program) then None else Some 16) first ∙ ap (λ b. if not b then None else Some 16) started
-
-pub kept_unstarted : (plan : Plan) (program point : ℕ) → is_started plan program ≡ false → least_broken (tests_without plan program point) ≡ None
-unfolding tests_without
-kept_unstarted plan program point none =
-    ap (λ b. if not ((point == 0) && b) then None else Some 16) none ∙ ap (λ b. if not b then None else Some 16) (nothing_both (point == 0))
-
-pub kept_elsewhere : (plan : Plan) (program point : ℕ) → (point ≡ 0 → ⊥) → least_broken (tests_without plan program point) ≡ None
-unfolding tests_without
-kept_elsewhere plan program point behind = go (point == 0) refl
-  where
-    go : (first : Bool) → (point == 0) ≡ first → least_broken ((record { rule = 16; kept = not (first && is_started plan program) }) ∷ []) ≡ None
-    go true first = absurd (behind (eqb-true point 0 first))
-    go false first = refl
-
 -- What is carried past a point is what is carried to the next.
 pub carried_next : (plan : Plan) (c : Certificate) (name : List ℕ) (point : ℕ) (carried next : Option Bound) → next ≡ carried_past plan c name point carried
     → carried ≡ carried_to plan c name point → next ≡ carried_to plan c name (point + 1)
@@ -81,11 +62,11 @@ carried_next plan c name point carried next past is =
 
 pub carried_is : (plan : Plan) (c : Certificate) (name : List ℕ) (point : ℕ) (carried : Option Bound) (code : List Instruction) (i : Instruction) (b : Bound)
     → code ≡ code_named plan.programs name → slice_get code point ≡ Some i → Some b ≡ or_carried (bound_at c name point) carried → may_carry c.version code (point + 1) ≡ true
-    → carried_on plan.grants c name point b i ≡ carried_past plan c name point carried
+    → carried_on plan c name point b i ≡ carried_past plan c name point carried
 carried_is plan c name point carried code i b is here bound may =
     let more : suc point ≡ point + 1 = omega arith in
-    sym (ap (λ may. if may then carried_on plan.grants c name point b i else None) (λ k. may_carry c.version (sym is k) (more k))
-    ∙ ap (λ may. if may then carried_on plan.grants c name point b i else None) may)
+    sym (ap (λ may. if may then carried_on plan c name point b i else None) (λ k. may_carry c.version (sym is k) (more k))
+    ∙ ap (λ may. if may then carried_on plan c name point b i else None) may)
     ∙ (λ k. carried_by plan c name point (there k) (bound k))
   where
     there : Some i ≡ slice_get (code_named plan.programs name) point

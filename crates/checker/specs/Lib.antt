@@ -1,3 +1,4 @@
+pub mod AllowanceViews
 pub mod SiteViews
 pub mod Verdicts
 pub mod Views

@@ -6,8 +6,8 @@ use Rattle.certificate.specs.Views.{bound_of, name_of}
 use Rattle.certificate.specs.declared.bounds.Bound.{Bound as BoundCode}
 use Rattle.prog_asm.specs.Programs.{Syscall, Instruction, Invoke}
 use Rattle.rules.specs.Expansions.{carried_to, code_named, expansion}
-use Rattle.rules.specs.Outcomes.{Outcome, successes}
-use Rattle.rules.specs.Rules.{Test, tests}
+use Rattle.rules.specs.Outcomes.{Outcome, successes_in}
+use Rattle.rules.specs.Rules.{Test, mark_tests, tests}
 use Rattle.transfer.specs.declared.successes.Site.{Site}
 
 abbrev pub site_name : Site → List ℕ
@@ -16,12 +16,16 @@ site_name s = name_of s.name.now
 abbrev pub expansion_at : Site → Certificate
 expansion_at s = expansion s.task.now s.cert.now
 
-abbrev pub successes_in : Site → Instruction → List Outcome
-successes_in s i = successes s.task.now.grants (expansion_at s) (site_name s) s.point (bound_of s.bound.now) i
+abbrev pub expanded_successes : Site → Instruction → List Outcome
+expanded_successes s i = successes_in s.task.now (expansion_at s) (site_name s) s.point (bound_of s.bound.now) i
 
 -- the tests at the point, of a program by its number
 abbrev pub tests_at : Site → ℕ → Instruction → List Test
 tests_at s program i = tests s.task.now (expansion_at s) program s.point i (bound_of s.bound.now)
+
+-- those on marked programs
+abbrev pub marks_at : Site → ℕ → Instruction → List Test
+marks_at s program i = mark_tests s.task.now (expansion_at s) program s.point i (bound_of s.bound.now)
 
 -- the tests of a call alone, which are the same in each program and wherever its errors go: those of the rules 4 to 15
 abbrev pub call_tests : Site → Syscall → List Test

@@ -3,7 +3,7 @@
 ghost use Rattle.std.specs.Prelude.{◌≡◌, ◌+◌, None, is_some, option_map, true};
 ghost use Rattle.certificate.specs.Bounds.{bound_at};
 ghost use Rattle.certificate.specs.Views.{bound_of, name_of};
-ghost use Rattle.checker.specs.SiteViews.{CarriesOn, SiteHas, expansion_at, site_name, successes_in};
+ghost use Rattle.checker.specs.SiteViews.{CarriesOn, SiteHas, expansion_at, site_name, expanded_successes};
 ghost use Rattle.prog_asm.specs.Views.{instruction_of};
 ghost use Rattle.rules.specs.Expansions.{bound_met};
 ghost use Rattle.rules.specs.Outcomes.{error_outcomes};
@@ -107,7 +107,7 @@ pub(crate) fn successes_within(
     requires stands { SiteHas site.now (instruction_of instruction.now) }
     requires carries { CarriesOn site.now carried.now }
     requires known { leaves_known (instruction_of instruction.now) ≡ true }
-    ensures { result ≡ all_within (expansion_at site.now) (site_name site.now) (successes_in site.now (instruction_of instruction.now)) }
+    ensures { result ≡ all_within (expansion_at site.now) (site_name site.now) (expanded_successes site.now (instruction_of instruction.now)) }
 {
     site.task.note_valid();
     site.cert.note_made();
@@ -126,7 +126,7 @@ pub(crate) fn successes_there(
     requires stands { SiteHas site.now (instruction_of instruction.now) }
     requires carries { CarriesOn site.now carried.now }
     requires known { leaves_known (instruction_of instruction.now) ≡ true }
-    ensures { result ≡ all_there (expansion_at site.now) (site_name site.now) (successes_in site.now (instruction_of instruction.now)) }
+    ensures { result ≡ all_there (expansion_at site.now) (site_name site.now) (expanded_successes site.now (instruction_of instruction.now)) }
 {
     site.task.note_valid();
     site.cert.note_made();

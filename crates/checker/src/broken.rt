@@ -13,8 +13,9 @@ ghost use Rattle.transfer.specs.Limits.{leaves_known};
 
 use crate::arrivals::{failure_there, failure_within, successes_there, successes_within};
 use crate::carrying::bound_with;
+use crate::marks::{broken_by_marks, broken_without};
 use crate::points::instruction_at;
-use crate::starts::{is_started, starts_within};
+use crate::starts::starts_within;
 use crate::uses::{
     KeepsChannelBound, KeepsCommands, KeepsLimit, KeepsPolicy, KeepsRights, MovesWithin,
     NamesKnown, WorksOnKnown, in_the_mode,
@@ -107,7 +108,7 @@ fn broken_with(
     requires known { leaves_known (instruction_of instruction.now) ≡ true }
     ensures { result ≡ least_broken (tests_at site.now program (instruction_of instruction.now)) }
 {
-    if !starts_within(site.task, program, site.point, site.bound) {
+    if !starts_within(site.task, site.name, program, site.point, site.bound) {
         return Some(1);
     }
     if !successes_within(site, carried, instruction) {
@@ -122,7 +123,7 @@ fn broken_with(
     if !(successes_there(site, carried, instruction) && failure_there(site, carried, instruction)) {
         return Some(16);
     }
-    None
+    broken_by_marks(site, program, instruction)
 }
 
 /// The name of a program of the task; where it has none, it has no instructions.
@@ -136,7 +137,7 @@ pub(crate) fn name_at(task: &Task, program: u8) -> Option<Name>
 
 /// The least rule that is broken at a point of a program, if one is, where these bounds are carried to it and on from it. At a
 /// point that isn't one there is nothing to find.
-#[tactic(auto, unfolding(rules::specs::Verdicts::found_at, rules::specs::Verdicts::found_with, rules::specs::Rules::tests_without))]
+#[tactic(auto, unfolding(rules::specs::Verdicts::found_at, rules::specs::Verdicts::found_with))]
 pub(crate) fn found_at(
     task: &Task,
     cert: &Cert,
@@ -165,11 +166,6 @@ pub(crate) fn found_at(
             };
             broken_with(&site, program, next, instruction)
         }
-        None => {
-            if point == 0 && is_started(task, program) {
-                return Some(16);
-            }
-            None
-        }
+        None => broken_without(task, cert, name, program, point),
     }
 }

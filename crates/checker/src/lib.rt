@@ -1,16 +1,19 @@
-//! The checker: whether a certificate meets the rules K1 to K16 at every point of a task's programs. `check` answers, and
-//! names the first rule that is broken; `expand` writes out the bounds that a certificate of version 2 leaves to be carried.
+//! The checker: whether a certificate meets the rules K1 to K22 at every point of a task's programs. `check` answers, and
+//! names the first rule that is broken; `expand` writes out the bounds that a certificate of version 2 or 3 leaves to be carried.
 #![tactic(auto)]
 
+pub mod allowances;
 mod arrivals;
 mod broken;
 mod carrying;
 pub mod expanding;
+mod marks;
 pub mod points;
 mod starts;
 mod uses;
 pub mod verdicts;
 
+pub use allowances::ceiling_at;
 pub use expanding::expand;
 pub use points::{code_named, is_named};
 pub use verdicts::{Verdict, check};

@@ -2,20 +2,21 @@
 
 ghost use Rattle.std.specs.Prelude.{◌≡◌, ◌==◌, ◌&&◌, ◌+◌, ◌≤◌, length, map, option_map, true};
 ghost use Rattle.certificate.specs.Describes.{held_describes, interval_describes, mode_describes, registers_describe, slot_describes, slots_describe, target_describes};
-ghost use Rattle.certificate.specs.Views.{bound_of, class_of, held_of, interval_of, mode_of, side_of, slot_of, target_of};
+ghost use Rattle.certificate.specs.Views.{bound_of, class_of, held_of, interval_of, mode_of, name_of, side_of, slot_of, target_of};
 ghost use Rattle.certificate.specs.Order.{same_class};
 ghost use Rattle.rights.specs.Classes.{Initial};
 ghost use Rattle.fd_table.specs.Views.{side_seen};
-ghost use Rattle.rules.specs.Rules.{all_starts_within, first_seen, first_subject, first_table, is_started, start_within, starts_program, starts_within};
+ghost use Rattle.rules.specs.Rules.{all_starts_within, is_bounded_start, first_seen, first_subject, first_table, is_started, start_within, starts_program, starts_within};
 ghost use Rattle.file_tree.specs.Nodes.{node};
 ghost use Rattle.file_tree.specs.Views.{names_of};
 ghost use Rattle.task.specs.Begins.{with_number};
+ghost use Rattle.task.specs.Plans.{program_name};
 ghost use Rattle.task.specs.Policies.{grant_holds};
 ghost use Rattle.task.specs.Views.{first_descriptor_of, first_object_of, grants_of, nodes_of, start_of, starts_of};
 
-use certificate::{Bound, Class, Held, Interval, ModeBound, Slot, Target};
+use certificate::{Bound, Class, Held, Interval, ModeBound, Name, Slot, Target};
 use rights::Rights;
-use task::{FirstDescriptor, FirstObject, Grant, Start, Task, TaskNode, grant_holds};
+use task::{FirstDescriptor, FirstObject, Grant, Start, Task, TaskNode, grant_holds, is_marked};
 
 /// Whether a process may be in this mode.
 fn mode_describes(bound: ModeBound, mode: bool) -> bool
@@ -44,7 +45,7 @@ fn registers_describe(intervals: &[Interval], values: &[u32]) -> bool
 }
 
 /// The place of a node; the root's for one that isn't there.
-fn place_of(nodes: &[TaskNode], number: u16) -> &[Vec<u8>]
+pub(crate) fn place_of(nodes: &[TaskNode], number: u16) -> &[Vec<u8>]
     ensures { names_of result.now ≡ (node (nodes_of nodes.now) number).place }
 {
     match nodes.get(number as usize) {
@@ -181,39 +182,61 @@ fn start_within(task: &Task, bound: &Bound, start: &Start) -> bool
         && slots_describe(task.grants(), task.nodes(), 0, bound.slots(), start)
 }
 
-/// Whether it does each of these that starts the program.
-fn all_starts_within(task: &Task, program: u8, bound: &Bound, starts: &[Start]) -> bool
-    ensures { result ≡ all_starts_within task.now program (bound_of bound.now) (starts_of starts.now) }
+/// Whether a process starts with the program and is bounded by its points: one of a marked program that starts in the mode isn't.
+fn is_bounded_start(marked: bool, program: u8, start: &Start) -> bool
+    ensures { result ≡ is_bounded_start marked program (start_of start.now) }
+{
+    !(marked && start.mode) && start.program == program
+}
+
+/// Whether the bound describes each such process of these.
+fn all_starts_within(
+    task: &Task,
+    marked: bool,
+    program: u8,
+    bound: &Bound,
+    starts: &[Start],
+) -> bool
+    ensures { result ≡ all_starts_within task.now marked program (bound_of bound.now) (starts_of starts.now) }
 {
     match starts {
         [] => true,
         [first, rest @ ..] => {
-            (first.program != program || start_within(task, bound, first))
-                && all_starts_within(task, program, bound, rest)
+            (!is_bounded_start(marked, program, first) || start_within(task, bound, first))
+                && all_starts_within(task, marked, program, bound, rest)
         }
     }
 }
 
-/// At point 0, whether the bound describes each process of the program at its start. (own)
-pub(crate) fn starts_within(task: &Task, program: u8, point: u8, bound: &Bound) -> bool
+/// At point 0, whether the bound describes each such process of the program at its start. (own)
+pub(crate) fn starts_within(task: &Task, name: &Name, program: u8, point: u8, bound: &Bound) -> bool
+    requires { name_of name.now ≡ program_name task.now program }
     ensures { result ≡ starts_within task.now program point (bound_of bound.now) }
 {
-    point != 0 || all_starts_within(task, program, bound, task.starts())
+    let marked = is_marked(task.programs(), name.as_bytes());
+    point != 0 || all_starts_within(task, marked, program, bound, task.starts())
 }
 
-/// Whether one of these starts the program.
-fn starts_program(starts: &[Start], program: u8) -> bool
-    ensures { result ≡ starts_program (starts_of starts.now) program }
+/// Whether one of these does.
+fn starts_program(marked: bool, program: u8, starts: &[Start]) -> bool
+    ensures { result ≡ starts_program marked program (starts_of starts.now) }
 {
     match starts {
         [] => false,
-        [first, rest @ ..] => first.program == program || starts_program(rest, program),
+        [first, rest @ ..] => {
+            is_bounded_start(marked, program, first) || starts_program(marked, program, rest)
+        }
     }
 }
 
-/// Whether some process starts the program.
-pub(crate) fn is_started(task: &Task, program: u8) -> bool
+/// Whether some process starts the program and is bounded by its points.
+pub(crate) fn is_started(task: &Task, name: &Name, program: u8) -> bool
+    requires { name_of name.now ≡ program_name task.now program }
     ensures { result ≡ is_started task.now program }
 {
-    starts_program(task.starts(), program)
+    starts_program(
+        is_marked(task.programs(), name.as_bytes()),
+        program,
+        task.starts(),
+    )
 }

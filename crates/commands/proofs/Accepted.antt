@@ -19,15 +19,15 @@ use Rattle.kernel.specs.Steps.{answered, jumped, executed, stepped_at, stepped_b
 use Rattle.kernel.proofs.Determined.{run_exists}
 use Rattle.task.specs.Begins.{first_files, first_world}
 use Rattle.task.specs.Limits.{is_plan}
-use Rattle.task.specs.Plans.{Plan, programs_of_plan}
+use Rattle.task.specs.Plans.{Plan, programs_of_plan, none_marked}
 use Rattle.task.specs.Policies.{grant_named}
 use Rattle.task.proofs.FirstWorlds.{first_well_formed}
 use Rattle.file_tree.specs.Places.{is_file_name, is_target, path_components}
 use Rattle.rules.specs.Slots.{slots_in, free_numbers}
 use Rattle.rules.specs.Uses.{uses}
 use Rattle.rules.specs.Channels.{channel_at}
-use Rattle.rules.specs.Outcomes.{successes, error_outcomes}
-use Rattle.rules.specs.Rules.{tests, tests_without}
+use Rattle.rules.specs.Outcomes.{successes, successes_in, error_outcomes}
+use Rattle.rules.specs.Rules.{tests, tests_without, authority_tests, mark_tests}
 use Rattle.rules.specs.Verdicts.{IsFirst, MeetsRules, found_with, found_at, first_found}
 use Rattle.rules.proofs.First.{first_is_found}
 use Rattle.rules.proofs.Sound.{sound}
@@ -41,20 +41,20 @@ are_events (p ∷ processes) = (lit< tt, are_events processes)
 
 -- a task whose certificate is found to meet the rules, and of which every run shows this text
 accepted :
-    (plan : Plan) (certificate : Certificate) (processes : List ℕ) (text : List ℕ) → is_plan plan ≡ true → first_found plan certificate ≡ None
+    (plan : Plan) (certificate : Certificate) (processes : List ℕ) (text : List ℕ) → is_plan plan ≡ true → none_marked plan ≡ true → first_found plan certificate ≡ None
     → AlwaysShows plan (turns processes) text → ActsAccepted plan certificate processes text
-accepted plan certificate processes text valid none shows =
+accepted plan certificate processes text valid plain none shows =
     let meets : MeetsRules plan certificate = subst (IsFirst plan certificate) none (first_is_found plan certificate) in
     let first = first_well_formed plan valid in
     let run = run_exists (programs_of_plan plan) (first_world plan) (turns processes) first.0 first.1 (are_events processes) in
-    record { meets = meets; sandboxed = sound plan certificate valid meets; lines = run.0; run = run.1; shows = shows run.0 run.1 }
+    record { meets = meets; sandboxed = sound plan certificate valid plain meets; lines = run.0; run = run.1; shows = shows run.0 run.1 }
 
 passing_is_task : is_plan passing_plan ≡ true
 unfolding is_within_limits is_file_name is_target
 passing_is_task = refl
 
 passing_meets : first_found passing_plan passing_certificate ≡ None
-unfolding first_found found_at found_with tests tests_without bound_in grant_named slots_in free_numbers uses channel_at successes error_outcomes
+unfolding first_found found_at found_with tests tests_without bound_in grant_named slots_in free_numbers uses channel_at successes successes_in error_outcomes mark_tests authority_tests
 passing_meets = refl
 
 passing_shows : AlwaysShows passing_plan (turns (0 ∷ 0 ∷ 1 ∷ 1 ∷ [])) (codes "0 main:0 = 0\n0 main:1 = 1\n1 child:0 = 1\n1 child:1 = 2\n")
@@ -64,14 +64,14 @@ unfolding ℕ_discrete digits removed filled first_handled handled looks looks_t
 passing_shows = always passing_plan (turns (0 ∷ 0 ∷ 1 ∷ 1 ∷ [])) (codes "0 main:0 = 0\n0 main:1 = 1\n1 child:0 = 1\n1 child:1 = 2\n") (λ choose. refl)
 
 pub passing : ActsAccepted passing_plan passing_certificate (0 ∷ 0 ∷ 1 ∷ 1 ∷ []) (codes "0 main:0 = 0\n0 main:1 = 1\n1 child:0 = 1\n1 child:1 = 2\n")
-passing = accepted passing_plan passing_certificate (0 ∷ 0 ∷ 1 ∷ 1 ∷ []) _ passing_is_task passing_meets passing_shows
+passing = accepted passing_plan passing_certificate (0 ∷ 0 ∷ 1 ∷ 1 ∷ []) _ passing_is_task refl passing_meets passing_shows
 
 forking_is_task : is_plan forking_plan ≡ true
 unfolding is_within_limits is_file_name is_target
 forking_is_task = refl
 
 forking_meets : first_found forking_plan forking_certificate ≡ None
-unfolding first_found found_at found_with tests tests_without bound_in grant_named slots_in free_numbers uses channel_at successes error_outcomes
+unfolding first_found found_at found_with tests tests_without bound_in grant_named slots_in free_numbers uses channel_at successes successes_in error_outcomes mark_tests authority_tests
 forking_meets = refl
 
 forking_shows : AlwaysShows forking_plan (turns (0 ∷ 0 ∷ 1 ∷ 1 ∷ [])) (codes "0 main:0 = 0\n0 main:1 = 1\n1 main:2 ok\n1 main:4 = 2\n")
@@ -81,14 +81,14 @@ unfolding ℕ_discrete digits removed filled first_handled handled looks looks_t
 forking_shows = always forking_plan (turns (0 ∷ 0 ∷ 1 ∷ 1 ∷ [])) (codes "0 main:0 = 0\n0 main:1 = 1\n1 main:2 ok\n1 main:4 = 2\n") (λ choose. refl)
 
 pub forking : ActsAccepted forking_plan forking_certificate (0 ∷ 0 ∷ 1 ∷ 1 ∷ []) (codes "0 main:0 = 0\n0 main:1 = 1\n1 main:2 ok\n1 main:4 = 2\n")
-forking = accepted forking_plan forking_certificate (0 ∷ 0 ∷ 1 ∷ 1 ∷ []) _ forking_is_task forking_meets forking_shows
+forking = accepted forking_plan forking_certificate (0 ∷ 0 ∷ 1 ∷ 1 ∷ []) _ forking_is_task refl forking_meets forking_shows
 
 renaming_is_task : is_plan renaming_plan ≡ true
 unfolding is_within_limits is_file_name is_target
 renaming_is_task = refl
 
 renaming_meets : first_found renaming_plan renaming_certificate ≡ None
-unfolding first_found found_at found_with tests tests_without bound_in grant_named slots_in free_numbers uses channel_at successes error_outcomes
+unfolding first_found found_at found_with tests tests_without bound_in grant_named slots_in free_numbers uses channel_at successes successes_in error_outcomes mark_tests authority_tests
 renaming_meets = refl
 
 renaming_shows : AlwaysShows renaming_plan (turns (0 ∷ 0 ∷ 0 ∷ [])) (codes "0 main:0 = 0\n0 main:1 walk\n0 main:1 = 0 remove /work/in create /work/out/in\n")
@@ -98,4 +98,4 @@ unfolding ℕ_discrete digits removed filled first_handled handled looks looks_t
 renaming_shows = always renaming_plan (turns (0 ∷ 0 ∷ 0 ∷ [])) (codes "0 main:0 = 0\n0 main:1 walk\n0 main:1 = 0 remove /work/in create /work/out/in\n") (λ choose. refl)
 
 pub renaming : ActsAccepted renaming_plan renaming_certificate (0 ∷ 0 ∷ 0 ∷ []) (codes "0 main:0 = 0\n0 main:1 walk\n0 main:1 = 0 remove /work/in create /work/out/in\n")
-renaming = accepted renaming_plan renaming_certificate (0 ∷ 0 ∷ 0 ∷ []) _ renaming_is_task renaming_meets renaming_shows
+renaming = accepted renaming_plan renaming_certificate (0 ∷ 0 ∷ 0 ∷ []) _ renaming_is_task refl renaming_meets renaming_shows

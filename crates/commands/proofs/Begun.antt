@@ -34,6 +34,7 @@ use Rattle.commands.specs.Faults.{Fault, Refused, No_memory, No_output}
 use Rattle.commands.specs.FaultViews.{fault_of, stop_fault}
 use Rattle.commands.specs.Files.{Files, IsRead, IsTask}
 use Rattle.commands.specs.Judged.{Judges}
+use Rattle.commands.specs.Reports.{Reports}
 use Rattle.commands.specs.Served.{DoesOrder, Serves}
 
 -- ## The events of a schedule have bytes
@@ -151,6 +152,16 @@ pub verdict-begun : (files : Files) (task certificate : List ℕ) (plan : Plan) 
     IsTask files task plan → IsRead files certificate certificate_of_text (Ok bounds) → HasBegun (Judges plan bounds) before after →
     HasBegun (DoesOrder files (Check task certificate)) before after
 verdict-begun files task certificate plan bounds before after is_task is_certificate begun = record {
+  status = begun.status;
+  text = begun.text;
+  whole = record { plan = plan; is_task = is_task; value = bounds; is_value = is_certificate; holds = begun.whole };
+  begun = begun.begun;
+}
+
+pub report-begun : (files : Files) (task certificate : List ℕ) (plan : Plan) (bounds : Certificate) (before after : Option (List ℕ)) →
+    IsTask files task plan → IsRead files certificate certificate_of_text (Ok bounds) → HasBegun (Reports plan bounds) before after →
+    HasBegun (DoesOrder files (Report task certificate)) before after
+report-begun files task certificate plan bounds before after is_task is_certificate begun = record {
   status = begun.status;
   text = begun.text;
   whole = record { plan = plan; is_task = is_task; value = bounds; is_value = is_certificate; holds = begun.whole };

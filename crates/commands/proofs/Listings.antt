@@ -10,7 +10,8 @@ use Rattle.certificate.specs.Bounds.{Slot, Certificate, bound_at}
 use Rattle.certificate_text.specs.Pieces.{in_order}
 use Rattle.prog_asm.specs.Programs.{Instruction}
 use Rattle.task.specs.Plans.{Grant, NamedProgram}
-use Rattle.commands.specs.Reports.{grant_line, names_in, own_names, parted, point_lines, program_lines, rights_there, rights_text}
+use Rattle.rules.specs.Authority.{authority_at, ceiling_in}
+use Rattle.commands.specs.Reports.{ceiling_line, grant_line, names_in, own_names, parted, point_lines, rights_there, rights_text}
 
 -- the line of a grant at a point
 abbrev pub line_at : List ℕ → ℕ → List Slot → ℕ → Grant → List ℕ
@@ -19,6 +20,10 @@ line_at program point slots n g = grant_line program point g.name (rights_there 
 -- the lines of a point of a program
 abbrev pub lines_at : List Grant → Certificate → List ℕ → ℕ → Instruction → List ℕ
 lines_at grants certificate name point i = point_lines grants name point (bound_at certificate name point)
+
+-- the line of a grant, of a marked program's authority
+abbrev pub ceiling_of_grant : Certificate → List ℕ → ℕ → Grant → List ℕ
+ceiling_of_grant certificate program n g = ceiling_line program g.name (ceiling_in (authority_at certificate program).ceilings g.name)
 
 -- a row of the table of rights
 abbrev pub row_seen : Flag Rights → List ℕ × ℕ
@@ -57,7 +62,7 @@ same-at [] i d e within = absurd (omega arith)
 same-at (x ∷ xs) zero d e within = refl
 same-at (x ∷ xs) (suc i) d e within = same-at xs i d e (omega arith)
 
-pub program-as : (grants : List Grant) (certificate : Certificate) (name : List ℕ) (code : List Instruction) (p : NamedProgram) → name ≡ p.name →
-    code ≡ p.code → in_order (lines_at grants certificate name) 0 code ≡ program_lines grants certificate p
-program-as grants certificate name code p named is =
+pub points-as : (grants : List Grant) (certificate : Certificate) (name : List ℕ) (code : List Instruction) (p : NamedProgram) → name ≡ p.name →
+    code ≡ p.code → in_order (lines_at grants certificate name) 0 code ≡ in_order (lines_at grants certificate p.name) 0 p.code
+points-as grants certificate name code p named is =
     ap (λ name. in_order (lines_at grants certificate name) 0 code) named ∙ ap (λ code. in_order (lines_at grants certificate p.name) 0 code) is

@@ -1,10 +1,10 @@
 -- A verdict or a report of which a beginning was written.
 use Rattle.std.proofs.Common.{◌≡◌, List, ℕ, ap, refl}
-use Rattle.std.specs.Prelude.{Option, Some}
+use Rattle.std.specs.Prelude.{Option, Some, true}
 use Rattle.rights.specs.Output.{TookFront}
 use Rattle.certificate.specs.Bounds.{Certificate}
 use Rattle.checker.specs.Verdicts.{Verdict, Yes, IsVerdict}
-use Rattle.task.specs.Plans.{Plan}
+use Rattle.task.specs.Plans.{Plan, none_marked}
 use Rattle.task.specs.Sandboxed.{IsSandboxed}
 use Rattle.commands.specs.Begun.{HasBegun}
 use Rattle.commands.specs.Judged.{Judges, verdict_status, verdict_text}
@@ -12,7 +12,7 @@ use Rattle.commands.specs.Reports.{Reports, answer_text}
 
 pub verdict_begun :
     (plan : Plan) (bounds : Certificate) (verdict : Verdict) (text : List ℕ) (before after : Option (List ℕ))
-    → IsVerdict plan bounds verdict → (verdict ≡ Yes → IsSandboxed plan) → text ≡ verdict_text plan verdict
+    → IsVerdict plan bounds verdict → (verdict ≡ Yes → none_marked plan ≡ true → IsSandboxed plan) → text ≡ verdict_text plan verdict
     → TookFront before after text → HasBegun (Judges plan bounds) before after
 verdict_begun plan bounds verdict text before after is sound told begun = record {
   status = verdict_status verdict;
@@ -23,7 +23,7 @@ verdict_begun plan bounds verdict text before after is sound told begun = record
 
 pub report_begun :
     (plan : Plan) (bounds : Certificate) (verdict : Verdict) (before after : Option (List ℕ)) → IsVerdict plan bounds verdict
-    → (verdict ≡ Yes → IsSandboxed plan) → TookFront before after (answer_text plan bounds verdict)
+    → (verdict ≡ Yes → none_marked plan ≡ true → IsSandboxed plan) → TookFront before after (answer_text plan bounds verdict)
     → HasBegun (Reports plan bounds) before after
 report_begun plan bounds verdict before after is sound begun = record {
   status = verdict_status verdict;

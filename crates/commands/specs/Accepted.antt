@@ -9,7 +9,7 @@ use Rattle.prog_asm.specs.Programs.{Instruction, Halt, Invoke, Jmp, Jeq, Number,
 use Rattle.certificate.specs.Bounds.{ModeBound, Off, On, Held, Slot, Open, Maybe, Bound, with_interval, PointBound, One, Certificate}
 use Rattle.kernel.specs.Answers.{Event}
 use Rattle.kernel.specs.Steps.{Acted}
-use Rattle.task.specs.Plans.{Grant, NamedProgram, FirstObject, On_node, On_end, FirstDescriptor, Start, Plan}
+use Rattle.task.specs.Plans.{Grant, NamedProgram, FirstObject, On_node, On_end, FirstDescriptor, Start, Plan, unmarked}
 use Rattle.task.specs.Sandboxed.{IsSandboxed}
 use Rattle.simulator.specs.Simulations.{IsRun}
 use Rattle.simulator.specs.Traces.{trace_text}
@@ -56,14 +56,11 @@ main_start more = record {
   descriptors = given_first 0 (directory 1) ∷ given_first 1 (directory 9) ∷ more;
 }
 
-abbrev pub program_named : List ℕ → List Instruction → NamedProgram
-program_named name code = record { name = name; code = code }
-
 abbrev pub alone : List Operation → List Instruction → Plan
 alone operations code = record {
   nodes = tree;
   grants = work operations ∷ log ∷ [];
-  programs = program_named (codes "main") code ∷ [];
+  programs = unmarked (codes "main") code ∷ [];
   starts = main_start [] ∷ [];
 }
 
@@ -80,9 +77,9 @@ passing_plan = record {
   nodes = tree;
   grants = work (Look ∷ Reads ∷ []) ∷ log ∷ [];
   programs =
-      program_named (codes "main")
+      unmarked (codes "main")
       (Invoke (Cap_rights_limit (Number 0) few_rights) 2 ∷ Invoke (Sendfd (Number 2) (Number 0) (Number 0)) 2 ∷ Halt ∷ [])
-      ∷ program_named (codes "child")
+      ∷ unmarked (codes "child")
       (Invoke (Recvfd (Number 0)) 3 ∷ Invoke (Openat (Number 1) (codes "in") reads_below) 3 ∷ Invoke (Read (Number 2)) 3 ∷ Halt ∷ [])
       ∷ [];
   starts =

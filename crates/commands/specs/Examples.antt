@@ -7,7 +7,7 @@ use Rattle.prog_asm.specs.Programs.{Instruction, Jeq, Halt, Invoke, Cap_enter, R
 use Rattle.kernel.specs.Answers.{Event}
 use Rattle.kernel.specs.Steps.{Acted}
 use Rattle.task.specs.Breaches.{small_tree}
-use Rattle.task.specs.Plans.{On_node, Plan, Grant, Start}
+use Rattle.task.specs.Plans.{On_node, Plan, Grant, Start, unmarked}
 use Rattle.simulator.specs.Simulations.{IsRun}
 use Rattle.simulator.specs.Traces.{trace_text}
 
@@ -33,7 +33,7 @@ abbrev pub small_plan : List Instruction → ℕ → Plan
 small_plan code rights = record {
   nodes = small_tree;
   grants = work_grant ∷ [];
-  programs = record { name = codes "main"; code = code } ∷ [];
+  programs = unmarked (codes "main") code ∷ [];
   starts = small_start rights ∷ [];
 }
 

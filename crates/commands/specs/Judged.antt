@@ -1,10 +1,10 @@
 -- The verdict on a task with a certificate, and how it is told.
-use Rattle.std.specs.Prelude.{◌≡◌, ◌++◌, ℕ, List, codes, Option}
+use Rattle.std.specs.Prelude.{◌≡◌, ◌++◌, ℕ, true, List, codes, Option}
 use Rattle.std.specs.Fmt.{decimal}
 use Rattle.rights.specs.Output.{Took}
 use Rattle.certificate.specs.Bounds.{Certificate}
 use Rattle.checker.specs.Verdicts.{Verdict, Yes, No, IsVerdict}
-use Rattle.task.specs.Plans.{Plan, program_name}
+use Rattle.task.specs.Plans.{Plan, program_name, none_marked}
 use Rattle.task.specs.Sandboxed.{IsSandboxed}
 
 -- `no main:4`
@@ -25,5 +25,5 @@ pub record Judges (plan : Plan) (bounds : Certificate) (status : ℕ) (before af
   pub verdict : Verdict
   pub is : IsVerdict plan bounds verdict
   pub status_is : status ≡ verdict_status verdict
-  pub sound : verdict ≡ Yes → IsSandboxed plan
+  pub sound : verdict ≡ Yes → none_marked plan ≡ true → IsSandboxed plan
   pub writes : Took before after (verdict_text plan verdict)

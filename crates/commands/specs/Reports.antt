@@ -1,5 +1,6 @@
--- What is told of an accepted certificate: at each point the rights that a process may have in each grant. (own)
-use Rattle.std.specs.Prelude.{◌≡◌, ◌==◌, ◌++◌, ℕ, List, [], ◌∷◌, codes, take, Option, Some, None, bit_or, if◌then◌else◌}
+-- What is told of an accepted certificate: at each point the rights that a process may have in each grant, and those that a marked
+-- program may have whatever it does. (own)
+use Rattle.std.specs.Prelude.{◌≡◌, ◌==◌, ◌++◌, ℕ, true, List, [], ◌∷◌, codes, take, Option, Some, None, bit_or, if◌then◌else◌}
 use Rattle.std.specs.Fmt.{decimal}
 use Rattle.std.specs.Str.{bytes_eq}
 use Rattle.rights.specs.Output.{Took}
@@ -9,9 +10,10 @@ use Rattle.texts.specs.Parts.{joined}
 use Rattle.certificate.specs.Bounds.{Target, In_grant, Any_node, Socket, Unknown, Held, Slot, Bound, Certificate, bound_at, held_in}
 use Rattle.certificate_text.specs.Pieces.{in_order}
 use Rattle.checker.specs.Verdicts.{Verdict, Yes, No, IsVerdict}
+use Rattle.rules.specs.Authority.{authority_at, ceiling_in}
 use Rattle.rules.specs.Expansions.{expansion}
 use Rattle.prog_asm.specs.Programs.{Instruction}
-use Rattle.task.specs.Plans.{Grant, NamedProgram, Plan}
+use Rattle.task.specs.Plans.{Grant, NamedProgram, Plan, none_marked}
 use Rattle.task.specs.Sandboxed.{IsSandboxed}
 use Rattle.commands.specs.Judged.{verdict_status, verdict_text}
 
@@ -51,14 +53,14 @@ names_in set (row ∷ rows) = if is_within row.1 set then row.0 ∷ names_in set
 abbrev pub rights_text : ℕ → List ℕ
 rights_text set = if set == 0 then codes "none" else joined comma (names_in set own_names)
 
--- `main:0 work `
-abbrev pub point_text : List ℕ → ℕ → List ℕ → List ℕ
-point_text program point grant = program ++ codes ":" ++ decimal point ++ codes " " ++ grant ++ codes " "
+-- `main:0 work `, of a point or of `*`
+abbrev pub point_text : List ℕ → List ℕ → List ℕ → List ℕ
+point_text program point grant = program ++ codes ":" ++ point ++ codes " " ++ grant ++ codes " "
 
 -- `main:0 work READ,LOOKUP`
 abbrev pub grant_line : List ℕ → ℕ → List ℕ → Option ℕ → List ℕ
 grant_line program point grant None = []
-grant_line program point grant (Some rights) = point_text program point grant ++ rights_text rights ++ codes "\n"
+grant_line program point grant (Some rights) = point_text program (decimal point) grant ++ rights_text rights ++ codes "\n"
 
 -- names, with what separates the first of them from what stands before it
 abbrev pub parted : List ℕ → List (List ℕ) → List ℕ
@@ -72,10 +74,20 @@ point_lines grants program point None = []
 point_lines grants program point (Some b) =
     in_order (λ n (g : Grant). grant_line program point g.name (rights_there g.name b.slots)) 0 grants
 
--- of a program, by its points
+-- `child:* work READ,LOOKUP`: what a marked program may have in a grant, by its authority
+abbrev pub ceiling_line : List ℕ → List ℕ → ℕ → List ℕ
+ceiling_line program grant rights =
+    if rights == 0 then [] else point_text program (codes "*") grant ++ rights_text rights ++ codes "\n"
+
+abbrev pub ceiling_lines : List Grant → Certificate → List ℕ → List ℕ
+ceiling_lines grants certificate program =
+    in_order (λ n (g : Grant). ceiling_line program g.name (ceiling_in (authority_at certificate program).ceilings g.name)) 0 grants
+
+-- of a program, by its points; and then of its authority, if it is marked
 abbrev pub program_lines : List Grant → Certificate → NamedProgram → List ℕ
 program_lines grants certificate p =
     in_order (λ point (i : Instruction). point_lines grants p.name point (bound_at certificate p.name point)) 0 p.code
+    ++ (if p.marked then ceiling_lines grants certificate p.name else [])
 
 -- of a task, by its programs
 abbrev pub report_text : Plan → Certificate → List ℕ
@@ -91,5 +103,5 @@ pub record Reports (plan : Plan) (bounds : Certificate) (status : ℕ) (before a
   pub verdict : Verdict
   pub is : IsVerdict plan bounds verdict
   pub status_is : status ≡ verdict_status verdict
-  pub sound : verdict ≡ Yes → IsSandboxed plan
+  pub sound : verdict ≡ Yes → none_marked plan ≡ true → IsSandboxed plan
   pub writes : Took before after (answer_text plan bounds verdict)

@@ -121,6 +121,7 @@ pub fn example_task(alloc: Global) -> Result<Task, AllocError>
     programs.push(NamedProgram {
         name: String::from_str(alloc, "main")?,
         program: enter_and_read(alloc)?,
+        untrusted: false,
     })?;
     Ok(Task::new(nodes(alloc)?, grants(alloc)?, programs, starts(alloc)?))
 }

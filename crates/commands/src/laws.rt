@@ -3,7 +3,7 @@
 ghost use Rattle.std.specs.Prelude.{◌≡◌, ◌∷◌, ◌++◌, [], codes};
 ghost use Rattle.commands.specs.Accepted.{ActsAccepted, forking_certificate, forking_plan, passing_certificate, passing_plan, renaming_certificate, renaming_plan};
 ghost use Rattle.commands.specs.Examples.{AlwaysShows, absent_event, bare_plan, events_of_first, example_events, first_plan, loop_plan};
-ghost use Rattle.commands.specs.ReportRows.{halting_certificate, halting_plan};
+ghost use Rattle.commands.specs.ReportRows.{halting_certificate, halting_plan, marked_certificate, marked_plan};
 ghost use Rattle.commands.specs.Reports.{report_text};
 
 /// What every run of three small tasks shows, event for event: one event is of a process that was not made.
@@ -32,7 +32,10 @@ pub fn accepted_tasks_act_in_the_mode()
         (codes "0 main:0 = 0\n0 main:1 walk\n0 main:1 = 0 remove /work/in create /work/out/in\n") }
 {}
 
-/// What is reported of a small task: of its one point with a bound, the rights in its one grant, by their names.
+/// What is reported of a small task: of its one point with a bound, the rights in its one grant, by their names; and where its
+/// program is marked, those that it may have there whatever it does.
 pub fn a_small_task_is_reported()
-    ensures { report_text halting_plan halting_certificate ≡ codes "main:0 work READ,LOOKUP\n" }
+    ensures plain { report_text halting_plan halting_certificate ≡ codes "main:0 work READ,LOOKUP\n" }
+    ensures unmarked { report_text halting_plan marked_certificate ≡ codes "main:0 work READ,LOOKUP\n" }
+    ensures marked { report_text marked_plan marked_certificate ≡ codes "main:0 work READ,LOOKUP\nmain:* work READ\n" }
 {}

@@ -1,6 +1,6 @@
 //! What an accepted certificate says of the task's grants.
 
-ghost use Rattle.std.specs.Prelude.{◌≡◌, ◌==◌, ◌++◌, ◌<◌, ◌≤◌, ◌-◌, ◌^◌, IfOk, IsErrOf, OnOk, codes, length, map, option_map};
+ghost use Rattle.std.specs.Prelude.{◌≡◌, ◌==◌, ◌++◌, ◌<◌, ◌≤◌, ◌-◌, ◌^◌, [], if◌then◌else◌, IfOk, IsErrOf, OnOk, codes, length, map, option_map};
 ghost use Rattle.std.specs.Fmt.{decimal};
 ghost use Rattle.certificate.specs.Bounds.{bound_at, held_in};
 ghost use Rattle.certificate.specs.Views.{bound_of, slot_of};
@@ -9,8 +9,9 @@ ghost use Rattle.certificate_text.specs.WritingViews.{Writes};
 ghost use Rattle.checker.specs.Views.{verdict_of};
 ghost use Rattle.rights.specs.Output.{Took, TookFront};
 ghost use Rattle.commands.specs.Begun.{HasBegun};
-ghost use Rattle.commands.specs.Reports.{Reports, answer_text, either_set, grant_line, greatest_in, names_in, own_names, parted, point_text, point_lines, program_lines};
+ghost use Rattle.commands.specs.Reports.{Reports, answer_text, ceiling_line, ceiling_lines, either_set, grant_line, greatest_in, names_in, own_names, parted, point_text, point_lines, program_lines};
 ghost use Rattle.commands.specs.Reports.{report_text, rights_there, rights_text};
+ghost use Rattle.rules.specs.Authority.{authority_at, ceiling_in};
 ghost use Rattle.rules.specs.Expansions.{expansion};
 ghost use Rattle.task.specs.Views.{grant_of, grants_of, program_of, programs_of};
 ghost use Rattle.prog_asm.specs.Views.{code_of};
@@ -18,7 +19,7 @@ ghost use Rattle.prog_asm.specs.Views.{code_of};
 use crate::judging::{status_of_verdict, text_of_verdict};
 use bitflags::{Flag, Flags};
 use certificate::{Bound, Cert, Slot, Target};
-use checker::{Verdict, check, expand};
+use checker::{Verdict, ceiling_at, check, expand};
 use prog_asm::Instruction;
 use rights::{Out, Rights, Stop, write_all};
 use std::alloc::Global;
@@ -71,23 +72,15 @@ fn write_bytes<W: Out>(out: &mut W, bytes: &[u8]) -> Result<(), Stop>
     write_all(out, bytes)
 }
 
-/// Writes a number in decimal digits.
-fn write_number<W: Out>(out: &mut W, number: u32) -> Result<(), Stop>
-    requires { W.faults out.old < 2 ^ 64 - 1 }
-    ensures { Writes result (W.taken out.old) (W.taken out.new) (W.faults out.old) (W.faults out.new) (decimal number) }
-{
-    write_bytes(out, Decimal::new(number).as_bytes())
-}
-
-/// Writes the beginning of a line: a point of a program, and a grant.
-fn write_place<W: Out>(out: &mut W, program: &[u8], point: u32, grant: &[u8]) -> Result<(), Stop>
+/// Writes the beginning of a line: a program, a point or a sign for all that it does, and a grant.
+fn write_place<W: Out>(out: &mut W, program: &[u8], point: &[u8], grant: &[u8]) -> Result<(), Stop>
     requires { W.faults out.old < 2 ^ 64 - 1 }
     ensures { Writes result (W.taken out.old) (W.taken out.new) (W.faults out.old) (W.faults out.new)
-        (point_text program.now point grant.now) }
+        (point_text program.now point.now grant.now) }
 {
     write_bytes(out, program)?;
     write_bytes(out, b":")?;
-    write_number(out, point)?;
+    write_bytes(out, point)?;
     write_bytes(out, b" ")?;
     write_bytes(out, grant)?;
     write_bytes(out, b" ")
@@ -161,17 +154,17 @@ fn write_end<W: Out>(out: &mut W, set: Rights) -> Result<(), Stop>
     write_bytes(out, b"\n")
 }
 
-/// Writes the line of a point and a grant.
+/// Writes the line of a place.
 fn write_line<W: Out>(
     out: &mut W,
     program: &[u8],
-    point: u32,
+    point: &[u8],
     grant: &[u8],
     set: Rights,
 ) -> Result<(), Stop>
     requires { W.faults out.old < 2 ^ 64 - 1 }
     ensures { Writes result (W.taken out.old) (W.taken out.new) (W.faults out.old) (W.faults out.new)
-        (point_text program.now point grant.now ++ (rights_text set.0 ++ codes "\n")) }
+        (point_text program.now point.now grant.now ++ (rights_text set.0 ++ codes "\n")) }
 {
     write_place(out, program, point, grant)?;
     write_end(out, set)
@@ -192,7 +185,7 @@ fn write_grant<W: Out>(
     let name = grant.name.as_bytes();
     match rights_in(bound.slots(), name) {
         None => Ok(()),
-        Some(set) => write_line(out, program, point, name, set),
+        Some(set) => write_line(out, program, Decimal::new(point).as_bytes(), name, set),
     }
 }
 
@@ -251,6 +244,59 @@ fn write_points<W: Out>(
     Ok(())
 }
 
+/// Writes the line of a grant and what a marked program may have there, if it may have anything.
+fn write_ceiling<W: Out>(
+    out: &mut W,
+    cert: &Cert,
+    program: &[u8],
+    grant: &Grant,
+) -> Result<(), Stop>
+    requires { W.faults out.old < 2 ^ 64 - 1 }
+    ensures { Writes result (W.taken out.old) (W.taken out.new) (W.faults out.old) (W.faults out.new)
+        (ceiling_line program.now (grant_of grant.now).name (ceiling_in (authority_at cert.now program.now).ceilings (grant_of grant.now).name)) }
+{
+    let name = grant.name.as_bytes();
+    let set = ceiling_at(cert, program, name);
+    if is_empty(set) {
+        return Ok(());
+    }
+    write_line(out, program, b"*", name, set)
+}
+
+/// Writes the lines of a marked program's authority.
+fn write_ceilings<W: Out>(
+    out: &mut W,
+    grants: &[Grant],
+    cert: &Cert,
+    program: &[u8],
+) -> Result<(), Stop>
+    requires { W.faults out.old < 2 ^ 64 - 1 }
+    ensures { Writes result (W.taken out.old) (W.taken out.new) (W.faults out.old) (W.faults out.new)
+        (ceiling_lines (grants_of grants.now) cert.now program.now) }
+{
+    for grant in grants {
+        write_ceiling(out, cert, program, grant)?;
+    }
+    Ok(())
+}
+
+/// Writes the lines of its authority, if a program is marked.
+fn write_marks<W: Out>(
+    out: &mut W,
+    grants: &[Grant],
+    cert: &Cert,
+    program: &NamedProgram,
+) -> Result<(), Stop>
+    requires { W.faults out.old < 2 ^ 64 - 1 }
+    ensures { Writes result (W.taken out.old) (W.taken out.new) (W.faults out.old) (W.faults out.new)
+        (if (program_of program.now).marked then ceiling_lines (grants_of grants.now) cert.now (program_of program.now).name else []) }
+{
+    if !program.untrusted {
+        return Ok(());
+    }
+    write_ceilings(out, grants, cert, program.name.as_bytes())
+}
+
 /// Writes the lines of a program.
 fn write_program<W: Out>(
     out: &mut W,
@@ -268,7 +314,8 @@ fn write_program<W: Out>(
         cert,
         program.name.as_bytes(),
         program.program.code(),
-    )
+    )?;
+    write_marks(out, grants, cert, program)
 }
 
 /// Writes the lines of programs, one after another.
@@ -299,7 +346,7 @@ fn write_report<W: Out>(task: &Task, cert: &Cert, out: &mut W) -> Result<(), Sto
 
 /// Writes the report of a task and a certificate: for each point of the task's programs that has a bound, given or carried, by
 /// the place of the program in the task, and for each grant of the task in which some slot may be open, the greatest rights of
-/// those slots. Its errors are `Device`, after a failure of the writer, which then has taken a beginning of that, and `Memory`, before
+/// those slots; and behind the points of a marked program the rights that it may have in each grant whatever it does. Its errors are `Device`, after a failure of the writer, which then has taken a beginning of that, and `Memory`, before
 /// anything is written. (own)
 pub fn report<W: Out>(alloc: Global, task: &Task, cert: &Cert, out: &mut W) -> Result<(), Stop>
     requires { W.faults out.old < 2 ^ 64 - 1 }

@@ -1,5 +1,5 @@
 -- Soundness: where the rules are met, each run is sandboxed.
-use Rattle.std.proofs.Common.{◌≡◌, Bool, true, false, List, [], ◌∷◌, refl, ap, subst}
+use Rattle.std.proofs.Common.{◌≡◌, ℕ, Bool, true, false, List, [], ◌∷◌, refl, ap, subst}
 use Rattle.std.specs.Prelude.{Option, Some, None}
 use Rattle.std.specs.List.{slice_get}
 use Rattle.std.specs.Option.{option_map}
@@ -16,16 +16,17 @@ use Rattle.kernel.proofs.Gains.{never_gains}
 use Rattle.kernel.proofs.Keeping.{next_world}
 use Rattle.task.specs.Plans.{Plan, programs_of_plan}
 use Rattle.task.specs.KeptLimits.{KeepsGrants}
-use Rattle.task.specs.Limits.{is_plan}
 use Rattle.task.specs.Begins.{first_world}
-use Rattle.task.specs.Sandboxed.{IsInMode, IsSafe, Sandboxed, IsSandboxed}
+use Rattle.task.specs.Sandboxed.{IsInMode, IsSafe, Sandboxed}
 use Rattle.task.proofs.FirstWorlds.{first_well_formed}
 use Rattle.task.proofs.KeptLimits.{plans_keep_limits}
 use Rattle.rules.specs.Points.{instruction_at}
-use Rattle.rules.specs.Verdicts.{MeetsRules}
+use Rattle.rules.specs.Rules.{marked_at}
+use Rattle.rules.specs.Verdicts.{MeetsRules, IsSound}
 use Rattle.rules.proofs.worlds.Seen.{seen_of, table_of}
 use Rattle.rules.proofs.worlds.Invariant.{IfAlive, IsLiving, Invariant, IsDescribed, bounds}
 use Rattle.rules.proofs.worlds.FirstStates.{first_invariant}
+use Rattle.rules.proofs.points.Asked.{plain_at}
 use Rattle.rules.proofs.points.Stands.{stands}
 use Rattle.rules.proofs.calls.Owing.{Standing, Owed, invariant_after}
 use Rattle.rules.proofs.Step.{owed_executed}
@@ -40,7 +41,8 @@ record Lawful (plan : Plan) (w : World) (e : Event) (v : World) : Type 0 where
   gained : GainsNothing w e.process (caller_of (programs_of_plan plan) w e) v
   formed : IsWellFormed (programs_of_plan plan) v
 
-module _ (plan : Plan) (certificate : Certificate) (grants : KeepsGrants plan) (meets : MeetsRules plan certificate) where
+module _ (plan : Plan) (certificate : Certificate) (grants : KeepsGrants plan) (plain : (program : ℕ) → marked_at plan program ≡ false)
+    (meets : MeetsRules plan certificate) where
   module _ (w : World) (e : Event) (byte : IsEvent e) (choice : Choice) (fresh : IsFresh w.files choice) (inv : Invariant plan (bounds plan certificate) w) where
     -- what is known of a living process at a point with an instruction
     standing :
@@ -57,7 +59,7 @@ module _ (plan : Plan) (certificate : Certificate) (grants : KeepsGrants plan) (
           here = here;
           stands =
               stands plan certificate s (table_of plan w e.process) i inside.bound here inside.at inside.is
-              (λ m far. ap (option_map (seen_of plan w)) (inv.formed.world.numbers e.process m far)) (meets s.program s.point);
+              (λ m far. ap (option_map (seen_of plan w)) (inv.formed.world.numbers e.process m far)) (plain s.program) (meets s.program s.point);
         }
 
     acts_fine : (s : ProcessState) (i : Instruction) → (known : Standing plan certificate w e.process s choice i) → (x : Executed)
@@ -114,7 +116,8 @@ module _ (plan : Plan) (certificate : Certificate) (grants : KeepsGrants plan) (
       (here.0, runs valid (step (programs_of_plan plan) w e choice).world events here.1 are.1)
 
 -- Soundness.
-pub sound : (plan : Plan) (certificate : Certificate) → is_plan plan ≡ true → MeetsRules plan certificate → IsSandboxed plan
-sound plan certificate valid meets events are =
-    runs plan certificate (plans_keep_limits plan valid).grants meets (first_well_formed plan valid).0 (first_world plan) events
-    (first_invariant plan certificate valid meets) are
+pub sound : IsSound
+sound plan certificate valid none meets events are =
+    let plain = plain_at plan none in
+    runs plan certificate (plans_keep_limits plan valid).grants plain meets (first_well_formed plan valid).0 (first_world plan) events
+    (first_invariant plan certificate valid plain meets) are

@@ -5,4 +5,6 @@ pub mod UseRows
 pub mod OutcomeRows
 pub mod SettledRows
 pub mod Probed
+pub mod ProbedMarks
+mod MarkRows
 pub mod ExpansionRows

@@ -4,8 +4,8 @@ use Rattle.rights.specs.Values.{Name}
 use Rattle.certificate.specs.Bounds.{Bound, Certificate}
 use Rattle.certificate.specs.Joins.{bound_join}
 use Rattle.prog_asm.specs.Programs.{Instruction}
-use Rattle.task.specs.Plans.{Grant}
-use Rattle.rules.specs.Outcomes.{Outcome, successes, error_outcomes}
+use Rattle.task.specs.Plans.{Plan}
+use Rattle.rules.specs.Outcomes.{Outcome, successes_in, error_outcomes}
 
 -- a bound, joined to what came before it, if anything did
 abbrev pub joined_bound : Option Bound → Bound → Option Bound
@@ -21,9 +21,9 @@ joined_at point before [] = before
 joined_at point before (o ∷ outs) = joined_at point (joined_with point before o) outs
 
 -- where an instruction may lead, errors too
-abbrev pub outcomes : List Grant → Certificate → Name → ℕ → Bound → Instruction → List Outcome
-outcomes grants certificate name point b i = successes grants certificate name point b i ++ error_outcomes b i
+abbrev pub outcomes : Plan → Certificate → Name → ℕ → Bound → Instruction → List Outcome
+outcomes plan certificate name point b i = successes_in plan certificate name point b i ++ error_outcomes b i
 
 -- nothing, where no outcome goes to the next point
-abbrev pub carried_on : List Grant → Certificate → Name → ℕ → Bound → Instruction → Option Bound
-carried_on grants certificate name point b i = joined_at (point + 1) None (outcomes grants certificate name point b i)
+abbrev pub carried_on : Plan → Certificate → Name → ℕ → Bound → Instruction → Option Bound
+carried_on plan certificate name point b i = joined_at (point + 1) None (outcomes plan certificate name point b i)

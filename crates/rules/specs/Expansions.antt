@@ -67,7 +67,7 @@ module _ (plan : Plan) (c : Certificate) (name : List ℕ) where
   carried_by point None b = None
   carried_by point (Some i) None = None
   carried_by point (Some i) (Some b) =
-      if may_carry c.version code_at (suc point) then carried_on plan.grants c name point b i else None
+      if may_carry c.version code_at (suc point) then carried_on plan c name point b i else None
 
   -- THE BOUND OF A POINT to which this is carried: the one that it is given, or else what is carried.
   abbrev pub bound_with : ℕ → Option Bound → Option Bound

@@ -8,7 +8,9 @@ pub mod Channels
 pub mod Outcomes
 pub mod Carrying
 pub mod Expansions
+pub mod Authority
 pub mod Rules
 pub mod Verdicts
 pub mod Probes
 pub mod Refusals
+pub mod MarkedRefusals

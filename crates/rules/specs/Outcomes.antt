@@ -3,7 +3,7 @@
 use Rattle.std.specs.Prelude.{◌+◌, ◌-◌, ◌++◌, ◌&&◌, not, ℕ, Bool, true, false, List, [], ◌∷◌, Option, Some, None, if◌then◌else◌}
 use Rattle.std.specs.List.{flat_map}
 use Rattle.std.specs.Str.{bytes_eq}
-use Rattle.rights.specs.Values.{PathText, SideNumber, RightSet, CommandSet}
+use Rattle.rights.specs.Values.{Name, PathText, SideNumber, RightSet, CommandSet}
 use Rattle.rights.specs.Limits.{most_bytes, most_processes}
 use Rattle.rights.specs.Sets.{all_rights, all_commands}
 use Rattle.rights.specs.Classes.{Made_at}
@@ -14,7 +14,7 @@ use Rattle.certificate.specs.Bounds as bounds
 use Rattle.prog_asm.specs.Programs.{Operand, Syscall, Open, Openat, Read, Write, Sendfd, Recvfd, Lseek, Ftruncate, Fsync, Fstat, Fcntl_getfl, Fcntl_setfl, Fstatat, Stat, Mkdirat}
 use Rattle.prog_asm.specs.Programs.{Mkdir, Unlinkat, Unlink, Renameat, Dup, Close, Cap_rights_limit, Cap_fcntls_limit, Cap_enter, Cap_getmode, Socketpair, Fork, Instruction, Set}
 use Rattle.prog_asm.specs.Programs.{Mov, Add, In, Jmp, Jeq, Jlt, Halt, Invoke}
-use Rattle.task.specs.Plans.{Grant}
+use Rattle.task.specs.Plans.{Grant, Plan, is_marked}
 use Rattle.rules.specs.Intervals.{only, sums, equal_part, other_part, lower_part, upper_part}
 use Rattle.rules.specs.Slots.{OpenSlot, slots_in, free_numbers}
 use Rattle.rules.specs.Uses.{uses}
@@ -215,6 +215,18 @@ module _ (grants : List Grant) (certificate : Certificate) (name : List ℕ) (po
   successes (Jlt r value target) = less_outcomes point b r value target
   successes Halt = []
   successes (Invoke call otherwise) = if is_formed certificate b call then successes_of call else []
+
+-- A process of a marked program isn't followed into capability mode: there its authority bounds it, and not its points.
+abbrev pub enters_mode : Instruction → Bool
+enters_mode (Invoke Cap_enter otherwise) = true
+enters_mode _ = false
+
+abbrev pub is_followed : Plan → Name → Instruction → Bool
+is_followed plan name i = not (is_marked plan.programs name && enters_mode i)
+
+unfoldable pub successes_in : Plan → Certificate → Name → ℕ → Bound → Instruction → List Outcome
+successes_in plan certificate name point b i =
+    if is_followed plan name i then successes plan.grants certificate name point b i else []
 
 -- the numbers of errors
 abbrev pub error_interval : Interval

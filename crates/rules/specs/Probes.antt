@@ -7,7 +7,7 @@ use Rattle.prog_asm.specs.Programs.{Syscall, Instruction, Halt, Invoke}
 use Rattle.certificate.specs.Bounds.{ModeBound, Off, Either, Target, In_grant, Any_node, Socket, Held, Slot, Closed, Maybe, Bound, PointBound, ChannelBound, One, Certificate}
 use Rattle.certificate.specs.Bounds as bounds
 use Rattle.certificate.specs.Growth.{copies, open_bound}
-use Rattle.task.specs.Plans.{Plan}
+use Rattle.task.specs.Plans.{Plan, unmarked}
 use Rattle.task.specs.Breaches.{small_tree}
 use Rattle.rules.specs.Outcomes.{all_held, unknown_held}
 use Rattle.rules.specs.Verdicts.{first_found}
@@ -61,7 +61,7 @@ probed_plan started i = record {
   nodes = small_tree;
   grants = record { name = codes "work"; path = codes "work" ∷ []; operations = Look ∷ Reads ∷ Creates ∷ [] } ∷ [];
   programs =
-      record { name = codes "main"; code = Halt ∷ [] } ∷ record { name = codes "probe"; code = i ∷ Halt ∷ [] } ∷ [];
+      unmarked (codes "main") (Halt ∷ []) ∷ unmarked (codes "probe") (i ∷ Halt ∷ []) ∷ [];
   starts = record { program = started; mode = false; descriptors = [] } ∷ [];
 }
 

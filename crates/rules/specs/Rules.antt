@@ -1,4 +1,4 @@
--- The rules of the checker, from K1 to K16. (own)
+-- The rules of the checker, from K1 to K22. (own)
 use Rattle.std.specs.Prelude.{◌==◌, ◌&&◌, ◌||◌, not, ℕ, Bool, true, false, List, [], ◌∷◌, replicate, Option, Some, None, is_some, if◌then◌else◌}
 use Rattle.std.specs.List.{list_all, list_any}
 use Rattle.std.specs.Str.{bytes_eq}
@@ -9,18 +9,19 @@ use Rattle.rights.specs.Sets.{is_within}
 use Rattle.rights.specs.Operations.{Operation}
 use Rattle.rights.specs.Classes.{Initial}
 use Rattle.file_tree.specs.Nodes.{Node, node}
-use Rattle.certificate.specs.Bounds.{Target, In_grant, Any_node, Socket, Unknown, Bound, Certificate, bound_at}
+use Rattle.certificate.specs.Bounds.{Target, In_grant, Any_node, Socket, Unknown, Bound, Authority, Certificate, bound_at}
 use Rattle.certificate.specs.Order.{bound_within}
 use Rattle.certificate.specs.Describes.{Subject, Node_at, End_of, Seen, describes}
 use Rattle.prog_asm.specs.Programs.{Syscall, Instruction, Invoke}
-use Rattle.task.specs.Plans.{Grant, FirstObject, On_node, On_end, FirstDescriptor, Start, Plan, program_name}
+use Rattle.task.specs.Plans.{Grant, FirstObject, On_node, On_end, FirstDescriptor, Start, Plan, program_name, is_marked}
 use Rattle.task.specs.Policies.{grant_holds, grant_lists}
 use Rattle.task.specs.Begins.{with_number}
 use Rattle.rules.specs.Slots.{OpenSlot, may_be_on}
 use Rattle.rules.specs.Uses.{Use, uses}
 use Rattle.rules.specs.Channels.{keeps_channel_bound, all_have_channels}
 use Rattle.rules.specs.Demands.{demands, keeps_single, keeps_numbers, keeps_beneath}
-use Rattle.rules.specs.Outcomes.{Outcome, successes, error_outcomes}
+use Rattle.rules.specs.Outcomes.{Outcome, enters_mode, successes_in, error_outcomes}
+use Rattle.rules.specs.Authority.{authority_at, may_have_slots, may_start_all, keeps_ceilings, keeps_moves, keeps_received, keeps_sent}
 
 -- A rule, by its number, and whether it is kept at a point.
 pub record Test : Type 0 where
@@ -41,21 +42,27 @@ first_table tree s n = option_map (first_seen tree) (with_number n s.descriptors
 abbrev pub start_within : Plan → Bound → Start → Bool
 start_within plan b s = describes (grant_holds plan.grants) b s.mode (replicate register_count 0) (first_table plan.nodes s)
 
--- some process starts this program
-abbrev pub starts_program : List Start → ℕ → Bool
-starts_program starts program = list_any (λ (s : Start). s.program == program) starts
+abbrev pub marked_at : Plan → ℕ → Bool
+marked_at plan program = is_marked plan.programs (program_name plan program)
+
+-- A process starts with this program and is bounded by its points: one of a marked program that starts in the mode isn't.
+abbrev pub is_bounded_start : Bool → ℕ → Start → Bool
+is_bounded_start marked program s = not (marked && s.mode) && (s.program == program)
+
+abbrev pub starts_program : Bool → ℕ → List Start → Bool
+starts_program marked program starts = list_any (is_bounded_start marked program) starts
 
 abbrev pub is_started : Plan → ℕ → Bool
-is_started plan program = starts_program plan.starts program
+is_started plan program = starts_program (marked_at plan program) program plan.starts
 
--- Rule 1: at point 0, the first state of each process of the program is one that the bound describes. Where no process
--- starts the program, nothing is asked.
-abbrev pub all_starts_within : Plan → ℕ → Bound → List Start → Bool
-all_starts_within plan program b starts =
-    list_all (λ (s : Start). not (s.program == program) || start_within plan b s) starts
+-- Rule 1: at point 0, the first state of each such process is one that the bound describes. Where no process starts the
+-- program, nothing is asked.
+abbrev pub all_starts_within : Plan → Bool → ℕ → Bound → List Start → Bool
+all_starts_within plan marked program b starts =
+    list_all (λ (s : Start). not (is_bounded_start marked program s) || start_within plan b s) starts
 
 abbrev pub starts_within : Plan → ℕ → ℕ → Bound → Bool
-starts_within plan program point b = not (point == 0) || all_starts_within plan program b plan.starts
+starts_within plan program point b = not (point == 0) || all_starts_within plan (marked_at plan program) program b plan.starts
 
 -- Rules 2 and 3: an outcome is within the bound of the point that it goes to, if that has one.
 abbrev pub within_if_there : Bound → Option Bound → Bool
@@ -120,6 +127,37 @@ same_grant Unknown target = true
 abbrev pub moves_within : Use → Bool
 moves_within u = list_all (λ (t : OpenSlot). same_grant u.slot.held.target t.held.target) u.targets
 
+-- ## Rules on marked programs
+-- Rule 18: what a process may hold where it enters the mode, or holds where it starts in it, is within the program's authority.
+abbrev pub enters_within : Authority → Instruction → Bound → Bool
+enters_within a i b = not (enters_mode i) || may_have_slots a b
+
+abbrev pub starts_in_authority : Plan → Authority → ℕ → ℕ → Bool
+starts_in_authority plan a program point = not (point == 0) || may_start_all plan a program plan.starts
+
+-- Rules 19 to 22 are asked at point 0, whether or not it has a bound, and of programs that nobody starts too.
+abbrev pub is_asked_first : Plan → ℕ → ℕ → Bool
+is_asked_first plan program point = (point == 0) && marked_at plan program
+
+unfoldable pub authority_tests : Plan → Certificate → ℕ → ℕ → List Test
+authority_tests plan certificate program point =
+    let a = authority_at certificate (program_name plan program) in
+    let asked = is_asked_first plan program point in
+    record { rule = 19; kept = not asked || keeps_ceilings plan.grants a }
+    ∷ record { rule = 20; kept = not asked || keeps_moves a }
+    ∷ record { rule = 21; kept = not asked || keeps_received certificate a }
+    ∷ record { rule = 22; kept = not asked || keeps_sent certificate a }
+    ∷ []
+
+-- Rule 17: its points bound it outside the mode alone.
+unfoldable pub mark_tests : Plan → Certificate → ℕ → ℕ → Instruction → Bound → List Test
+mark_tests plan certificate program point i b =
+    let a = authority_at certificate (program_name plan program) in
+    let marked = marked_at plan program in
+    record { rule = 17; kept = not marked || not (may_be_on b.mode) }
+    ∷ record { rule = 18; kept = not marked || (enters_within a i b && starts_in_authority plan a program point) }
+    ∷ authority_tests plan certificate program point
+
 -- ## The tests
 -- a test of what instructions that are no calls keep anyway
 abbrev pub of_call : (Syscall → Bool) → Instruction → Bool
@@ -136,7 +174,7 @@ in_the_mode b test i = not (may_be_on b.mode) || each_use b test i
 unfoldable pub tests : Plan → Certificate → ℕ → ℕ → Instruction → Bound → List Test
 tests plan certificate program point i b =
     let name = program_name plan program in
-    let good = successes plan.grants certificate name point b i in
+    let good = successes_in plan certificate name point b i in
     let bad = error_outcomes b i in
     record { rule = 1; kept = starts_within plan program point b }
     ∷ record { rule = 2; kept = all_within certificate name good }
@@ -154,12 +192,16 @@ tests plan certificate program point i b =
     ∷ record { rule = 14; kept = each_use b (λ u. keeps_channel_bound certificate u u.passing) i }
     ∷ record { rule = 15; kept = of_call (λ call. all_have_channels certificate (uses b call)) i }
     ∷ record { rule = 16; kept = all_there certificate name good && all_there certificate name bad }
-    ∷ []
+    ∷ mark_tests plan certificate program point i b
 
 -- A point without a bound isn't looked at: it is claimed not to be reached. But point 0 of a program that
--- a process starts has one.
-unfoldable pub tests_without : Plan → ℕ → ℕ → List Test
-tests_without plan program point = record { rule = 16; kept = not (point == 0 && is_started plan program) } ∷ []
+-- a process starts has one, and of a marked program its authority is asked there.
+unfoldable pub tests_without : Plan → Certificate → ℕ → ℕ → List Test
+tests_without plan certificate program point =
+    let a = authority_at certificate (program_name plan program) in
+    record { rule = 16; kept = not (point == 0 && is_started plan program) }
+    ∷ record { rule = 18; kept = not (marked_at plan program) || starts_in_authority plan a program point }
+    ∷ authority_tests plan certificate program point
 
 -- the first test that isn't kept
 abbrev pub least_broken : List Test → Option ℕ

@@ -2,7 +2,7 @@
 use Rattle.std.specs.Prelude.{◌≡◌, ◌<◌, ◌+◌, ℕ, true, List, [], ◌∷◌, Option, Some, None}
 use Rattle.certificate.specs.Bounds.{Bound, Certificate, bound_at}
 use Rattle.prog_asm.specs.Programs.{Instruction}
-use Rattle.task.specs.Plans.{NamedProgram, Plan, program_name}
+use Rattle.task.specs.Plans.{NamedProgram, Plan, program_name, none_marked}
 use Rattle.task.specs.Limits.{is_plan}
 use Rattle.task.specs.Sandboxed.{IsSandboxed}
 use Rattle.rules.specs.Points.{instruction_at}
@@ -11,7 +11,7 @@ use Rattle.rules.specs.Rules.{tests, tests_without, least_broken}
 -- the least rule that is broken at a point of a program; none past a program's end
 unfoldable pub found_with : Plan → Certificate → ℕ → ℕ → Option Instruction → Option Bound → Option ℕ
 found_with plan certificate program point None b = None
-found_with plan certificate program point (Some i) None = least_broken (tests_without plan program point)
+found_with plan certificate program point (Some i) None = least_broken (tests_without plan certificate program point)
 found_with plan certificate program point (Some i) (Some b) = least_broken (tests plan certificate program point i b)
 
 unfoldable pub found_at : Plan → Certificate → ℕ → ℕ → Option ℕ
@@ -56,7 +56,9 @@ abbrev pub FirstIsFound : Type 0
 FirstIsFound = (plan : Plan) (certificate : Certificate) → IsFirst plan certificate (first_found plan certificate)
 
 -- ## What it means
--- Where a certificate meets the rules, every run of the task is sandboxed: whatever list of events, inputs, schedules and
--- refusals, and whatever fresh numbers are chosen at each step.
+-- Where a certificate meets the rules and no program is marked, every run of the task is sandboxed: whatever list of events,
+-- inputs, schedules and refusals, and whatever fresh numbers are chosen at each step.
 abbrev pub IsSound : Type 0
-IsSound = (plan : Plan) (certificate : Certificate) → is_plan plan ≡ true → MeetsRules plan certificate → IsSandboxed plan
+IsSound =
+    (plan : Plan) (certificate : Certificate) → is_plan plan ≡ true → none_marked plan ≡ true → MeetsRules plan certificate
+    → IsSandboxed plan

@@ -2,6 +2,7 @@
 
 ghost use Rattle.rules.specs.Expansions.{ExpansionBounds, ExpansionIsGrown};
 ghost use Rattle.rules.specs.Refusals.{EachRuleIsBroken, EachRuleIsKept, LeastIsTold};
+ghost use Rattle.rules.specs.MarkedRefusals.{EachMarkRuleIsBroken, EachMarkRuleIsKept, LeastMarkRuleIsTold};
 ghost use Rattle.rules.specs.Verdicts.{FirstIsFound, IsSound};
 
 /// Where going through all points in order finds none that breaks a rule, the certificate meets the rules at every point;
@@ -10,19 +11,23 @@ pub fn the_first_is_found()
     ensures { FirstIsFound }
 {}
 
-/// Each of the rules K1 to K16 refuses a certificate, where no rule before it does. (own)
+/// Each of the rules K1 to K22 refuses a certificate, where no rule before it does: those on marked programs of a task that has
+/// one. (own)
 pub fn each_rule_is_broken()
-    ensures { EachRuleIsBroken }
+    ensures plain { EachRuleIsBroken }
+    ensures marked { EachMarkRuleIsBroken }
 {}
 
-/// And each lets the same call through where what it asks is there. (own)
+/// And each lets the same through where what it asks is there. (own)
 pub fn each_rule_is_kept()
-    ensures { EachRuleIsKept }
+    ensures plain { EachRuleIsKept }
+    ensures marked { EachMarkRuleIsKept }
 {}
 
 /// Where two rules are broken at one point, the lesser is told: of each two neighbours that one instruction can break. (own)
 pub fn the_least_is_told()
-    ensures { LeastIsTold }
+    ensures plain { LeastIsTold }
+    ensures marked { LeastMarkRuleIsTold }
 {}
 
 /// The expansion of a certificate bounds each point by the bound that is given there, or else by the one that is carried there from
@@ -36,7 +41,7 @@ pub fn the_expansion_is_what_its_lines_make()
     ensures { ExpansionIsGrown }
 {}
 
-/// Soundness: where a certificate meets the rules, no run of the task, whatever its events, inputs, schedule and refusals, does
+/// Soundness: where a certificate meets the rules and no program is marked, no run of the task, whatever its events, inputs, schedule and refusals, does
 /// in capability mode what the policy doesn't allow, has a call refused for a missing right or by the mode, or gives a
 /// descriptor more than its source has. (own)
 pub fn what_meets_the_rules_is_sandboxed()

@@ -27,7 +27,8 @@ use Rattle.certificate.specs.Growths.{grown_by, then_grown}
 use Rattle.certificate.specs.GrowthViews.{Grows}
 use Rattle.certificate.specs.declared.lines.Refusal.{Refusal}
 use Rattle.certificate.specs.declared.lines.Refusal.TheVariants.{Limit, Order, Memory}
-use Rattle.searcher.specs.Flat.{code_of_start, enters, first_held, first_target, flat, flat_bound, flat_points, flat_points_of, grant_target, have_own, flat_mode, name_of_start}
+use Rattle.rules.specs.Outcomes.{enters_mode}
+use Rattle.searcher.specs.Flat.{code_of_start, first_held, first_target, plain_flat, flat_bound, flat_points, flat_points_of, grant_target, have_own, flat_mode, name_of_start}
 use Rattle.searcher.specs.Flat.{nearer, next_behind, points_behind, points_from, with_first, with_next}
 use Rattle.certificate.proofs.Growths.{by_append}
 use Rattle.searcher.proofs.Taken.{AllPlain, flat_of, listed, names, of_points, one_more, plain_closed, points_grown, room_for, run_names}
@@ -146,12 +147,12 @@ IsGrown : List PointBound → List PointBound → Type 0
 IsGrown points more = grown_by more (of_points points) ≡ Some (of_points (points ++ more))
 
 module _ (plan : Plan) (valid : is_plan plan ≡ true) where
-  start_form : (s : Start) → flat_bound plan s ≡ flat_of (flat_mode s.mode (list_any enters (code_of_start plan s))) (flat_bound plan s).slots
-  start_form s = first_form plan (open_bound (flat_mode s.mode (list_any enters (code_of_start plan s)))) s.descriptors
+  start_form : (s : Start) → flat_bound plan s ≡ flat_of (flat_mode s.mode (list_any enters_mode (code_of_start plan s))) (flat_bound plan s).slots
+  start_form s = first_form plan (open_bound (flat_mode s.mode (list_any enters_mode (code_of_start plan s)))) s.descriptors
 
   module _ (s : Start) where
     abbrev mode : ModeBound
-    mode = flat_mode s.mode (list_any enters (code_of_start plan s))
+    mode = flat_mode s.mode (list_any enters_mode (code_of_start plan s))
 
     abbrev slots : List Slot
     slots = (flat_bound plan s).slots
@@ -281,8 +282,8 @@ flat_taken plan starts others c own same again new is owned valid =
     ∙ flat_grows plan valid (ap have_own (sym same) ∙ sym is ∙ owned)
 
 pub is_flat : (plan : Plan) (starts : List Start) (own : Bool) → starts ≡ plan.starts → own ≡ have_own starts → own ≡ true
-    → flat plan ≡ Some (of_points (flat_points plan))
-unfolding flat
+    → plain_flat plan ≡ Some (of_points (flat_points plan))
+unfolding plain_flat
 is_flat plan starts own same is owned =
     ap (λ b. if b then Some (of_points (flat_points plan)) else None) (ap have_own (sym same) ∙ sym is ∙ owned)
 

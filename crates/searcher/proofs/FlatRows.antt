@@ -5,7 +5,7 @@ use Rattle.rights.specs.Sets.{all_rights, all_commands, seek_right}
 use Rattle.rights.specs.Operations.{Look, Read as Reads}
 use Rattle.prog_asm.specs.Programs.{Instruction, Halt, Invoke, Cap_enter, Read, Number}
 use Rattle.task.specs.Breaches.{small_tree}
-use Rattle.task.specs.Plans.{On_node, NamedProgram, Plan, Start}
+use Rattle.task.specs.Plans.{On_node, NamedProgram, Plan, Start, unmarked}
 use Rattle.certificate.specs.Bounds.{On, Either, In_grant, Slot, Closed, Bound, PointBound, Two, Certificate, bound_in, full_interval}
 use Rattle.certificate.specs.Bounds as bounds
 use Rattle.certificate.specs.Growth.{copies, open_bound}
@@ -13,17 +13,17 @@ use Rattle.task.specs.Policies.{grant_named}
 use Rattle.rules.specs.Slots.{slots_in, free_numbers}
 use Rattle.rules.specs.Uses.{uses}
 use Rattle.rules.specs.Channels.{channel_at}
-use Rattle.rules.specs.Outcomes.{successes, error_outcomes}
-use Rattle.rules.specs.Rules.{tests, tests_without}
+use Rattle.rules.specs.Outcomes.{successes, successes_in, error_outcomes}
+use Rattle.rules.specs.Rules.{tests, tests_without, authority_tests, mark_tests}
 use Rattle.rules.specs.Verdicts.{found_with, found_at, first_found}
-use Rattle.searcher.specs.Flat.{flat, grant_target, next_behind, points_behind, points_from}
+use Rattle.searcher.specs.Flat.{flat, plain_flat, grant_target, next_behind, points_behind, points_from}
 
 -- One process `main`, with `/work/in` open for reading as descriptor 2, and the grant `work` to look and read.
 abbrev sample : List Instruction → ℕ → Plan
 sample code rights = record {
   nodes = small_tree;
   grants = record { name = codes "work"; path = codes "work" ∷ []; operations = Look ∷ Reads ∷ [] } ∷ [];
-  programs = record { name = codes "main"; code = code } ∷ [];
+  programs = unmarked (codes "main") code ∷ [];
   starts =
       record {
         program = 0;
@@ -66,25 +66,29 @@ three_points rights = record {
 }
 
 flat_of_a_reader : flat (sample enters_and_reads all_rights) ≡ Some (three_points all_rights)
-unfolding flat grant_target points_from next_behind points_behind
+unfolding plain_flat grant_target points_from next_behind points_behind
 flat_of_a_reader = refl
 
 -- It meets the rules; and it doesn't where the descriptor lacks the right to read.
 meets_the_rules : first_found (sample enters_and_reads all_rights) (three_points all_rights) ≡ None
-unfolding first_found found_at found_with tests tests_without bound_in grant_named slots_in free_numbers uses channel_at successes error_outcomes
+unfolding first_found found_at found_with tests tests_without bound_in grant_named slots_in free_numbers uses channel_at successes successes_in error_outcomes mark_tests authority_tests
 meets_the_rules = refl
 
 flat_of_a_reader_without_the_right : flat (sample enters_and_reads seek_right) ≡ Some (three_points seek_right)
-unfolding flat grant_target points_from next_behind points_behind
+unfolding plain_flat grant_target points_from next_behind points_behind
 flat_of_a_reader_without_the_right = refl
 
 lacks_the_right : first_found (sample enters_and_reads seek_right) (three_points seek_right) ≡ Some (0, 1, 7)
-unfolding first_found found_at found_with tests tests_without bound_in grant_named slots_in free_numbers uses channel_at successes error_outcomes
+unfolding first_found found_at found_with tests tests_without bound_in grant_named slots_in free_numbers uses channel_at successes successes_in error_outcomes mark_tests authority_tests
 lacks_the_right = refl
+
+-- A task with a marked program has no flat certificate.
+none_of_a_marked_program : flat (record (sample enters_and_reads all_rights) { programs = record (unmarked (codes "main") enters_and_reads) { marked = true } ∷ [] }) ≡ None
+none_of_a_marked_program = refl
 
 -- Two first processes of one program have no flat certificate; and blocks stand by names.
 abbrev halts : List ℕ → NamedProgram
-halts name = record { name = name; code = Halt ∷ [] }
+halts name = unmarked name (Halt ∷ [])
 
 abbrev bare : ℕ → Start
 bare program = record { program = program; mode = true; descriptors = [] }
@@ -98,12 +102,12 @@ of_two first second = record {
 }
 
 none_of_one_program : flat (of_two 0 0) ≡ None
-unfolding flat
+unfolding plain_flat
 none_of_one_program = refl
 
 abbrev at_its_start : List ℕ → PointBound
 at_its_start name = record { program = name; point = 0; bound = open_bound On }
 
 by_their_names : flat (of_two 0 1) ≡ Some (record { version = Two; points = at_its_start (codes "child") ∷ at_its_start (codes "main") ∷ []; channels = []; authorities = [] })
-unfolding flat grant_target points_from next_behind points_behind
+unfolding plain_flat grant_target points_from next_behind points_behind
 by_their_names = refl

@@ -1,5 +1,5 @@
 -- Lines keep a certificate's version, and the flat certificate is of version 2.
-use Rattle.std.proofs.Common.{◌≡◌, Bool, true, false, List, [], ◌∷◌, sym, ◌∙◌, refl}
+use Rattle.std.proofs.Common.{◌≡◌, Bool, true, false, List, [], sym, ◌∙◌}
 use Rattle.std.specs.Prelude.{IfSome, OnOk, Option, Some, None, Result, Ok, Err, if◌then◌else◌}
 use Rattle.certificate.specs.Bounds.{Two, Certificate}
 use Rattle.certificate.specs.Growths.{grown}
@@ -7,20 +7,24 @@ use Rattle.certificate.specs.GrowthViews.{Grows}
 use Rattle.certificate.specs.declared.lines.Refusal.{Refusal}
 use Rattle.certificate.specs.Lines.{Line}
 use Rattle.certificate.proofs.Growths.{grown_keeps}
-use Rattle.searcher.specs.Flat.{flat, flat_points, have_own}
-use Rattle.task.specs.Plans.{Plan}
+use Rattle.searcher.specs.Flat.{flat, plain_flat, flat_points, have_own}
+use Rattle.task.specs.Plans.{Plan, none_marked}
 
 pub grows_keep : (lines : List Line) (c d : Certificate) (r : Result (Unit {0}) Refusal) → Grows r d (grown lines c) → OnOk r (d.version ≡ c.version)
 grows_keep lines c d (Ok _) grows = grown_keeps lines c d grows
 grows_keep lines c d (Err refusal) grows = tt
 
 flat_is_two : (plan : Plan) (c : Certificate) → flat plan ≡ Some c → c.version ≡ Two
-unfolding flat
-flat_is_two plan c is = go (have_own plan.starts) is
+unfolding plain_flat
+flat_is_two plan c is = unmarked (none_marked plan) is
   where
     go : (own : Bool) → (if own then Some (record { version = Two; points = flat_points plan; channels = []; authorities = [] }) else None) ≡ Some c → c.version ≡ Two
     go true is = cc
     go false is = absurd cc
+
+    unmarked : (none : Bool) → (if none then plain_flat plan else None) ≡ Some c → c.version ≡ Two
+    unmarked true is = go (have_own plan.starts) is
+    unmarked false is = absurd cc
 
 pub found_is_two : (plan : Plan) (given found : Option Certificate) → given ≡ flat plan → IfSome found (λ c. given ≡ Some c) → IfSome found (λ c. c.version ≡ Two)
 found_is_two plan given None is same = tt

@@ -9,9 +9,10 @@ use Rattle.file_tree.specs.Places.{begins}
 use Rattle.certificate.specs.Bounds.{ModeBound, Off, On, Either, Target, In_grant, Any_node, Socket, Held, Bound, PointBound, Two, Certificate, with_slot}
 use Rattle.certificate.specs.Bounds as bounds
 use Rattle.certificate.specs.Growth.{name_order, open_bound}
-use Rattle.prog_asm.specs.Programs.{Syscall, Cap_enter, Instruction, Invoke}
-use Rattle.task.specs.Plans.{Grant, FirstObject, On_node, On_end, FirstDescriptor, Start, Plan, program_name, programs_of_plan}
+use Rattle.prog_asm.specs.Programs.{Instruction}
+use Rattle.task.specs.Plans.{Grant, FirstObject, On_node, On_end, FirstDescriptor, Start, Plan, program_name, programs_of_plan, none_marked}
 use Rattle.task.specs.Limits.{all_apart}
+use Rattle.rules.specs.Outcomes.{enters_mode}
 
 -- the grant that holds a place, of which there is one at most
 unfoldable pub grant_target : List Grant → List (List ℕ) → Target
@@ -38,14 +39,6 @@ with_first plan b [] = b
 with_first plan b (d ∷ descriptors) = with_slot (with_first plan b descriptors) d.number (bounds.Open (first_held plan d))
 
 -- The mode is what it is at first; but either, where the program may enter it.
-abbrev pub is_cap_enter : Syscall → Bool
-is_cap_enter Cap_enter = true
-is_cap_enter _ = false
-
-abbrev pub enters : Instruction → Bool
-enters (Invoke call otherwise) = is_cap_enter call
-enters _ = false
-
 abbrev pub flat_mode : Bool → Bool → ModeBound
 flat_mode true entered = On
 flat_mode false true = Either
@@ -55,7 +48,7 @@ abbrev pub code_of_start : Plan → Start → List Instruction
 code_of_start plan s = programs_of_plan plan s.program
 
 abbrev pub flat_bound : Plan → Start → Bound
-flat_bound plan s = with_first plan (open_bound (flat_mode s.mode (list_any enters (code_of_start plan s)))) s.descriptors
+flat_bound plan s = with_first plan (open_bound (flat_mode s.mode (list_any enters_mode (code_of_start plan s)))) s.descriptors
 
 -- one bound at each point of a program, from this one on
 unfoldable pub points_from : List ℕ → Bound → ℕ → List Instruction → List PointBound
@@ -97,6 +90,9 @@ flat_points plan = points_behind plan plan.starts []
 abbrev pub have_own : List Start → Bool
 have_own starts = all_apart (λ (s t : Start). not (s.program == t.program)) starts
 
--- THE FLAT CERTIFICATE, of version 2. A task has none in which two of the first processes have one program.
-unfoldable pub flat : Plan → Option Certificate
-flat plan = if have_own plan.starts then Some (record { version = Two; points = flat_points plan; channels = []; authorities = [] }) else None
+-- THE FLAT CERTIFICATE, of version 2. A task has none in which two of the first processes have one program, or one is marked.
+unfoldable pub plain_flat : Plan → Option Certificate
+plain_flat plan = if have_own plan.starts then Some (record { version = Two; points = flat_points plan; channels = []; authorities = [] }) else None
+
+abbrev pub flat : Plan → Option Certificate
+flat plan = if none_marked plan then plain_flat plan else None

@@ -13,7 +13,8 @@ ghost use Rattle.task.specs.Views.{first_descriptor_of, first_object_of, grants_
 ghost use Rattle.transfer.specs.Tested.{has_name};
 ghost use Rattle.certificate.specs.Growths.{grown_by};
 ghost use Rattle.certificate.specs.GrowthViews.{Grows};
-ghost use Rattle.searcher.specs.Flat.{enters, first_held, first_target, flat, flat_bound, flat_points_of, grant_target, have_own, is_cap_enter, flat_mode, name_of_start};
+ghost use Rattle.rules.specs.Outcomes.{enters_mode};
+ghost use Rattle.searcher.specs.Flat.{first_held, first_target, flat, plain_flat, flat_bound, flat_points_of, grant_target, have_own, flat_mode, name_of_start};
 ghost use Rattle.searcher.specs.Flat.{next_behind, points_behind, points_from, with_first};
 
 use certificate::{
@@ -21,9 +22,10 @@ use certificate::{
     Target, Version, push_block,
 };
 use file_tree::is_front;
-use prog_asm::{Instruction, Syscall};
+use prog_asm::Instruction;
 use std::alloc::{AllocError, Global};
-use task::{FirstDescriptor, FirstObject, Grant, Start, Task, TaskNode};
+use task::{FirstDescriptor, FirstObject, Grant, Start, Task, TaskNode, none_marked};
+use transfer::enters_mode;
 
 /// The grant that holds a place, if one does.
 #[tactic(auto, unfolding(crate::specs::Flat::grant_target))]
@@ -104,26 +106,13 @@ pub(crate) fn with_first(task: &Task, bound: Bound, descriptors: &[FirstDescript
     }
 }
 
-/// Whether an instruction may enter the mode.
-fn enters(instruction: &Instruction) -> bool
-    ensures { result ≡ enters (instruction_of instruction.now) }
-{
-    match instruction {
-        Instruction::Invoke {
-            call: Syscall::CapEnter,
-            ..
-        } => true,
-        _ => false,
-    }
-}
-
-/// Whether one of these may.
+/// Whether one of these instructions may enter the mode.
 fn may_enter(code: &[Instruction]) -> bool
-    ensures { result ≡ list_any enters (code_of code.now) }
+    ensures { result ≡ list_any enters_mode (code_of code.now) }
 {
     match code {
         [] => false,
-        [first, rest @ ..] => enters(first) || may_enter(rest),
+        [first, rest @ ..] => enters_mode(first) || may_enter(rest),
     }
 }
 
@@ -257,10 +246,10 @@ fn have_own(starts: &[Start]) -> bool
     }
 }
 
-/// The flat certificate of a task, if it has one: no line of it is ever refused.
-#[tactic(auto, unfolding(crate::specs::Flat::flat))]
-pub(crate) fn flat(alloc: Global, task: &Task) -> Result<Option<Cert>, AllocError>
-    ensures { IfOk result (λ found. found ≡ flat task.now) }
+/// The flat certificate of a task, if it has one, whatever is marked: no line of it is ever refused.
+#[tactic(auto, unfolding(crate::specs::Flat::plain_flat))]
+fn plain_flat(alloc: Global, task: &Task) -> Result<Option<Cert>, AllocError>
+    ensures { IfOk result (λ found. found ≡ plain_flat task.now) }
 {
     if !have_own(task.starts()) {
         return Ok(None);
@@ -273,4 +262,14 @@ pub(crate) fn flat(alloc: Global, task: &Task) -> Result<Option<Cert>, AllocErro
         Err(Refusal::Limit) => unreachable!(),
         Err(Refusal::Order) => unreachable!(),
     }
+}
+
+/// The flat certificate of a task, if it has one: one with a marked program has none.
+pub(crate) fn flat(alloc: Global, task: &Task) -> Result<Option<Cert>, AllocError>
+    ensures { IfOk result (λ found. found ≡ flat task.now) }
+{
+    if !none_marked(task.programs()) {
+        return Ok(None);
+    }
+    plain_flat(alloc, task)
 }

@@ -5,6 +5,7 @@ ghost use Rattle.certificate.specs.Bounds.{Certificate, Two};
 ghost use Rattle.checker.specs.Verdicts.{IsAccepted};
 ghost use Rattle.searcher.specs.Flat.{flat};
 ghost use Rattle.searcher.specs.Shortening.{short_form};
+ghost use Rattle.task.specs.Plans.{none_marked};
 
 use crate::channels::Channels;
 use crate::drawing::draw;
@@ -16,7 +17,7 @@ use certificate::{Cert, Refusal};
 use checker::{Verdict, check};
 use rights::Memory;
 use std::alloc::Global;
-use task::Task;
+use task::{Task, none_marked};
 
 /// Whether the checker accepts a certificate.
 fn is_accepted(task: &Task, cert: &Cert) -> bool
@@ -92,10 +93,8 @@ fn preferred(alloc: Global, task: &Task, cert: Cert) -> Result<Cert, Memory>
     Ok(cert)
 }
 
-/// A certificate of a task, of version 2, that the checker accepts, if the search finds one: that of what it finds point by
-/// point, or the flat one. Where its short form is accepted, with bounds at named points alone, it is given in that form. Where
-/// the flat certificate is accepted, it finds one. `Memory` may come in place of any answer. It always ends. (own)
-pub fn search(alloc: Global, task: &Task) -> Result<Option<Cert>, Memory>
+/// What the search finds for a task, whatever is marked.
+fn searched(alloc: Global, task: &Task) -> Result<Option<Cert>, Memory>
     ensures accepted { IfOk result (λ found. IfSome found (λ cert. IsAccepted task.now cert)) }
     ensures version { IfOk result (λ found. IfSome found (λ cert. cert.version ≡ Two)) }
     ensures short { IfOk result (λ found. IfSome found (λ cert.
@@ -106,4 +105,22 @@ pub fn search(alloc: Global, task: &Task) -> Result<Option<Cert>, Memory>
         Some(cert) => Ok(Some(preferred(alloc, task, cert)?)),
         None => Ok(None),
     }
+}
+
+/// A certificate of a task, of version 2, that the checker accepts, if the search finds one: that of what it finds point by
+/// point, or the flat one. Where its short form is accepted, with bounds at named points alone, it is given in that form. Where
+/// the flat certificate is accepted, it finds one. Of a task with a marked program it finds none. `Memory` may come in place of any
+/// other answer. It always ends. (own)
+pub fn search(alloc: Global, task: &Task) -> Result<Option<Cert>, Memory>
+    ensures accepted { IfOk result (λ found. IfSome found (λ cert. IsAccepted task.now cert)) }
+    ensures version { IfOk result (λ found. IfSome found (λ cert. cert.version ≡ Two)) }
+    ensures short { IfOk result (λ found. IfSome found (λ cert.
+        IsAccepted task.now (short_form task.now cert) → cert ≡ short_form task.now cert)) }
+    ensures flat { result ≡ Ok None → (certificate : Certificate) → flat task.now ≡ Some certificate → IsAccepted task.now certificate → ⊥ }
+    ensures marked { none_marked task.now ≡ false → result ≡ Ok None }
+{
+    if !none_marked(task.programs()) {
+        return Ok(None);
+    }
+    searched(alloc, task)
 }

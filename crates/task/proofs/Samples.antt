@@ -10,7 +10,7 @@ use Rattle.prog_asm.specs.Programs.{Halt}
 use Rattle.fd_table.specs.Descriptions.{Initial, At_node, At_end, descriptor_of}
 use Rattle.fd_table.specs.OpenFiles.{any_below, is_open}
 use Rattle.kernel.proofs.Samples.{base}
-use Rattle.task.specs.Plans.{Grant, On_node, On_end, FirstDescriptor, Plan, plan_with}
+use Rattle.task.specs.Plans.{Grant, On_node, On_end, FirstDescriptor, Plan, plan_with, unmarked}
 use Rattle.task.specs.Limits.{is_plan}
 use Rattle.task.specs.Begins.{first_files, first_world}
 use Rattle.task.specs.Laws.{PlanExists}
@@ -35,7 +35,7 @@ log = record { name = codes "log_2"; path = codes "log" ∷ []; operations = Wri
 abbrev sample : Plan
 sample =
     plan_with base (work ∷ log ∷ [])
-    (record { name = codes "main"; code = Halt ∷ [] } ∷ [])
+    (unmarked (codes "main") (Halt ∷ []) ∷ [])
     (record { program = 0; mode = true; descriptors = first 0 1 false ∷ end 3 4 0 all_rights ∷ first 15 2 true ∷ end 5 4 0 read_right ∷ [] }
     ∷ record { program = 0; mode = false; descriptors = end 0 4 1 all_rights ∷ end 1 9 1 all_rights ∷ end 2 4 0 all_rights ∷ [] }
     ∷ [])

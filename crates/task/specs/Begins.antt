@@ -1,6 +1,6 @@
 -- The world that a task starts in: no call was made yet, and nothing is queued. (own, after open(2), socketpair(2) and
 -- capsicum(4))
-use Rattle.std.specs.Prelude.{◌+◌, ◌*◌, ◌-◌, ◌/◌, ◌%◌, ◌==◌, nat_lt, ℕ, false, List, [], ◌∷◌, map, Option, Some, None, option_map, if◌then◌else◌}
+use Rattle.std.specs.Prelude.{◌+◌, ◌*◌, ◌-◌, ◌/◌, ◌%◌, ◌==◌, nat_lt, false, List, [], ◌∷◌, map, Option, Some, None, option_map, if◌then◌else◌}
 use Rattle.std.specs.List.{slice_get}
 use Rattle.rights.specs.Values.{DescriptionNumber, DescriptorNumber, ProcessNumber, PairNumber, SideNumber}
 use Rattle.rights.specs.Limits.{most_descriptors, most_pairs}

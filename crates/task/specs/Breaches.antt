@@ -7,7 +7,7 @@ use Rattle.file_tree.specs.Nodes.{Node, File, Dir}
 use Rattle.prog_asm.specs.Programs.{Syscall, Halt, Invoke, Cap_enter, Open, Read, Write, Renameat, Number}
 use Rattle.kernel.specs.Steps.{Done, Stepped}
 use Rattle.kernel.specs.Gainful.{wide, two_processes, with_at, setting, event_by}
-use Rattle.task.specs.Plans.{On_node, Plan}
+use Rattle.task.specs.Plans.{On_node, Plan, unmarked}
 use Rattle.task.specs.Sandboxed.{IsSafe, IsSandboxed}
 
 -- the root, `/work`, and the file `/work/in` with the bytes `AB`
@@ -24,7 +24,7 @@ abbrev pub entering : List Operation → ℕ → ℕ → Bool → Syscall → Pl
 entering operations rights node writable call = record {
   nodes = small_tree;
   grants = record { name = codes "work"; path = codes "work" ∷ []; operations = operations } ∷ [];
-  programs = record { name = codes "main"; code = Invoke Cap_enter 2 ∷ Invoke call 2 ∷ Halt ∷ [] } ∷ [];
+  programs = unmarked (codes "main") (Invoke Cap_enter 2 ∷ Invoke call 2 ∷ Halt ∷ []) ∷ [];
   starts =
       record {
         program = 0;

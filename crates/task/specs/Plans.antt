@@ -1,7 +1,8 @@
 -- A task as a value: a file tree, a policy, programs, and the first processes with their descriptors. (own, after
 -- capsicum(4) and rights(4))
-use Rattle.std.specs.Prelude.{ℕ, Bool, List, [], Option, Some, None}
-use Rattle.std.specs.List.{slice_get}
+use Rattle.std.specs.Prelude.{◌&&◌, not, ℕ, Bool, false, List, [], Option, Some, None}
+use Rattle.std.specs.List.{list_all, list_any, slice_get}
+use Rattle.std.specs.Str.{bytes_eq}
 use Rattle.rights.specs.Values.{Name, Place, NodeNumber, DescriptorNumber, PairNumber, SideNumber, RightSet, CommandSet}
 use Rattle.rights.specs.Operations.{Operation}
 use Rattle.file_tree.specs.Nodes.{Node}
@@ -14,9 +15,14 @@ pub record Grant : Type 0 where
   pub path : Place
   pub operations : List Operation
 
+-- A program may be marked: then nothing is known of what a process of it executes in capability mode.
 pub record NamedProgram : Type 0 where
   pub name : Name
   pub code : List Instruction
+  pub marked : Bool
+
+abbrev pub unmarked : Name → List Instruction → NamedProgram
+unmarked name code = record { name = name; code = code; marked = false }
 
 -- What a first descriptor is of: a node of the task, by the node's number, that it is for reading or writing; or an end of a
 -- socket pair that the task starts with, by the pair's number and the side, 0 (a) or 1 (b). (open(2), socketpair(2))
@@ -62,3 +68,10 @@ name_in (Some p) = p.name
 
 abbrev pub program_name : Plan → ℕ → Name
 program_name plan n = name_in (slice_get plan.programs n)
+
+-- whether the program of this name is marked
+abbrev pub is_marked : List NamedProgram → Name → Bool
+is_marked programs name = list_any (λ (p : NamedProgram). p.marked && bytes_eq p.name name) programs
+
+abbrev pub none_marked : Plan → Bool
+none_marked plan = list_all (λ (p : NamedProgram). not p.marked) plan.programs

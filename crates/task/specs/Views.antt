@@ -27,7 +27,7 @@ abbrev pub grants_of : List GrantCode → List Grant
 grants_of grants = map grant_of grants
 
 abbrev pub program_of : NamedProgramCode → NamedProgram
-program_of p = record { name = string_bytes p.name; code = p.program }
+program_of p = record { name = string_bytes p.name; code = p.program; marked = p.untrusted }
 
 abbrev pub programs_of : List NamedProgramCode → List NamedProgram
 programs_of programs = map program_of programs

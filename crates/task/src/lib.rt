@@ -12,6 +12,6 @@ pub mod tasks;
 pub use grants::Grant;
 pub use nodes::TaskNode;
 pub use policies::{grant_holds, grant_lists, grant_named};
-pub use programs::NamedProgram;
+pub use programs::{NamedProgram, is_marked, none_marked};
 pub use starts::{FirstDescriptor, FirstObject, Start};
 pub use tasks::Task;

@@ -10,7 +10,7 @@ use Rattle.prog_asm.specs.Programs.{Halt}
 use Rattle.prog_asm.specs.Forms as forms
 use Rattle.prog_asm.specs.Assembly.{assembly_of, line_read}
 use Rattle.toml.specs.Data.{Data, string, integer, array, table, Members, no_members, member}
-use Rattle.task.specs.Plans.{On_node, On_end, FirstDescriptor, Start, Plan, plan_with}
+use Rattle.task.specs.Plans.{On_node, On_end, FirstDescriptor, Start, Plan, plan_with, unmarked}
 use Rattle.task_reader.specs.Written.{written_task}
 use Rattle.task_reader.specs.Paths.{place_of}
 use Rattle.task_reader.specs.Reading.{can_stand, can_grant, can_open, Wrong_field, Wrong_grant, Wrong_descriptor, plan_of, plan_in}
@@ -43,7 +43,7 @@ abbrev with_keys : Members → Members
 with_keys ms = with_descriptors (table ms ∷ [])
 
 abbrev plan : List Start → Plan
-plan starts = plan_with new_tree [] (record { name = codes "main"; code = Halt ∷ [] } ∷ []) starts
+plan starts = plan_with new_tree [] (unmarked (codes "main") (Halt ∷ []) ∷ []) starts
 
 abbrev start : List FirstDescriptor → Start
 start descriptors = record { program = 0; mode = false; descriptors = descriptors }

@@ -15,7 +15,7 @@ use Rattle.prog_asm.specs.Assembly.{assembly_of, line_read, fault, Word, FallsOf
 use Rattle.kernel.proofs.Samples.{base}
 use Rattle.toml.specs.Data.{Data, string, integer, array, table, Members, no_members, member}
 use Rattle.toml.proofs.OnLiterals.{toml_on_literals}
-use Rattle.task.specs.Plans.{Grant, On_node, FirstDescriptor, Plan, plan_with}
+use Rattle.task.specs.Plans.{Grant, On_node, FirstDescriptor, Plan, plan_with, unmarked}
 use Rattle.task_reader.specs.Written.{written_task}
 use Rattle.task_reader.specs.Paths.{place_of}
 use Rattle.task_reader.specs.Reading.{Mistake, can_stand, can_grant, can_open, Not_toml, Wrong_field, Wrong_node, Wrong_grant, Wrong_descriptor, Wrong_program, Past_limit, plan_of, plan_in, task_of}
@@ -34,7 +34,7 @@ log = record { name = codes "log"; path = codes "log" ∷ []; operations = Creat
 
 abbrev base_plan : Plan
 base_plan =
-    plan_with base (work ∷ log ∷ []) (record { name = codes "main"; code = Halt ∷ [] } ∷ [])
+    plan_with base (work ∷ log ∷ []) (unmarked (codes "main") (Halt ∷ []) ∷ [])
     (record { program = 0; mode = false; descriptors = on_node 0 1 ∷ on_node 1 9 ∷ [] } ∷ [])
 
 base_stands : plan_in base_document ≡ Ok base_plan
@@ -286,7 +286,7 @@ capable =
 
 abbrev said_plan : Plan
 said_plan =
-    plan_with base [] (record { name = codes "main"; code = Halt ∷ [] } ∷ [])
+    plan_with base [] (unmarked (codes "main") (Halt ∷ []) ∷ [])
     (record {
       program = 0;
       mode = true;
@@ -329,7 +329,7 @@ child_process =
 abbrev two_plan : Plan
 two_plan =
     plan_with base (work ∷ log ∷ [])
-    (record { name = codes "child"; code = Invoke (programs.Read (Number 3)) 1 ∷ Halt ∷ [] } ∷ record { name = codes "main"; code = Invoke Fork 1 ∷ Halt ∷ [] } ∷ [])
+    (unmarked (codes "child") (Invoke (programs.Read (Number 3)) 1 ∷ Halt ∷ []) ∷ unmarked (codes "main") (Invoke Fork 1 ∷ Halt ∷ []) ∷ [])
     (record { program = 1; mode = false; descriptors = on_node 0 1 ∷ on_node 1 9 ∷ [] }
     ∷ record { program = 0; mode = true; descriptors = on_node 3 2 ∷ [] } ∷ [])
 

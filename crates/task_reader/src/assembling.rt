@@ -20,7 +20,11 @@ fn assemble_one(alloc: Global, written: &WrittenProgram<'_>) -> Result<NamedProg
 {
     let name = String::from_str(alloc, written.name)?;
     match assemble(alloc, written.text) {
-        Ok(program) => Ok(NamedProgram { name, program }),
+        Ok(program) => Ok(NamedProgram {
+            name,
+            program,
+            untrusted: false,
+        }),
         Err(AsmFault::Memory) => Err(TaskFault::Memory),
         Err(fault) => Err(TaskFault::Asm {
             program: name,

@@ -60,6 +60,7 @@ pub fn read_texts(alloc: Global, task: &[u8], cert: &[u8]) -> Result<Claim, Faul
 /// # Errors
 ///
 /// Those of [`read_texts`].
+#[tactic(auto, using(task_reader::proofs::ValidPlans::read_unmarked))]
 pub fn check_text(alloc: Global, task: &[u8], cert: &[u8]) -> Result<Verdict, Fault>
     ensures exact { ChecksTexts result (task_of task.now) (certificate_of_text cert.now) }
     ensures sound { SaysYes result → (plan : Plan) × (task_of task.now ≡ Ok plan) × IsSandboxed plan }

@@ -3,7 +3,7 @@ use Rattle.std.specs.Prelude.{ℕ, List, Option}
 use Rattle.certificate.specs.Bounds.{Held, Bound}
 use Rattle.certificate.specs.Views.{bound_of, name_of}
 use Rattle.prog_asm.specs.Programs.{Syscall, Instruction}
-use Rattle.rules.specs.Outcomes.{Outcome, new_end, with_pair, successes_of, successes}
+use Rattle.rules.specs.Outcomes.{Outcome, new_end, with_pair, successes_of, successes, successes_in}
 use Rattle.rules.specs.Carrying.{carried_on}
 use Rattle.transfer.specs.declared.successes.Site.{Site}
 
@@ -16,8 +16,12 @@ pair_made s first second = with_pair s.task.now.grants s.cert.now (name_of s.nam
 abbrev pub call_at : Site → Syscall → List Outcome
 call_at s call = successes_of s.task.now.grants s.cert.now (name_of s.name.now) s.point (bound_of s.bound.now) call
 
+-- those of a program that isn't marked, and those of the site's
+abbrev pub plain_successes_at : Site → Instruction → List Outcome
+plain_successes_at s i = successes s.task.now.grants s.cert.now (name_of s.name.now) s.point (bound_of s.bound.now) i
+
 abbrev pub successes_at : Site → Instruction → List Outcome
-successes_at s i = successes s.task.now.grants s.cert.now (name_of s.name.now) s.point (bound_of s.bound.now) i
+successes_at s i = successes_in s.task.now s.cert.now (name_of s.name.now) s.point (bound_of s.bound.now) i
 
 abbrev pub carried_at : Site → Instruction → Option Bound
-carried_at s i = carried_on s.task.now.grants s.cert.now (name_of s.name.now) s.point (bound_of s.bound.now) i
+carried_at s i = carried_on s.task.now s.cert.now (name_of s.name.now) s.point (bound_of s.bound.now) i

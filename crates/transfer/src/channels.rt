@@ -12,8 +12,8 @@ use crate::uses::{Need, Passed};
 use certificate::{Bound, Cert, Channel, Class, Held, Side, Target};
 use prog_asm::Syscall;
 
-/// The other side of a pair.
-pub(crate) fn other(side: Side) -> Side
+/// The other side of a pair. (own)
+pub fn other(side: Side) -> Side
     ensures { side_of result ≡ other_side (side_of side) }
 {
     match side {

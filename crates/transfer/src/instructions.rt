@@ -3,8 +3,8 @@
 ghost use Rattle.std.specs.Prelude.{◌≡◌, true, option_map};
 ghost use Rattle.certificate.specs.Views.{bound_of, interval_of};
 ghost use Rattle.prog_asm.specs.Views.{instruction_of};
-ghost use Rattle.rules.specs.Outcomes.{equal_outcomes, error_outcomes, less_outcomes, outcomes_in};
-ghost use Rattle.transfer.specs.CallViews.{successes_at};
+ghost use Rattle.rules.specs.Outcomes.{enters_mode, equal_outcomes, error_outcomes, less_outcomes, outcomes_in};
+ghost use Rattle.transfer.specs.CallViews.{plain_successes_at, successes_at};
 ghost use Rattle.transfer.specs.Kept.{TestsEach};
 ghost use Rattle.transfer.specs.Limits.{leaves_known};
 ghost use Rattle.transfer.specs.OutcomeViews.{outcomes_of};
@@ -15,7 +15,8 @@ use crate::intervals::{equal_part, lower_part, only, other_part, sums, upper_par
 use crate::outcomes::{Change, Outcome};
 use crate::successes::{OutcomeTest, Site, next_passes};
 use certificate::{Bound, Interval};
-use prog_asm::{Instruction, Register};
+use prog_asm::{Instruction, Register, Syscall};
+use task::is_marked;
 
 /// Whether a point passes with a register in an interval, if there is one.
 fn part_passes<T: OutcomeTest>(
@@ -79,17 +80,16 @@ fn less_pass<T: OutcomeTest>(
         && part_passes(site, next, register, upper, test)
 }
 
-/// Whether each outcome of an instruction passes that is no error's: it is asked about each until one doesn't, and about
-/// those that are the same perhaps once. Takes no memory. (own; after the manual pages of the calls)
+/// Whether each outcome of an instruction passes that is no error's, in a program that isn't marked.
 #[tactic(auto, unfolding(rules::specs::Outcomes::successes))]
-pub fn successes_pass<T: OutcomeTest>(
+fn plain_successes_pass<T: OutcomeTest>(
     site: &Site<'_>,
     instruction: &Instruction,
     test: &mut T,
 ) -> bool
     requires { leaves_known (instruction_of instruction.now) ≡ true }
     ensures { TestsEach T.passes T.joins T.kept test.old test.new result
-        (successes_at site.now (instruction_of instruction.now)) }
+        (plain_successes_at site.now (instruction_of instruction.now)) }
 {
     let bound = site.bound;
     let (register, interval) = match instruction {
@@ -129,6 +129,38 @@ pub fn successes_pass<T: OutcomeTest>(
         interval,
     };
     next_passes(site, bound, change, test)
+}
+
+/// Whether an instruction enters capability mode. (cap_enter(2))
+pub fn enters_mode(instruction: &Instruction) -> bool
+    ensures { result ≡ enters_mode (instruction_of instruction.now) }
+{
+    matches!(
+        instruction,
+        Instruction::Invoke {
+            call: Syscall::CapEnter,
+            ..
+        }
+    )
+}
+
+/// Whether each outcome of an instruction passes that is no error's: it is asked about each until one doesn't, and about
+/// those that are the same perhaps once. A marked program isn't followed into capability mode. Takes no memory. (own; after the
+/// manual pages of the calls)
+#[tactic(auto, unfolding(rules::specs::Outcomes::successes_in))]
+pub fn successes_pass<T: OutcomeTest>(
+    site: &Site<'_>,
+    instruction: &Instruction,
+    test: &mut T,
+) -> bool
+    requires { leaves_known (instruction_of instruction.now) ≡ true }
+    ensures { TestsEach T.passes T.joins T.kept test.old test.new result
+        (successes_at site.now (instruction_of instruction.now)) }
+{
+    if enters_mode(instruction) && is_marked(site.task.programs(), site.name.as_bytes()) {
+        return true;
+    }
+    plain_successes_pass(site, instruction, test)
 }
 
 /// The outcome of an instruction that fails, if it may: register 7 has an error's number, and all else stays. (own)

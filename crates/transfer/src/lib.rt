@@ -18,11 +18,11 @@ pub mod uses;
 
 pub use asks::{SlotTest, UseTest, all_slots_pass, all_uses_pass};
 pub use carrying::carried_on;
-pub use channels::{all_have_channels, channel_at};
+pub use channels::{all_have_channels, channel_at, other};
 pub use demands::{Demands, demanded, keeps_beneath, keeps_numbers, keeps_single};
-pub use instructions::{failure, successes_pass};
+pub use instructions::{enters_mode, failure, successes_pass};
 pub use outcomes::{Change, Outcome};
 pub use slots::{FreeNumbers, Takes, free_numbers, is_single, may_be_on, operand_interval};
 pub use successes::{OutcomeTest, Site};
-pub use targets::{may_be_end, may_be_node};
+pub use targets::{may_be_end, may_be_node, unknown_held};
 pub use uses::{Need, Needs, Passed, Through, needed};

@@ -92,8 +92,8 @@ pub(crate) fn all_held(target: Target) -> Held
     )
 }
 
-/// Any rights and commands on anything.
-pub(crate) fn unknown_held() -> Held
+/// Any rights and commands on anything. (own)
+pub fn unknown_held() -> Held
     ensures { held_of result ≡ unknown_held }
 {
     Held::new(

@@ -16,13 +16,13 @@ use Rattle.prog_asm.specs.Programs.{Instruction, ends_well, is_instruction, is_p
 use Rattle.task.specs.Plans.{NamedProgram, Plan, code_in, name_in, program_name, programs_of_plan}
 use Rattle.task.specs.Limits as limits
 use Rattle.task.specs.Limits.{all_apart, are_named_apart, are_grants, are_programs, are_starts, is_plan, is_tree}
-use Rattle.rules.specs.Outcomes.{Outcome, successes, error_outcomes}
+use Rattle.rules.specs.Outcomes.{Outcome, is_followed, successes, successes_in, error_outcomes}
 use Rattle.rules.specs.Expansions.{or_carried, bound_met, bound_there, ExpansionBounds, names_point, may_carry, code_named, carried_to, expansion}
 use Rattle.rules.specs.Expansions as along
 use Rattle.rules.specs.Rules.{within_if_there, all_within, all_there}
-use Rattle.rules.proofs.expansions.Channelled.{expansion_successes}
+use Rattle.rules.proofs.expansions.Channelled.{followed_same}
 use Rattle.rules.proofs.expansions.Expanded.{bytes_same, both_false_right, carried_within, expansion_there}
-use Rattle.rules.proofs.expansions.Goes.{goes, or_right, successes_go, errors_go}
+use Rattle.rules.proofs.expansions.Goes.{all_if, goes, or_right, successes_go, errors_go}
 
 -- PROGRAMS have names of their own, and 256 instructions at most.
 programs_valid : (plan : Plan) → is_plan plan ≡ true → are_programs plan.programs ≡ true
@@ -169,15 +169,20 @@ module _ (plan : Plan) (c : Certificate) (valid : is_plan plan ≡ true) (made :
         all_same (goes plan.grants c name point b i) is_there_met (λ o. is_some (bound_at (expansion plan c) name o.point)) outs go
         (λ o is. ap is_some (met o.point is))
 
-    pub successes_within : (b : Bound) → list_all is_within_met (successes plan.grants c name point b i) ≡ all_within (expansion plan c) name (successes plan.grants (expansion plan c) name point b i)
-    successes_within b =
-        within_all b (successes plan.grants c name point b i) (successes_go plan.grants c name point b i)
-        ∙ ap (all_within (expansion plan c) name) (sym (expansion_successes plan c name point b i))
+    followed_go : (b : Bound) → list_all (goes plan.grants c name point b i) (successes_in plan c name point b i) ≡ true
+    unfolding successes_in
+    followed_go b =
+        all_if (goes plan.grants c name point b i) (is_followed plan name i) (successes plan.grants c name point b i) (successes_go plan.grants c name point b i)
 
-    pub successes_there : (b : Bound) → list_all is_there_met (successes plan.grants c name point b i) ≡ all_there (expansion plan c) name (successes plan.grants (expansion plan c) name point b i)
+    pub successes_within : (b : Bound) → list_all is_within_met (successes_in plan c name point b i) ≡ all_within (expansion plan c) name (successes_in plan (expansion plan c) name point b i)
+    successes_within b =
+        within_all b (successes_in plan c name point b i) (followed_go b)
+        ∙ ap (all_within (expansion plan c) name) (sym (followed_same plan c name point b i))
+
+    pub successes_there : (b : Bound) → list_all is_there_met (successes_in plan c name point b i) ≡ all_there (expansion plan c) name (successes_in plan (expansion plan c) name point b i)
     successes_there b =
-        there_all b (successes plan.grants c name point b i) (successes_go plan.grants c name point b i)
-        ∙ ap (all_there (expansion plan c) name) (sym (expansion_successes plan c name point b i))
+        there_all b (successes_in plan c name point b i) (followed_go b)
+        ∙ ap (all_there (expansion plan c) name) (sym (followed_same plan c name point b i))
 
     pub errors_within : (b : Bound) → list_all is_within_met (error_outcomes b i) ≡ all_within (expansion plan c) name (error_outcomes b i)
     errors_within b = within_all b (error_outcomes b i) (errors_go plan.grants c name point b i)

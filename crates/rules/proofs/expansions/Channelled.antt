@@ -12,7 +12,8 @@ use Rattle.rules.specs.Slots.{OpenSlot, slots_in}
 use Rattle.rules.specs.Uses.{Passing, Passes_none, Sends, Receives, Use, uses}
 use Rattle.rules.specs.Demands.{demands, keeps_single}
 use Rattle.rules.specs.Channels.{channel_at, sends_into, keeps_channel_bound, sends_known, receives_known, has_channel, all_have_channels}
-use Rattle.rules.specs.Outcomes.{is_formed, is_surely_on, opens_beneath, comes, receives_at, successes_of, successes, beneath_target}
+use Rattle.rules.specs.Outcomes.{is_formed, is_surely_on, opens_beneath, comes, receives_at, successes_of, successes, is_followed, successes_in, beneath_target}
+use Rattle.rules.specs.Rules.{authority_tests, mark_tests, tests_without}
 use Rattle.rules.specs.Expansions.{expanded, expanded_points, expansion}
 
 -- the certificate with other points, and in another version
@@ -115,6 +116,11 @@ module _ (version : Version) (points : List PointBound) (c : Certificate) where
     instruction_same Halt = refl
     instruction_same (Invoke call otherwise) = λ k. if formed_same b call k then call_same call k else []
 
+  pub followed_points : (plan : Plan) (name : List ℕ) (point : ℕ) (b : Bound) (i : Instruction)
+      → successes_in plan with_points name point b i ≡ successes_in plan c name point b i
+  unfolding successes_in
+  followed_points plan name point b i = λ k. if is_followed plan name i then instruction_same plan.grants name point b i k else []
+
 -- THE EXPANSION
 module _ (plan : Plan) (c : Certificate) where
   channels-in : (v : Version) (through : List Use) → all_have_channels (expanded v plan c) through ≡ all_have_channels c through
@@ -142,3 +148,29 @@ module _ (plan : Plan) (c : Certificate) where
   pub expansion_successes : (name : List ℕ) (point : ℕ) (b : Bound) (i : Instruction)
       → successes plan.grants (expansion plan c) name point b i ≡ successes plan.grants c name point b i
   expansion_successes name point b i = successes-in c.version name point b i
+
+  pub followed_same : (name : List ℕ) (point : ℕ) (b : Bound) (i : Instruction)
+      → successes_in plan (expansion plan c) name point b i ≡ successes_in plan c name point b i
+  unfolding successes_in
+  followed_same name point b i = λ k. if is_followed plan name i then expansion_successes name point b i k else []
+
+  -- What is asked of authorities looks at them and at the channels.
+  without-in : (v : Version) (program point : ℕ) → tests_without plan (expanded v plan c) program point ≡ tests_without plan c program point
+  unfolding tests_without authority_tests channel_at
+  without-in One program point = refl
+  without-in Two program point = refl
+  without-in Three program point = refl
+
+  pub expansion_without : (program point : ℕ) → tests_without plan (expansion plan c) program point ≡ tests_without plan c program point
+  expansion_without program point = without-in c.version program point
+
+  marks-in : (v : Version) (program point : ℕ) (i : Instruction) (b : Bound)
+      → mark_tests plan (expanded v plan c) program point i b ≡ mark_tests plan c program point i b
+  unfolding mark_tests authority_tests channel_at
+  marks-in One program point i b = refl
+  marks-in Two program point i b = refl
+  marks-in Three program point i b = refl
+
+  pub expansion_marks : (program point : ℕ) (i : Instruction) (b : Bound)
+      → mark_tests plan (expansion plan c) program point i b ≡ mark_tests plan c program point i b
+  expansion_marks program point i b = marks-in c.version program point i b

@@ -228,7 +228,7 @@ module _ (plan : Plan) (c : Certificate) where
       → carried_by plan c name point i b ≡ None
   not_carried name point None b not_so = refl
   not_carried name point (Some i) None not_so = refl
-  not_carried name point (Some i) (Some b) not_so = ap (λ is. if is then carried_on plan.grants c name point b i else None) not_so
+  not_carried name point (Some i) (Some b) not_so = ap (λ is. if is then carried_on plan c name point b i else None) not_so
 
   pub carried_within : (name : List ℕ) (n : ℕ) → may_carry c.version (code_named plan.programs name) n ≡ false → carried_to plan c name n ≡ None
   unfolding carried_to

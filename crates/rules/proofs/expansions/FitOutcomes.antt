@@ -18,7 +18,7 @@ use Rattle.prog_asm.specs.Programs.{Operand, Syscall, Open, Openat, Read, Write,
 use Rattle.prog_asm.specs.Programs.{Mkdir, Unlinkat, Unlink, Renameat, Dup, Close, Cap_rights_limit, Cap_fcntls_limit, Cap_enter, Cap_getmode, Socketpair, Fork, Instruction, Set}
 use Rattle.prog_asm.specs.Programs.{Mov, Add, In, Jmp, Jeq, Jlt, Halt, Invoke}
 use Rattle.task.specs.Plans.{Grant}
-use Rattle.rules.specs.Carrying.{carried_on, joined_at, joined_with, outcomes}
+use Rattle.rules.specs.Carrying.{joined_at, joined_with}
 use Rattle.rules.specs.Channels.{channel_at}
 use Rattle.rules.specs.Demands.{demands}
 use Rattle.rules.specs.Intervals.{only, sums, equal_part, other_part, lower_part, upper_part}
@@ -239,7 +239,10 @@ module _ (names : List (List ℕ)) where
         all_joined to (joined_with to before o) outs (joined_fits to before o some (and_left (is_fit_outcome o) (all_fit outs) all))
         (and_right (is_fit_outcome o) (all_fit outs) all)
 
-    pub carried_fits : (i : Instruction) → is_fit_bound names (carried_on grants c name point b i) ≡ true
-    carried_fits i =
-        all_joined (point + 1) None (outcomes grants c name point b i) refl
-        (both_fit (successes grants c name point b i) (error_outcomes b i) (successes_fit i) (errors_fit i))
+    -- whether or not the successes are followed
+    pub carried_fits : (followed : Bool) (i : Instruction)
+        → is_fit_bound names (joined_at (point + 1) None ((if followed then successes grants c name point b i else []) ++ error_outcomes b i)) ≡ true
+    carried_fits followed i =
+        let good = if followed then successes grants c name point b i else [] in
+        all_joined (point + 1) None (good ++ error_outcomes b i) refl
+        (both_fit good (error_outcomes b i) (all_if is_fit_outcome followed (successes grants c name point b i) (successes_fit i)) (errors_fit i))

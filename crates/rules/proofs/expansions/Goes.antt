@@ -27,7 +27,7 @@ all_of_each test rest [] each = refl
 all_of_each test rest (x ∷ xs) each =
     list_all-append test (rest x) (flat_map rest xs) ∙ both_true (list_all test (rest x)) (list_all test (flat_map rest xs)) (each x) (all_of_each test rest xs each)
 
-all_if : (test : Outcome → Bool) (b : Bool) (outs : List Outcome) → list_all test outs ≡ true → list_all test (if b then outs else []) ≡ true
+pub all_if : (test : Outcome → Bool) (b : Bool) (outs : List Outcome) → list_all test outs ≡ true → list_all test (if b then outs else []) ≡ true
 all_if test true outs all = all
 all_if test false outs all = refl
 

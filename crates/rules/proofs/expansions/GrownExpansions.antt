@@ -15,6 +15,7 @@ use Rattle.certificate.proofs.Whole.{fits_itself}
 use Rattle.prog_asm.specs.Programs.{Instruction}
 use Rattle.task.specs.Plans.{Plan}
 use Rattle.rules.specs.Carrying.{carried_on}
+use Rattle.rules.specs.Outcomes.{is_followed, successes_in}
 use Rattle.rules.specs.Expansions.{ExpansionIsGrown, bound_with, carried_by, carried_past, code_at, expanded, expanded_points, expansion, may_carry, or_carried, points_along}
 use Rattle.rules.specs.Expansions.{programs_behind, programs_given, with_bound}
 use Rattle.rules.proofs.expansions.FitBounds.{fit_given, is_fit_bound}
@@ -56,12 +57,13 @@ module _ (names : List (List ℕ)) where
     module _ (name : List ℕ) (own : is_among names name ≡ true) where
       by_fits : (point : ℕ) (i : Option Instruction) (b : Option Bound) → is_fit_bound names b ≡ true
           → is_fit_bound names (carried_by plan c name point i b) ≡ true
+      unfolding successes_in
       by_fits point None b fit = refl
       by_fits point (Some i) None fit = refl
       by_fits point (Some i) (Some b) fit = go (may_carry c.version (code_at plan c name) (suc point))
         where
-          go : (may : Bool) → is_fit_bound names (if may then carried_on plan.grants c name point b i else None) ≡ true
-          go true = carried_fits names plan.grants c name point b fit own among i
+          go : (may : Bool) → is_fit_bound names (if may then carried_on plan c name point b i else None) ≡ true
+          go true = carried_fits names plan.grants c name point b fit own among (is_followed plan name i) i
           go false = refl
 
       with_fits : (point : ℕ) (carried : Option Bound) → is_fit_bound names carried ≡ true → is_fit_bound names (bound_with plan c name point carried) ≡ true

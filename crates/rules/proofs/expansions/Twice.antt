@@ -1,5 +1,5 @@
 -- An expansion is its own.
-use Rattle.std.proofs.Common.{◌≡◌, ◌≤◌, ◌<◌, ◌+◌, ℕ, zero, suc, Bool, true, false, List, [], ◌∷◌, ◌++◌, refl, ap, sym, ◌∙◌, subst, append_assoc, arith}
+use Rattle.std.proofs.Common.{◌≡◌, ◌≤◌, ◌<◌, ◌+◌, ℕ, zero, suc, Bool, true, false, List, [], ◌∷◌, ◌++◌, refl, ap, sym, ◌∙◌, arith}
 use Rattle.std.specs.Prelude.{◌==◌, ◌&&◌, Option, Some, None, is_some, if◌then◌else◌}
 use Rattle.std.specs.List.{flat_map, list_all, slice_get}
 use Rattle.std.specs.Str.{bytes_eq}
@@ -16,7 +16,7 @@ use Rattle.rules.specs.Carrying.{joined_at}
 use Rattle.rules.specs.Expansions.{or_carried, bound_with, bound_there, with_bound, code_named, may_carry, carried_by, carried_past, carried_to, points_along}
 use Rattle.rules.specs.Expansions.{programs_behind, programs_given, expanded_points, expanded, expansion}
 use Rattle.rules.proofs.expansions.Arriving.{is_low, points_low}
-use Rattle.rules.proofs.expansions.Channelled.{instruction_same}
+use Rattle.rules.proofs.expansions.Channelled.{followed_points}
 use Rattle.rules.proofs.expansions.Expanded.{bytes_same, there_low}
 
 or_twice : (given carried : Option Bound) → or_carried (or_carried given carried) carried ≡ or_carried given carried
@@ -34,7 +34,7 @@ module _ (plan : Plan) (c : Certificate) where
   carried_alike name point (Some i) None = refl
   carried_alike name point (Some i) (Some b) = λ k.
       if may_carry c.version (code_named plan.programs name) (suc point)
-      then joined_at (point + 1) None (instruction_same c.version (expanded_points plan c) c plan.grants name point b i k ++ error_outcomes b i)
+      then joined_at (point + 1) None (followed_points c.version (expanded_points plan c) c plan name point b i k ++ error_outcomes b i)
       else None
 
   there_alike : (name : List ℕ) (n : ℕ) → n < most_instructions → carried_to plan written name n ≡ carried_to plan c name n

@@ -10,11 +10,11 @@ use Rattle.rules.specs.Intervals.{only}
 use Rattle.rules.specs.Slots.{slots_in, free_numbers}
 use Rattle.rules.specs.Uses.{uses}
 use Rattle.rules.specs.Channels.{channel_at}
-use Rattle.rules.specs.Outcomes.{from_to, successes, error_outcomes}
+use Rattle.rules.specs.Outcomes.{from_to, successes, successes_in, error_outcomes}
 use Rattle.rules.specs.Carrying.{joined_at}
 use Rattle.rules.specs.Expansions.{code_named, expansion, points_along, programs_behind}
 use Rattle.rules.specs.Probes.{block, channel}
-use Rattle.rules.specs.Rules.{tests, tests_without}
+use Rattle.rules.specs.Rules.{tests, tests_without, authority_tests, mark_tests}
 use Rattle.rules.specs.Verdicts.{first_found, found_at, found_with}
 use Rattle.rules.proofs.rows.Samples.{alone, at_main, certificate_of, in_work, opens_in_the_mode}
 
@@ -31,14 +31,14 @@ entered = with_interval (at_main On []) 0 (only 0)
 
 carried_into_the_mode : expansion (alone opens_in_the_mode) (second (main_at 0 (at_main Off []) ∷ main_at 2 (at_main On []) ∷ []))
     ≡ certificate_of (main_at 0 (at_main Off []) ∷ main_at 1 entered ∷ main_at 2 (at_main On []) ∷ []) []
-unfolding points_along programs_behind code_named joined_at successes error_outcomes slots_in free_numbers uses channel_at bound_in
+unfolding points_along programs_behind code_named joined_at successes successes_in error_outcomes slots_in free_numbers uses channel_at bound_in
 carried_into_the_mode = refl
 
 broken_where_it_is_carried : first_found (alone opens_in_the_mode)
     (expansion (alone opens_in_the_mode) (second (main_at 0 (at_main Off []) ∷ main_at 2 (at_main On []) ∷ [])))
     ≡ Some (0, 1, 6)
-unfolding points_along programs_behind code_named joined_at successes error_outcomes slots_in free_numbers uses channel_at bound_in
-    first_found found_at found_with tests tests_without grant_named base created
+unfolding points_along programs_behind code_named joined_at successes successes_in error_outcomes slots_in free_numbers uses channel_at bound_in
+    first_found found_at found_with tests tests_without mark_tests authority_tests grant_named base created
 broken_where_it_is_carried = refl
 
 -- Both answers of `fork` go to the next point, and are joined.
@@ -47,13 +47,13 @@ forks = Invoke Fork 2 ∷ Halt ∷ Halt ∷ []
 
 both_are_joined : expansion (alone forks) (second (main_at 0 (at_main Off []) ∷ []))
     ≡ certificate_of (main_at 0 (at_main Off []) ∷ main_at 1 (with_interval (at_main Off []) 0 (from_to 0 15)) ∷ []) []
-unfolding points_along programs_behind code_named joined_at successes error_outcomes slots_in free_numbers uses channel_at bound_in
+unfolding points_along programs_behind code_named joined_at successes successes_in error_outcomes slots_in free_numbers uses channel_at bound_in
 both_are_joined = refl
 
 -- A point that an `else` names has no bound but a given one.
 nothing_at_a_named_point : first_found (alone forks) (expansion (alone forks) (second (main_at 0 (at_main Off []) ∷ []))) ≡ Some (0, 0, 16)
-unfolding points_along programs_behind code_named joined_at successes error_outcomes slots_in free_numbers uses channel_at bound_in
-    first_found found_at found_with tests tests_without grant_named base created
+unfolding points_along programs_behind code_named joined_at successes successes_in error_outcomes slots_in free_numbers uses channel_at bound_in
+    first_found found_at found_with tests tests_without mark_tests authority_tests grant_named base created
 nothing_at_a_named_point = refl
 
 -- Nothing is carried to a point that the one before it doesn't go to; a target that is never gone to is named all the same.
@@ -62,7 +62,7 @@ jumps = Set 1 7 ∷ Jmp 0 ∷ Set 2 0 ∷ Halt ∷ []
 
 nothing_past_a_jump : expansion (alone jumps) (second (main_at 0 (at_main Off []) ∷ []))
     ≡ certificate_of (main_at 0 (at_main Off []) ∷ main_at 1 (with_interval (at_main Off []) 1 (only 7)) ∷ []) []
-unfolding points_along programs_behind code_named joined_at successes error_outcomes slots_in free_numbers uses channel_at bound_in
+unfolding points_along programs_behind code_named joined_at successes successes_in error_outcomes slots_in free_numbers uses channel_at bound_in
 nothing_past_a_jump = refl
 
 abbrev never_jumps : List Instruction
@@ -70,20 +70,20 @@ never_jumps = Set 0 1 ∷ Jeq 0 2 2 ∷ Halt ∷ []
 
 named_though_never_reached : expansion (alone never_jumps) (second (main_at 0 (at_main Off []) ∷ []))
     ≡ certificate_of (main_at 0 (at_main Off []) ∷ main_at 1 (with_interval (at_main Off []) 0 (only 1)) ∷ []) []
-unfolding points_along programs_behind code_named joined_at successes error_outcomes slots_in free_numbers uses channel_at bound_in
+unfolding points_along programs_behind code_named joined_at successes successes_in error_outcomes slots_in free_numbers uses channel_at bound_in
 named_though_never_reached = refl
 
 -- A given bound stays, wider or narrower than what would be carried, and is carried on from there.
 given_bounds_stay : expansion (alone jumps) (second (main_at 0 (at_main Off []) ∷ main_at 1 (at_main On []) ∷ []))
     ≡ certificate_of (main_at 0 (at_main Off []) ∷ main_at 1 (at_main On []) ∷ []) []
-unfolding points_along programs_behind code_named joined_at successes error_outcomes slots_in free_numbers uses channel_at bound_in
+unfolding points_along programs_behind code_named joined_at successes successes_in error_outcomes slots_in free_numbers uses channel_at bound_in
 given_bounds_stay = refl
 
 -- So do bounds of programs that the task hasn't, and past a program's end; and nothing is carried to a program without a bound, or past
 -- an end.
 given_elsewhere : expansion (alone (Halt ∷ [])) (second (block (codes "lib") 3 (at_main On []) ∷ main_at 200 (at_main Off []) ∷ []))
     ≡ certificate_of (block (codes "lib") 3 (at_main On []) ∷ main_at 200 (at_main Off []) ∷ []) []
-unfolding points_along programs_behind code_named joined_at successes error_outcomes slots_in free_numbers uses channel_at bound_in
+unfolding points_along programs_behind code_named joined_at successes successes_in error_outcomes slots_in free_numbers uses channel_at bound_in
 given_elsewhere = refl
 
 -- The channels stay. In version 1 nothing is carried.
@@ -92,7 +92,7 @@ lines = channel 0 (Some in_work) ∷ channel 1 None ∷ []
 
 channels_stay : expansion (alone jumps) (record (certificate_of (main_at 0 (at_main Off []) ∷ []) lines) { version = Two })
     ≡ certificate_of (main_at 0 (at_main Off []) ∷ main_at 1 (with_interval (at_main Off []) 1 (only 7)) ∷ []) lines
-unfolding points_along programs_behind code_named joined_at successes error_outcomes slots_in free_numbers uses channel_at bound_in
+unfolding points_along programs_behind code_named joined_at successes successes_in error_outcomes slots_in free_numbers uses channel_at bound_in
 channels_stay = refl
 
 version_1_stays : expansion (alone jumps) (certificate_of (main_at 0 (at_main Off []) ∷ []) lines) ≡ certificate_of (main_at 0 (at_main Off []) ∷ []) lines

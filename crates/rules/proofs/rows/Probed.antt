@@ -5,13 +5,13 @@ use Rattle.task.specs.Policies.{grant_named}
 use Rattle.rules.specs.Slots.{slots_in, free_numbers}
 use Rattle.rules.specs.Uses.{uses}
 use Rattle.rules.specs.Channels.{channel_at}
-use Rattle.rules.specs.Outcomes.{successes, error_outcomes}
-use Rattle.rules.specs.Rules.{tests, tests_without}
+use Rattle.rules.specs.Outcomes.{successes, successes_in, error_outcomes}
+use Rattle.rules.specs.Rules.{tests, tests_without, authority_tests, mark_tests}
 use Rattle.rules.specs.Verdicts.{found_with, found_at, first_found}
 use Rattle.rules.specs.Refusals.{EachRuleIsBroken, EachRuleIsKept, LeastIsTold}
 
 pub each_is_broken : EachRuleIsBroken
-unfolding first_found found_at found_with tests tests_without bound_in grant_named slots_in free_numbers uses channel_at successes error_outcomes
+unfolding first_found found_at found_with tests tests_without bound_in grant_named slots_in free_numbers uses channel_at successes successes_in error_outcomes mark_tests authority_tests
 each_is_broken = record {
   k1 = refl;
   k2 = refl;
@@ -32,7 +32,7 @@ each_is_broken = record {
 }
 
 pub each_is_kept : EachRuleIsKept
-unfolding first_found found_at found_with tests tests_without bound_in grant_named slots_in free_numbers uses channel_at successes error_outcomes
+unfolding first_found found_at found_with tests tests_without bound_in grant_named slots_in free_numbers uses channel_at successes successes_in error_outcomes mark_tests authority_tests
 each_is_kept = record {
   k1 = refl;
   k2 = refl;
@@ -51,7 +51,7 @@ each_is_kept = record {
 }
 
 pub least_is_told : LeastIsTold
-unfolding first_found found_at found_with tests tests_without bound_in grant_named slots_in free_numbers uses channel_at successes error_outcomes
+unfolding first_found found_at found_with tests tests_without bound_in grant_named slots_in free_numbers uses channel_at successes successes_in error_outcomes mark_tests authority_tests
 least_is_told = record {
   k1_k2 = refl;
   k2_k3 = refl;

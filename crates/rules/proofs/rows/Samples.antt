@@ -8,7 +8,7 @@ use Rattle.prog_asm.specs.Programs.{Instruction, Halt, Invoke, Jmp, Jeq, Number,
 use Rattle.certificate.specs.Bounds.{ModeBound, Off, On, In_grant, Any_node, Socket, Held, Slot, Maybe, Bound, with_interval, PointBound, ChannelBound, One, Certificate}
 use Rattle.certificate.specs.Bounds as bounds
 use Rattle.kernel.proofs.Samples.{base}
-use Rattle.task.specs.Plans.{Grant, NamedProgram, FirstObject, On_node, On_end, FirstDescriptor, Start, Plan}
+use Rattle.task.specs.Plans.{Grant, NamedProgram, FirstObject, On_node, On_end, FirstDescriptor, Start, Plan, unmarked}
 use Rattle.rules.specs.Outcomes.{all_held, with_rights, from_to}
 use Rattle.rules.specs.Probes.{bound_of_slots, block, channel}
 
@@ -33,7 +33,7 @@ abbrev pub main_start : List FirstDescriptor → Start
 main_start more = record { program = 0; mode = false; descriptors = given 0 (to_read 1) ∷ given 1 (to_read 9) ∷ more }
 
 abbrev pub main_program : List Instruction → NamedProgram
-main_program code = record { name = codes "main"; code = code }
+main_program code = unmarked (codes "main") code
 
 abbrev pub task_of : Grant → List FirstDescriptor → List Instruction → Plan
 task_of grant more code = record {
@@ -51,7 +51,7 @@ abbrev pub joined : List Instruction → List Instruction → Plan
 joined main child = record {
   nodes = base;
   grants = work ∷ log ∷ [];
-  programs = main_program main ∷ record { name = codes "child"; code = child } ∷ [];
+  programs = main_program main ∷ unmarked (codes "child") child ∷ [];
   starts =
       main_start (given 2 (On_end 0 0) ∷ [])
       ∷ record { program = 1; mode = true; descriptors = given 0 (On_end 0 1) ∷ [] }

@@ -25,7 +25,7 @@ use Rattle.task.proofs.AsGiven.{first_is_first}
 use Rattle.task.proofs.FirstWorlds.{first_well_formed}
 use Rattle.task.proofs.KeptLimits.{plans_keep_limits}
 use Rattle.rules.specs.Points.{instruction_at}
-use Rattle.rules.specs.Rules.{Test, first_subject, first_seen, first_table, start_within, starts_within, is_started, tests, tests_without, least_broken}
+use Rattle.rules.specs.Rules.{Test, first_subject, first_seen, first_table, start_within, starts_within, all_starts_within, marked_at, starts_program, is_started, tests, tests_without, least_broken}
 use Rattle.rules.specs.Verdicts.{MeetsRules, found_with, found_at}
 use Rattle.rules.proofs.worlds.Seen.{subject_of, seen_of, table_of}
 use Rattle.rules.proofs.worlds.Walks.{rests}
@@ -49,9 +49,9 @@ starts_kept : (plan : Plan) (certificate : Certificate) (program : ℕ) (i : Ins
 unfolding tests
 starts_kept plan certificate program i b none = first_kept (tests plan certificate program 0 i b) none
 
-not_started : (plan : Plan) (program : ℕ) → least_broken (tests_without plan program 0) ≡ None → is_started plan program ≡ false
+not_started : (plan : Plan) (certificate : Certificate) (program : ℕ) → least_broken (tests_without plan certificate program 0) ≡ None → is_started plan program ≡ false
 unfolding tests_without
-not_started plan program none = not_true (is_started plan program) (first_kept (tests_without plan program 0) none)
+not_started plan certificate program none = not_true (is_started plan program) (first_kept (tests_without plan certificate program 0) none)
 
 -- an element that passes the test
 any_at : {A : Type 0} (test : A → Bool) (xs : List A) (j : ℕ) (x : A) → slice_get xs j ≡ Some x → test x ≡ true → list_any test xs ≡ true
@@ -89,7 +89,8 @@ entry_seen plan w tree (Some given) (Some d) is =
       fcntls = sym is.fcntls i;
     }))
 
-module _ (plan : Plan) (certificate : Certificate) (valid : is_plan plan ≡ true) (meets : MeetsRules plan certificate) where
+module _ (plan : Plan) (certificate : Certificate) (valid : is_plan plan ≡ true) (plain : (program : ℕ) → marked_at plan program ≡ false)
+    (meets : MeetsRules plan certificate) where
   abbrev first : World
   first = first_world plan
 
@@ -109,7 +110,7 @@ module _ (plan : Plan) (certificate : Certificate) (valid : is_plan plan ≡ tru
       go : (o : Option Bound) → bound_at certificate (program_name plan program) 0 ≡ o → IsBounded program
       go None none =
           let without : found_with plan certificate program 0 (Some i) None ≡ None = subst (λ o. found_with plan certificate program 0 (Some i) o ≡ None) none at_instruction in
-          let clash : true ≡ false = sym is ∙ not_started plan program without in absurd cc
+          let clash : true ≡ false = sym is ∙ not_started plan certificate program without in absurd cc
       go (Some b) some =
           let kept : found_with plan certificate program 0 (Some i) (Some b) ≡ None = subst (λ o. found_with plan certificate program 0 (Some i) o ≡ None) some at_instruction in
           record { bound = b; at = some; starts = starts_kept plan certificate program i b kept }
@@ -119,7 +120,8 @@ module _ (plan : Plan) (certificate : Certificate) (valid : is_plan plan ≡ tru
     own_start : (b : Bound) → starts_within plan st.program 0 b ≡ true → start_within plan b st ≡ true
     own_start b within =
         own (st.program == st.program) (eq-eqb st.program st.program refl)
-        (list_all-slice_get (λ (s : Start). not (s.program == st.program) || start_within plan b s) plan.starts p st within here)
+        (list_all-slice_get (λ (s : Start). not (s.program == st.program) || start_within plan b s) plan.starts p st
+        (subst (λ (m : Bool). all_starts_within plan m st.program b plan.starts ≡ true) (plain st.program) within) here)
       where
         own : (a : Bool) → a ≡ true → (not a || start_within plan b st) ≡ true → start_within plan b st ≡ true
         own true is h = h
@@ -142,7 +144,9 @@ module _ (plan : Plan) (certificate : Certificate) (valid : is_plan plan ≡ tru
         go : (o : Option Instruction) → instruction_at plan st.program 0 ≡ o → IsPoint o → IsDescribed plan certificate (first_world plan) p (new_process st.program st.mode)
         go None at none = absurd none
         go (Some i) at some =
-            let is : is_started plan st.program ≡ true = any_at (λ (s : Start). s.program == st.program) plan.starts p st here (eq-eqb st.program st.program refl) in
+            let is : is_started plan st.program ≡ true =
+            subst (λ (m : Bool). starts_program m st.program plan.starts ≡ true) (sym (plain st.program))
+            (any_at (λ (s : Start). s.program == st.program) plan.starts p st here (eq-eqb st.program st.program refl)) in
             let b = bounded st.program i at is in
             record { bound = b.bound; at = b.at; is = first_described b.bound (own_start b.bound b.starts) }
 

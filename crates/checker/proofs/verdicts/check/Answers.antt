@@ -56,4 +56,4 @@ pub returns-clause-exact : goal.returns-clause-exact
 returns-clause-exact c = all_meet c
 
 pub returns-clause-sound : goal.returns-clause-sound
-returns-clause-sound c = λ yes. sound c.args.task.now (expansion c.args.task.now c.args.cert.now) c.programs-program-items.ensures.valid (all_meet c)
+returns-clause-sound c = λ yes none. sound c.args.task.now (expansion c.args.task.now c.args.cert.now) c.programs-program-items.ensures.valid none (all_meet c)

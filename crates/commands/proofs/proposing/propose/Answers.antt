@@ -1,4 +1,4 @@
-use Rattle.std.proofs.Common.{ap, codes, inl, inr, refl, subst, true}
+use Rattle.std.proofs.Common.{◌∙◌, ap, codes, inl, inr, refl, subst, sym, Bool, true, false}
 use Rattle.std.specs.Prelude.{◌≡◌, List, ℕ, Option, Some, Ok, Err, IfSome}
 use Rattle.certificate.specs.Bounds.{Two, Certificate}
 use Rattle.certificate_text.specs.Readings.{certificate_of_text}
@@ -11,22 +11,25 @@ use Rattle.rights.specs.declared.stops.Stop.TheVariants.{Memory, Device, Spent}
 use Rattle.rules.specs.Expansions.{expansion}
 use Rattle.rules.proofs.Sound.{sound}
 use Rattle.task.specs.Limits.{is_plan}
-use Rattle.task.specs.Plans.{Plan}
+use Rattle.task.specs.Plans.{Plan, none_marked}
 use Rattle.commands.specs.Searched.{Proposes}
 use Rattle.commands.proofs.proposing.propose.Goals as goal
 
+not_false : (b : Bool) → (b ≡ false → ⊥) → b ≡ true
+not_false true marked = refl
+not_false false marked = absurd (marked refl)
+
 -- a certificate that is found, and written
 proposes : (plan : Plan) (bounds : Certificate) (found : Option Certificate) (before after : Option (List ℕ)) → is_plan plan ≡ true →
-    found ≡ Some bounds → IfSome found (λ cert. IsAccepted plan cert) → IfSome found (λ cert. cert.version ≡ Two) → certificate_of_text (certificate_text bounds) ≡ Ok bounds →
+    (none_marked plan ≡ false → ⊥) → found ≡ Some bounds → IfSome found (λ cert. IsAccepted plan cert) → IfSome found (λ cert. cert.version ≡ Two) → certificate_of_text (certificate_text bounds) ≡ Ok bounds →
     Took before after (certificate_text bounds) → Proposes plan before after
-proposes plan bounds found before after valid is accepted two back took =
+proposes plan bounds found before after valid marked is accepted two back took =
     let accepts : IsAccepted plan bounds = subst (λ found. IfSome found (λ cert. IsAccepted plan cert)) is accepted in
     record {
       bounds = bounds;
       version = subst (λ found. IfSome found (λ cert. cert.version ≡ Two)) is two;
       accepted = accepts;
-      sandboxed = sound plan
-          (expansion plan bounds) valid accepts;
+      sandboxed = sound plan (expansion plan bounds) valid (not_false (none_marked plan) marked) accepts;
       reads_back = back;
       writes = took;
     }
@@ -41,7 +44,7 @@ pub returns-in_ok-write_cert-in-Some-clause-proposed : goal.returns-in_ok-write_
 returns-in_ok-write_cert-in-Some-clause-proposed g c =
     inl (
       refl,
-      proposes c.args.task.now c.in-Some.cert _ _ _ c.note_valid.ensures c.in-Some.is c.in_ok-cert.ensures.accepted c.in_ok-cert.ensures.version
+      proposes c.args.task.now c.in-Some.cert _ _ _ c.note_valid.ensures (λ marked. let clash = sym (ap Ok c.in-Some.is) ∙ c.in_ok-cert.ensures.marked marked in cc) c.in-Some.is c.in_ok-cert.ensures.accepted c.in_ok-cert.ensures.version
           c.write_cert.ensures.reads_back c.in_ok-write_cert-in-Some.ensures.written.0,
     )
 
@@ -52,7 +55,7 @@ returns-in_err-write_cert-in-Some-clause-begun g c stop = record {
   whole =
       inl (
         refl,
-        proposes c.args.task.now c.in-Some.cert _ _ _ c.note_valid.ensures c.in-Some.is c.in_ok-cert.ensures.accepted c.in_ok-cert.ensures.version c.write_cert.ensures.reads_back refl,
+        proposes c.args.task.now c.in-Some.cert _ _ _ c.note_valid.ensures (λ marked. let clash = sym (ap Ok c.in-Some.is) ∙ c.in_ok-cert.ensures.marked marked in cc) c.in-Some.is c.in_ok-cert.ensures.accepted c.in_ok-cert.ensures.version c.write_cert.ensures.reads_back refl,
       );
   begun = front-taken c.in_err-write_cert-in-Some.field-0.0 _ _ _ _ _ c.in_err-write_cert-in-Some.ensures.written;
 }

@@ -3,7 +3,7 @@ use Rattle.task.specs.Views.{starts_of}
 use Rattle.searcher.specs.Flat.{flat_points}
 use Rattle.searcher.proofs.Taken.{of_points}
 use Rattle.searcher.proofs.FlatGrows.{flat_taken, is_flat, not_refused}
-use Rattle.searcher.proofs.flat.flat.Goals as goal
+use Rattle.searcher.proofs.flat.plain_flat.Goals as goal
 
 pub unreachable-requires : goal.unreachable-requires
 unreachable-requires c =
