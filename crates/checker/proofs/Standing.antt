@@ -1,6 +1,6 @@
 -- What is found at a point of a program in the expansion of a certificate.
-use Rattle.std.proofs.Common.{◌≡◌, ◌<◌, ◌+◌, eqb-true, ℕ, zero, suc, true, List, [], ◌∷◌, length, refl, ap, sym, ◌∙◌, subst, arith}
-use Rattle.std.specs.Prelude.{◌==◌, ◌&&◌, not, Bool, false, Option, Some, None, if◌then◌else◌}
+use Rattle.std.proofs.Common.{◌≡◌, ◌<◌, ◌+◌, ℕ, zero, suc, true, List, [], ◌∷◌, length, refl, ap, sym, ◌∙◌, subst, arith}
+use Rattle.std.specs.Prelude.{◌&&◌, Bool, false, Option, Some, None, if◌then◌else◌}
 use Rattle.std.specs.List.{slice_get}
 use Rattle.certificate.specs.Bounds.{Bound, Certificate, bound_at}
 use Rattle.certificate.specs.Growth.{IsCertificate}
@@ -10,7 +10,6 @@ use Rattle.task.specs.Limits.{is_plan}
 use Rattle.rules.specs.Carrying.{carried_on}
 use Rattle.rules.specs.Expansions.{or_carried, code_named, may_carry, carried_by, carried_past, carried_to, expansion}
 use Rattle.rules.specs.Points.{instruction_at}
-use Rattle.rules.specs.Rules.{is_started, least_broken, tests_without}
 use Rattle.rules.specs.Verdicts.{found_at, found_with}
 use Rattle.rules.proofs.expansions.Arriving.{code_is, expansion_bounds}
 

@@ -346,8 +346,8 @@ fn write_report<W: Out>(task: &Task, cert: &Cert, out: &mut W) -> Result<(), Sto
 
 /// Writes the report of a task and a certificate: for each point of the task's programs that has a bound, given or carried, by
 /// the place of the program in the task, and for each grant of the task in which some slot may be open, the greatest rights of
-/// those slots; and behind the points of a marked program the rights that it may have in each grant whatever it does. Its errors are `Device`, after a failure of the writer, which then has taken a beginning of that, and `Memory`, before
-/// anything is written. (own)
+/// those slots; and behind the points of a marked program the rights that it may have in each grant whatever it does. Its errors are
+/// `Device`, after a failure of the writer, which then has taken a beginning of that, and `Memory`, before anything is written. (own)
 pub fn report<W: Out>(alloc: Global, task: &Task, cert: &Cert, out: &mut W) -> Result<(), Stop>
     requires { W.faults out.old < 2 ^ 64 - 1 }
     ensures written { OnOk result (Took (W.taken out.old) (W.taken out.new) (report_text task.now (expansion task.now cert.now))) }

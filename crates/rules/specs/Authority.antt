@@ -5,7 +5,8 @@ use Rattle.std.specs.Str.{bytes_eq}
 use Rattle.rights.specs.Values.{Name, Place, SideNumber, RightSet}
 use Rattle.rights.specs.Classes.{Class, Initial}
 use Rattle.rights.specs.Operations.{Operation, Look, Read, Write, Create, Remove}
-use Rattle.rights.specs.Sets.{is_within, read_right, write_right, ftruncate_right, fstat_right, create_right, fstatat_right, mkdirat_right, unlinkat_right, renameat_source_right, renameat_target_right}
+use Rattle.rights.specs.Sets.{is_within, read_right, write_right, ftruncate_right, fstat_right, create_right, fstatat_right, mkdirat_right}
+use Rattle.rights.specs.Sets.{unlinkat_right, renameat_source_right, renameat_target_right}
 use Rattle.file_tree.specs.Places.{begins}
 use Rattle.file_tree.specs.Nodes.{node}
 use Rattle.fd_table.specs.Descriptions.{other_side}

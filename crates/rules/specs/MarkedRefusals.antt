@@ -26,8 +26,8 @@ pub record MarkedProbe : Type 0 where
   pub holds : List End
 
 -- The grant of `/work` lists looking, reading and creating, and that of `/log` removing.
-abbrev pub marked_plan : MarkedProbe → Instruction → Plan
-marked_plan p i = record {
+abbrev pub mark_plan : MarkedProbe → Instruction → Plan
+mark_plan p i = record {
   nodes = small_tree ++ record { kind = Dir; place = codes "log" ∷ []; linked = true; content = [] } ∷ [];
   grants =
       record { name = codes "work"; path = codes "work" ∷ []; operations = Look ∷ Reads ∷ Creates ∷ [] }
@@ -38,7 +38,7 @@ marked_plan p i = record {
 }
 
 abbrev pub probed_marked : MarkedProbe → Instruction → Option (ℕ × ℕ × ℕ)
-probed_marked p i = first_found (marked_plan p i) (record {
+probed_marked p i = first_found (mark_plan p i) (record {
   version = Three;
   points = block_if (codes "probe") 0 p.here ++ block_if (codes "probe") 1 p.next;
   channels = p.channels;
@@ -49,8 +49,8 @@ probed_marked p i = first_found (marked_plan p i) (record {
 abbrev pub nothing_held : MarkedProbe
 nothing_held = record { in_mode = true; descriptors = []; here = None; next = None; channels = []; ceilings = []; holds = [] }
 
-abbrev pub standing : Bound → MarkedProbe
-standing here = record nothing_held { here = Some here }
+abbrev pub bounded_at : Bound → MarkedProbe
+bounded_at here = record nothing_held { here = Some here }
 
 -- `/work`, and side b of the initial pair
 abbrev pub starting_with : FirstObject → RightSet → FirstDescriptor
@@ -72,23 +72,23 @@ on_work rights = ceiling_on (codes "work") rights
 abbrev pub on_log : RightSet → Ceiling
 on_log rights = ceiling_on (codes "log") rights
 
-abbrev pub end_of : ℕ → End
-end_of side = record { class = Initial 0; side = side }
+abbrev pub side_held : ℕ → End
+side_held side = record { class = Initial 0; side = side }
 
 -- one side of the pair, which the program may hold: the other side sends this, and this side what it likes, or this
 abbrev pub holding : Option Held → Option Held → MarkedProbe
 holding received sent =
-    record nothing_held { channels = channel 0 received ∷ channel 1 sent ∷ []; holds = end_of 1 ∷ [] }
+    record nothing_held { channels = channel 0 received ∷ channel 1 sent ∷ []; holds = side_held 1 ∷ [] }
 
 -- Each rule refuses something that no rule before it refuses.
 pub record EachMarkRuleIsBroken : Type 0 where
   -- a process outside the mode is bounded by its points still, and has to have a bound
-  pub k1 : probed_marked (record (standing loosest) { in_mode = false; here = Some (bound_of_slots On []) }) Halt ≡ broken 1
+  pub k1 : probed_marked (record (bounded_at loosest) { in_mode = false; here = Some (bound_of_slots On []) }) Halt ≡ broken 1
   pub k16 : probed_marked (record nothing_held { in_mode = false }) Halt ≡ broken 16
   -- its points may be reached in the mode
-  pub k17 : probed_marked (standing (bound_of_slots Either [])) Halt ≡ broken 17
+  pub k17 : probed_marked (bounded_at (bound_of_slots Either [])) Halt ≡ broken 17
   -- it enters the mode with a directory, or starts in it with one, that it has no ceiling for
-  pub k18_entered : probed_marked (standing (bound_of_slots Off (bounds.Maybe reads_only ∷ []))) (Invoke Cap_enter 1) ≡ broken 18
+  pub k18_entered : probed_marked (bounded_at (bound_of_slots Off (bounds.Maybe reads_only ∷ []))) (Invoke Cap_enter 1) ≡ broken 18
   pub k18_started : probed_marked (record nothing_held { descriptors = starting_with work_directory read_right ∷ [] }) Halt ≡ broken 18
   pub k18_end : probed_marked (record nothing_held { descriptors = starting_with (On_end 0 1) read_right ∷ [] }) Halt ≡ broken 18
   -- the grant doesn't list writing; and a grant that the task hasn't lists nothing
@@ -106,11 +106,11 @@ pub record EachMarkRuleIsBroken : Type 0 where
 pub record EachMarkRuleIsKept : Type 0 where
   -- what starts in the mode needs no bound
   pub k1_k16 : probed_marked nothing_held Halt ≡ None
-  pub k17 : probed_marked (standing (bound_of_slots Off [])) Halt ≡ None
+  pub k17 : probed_marked (bounded_at (bound_of_slots Off [])) Halt ≡ None
   -- `cap_enter` leads nowhere
-  pub k2_k16 : probed_marked (standing (bound_of_slots Off [])) (Invoke Cap_enter 1) ≡ None
+  pub k2_k16 : probed_marked (bounded_at (bound_of_slots Off [])) (Invoke Cap_enter 1) ≡ None
   pub k18_entered : probed_marked
-      (record (standing (bound_of_slots Off (bounds.Maybe reads_only ∷ []))) { ceilings = on_work read_right ∷ [] }) (Invoke Cap_enter 1) ≡ None
+      (record (bounded_at (bound_of_slots Off (bounds.Maybe reads_only ∷ []))) { ceilings = on_work read_right ∷ [] }) (Invoke Cap_enter 1) ≡ None
   pub k18_started : probed_marked
       (record nothing_held { descriptors = starting_with work_directory read_right ∷ []; ceilings = on_work read_right ∷ [] }) Halt ≡ None
   pub k18_end : probed_marked
@@ -122,9 +122,9 @@ pub record EachMarkRuleIsKept : Type 0 where
 
 -- Where two rules are broken at a point, the lesser is told.
 pub record LeastMarkRuleIsTold : Type 0 where
-  pub k16_k17 : probed_marked (standing (bound_of_slots Either [])) (Invoke (Dup (Number 0)) 1) ≡ broken 16
+  pub k16_k17 : probed_marked (bounded_at (bound_of_slots Either [])) (Invoke (Dup (Number 0)) 1) ≡ broken 16
   pub k16_k19 : probed_marked (record nothing_held { in_mode = false; ceilings = on_work write_right ∷ [] }) Halt ≡ broken 16
-  pub k17_k18 : probed_marked (standing (bound_of_slots On (bounds.Open reads_only ∷ []))) (Invoke Cap_enter 1) ≡ broken 17
+  pub k17_k18 : probed_marked (bounded_at (bound_of_slots On (bounds.Open reads_only ∷ []))) (Invoke Cap_enter 1) ≡ broken 17
   pub k18_k19 : probed_marked
       (record nothing_held { descriptors = starting_with work_directory read_right ∷ []; ceilings = on_work write_right ∷ [] }) Halt ≡ broken 18
   pub k19_k20 : probed_marked
@@ -133,5 +133,5 @@ pub record LeastMarkRuleIsTold : Type 0 where
       (record (holding (Some any_node) (Some unknown_held)) { ceilings = on_log renameat_source_right ∷ on_work renameat_target_right ∷ [] }) Halt ≡ broken 20
   pub k21_k22 : probed_marked (holding (Some any_node) None) Halt ≡ broken 21
   -- Both ends of a pair can't be held: what is expected from one is what may come by the other.
-  pub both_wide : probed_marked (record (holding (Some unknown_held) (Some unknown_held)) { holds = end_of 0 ∷ end_of 1 ∷ [] }) Halt ≡ broken 21
-  pub both_none : probed_marked (record (holding None None) { holds = end_of 0 ∷ end_of 1 ∷ [] }) Halt ≡ broken 22
+  pub both_wide : probed_marked (record (holding (Some unknown_held) (Some unknown_held)) { holds = side_held 0 ∷ side_held 1 ∷ [] }) Halt ≡ broken 21
+  pub both_none : probed_marked (record (holding None None) { holds = side_held 0 ∷ side_held 1 ∷ [] }) Halt ≡ broken 22

@@ -1,9 +1,8 @@
-use Rattle.std.proofs.Common.{◌≡◌, ◌∙◌, sym}
+use Rattle.std.proofs.Common.{◌∙◌, sym}
 use Rattle.std.specs.Prelude.{Some, None, option_map}
 use Rattle.certificate.specs.Views.{bound_of, name_of}
 use Rattle.prog_asm.specs.Views.{instruction_of}
 use Rattle.rules.specs.Verdicts.{found_with}
-use Rattle.rules.specs.Rules.{least_broken, tests_without}
 use Rattle.checker.proofs.Standing.{found_is, stands}
 use Rattle.checker.proofs.broken.found_at.Goals as goal
 

@@ -1,7 +1,6 @@
-use Rattle.std.proofs.Common.{◌≡◌, ap, sym, ◌∙◌, subst}
-use Rattle.std.specs.Prelude.{Some}
-use Rattle.certificate.specs.Bounds.{Certificate, has_authorities}
-use Rattle.certificate.specs.Growths.{grown, grown_by, then_grown}
+use Rattle.std.proofs.Common.{ap, sym, ◌∙◌, subst}
+use Rattle.certificate.specs.Bounds.{has_authorities}
+use Rattle.certificate.specs.Growths.{grown, then_grown}
 use Rattle.certificate.specs.GrowthViews.{Grows}
 use Rattle.certificate.specs.Lines.{rest_lines}
 use Rattle.rules.specs.Expansions.{expansion}

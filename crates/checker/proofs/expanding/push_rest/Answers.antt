@@ -1,11 +1,10 @@
-use Rattle.std.proofs.Common.{◌≡◌, ◌++◌, [], map, ap, sym, ◌∙◌, subst, append-nil}
-use Rattle.std.specs.Prelude.{Some}
+use Rattle.std.proofs.Common.{◌≡◌, ◌++◌, map, ap, sym, ◌∙◌, subst, append-nil}
 use Rattle.std.specs.List.{flat_map}
-use Rattle.certificate.specs.Bounds.{Authority, has_authorities}
+use Rattle.certificate.specs.Bounds.{has_authorities}
 use Rattle.certificate.specs.Growths.{grown, grown_with, then_grown}
 use Rattle.certificate.specs.GrowthViews.{Grows}
 use Rattle.certificate.specs.Lines.{Bounds_channel, authority_lines}
-use Rattle.certificate.specs.Views.{authorities_of, channels_of}
+use Rattle.certificate.specs.Views.{channels_of}
 use Rattle.certificate.proofs.Behind.{authorities_alone}
 use Rattle.certificate.proofs.Growths.{grown_append, grown_keeps, with_lines}
 use Rattle.checker.proofs.Along.{failed_first, passed_on}

@@ -21,7 +21,8 @@ not_false false marked = absurd (marked refl)
 
 -- a certificate that is found, and written
 proposes : (plan : Plan) (bounds : Certificate) (found : Option Certificate) (before after : Option (List ℕ)) → is_plan plan ≡ true →
-    (none_marked plan ≡ false → ⊥) → found ≡ Some bounds → IfSome found (λ cert. IsAccepted plan cert) → IfSome found (λ cert. cert.version ≡ Two) → certificate_of_text (certificate_text bounds) ≡ Ok bounds →
+    (none_marked plan ≡ false → ⊥) → found ≡ Some bounds → IfSome found (λ cert. IsAccepted plan cert) →
+    IfSome found (λ cert. cert.version ≡ Two) → certificate_of_text (certificate_text bounds) ≡ Ok bounds →
     Took before after (certificate_text bounds) → Proposes plan before after
 proposes plan bounds found before after valid marked is accepted two back took =
     let accepts : IsAccepted plan bounds = subst (λ found. IfSome found (λ cert. IsAccepted plan cert)) is accepted in
@@ -44,7 +45,8 @@ pub returns-in_ok-write_cert-in-Some-clause-proposed : goal.returns-in_ok-write_
 returns-in_ok-write_cert-in-Some-clause-proposed g c =
     inl (
       refl,
-      proposes c.args.task.now c.in-Some.cert _ _ _ c.note_valid.ensures (λ marked. let clash = sym (ap Ok c.in-Some.is) ∙ c.in_ok-cert.ensures.marked marked in cc) c.in-Some.is c.in_ok-cert.ensures.accepted c.in_ok-cert.ensures.version
+      proposes c.args.task.now c.in-Some.cert _ _ _ c.note_valid.ensures
+          (λ marked. let clash = sym (ap Ok c.in-Some.is) ∙ c.in_ok-cert.ensures.marked marked in cc) c.in-Some.is c.in_ok-cert.ensures.accepted c.in_ok-cert.ensures.version
           c.write_cert.ensures.reads_back c.in_ok-write_cert-in-Some.ensures.written.0,
     )
 
@@ -55,7 +57,8 @@ returns-in_err-write_cert-in-Some-clause-begun g c stop = record {
   whole =
       inl (
         refl,
-        proposes c.args.task.now c.in-Some.cert _ _ _ c.note_valid.ensures (λ marked. let clash = sym (ap Ok c.in-Some.is) ∙ c.in_ok-cert.ensures.marked marked in cc) c.in-Some.is c.in_ok-cert.ensures.accepted c.in_ok-cert.ensures.version c.write_cert.ensures.reads_back refl,
+        proposes c.args.task.now c.in-Some.cert _ _ _ c.note_valid.ensures
+            (λ marked. let clash = sym (ap Ok c.in-Some.is) ∙ c.in_ok-cert.ensures.marked marked in cc) c.in-Some.is c.in_ok-cert.ensures.accepted c.in_ok-cert.ensures.version c.write_cert.ensures.reads_back refl,
       );
   begun = front-taken c.in_err-write_cert-in-Some.field-0.0 _ _ _ _ _ c.in_err-write_cert-in-Some.ensures.written;
 }
