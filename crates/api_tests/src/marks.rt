@@ -96,7 +96,8 @@ fn a_marked_program_is_judged_by_its_authority(rt: HostRuntime) -> Result<(), Fa
     let mut out = empty_shelf(rt.alloc(), 80, 0, true);
     let told = report_checked(rt.alloc(), &task, &cert, &mut out)?;
     assert!(rt; told == 0 && out.bytes.is_empty());
+    let mut out = empty_shelf(rt.alloc(), 80, 0, true);
     let told = propose(rt.alloc(), &task, &mut out)?;
-    assert!(rt; told == 1 && out.bytes.as_slice() == b"none\n");
+    assert!(rt; told == 1 && out.bytes.as_slice() == b"none\n".as_slice());
     Ok(())
 }
