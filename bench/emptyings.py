@@ -3,7 +3,7 @@ name, the text that is replaced, what stands there then, and what has to be refu
 no name is given, any refusal is one: then the crate's proofs use the clause."""
 
 ALL = "Some (record { description = 0; rights = all_rights; fcntls = all_commands })"
-NEW_CALLER = "record { program = 0; point = 0; registers = []; mode = false; alive = true; walk = None }"
+NEW_CALLER = "record { program = 0; point = 0; registers = []; mode = false; alive = true; walk = None; marked = false; kept = None }"
 OWN = "IsOwn (record c.state { mode = false }) Socketpair (record d { rights = all_rights; fcntls = all_commands })"
 BOTH = "(Unit {0} × Unit {0})"
 INSTANCES = "nothing_comes_from_elsewhere"
@@ -135,6 +135,27 @@ SANDBOXED = "task/specs/Sandboxed.antt", [
         "Sandboxed (programs_of_plan plan) plan.grants (first_world plan) []", "second_step"),
 ]
 
+# What is asked of trusted programs alone, or of the mode alone, and what a process may be made to do.
+CONFINED = "task/specs/Confined.antt", [
+    ("IsTrusted, which no process is", "IsTrusted (Some s) = s.marked ≡ false", "IsTrusted (Some s) = ⊥", "trusted_end"),
+    ("IsContained.allowed", "AreAllowed grants a.effects", BOTH, "right_too_many"),
+    ("IsContained.unrefused", "IsUnrefused a.outcome", "Unit {0}", "trusted_end"),
+    ("IsContained.gains", "pub gains : GainsNothing w e.process (caller_of programs (about w e.process act) e) next.world",
+        "pub gains : Unit {0}", "trusted_tasks_are_sandboxed"),
+    ("Confined, the first step", "IsContained programs grants w e act (step programs (about w e.process act) e choice)\n    × Confined",
+        "Unit {0}\n    × Confined", "right_too_many"),
+    ("Confined, the steps after it", "× Confined programs grants (step programs (about w e.process act) e choice).world events",
+        "× Unit {0}", "trusted_end"),
+    ("Confined, what no process may do", "    → IsAct programs w e.process act\n", "    → ⊥\n", "right_too_many"),
+    ("IsConfined, of no events", "Confined (programs_of_plan plan) plan.grants (first_world plan) events",
+        "Confined (programs_of_plan plan) plan.grants (first_world plan) []", "right_too_many"),
+]
+HOSTILE = "kernel/specs/Hostile.antt", [
+    ("IsDeedOf, which no deed is", "IsDeedOf programs (Some s) deed = is_hostile s ≡ true → IsDeed programs s.program deed",
+        "IsDeedOf programs (Some s) deed = ⊥", ""),
+    ("about, a deed", "about w p (Does deed) = handed w p deed", "about w p (Does deed) = w", ""),
+]
+
 POLICIES = "task/specs/Policies.antt", [
     ("allows, the place", "= begins g.path place && lists g.operations operation", "= lists g.operations operation", ""),
     ("allows, the operation", "= begins g.path place && lists g.operations operation", "= begins g.path place", ""),
@@ -159,6 +180,15 @@ STEPS = "kernel/specs/Steps.antt", [
         "reads_to_the_end"),
     ("stepped_at, the outcome", "acted_as s x.outcome x.effects", "acted_as s Done x.effects", "opens_in_the_mode"),
     ("stepped_at, the effects", "acted_as s x.outcome x.effects", "acted_as s x.outcome []", "reads_to_the_end"),
+    ("next_instruction, a deed", "next_instruction (Some deed) here = Some deed.instruction", "next_instruction (Some deed) here = here",
+        "is_another_deed_each_time"),
+    ("after_deed, the process", "changed_at (changed_at processes p (left_by deed)) made (left_by deed)",
+        "changed_at processes made (left_by deed)", "waits_and_does_another"),
+    ("after_deed, its child", "changed_at (changed_at processes p (left_by deed)) made (left_by deed)",
+        "changed_at processes p (left_by deed)", "forks_with_what_the_deed_says"),
+    ("after_deed, names that are left", "after_deed (Some deed) p made Walks_on processes = processes",
+        "after_deed (Some deed) p made Walks_on processes = changed_at processes p (left_by deed)", "goes_on_by_itself"),
+    ("handed", "changed_at w.processes p (handed_to deed)", "changed_at w.processes p (λ s. s)", "is_refused_in_the_mode"),
 ]
 EFFECTS = "kernel/specs/Calls.antt", [
     ("outside_mode, the cause", "unless (not s.mode) ECAPMODE CapMode rest", "unless (not s.mode) ECAPMODE Refused rest",
@@ -190,6 +220,8 @@ EFFECTS = "kernel/specs/Calls.antt", [
         "renames_over_a_file"),
     ("renamed_over, what is removed", "record { operation = Removes; place = (at n).place }\n      ∷ record", "record",
         "renames_over_a_file"),
+    ("own_class, a pair of an untrusted program", "own_class s = if s.marked && s.mode then Made_by s.program else",
+        "own_class s = if false then Made_by s.program else", "pair_of_a_deed"),
     ("renamed_over, what is created", "∷ record { operation = Creates; place = (at m).place } ∷ []", "∷ []",
         "renames_over_a_file"),
 ]
@@ -220,6 +252,13 @@ WELL_FORMED = "kernel/specs/WellFormed.antt", [
     ("EachMessage, the messages behind", "× EachMessage Good messages", "× Unit {0}", ""),
     ("IsPoint", "IsPoint None = ⊥", "IsPoint None = Unit {0}", ""),
     ("FitsRegister", "FitsRegister (Some value) = value < 2 ^ 32", "FitsRegister (Some value) = Unit {0}", ""),
+    ("HasPaths", "HasPaths (Some call) = are_paths (lookups_of call) ≡ true", "HasPaths (Some call) = true ≡ true", ""),
+    ("IsDeed.placed", "pub placed : IsPoint (slice_get (programs program) deed.point)", "pub placed : Unit {0}", ""),
+    ("IsDeed.eight", "pub eight : length deed.registers ≡ register_count", "pub eight : Unit {0}", ""),
+    ("IsDeed.small", "FitsRegister (slice_get deed.registers r)", "Unit {0}", ""),
+    ("IsKeptDeed.marked", "pub marked : s.marked ≡ true", "pub marked : Unit {0}", ""),
+    ("IsKeptDeed.mode", "pub mode : s.mode ≡ true", "pub mode : Unit {0}", ""),
+    ("IsKeptDeed.is", "pub is : IsDeed programs s.program deed", "pub is : Unit {0}", ""),
     ("IsProcess.placed", "IsPoint (slice_get (programs s.program) s.point)", "Unit {0}", ""),
     ("IsProcess.eight", "pub eight : length s.registers ≡ register_count", "pub eight : Unit {0}", ""),
     ("IsProcess.small", "FitsRegister (slice_get s.registers r)", "Unit {0}", ""),
@@ -242,5 +281,5 @@ WELL_FORMED = "kernel/specs/WellFormed.antt", [
     ("IsWorld.sides", "2 ≤ side → w.files.queue pair side ≡ []", "2 ≤ side → side ≡ side", ""),
 ]
 
-FILES = [ORIGINS, GAINS, HELD, SANDBOXED, POLICIES, PREMISES, CHOICES, LIMITS, STEPS, EFFECTS, CAUSES, WELL_FORMED]
+FILES = [ORIGINS, GAINS, HELD, SANDBOXED, CONFINED, HOSTILE, POLICIES, PREMISES, CHOICES, LIMITS, STEPS, EFFECTS, CAUSES, WELL_FORMED]
 EMPTYINGS = [(name, file, old, new, by) for file, changes in FILES for name, old, new, by in changes]

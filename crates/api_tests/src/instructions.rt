@@ -131,6 +131,15 @@ const CALLS: [&str; 34] = [
 ];
 
 #[test]
+fn copies_each_instruction(rt: HostRuntime) -> Result<(), Fail> {
+    let program = assemble(rt.alloc(), ALL)?;
+    for instruction in program.code() {
+        assert!(rt; instruction.copy(rt.alloc()).is_ok());
+    }
+    Ok(())
+}
+
+#[test]
 fn makes_registers_and_paths(rt: HostRuntime) -> Result<(), Fail> {
     assert!(rt; Register::new(7).map(|register| register.number()) == Some(7));
     assert!(rt; Register::new(8) == None);

@@ -11,11 +11,11 @@ mod certificates;
 #[cfg(test)]
 mod consoles;
 #[cfg(test)]
+mod deeds;
+#[cfg(test)]
 mod instructions;
 #[cfg(test)]
 mod lookups;
-#[cfg(test)]
-mod marks;
 #[cfg(test)]
 mod open_files;
 #[cfg(test)]

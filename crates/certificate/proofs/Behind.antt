@@ -1,17 +1,16 @@
 -- What stands behind blocks: channels, and behind them authorities.
-use Rattle.std.proofs.Common.{◌≡◌, ◌≤◌, ◌&&◌, ◌++◌, ◌∷◌, [], Bool, true, false, ℕ, List, length, map, refl, ap, sym, ◌∙◌, subst, append_assoc, append-nil, arith}
+use Rattle.std.proofs.Common.{◌≡◌, ◌≤◌, ◌&&◌, ◌++◌, ◌∷◌, [], Bool, true, false, List, length, map, refl, ap, sym, ◌∙◌, subst, append_assoc, append-nil, arith}
 use Rattle.std.specs.List.{flat_map}
-use Rattle.std.specs.Prelude.{Ok, nat_le}
+use Rattle.std.specs.Prelude.{nat_le}
 use Rattle.std.specs.Str.{bytes_eq}
 use Rattle.std.proofs.lemmas.Grind.{flat_map-append}
 use Rattle.std.proofs.lemmas.List.{map-append}
-use Rattle.rights.specs.Classes.{Class}
 use Rattle.rights.specs.Limits.{most_programs}
 use Rattle.certificate.specs.Order.{same_class}
-use Rattle.certificate.specs.Bounds.{Authority, Ceiling, End, Certificate, ChannelBound, PointBound, Version, has_authorities}
+use Rattle.certificate.specs.Bounds.{Authority, Ceiling, End, Certificate, ChannelBound, has_authorities}
 use Rattle.certificate.specs.Lines.{Line, Begins_block, Bounds_register, Bounds_slot, Bounds_channel, Begins_authority, Bounds_grant, Holds_end, authority_lines, is_of_version, rest_lines}
-use Rattle.certificate.specs.Growth.{IsCertificate, begins, grows, above_blocks, above_ceilings, above_channels, above_ends, classes_held, classes_in_line, classes_of, classes_of_ends}
-use Rattle.certificate.specs.Growth.{distinct, distinct_behind, has_none, most_classes, may_bound_register, may_bound_slot, open_authority, programs_in_line, programs_named}
+use Rattle.certificate.specs.Growth.{IsCertificate, begins, grows, above_ceilings, above_channels, above_ends, classes_held, classes_in_line, classes_of}
+use Rattle.certificate.specs.Growth.{distinct, distinct_behind, has_none, most_classes, open_authority, programs_in_line, programs_named}
 use Rattle.certificate.specs.Growth.{programs_of_authority, programs_of_block}
 use Rattle.certificate.specs.Growth.{programs_of_channel, programs_of_end, stands, with_ceiling, with_held_end, with_line}
 use Rattle.certificate.proofs.LastOnes.{behind_nothing, none, told_kept, told_more}

@@ -1,14 +1,13 @@
 -- What taking a line says of a certificate, and what it keeps.
-use Rattle.std.proofs.Common.{◌≡◌, ◌≤◌, ◌&&◌, ◌++◌, ◌∷◌, [], ℕ, Bool, true, false, List, length, refl, ap, sym, ◌∙◌, subst, arith}
+use Rattle.std.proofs.Common.{◌≡◌, ◌≤◌, ◌&&◌, ◌++◌, [], ℕ, Bool, true, false, List, length, refl, ap, sym, ◌∙◌, arith}
 use Rattle.std.specs.Prelude.{Option, Some, None, Ok, Err, nat_le, option_map, if◌then◌else◌}
 use Rattle.std.specs.Str.{bytes_eq}
-use Rattle.std.proofs.lemmas.List.{append-nil, map-append}
 use Rattle.std.proofs.lemmas.Bool.Decides.{nat_tests}
 use Rattle.rights.specs.Limits.{most_programs}
-use Rattle.certificate.specs.Bounds.{Certificate, ChannelBound}
+use Rattle.certificate.specs.Bounds.{Certificate}
 use Rattle.certificate.specs.Order.{same_class}
 use Rattle.certificate.specs.Lines.{Line, Begins_block, Bounds_register, Bounds_slot, Bounds_channel, Begins_authority, Bounds_grant, Holds_end}
-use Rattle.certificate.specs.Growth.{IsCertificate, No_room, Out_of_order, begins, grows, classes_in_line, classes_of, distinct, distinct_behind, has_room, most_classes}
+use Rattle.certificate.specs.Growth.{No_room, Out_of_order, classes_in_line, classes_of, distinct, has_room, most_classes}
 use Rattle.certificate.specs.Growth.{programs_in_line, programs_named, stands, taken, with_line}
 use Rattle.certificate.specs.Room.{if_few, listed_with}
 use Rattle.certificate.proofs.Distinct.{behind-append, few_none-back, few_some-back}

@@ -7,11 +7,11 @@ use Rattle.std.proofs.lemmas.List.{append-nil, length-set}
 use Rattle.std.proofs.lemmas.Grind.{flat_map-append}
 use Rattle.std.proofs.lemmas.Bool.Decides.{nat_tests}
 use Rattle.rights.specs.Limits.{most_descriptors}
-use Rattle.certificate.specs.Bounds.{Bound, Certificate, ChannelBound, PointBound, Slot, Closed, Open, Maybe, held_in, with_interval, with_slot}
+use Rattle.certificate.specs.Bounds.{Bound, Certificate, PointBound, Slot, Closed, Open, Maybe, held_in, with_interval, with_slot}
 use Rattle.certificate.specs.Order.{same_class}
 use Rattle.certificate.specs.Lines.{Line, Begins_block, Bounds_register, Bounds_slot, Bounds_channel, Begins_authority, Bounds_grant, Holds_end, are_numbered, is_closed, is_line, is_of_version}
 use Rattle.certificate.specs.Lines.{has_names, is_numbered, is_proper}
-use Rattle.certificate.specs.Growth.{IsCertificate, begins, grows, all_from, classes_of, distinct, has_none, may_bound_slot, on_last, programs_in_line, programs_named}
+use Rattle.certificate.specs.Growth.{IsCertificate, begins, grows, all_from, classes_of, distinct, may_bound_slot, on_last, programs_in_line, programs_named}
 use Rattle.certificate.specs.Growth.{programs_of_authority, programs_of_block, programs_of_channel, programs_of_slot, stands, with_line}
 use Rattle.certificate.proofs.Growing.{HasRoom, and_left, and_right, taken-back, taken_ok}
 use Rattle.certificate.proofs.LastOnes.{behind_nothing}

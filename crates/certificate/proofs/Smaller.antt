@@ -10,7 +10,7 @@ use Rattle.rights.proofs.Words.{same_bytes}
 use Rattle.certificate.specs.Bounds.{ModeBound, Off, On, Either, Interval, Target, In_grant, Any_node, Socket, Unknown, Held, Slot, Closed, Open, Maybe, Bound}
 use Rattle.certificate.specs.Order.{mode_within, interval_within, same_class, target_within, held_within, slot_within, each_within, bound_within, sends_within}
 use Rattle.certificate.specs.OrderLaws.{class_is}
-use Rattle.certificate.specs.Describes.{Subject, Node_at, End_of, Seen, Holds, target_describes, held_describes, slot_describes, mode_describes, interval_describes}
+use Rattle.certificate.specs.Describes.{Subject, Node_at, End_of, Own_end, Seen, Holds, target_describes, held_describes, slot_describes, mode_describes, interval_describes}
 use Rattle.certificate.specs.Describes.{registers_describe, slots_describe, describes, sends_describes}
 
 mode_smaller : (a b : ModeBound) (on : Bool) → mode_within a b ≡ true → mode_describes a on ≡ true → mode_describes b on ≡ true
@@ -36,8 +36,10 @@ target_smaller : (holds : Holds) (a b : Target) (s : Subject) → target_within 
 target_smaller holds (In_grant g) (In_grant h) (Node_at place) within is =
     subst (λ name. holds name place ≡ true) (same_bytes g h within) is
 target_smaller holds (In_grant g) (In_grant h) (End_of class side) within is = absurd cc
+target_smaller holds (In_grant g) (In_grant h) (Own_end program side) within is = absurd cc
 target_smaller holds (In_grant g) Any_node (Node_at place) within is = refl
 target_smaller holds (In_grant g) Any_node (End_of class side) within is = absurd cc
+target_smaller holds (In_grant g) Any_node (Own_end program side) within is = absurd cc
 target_smaller holds (In_grant g) (Socket class side) s within is = absurd cc
 target_smaller holds (In_grant g) Unknown s within is = refl
 target_smaller holds Any_node (In_grant h) s within is = absurd cc
@@ -51,6 +53,7 @@ target_smaller holds (Socket class side) (Socket other end) (End_of c t) within 
     let classes : class ≡ other = class_is class other (both_left _ (side == end) within) in
     let sides : side ≡ end = eqb-true side end (both_right (same_class class other) _ within) in
     subst (λ n. (same_class c other && (t == n)) ≡ true) sides (subst (λ k. (same_class c k && (t == side)) ≡ true) classes is)
+target_smaller holds (Socket class side) (Socket other end) (Own_end program t) within is = absurd cc
 target_smaller holds (Socket class side) Unknown s within is = refl
 target_smaller holds Unknown (In_grant h) s within is = absurd cc
 target_smaller holds Unknown Any_node s within is = absurd cc

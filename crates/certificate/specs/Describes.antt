@@ -1,6 +1,6 @@
 -- The processes that a bound describes. (own)
 use Rattle.std.specs.Prelude.{◌+◌, ◌==◌, ◌&&◌, ℕ, Bool, true, false, not, nat_le, List, [], ◌∷◌, Option, Some, None}
-use Rattle.rights.specs.Values.{Place, SideNumber, RightSet, CommandSet}
+use Rattle.rights.specs.Values.{Name, Place, SideNumber, RightSet, CommandSet}
 use Rattle.rights.specs.Limits.{most_descriptors}
 use Rattle.rights.specs.Sets.{is_within}
 use Rattle.rights.specs.Classes.{Class}
@@ -8,10 +8,12 @@ use Rattle.certificate.specs.Bounds.{ModeBound, Off, On, Either, Interval, Targe
 use Rattle.certificate.specs.Order.{same_class}
 
 -- A descriptor as a bound sees it: the place of its node, or the class and side of its end, with its
--- rights and fcntl commands.
+-- rights and fcntl commands. A pair that a process of an untrusted program makes in the mode has no class that a certificate can
+-- name: its ends are of that program.
 pub data Subject : Type 0 where
   Node_at : (place : Place) → Subject
   End_of : (class : Class) (side : SideNumber) → Subject
+  Own_end : (program : Name) (side : SideNumber) → Subject
 
 pub record Seen : Type 0 where
   pub subject : Subject
@@ -25,10 +27,13 @@ Holds = List ℕ → List (List ℕ) → Bool
 abbrev pub target_describes : Holds → Target → Subject → Bool
 target_describes holds (In_grant name) (Node_at place) = holds name place
 target_describes holds (In_grant name) (End_of class side) = false
+target_describes holds (In_grant name) (Own_end program side) = false
 target_describes holds Any_node (Node_at place) = true
 target_describes holds Any_node (End_of class side) = false
+target_describes holds Any_node (Own_end program side) = false
 target_describes holds (Socket class side) (Node_at place) = false
 target_describes holds (Socket class side) (End_of c s) = same_class c class && (s == side)
+target_describes holds (Socket class side) (Own_end program s) = false
 target_describes holds Unknown subject = true
 
 -- the rights and the commands lie between the least and the greatest

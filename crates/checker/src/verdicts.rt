@@ -8,6 +8,7 @@ ghost use Rattle.rules.specs.Verdicts.{found_at};
 ghost use Rattle.checker.specs.Verdicts.{IsVerdict, Yes};
 ghost use Rattle.checker.specs.Views.{verdict_of};
 ghost use Rattle.task.specs.Plans.{none_marked, programs_of_plan};
+ghost use Rattle.task.specs.Confined.{IsConfined};
 ghost use Rattle.task.specs.Sandboxed.{IsSandboxed};
 ghost use Rattle.transfer.specs.Limits.{leaves_known};
 
@@ -20,7 +21,7 @@ use task::Task;
 /// What the checker answers.
 #[derive(Clone, Copy, PartialEq, Eq)]
 pub enum Verdict {
-    /// The certificate meets the rules: if no program is marked, every run of the task is sandboxed.
+    /// The certificate meets the rules: every run of the task is confined, and sandboxed if no program is marked.
     Yes,
     /// The least rule that is broken at the first point of the first program where one is.
     No {
@@ -68,13 +69,15 @@ fn first_found(task: &Task, cert: &Cert, program: u8, code: &[Instruction]) -> O
 /// its place in the task, and the first point there where it doesn't, with the least rule that is broken there. A certificate of
 /// version 2 or 3 is judged as its expansion: bounds are carried along each program, one at a time.
 ///
-/// A yes to a task without marked programs means that every run of it is sandboxed: whatever list of events, inputs, schedules and
-/// refusals, no process in capability mode does to the tree what the policy doesn't allow, no call is
-/// refused for a missing right or by capability mode, and no descriptor has more rights or commands than
-/// its source. It takes no memory and always answers. (own)
+/// A yes means that every run of the task is confined: whatever list of events, inputs, schedules and refusals, and whatever
+/// processes of marked programs do in capability mode, no process in the mode does to the tree what the policy doesn't allow, no
+/// descriptor has more rights or commands than its source, and no call of an unmarked program's process is refused for a missing
+/// right or by the mode. A task without marked programs is sandboxed then: so is no call of any process. It takes no memory and
+/// always answers. (own)
 pub fn check(task: &Task, cert: &Cert) -> Verdict
     ensures exact { IsVerdict task.now cert.now (verdict_of result) }
     ensures sound { verdict_of result ≡ Yes → none_marked task.now ≡ true → IsSandboxed task.now }
+    ensures confined { verdict_of result ≡ Yes → IsConfined task.now }
 {
     for (number, program) in task.programs().iter().enumerate() {
         let number = number as u8;

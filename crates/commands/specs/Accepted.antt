@@ -9,7 +9,7 @@ use Rattle.prog_asm.specs.Programs.{Instruction, Halt, Invoke, Jmp, Jeq, Number,
 use Rattle.certificate.specs.Bounds.{ModeBound, Off, On, Held, Slot, Open, Maybe, Bound, with_interval, PointBound, One, Certificate}
 use Rattle.kernel.specs.Answers.{Event}
 use Rattle.kernel.specs.Steps.{Acted}
-use Rattle.task.specs.Plans.{Grant, NamedProgram, FirstObject, On_node, On_end, FirstDescriptor, Start, Plan, unmarked}
+use Rattle.task.specs.Plans.{Grant, FirstObject, On_node, On_end, FirstDescriptor, Start, Plan, unmarked}
 use Rattle.task.specs.Sandboxed.{IsSandboxed}
 use Rattle.simulator.specs.Simulations.{IsRun}
 use Rattle.simulator.specs.Traces.{trace_text}
@@ -115,6 +115,13 @@ few_held = with_rights in_work few_rights
 abbrev pub few_at_least : Held
 few_at_least = record in_work { least = few_rights }
 
+-- of the `main` that limits its directory and sends it
+abbrev pub sending_points : List PointBound
+sending_points =
+    blocks (codes "main") 0
+    (at_main Off (Open side_a ∷ []) ∷ bound_of_slots Off (Open few_held ∷ Open in_log ∷ Open side_a ∷ [])
+    ∷ bound_of_slots Off (Open few_at_least ∷ Open in_log ∷ Open side_a ∷ []) ∷ [])
+
 abbrev pub passing_certificate : Certificate
 passing_certificate = record {
   version = One;
@@ -122,9 +129,7 @@ passing_certificate = record {
       blocks (codes "child") 0
       (bound_of_slots On (Open side_b ∷ []) ∷ bound_of_slots On (Open side_b ∷ Open few_held ∷ [])
       ∷ bound_of_slots On (Open side_b ∷ Open few_held ∷ Open few_held ∷ []) ∷ bound_of_slots On (Open side_b ∷ Maybe few_held ∷ Maybe few_held ∷ []) ∷ [])
-      ++ blocks (codes "main") 0
-      (at_main Off (Open side_a ∷ []) ∷ bound_of_slots Off (Open few_held ∷ Open in_log ∷ Open side_a ∷ [])
-      ∷ bound_of_slots Off (Open few_at_least ∷ Open in_log ∷ Open side_a ∷ []) ∷ []);
+      ++ sending_points;
   channels = channel 0 (Some few_held) ∷ [];
   authorities = [];
 }

@@ -5,6 +5,7 @@ use Rattle.rights.specs.Output.{Took}
 use Rattle.certificate.specs.Bounds.{Certificate}
 use Rattle.checker.specs.Verdicts.{Verdict, Yes, No, IsVerdict}
 use Rattle.task.specs.Plans.{Plan, program_name, none_marked}
+use Rattle.task.specs.Confined.{IsConfined}
 use Rattle.task.specs.Sandboxed.{IsSandboxed}
 
 -- `no main:4`
@@ -26,4 +27,5 @@ pub record Judges (plan : Plan) (bounds : Certificate) (status : ℕ) (before af
   pub is : IsVerdict plan bounds verdict
   pub status_is : status ≡ verdict_status verdict
   pub sound : verdict ≡ Yes → none_marked plan ≡ true → IsSandboxed plan
+  pub confined : verdict ≡ Yes → IsConfined plan
   pub writes : Took before after (verdict_text plan verdict)

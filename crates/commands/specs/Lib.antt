@@ -1,4 +1,5 @@
 pub mod Accepted
+pub mod Attacked
 pub mod Begun
 pub mod Examples
 pub mod Expanded

@@ -14,6 +14,7 @@ use Rattle.rules.specs.Authority.{authority_at, ceiling_in}
 use Rattle.rules.specs.Expansions.{expansion}
 use Rattle.prog_asm.specs.Programs.{Instruction}
 use Rattle.task.specs.Plans.{Grant, NamedProgram, Plan, none_marked}
+use Rattle.task.specs.Confined.{IsConfined}
 use Rattle.task.specs.Sandboxed.{IsSandboxed}
 use Rattle.commands.specs.Judged.{verdict_status, verdict_text}
 
@@ -104,4 +105,5 @@ pub record Reports (plan : Plan) (bounds : Certificate) (status : ℕ) (before a
   pub is : IsVerdict plan bounds verdict
   pub status_is : status ≡ verdict_status verdict
   pub sound : verdict ≡ Yes → none_marked plan ≡ true → IsSandboxed plan
+  pub confined : verdict ≡ Yes → IsConfined plan
   pub writes : Took before after (answer_text plan bounds verdict)

@@ -2,6 +2,7 @@
 
 ghost use Rattle.std.specs.Prelude.{◌≡◌, ◌∷◌, ◌++◌, [], codes};
 ghost use Rattle.commands.specs.Accepted.{ActsAccepted, forking_certificate, forking_plan, passing_certificate, passing_plan, renaming_certificate, renaming_plan};
+ghost use Rattle.commands.specs.Attacked.{ActsConfined, entering_certificate, entering_plan, entering_run, handing_certificate, handing_plan, handing_run};
 ghost use Rattle.commands.specs.Examples.{AlwaysShows, absent_event, bare_plan, events_of_first, example_events, first_plan, loop_plan};
 ghost use Rattle.commands.specs.ReportRows.{halting_certificate, halting_plan, marked_certificate, marked_plan};
 ghost use Rattle.commands.specs.Reports.{report_text};
@@ -30,6 +31,17 @@ pub fn accepted_tasks_act_in_the_mode()
         (codes "0 main:0 = 0\n0 main:1 = 1\n1 main:2 ok\n1 main:4 = 2\n") }
     ensures renaming { ActsAccepted renaming_plan renaming_certificate (0 ∷ 0 ∷ 0 ∷ [])
         (codes "0 main:0 = 0\n0 main:1 walk\n0 main:1 = 0 remove /work/in create /work/out/in\n") }
+{}
+
+/// To be confined says something: two certificates meet the rules, and each task has a run in which a process of an untrusted program
+/// does its worst in the mode. It opens a file that it may read, and is refused what it isn't allowed.
+pub fn untrusted_tasks_are_confined()
+    ensures handing { ActsConfined handing_plan handing_certificate handing_run
+        (codes "1 child:0 ! ECAPMODE CapMode\n0 main:0 = 0\n0 main:1 = 1\n1 child:0 = 1\n1 child:0 ! ENOTCAPABLE MissingRight\n" ++
+        codes "1 child:0 ! ENOTCAPABLE Escape\n1 child:0 = 1\n1 child:0 = 2\n") }
+    ensures entering { ActsConfined entering_plan entering_certificate entering_run
+        (codes "0 main:0 = 0\n0 main:1 = 0\n0 main:2 = 0\n0 main:3 ! ENOTCAPABLE MissingRight\n0 main:0 ! ECAPMODE CapMode\n" ++
+        codes "0 main:0 = 1\n1 main:0 = 1\n") }
 {}
 
 /// What is reported of a small task: of its one point with a bound, the rights in its one grant, by their names; and where its

@@ -8,11 +8,12 @@ pub record Access : Type 0 where
   pub readable : Bool
   pub writable : Bool
 
--- where a socket pair was made: an initial pair by its number, or a point of a program, by the
--- program's place in the task
+-- where a socket pair was made: an initial pair by its number; a point of a program, by the program's
+-- place in the task; or somewhere by a process that doesn't follow its program
 pub data PairClass : Type 0 where
   Initial : (pair : PairNumber) → PairClass
   Made_at : (program point : ℕ) → PairClass
+  Made_by : (program : ℕ) → PairClass
 
 -- What a description is of, for as long as it is open: a node, or an end of a pair, which is side 0
 -- (a) or side 1 (b).

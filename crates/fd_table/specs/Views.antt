@@ -15,7 +15,7 @@ use Rattle.fd_table.specs.declared.faults.SendFault.TheVariants as fault
 use Rattle.fd_table.specs.declared.ends.Side.{Side as SideCode}
 use Rattle.fd_table.specs.declared.ends.Side.TheVariants as side
 use Rattle.fd_table.specs.declared.ends.Front.{Front as FrontCode}
-use Rattle.fd_table.specs.Descriptions.{Access, PairClass, Initial, Made_at, Object, At_node, At_end, State, Descriptor}
+use Rattle.fd_table.specs.Descriptions.{Access, PairClass, Initial, Made_at, Made_by, Object, At_node, At_end, State, Descriptor}
 use Rattle.fd_table.specs.Filled.{Entry, Front, SendRefusal, Closed, Full}
 
 -- the state of a description with these flags, at its beginning
@@ -35,6 +35,7 @@ access_asked flags = record { readable = flags.read; writable = flags.write }
 abbrev pub class_seen : ClassCode → PairClass
 class_seen (class.Initial pair) = Initial pair
 class_seen (class.MadeAt program point) = Made_at program point
+class_seen (class.MadeBy program) = Made_by program
 
 -- side A is 0, and B is 1
 abbrev pub side_seen : SideCode → ℕ

@@ -63,6 +63,8 @@ pub enum Class {
     Initial(u8),
     /// At a point of a program, by the program's place in the task.
     MadeAt { program: u8, point: u8 },
+    /// In capability mode by a process of an untrusted program, which need not stand at any point when it makes one.
+    MadeBy { program: u8 },
 }
 
 /// What a description is of, for as long as it is open.

@@ -22,7 +22,7 @@ use Rattle.lookup.specs.Paths.{last_component}
 use Rattle.lookup.specs.Promises.{IsLinked, IsFindingThere, HasName, IsUnderName}
 use Rattle.process.specs.State.{ProcessState}
 use Rattle.prog_asm.specs.Programs.{Syscall, Open, Openat, Read, Write, Sendfd, Recvfd, Lseek, Ftruncate, Fsync, Fstat, Fcntl_getfl, Fcntl_setfl, Fstatat, Stat, Mkdirat, Mkdir}
-use Rattle.prog_asm.specs.Programs.{Unlinkat, Unlink, Renameat, Dup, Close, Cap_rights_limit, Cap_fcntls_limit, Cap_enter, Cap_getmode, Socketpair, Fork, is_syscall, is_operand}
+use Rattle.prog_asm.specs.Programs.{Unlinkat, Unlink, Renameat, Dup, Close, Cap_rights_limit, Cap_fcntls_limit, Cap_enter, Cap_getmode, Socketpair, Fork, is_path}
 use Rattle.fd_table.specs.Descriptions.{Access, Object, At_node, At_end, State, Descriptor, Message, other_side, bit_of, status_number, IfHeld}
 use Rattle.fd_table.specs.OpenFiles.{is_open, lowest_from, lowest_free}
 use Rattle.kernel.specs.World.{World}
@@ -40,7 +40,7 @@ use Rattle.lookup.specs.UnderWay.{IsUnderWay}
 use Rattle.lookup.specs.Walks.{WalkState, Progress, Done, More, first_handled, handled}
 use Rattle.lookup.proofs.UnderWay.{IsSureProgress, MayMake, Sure, begun_sure, begun_under_way, sure_fault, there_if_opened, under_way_sure}
 use Rattle.process.specs.State.{Walking, One, Two}
-use Rattle.kernel.specs.Walks.{FitsLookups, FitsIfWalking, IfOne, IfTwo, IsDirectory, IsDirectoryOf, lookups_of}
+use Rattle.kernel.specs.Walks.{FitsLookups, FitsIfWalking, IfOne, IfTwo, IsDirectory, IsDirectoryOf, lookups_of, are_paths}
 use Rattle.kernel.proofs.FittingWalks.{both_under, directory_under, root_under}
 use Rattle.kernel.proofs.Looking.{IsEvent, looks_any, looks_twice_any}
 use Rattle.kernel.proofs.Lookups.{moved_over, path_bytes}
@@ -384,18 +384,18 @@ module _ (programs : Programs) (g : Ground) (standing : Standing programs g) (p 
   abbrev Leaves : Syscall → Type 0
   Leaves call = (walking : Walking) → FitsLookups w.tree w.files.objects (w.files.table p) s (lookups_of call) walking → g.Left walking
 
-  pub sound : (call : Syscall) → is_syscall call ≡ true → IsFit call s.walk → Leaves call → Sound g (answer w p s e call)
+  pub sound : (call : Syscall) → are_paths (lookups_of call) ≡ true → IsFit call s.walk → Leaves call → Sound g (answer w p s e call)
   unfolding answer lookups_of
   sound (Open path f) valid fits left =
       sound-unless g _ _ _ _ (λ outside.
       sound-looks _ _ _ _ _ root_opened (root_under w.tree w.files.objects (w.files.table p) s (Open path f) path (last_if f.create) s.walk refl fits) (λ walk is. left (One walk) is) (λ found sure.
-      sound-opened f all_rights all_commands path found (within_all all_rights) (within_all all_commands) (path_bytes path (both_left _ _ valid)) sure.vacant))
+      sound-opened f all_rights all_commands path found (within_all all_rights) (within_all all_commands) (path_bytes path valid) sure.vacant))
   sound (Openat x path f) valid fits left =
       sound-start (value_of s x) _ (λ d is fine. sound-unless g _ _ _ _ (λ has.
       sound-directory d _ fine (λ n opened dir.
       sound-looks _ _ _ _ _ opened (directory_under w.tree w.files.objects (w.files.table p) s (Openat x path f) x path (last_if f.create) s.walk refl fits)
       (λ walk under. left (One walk) (is_start _ d is dir, under)) (λ found sure.
-      sound-opened f d.rights d.fcntls path found fine.0.rights fine.0.fcntls (path_bytes path (both_right (is_operand x) _ (both_left _ _ valid))) sure.vacant))))
+      sound-opened f d.rights d.fcntls path found fine.0.rights fine.0.fcntls (path_bytes path valid) sure.vacant))))
   sound (Read x) valid fits left =
       sound-entry (value_of s x) _ (λ d low fine. sound-unless g _ _ _ _ (λ has.
       sound-object g d.description (w.files.objects d.description) _ _ fine.0.object
@@ -458,7 +458,7 @@ module _ (programs : Programs) (g : Ground) (standing : Standing programs g) (p 
       sound-directory d _ fine (λ n opened dir.
       sound-looks _ _ _ _ _ opened (directory_under w.tree w.files.objects (w.files.table p) s (Mkdirat x path) x path Keep s.walk refl fits)
       (λ walk under. left (One walk) (is_start _ d is dir, under)) (λ found sure.
-      sound-made_directory path found (path_bytes path (both_right (is_operand x) _ valid)) sure.vacant))))
+      sound-made_directory path found (path_bytes path valid) sure.vacant))))
   sound (Mkdir path) valid fits left =
       sound-unless g _ _ _ _ (λ outside.
       sound-looks _ _ _ _ _ root_opened (root_under w.tree w.files.objects (w.files.table p) s (Mkdir path) path Keep s.walk refl fits) (λ walk is. left (One walk) is) (λ found sure.
@@ -482,7 +482,7 @@ module _ (programs : Programs) (g : Ground) (standing : Standing programs g) (p 
       sound-looks_twice _ _ _ _ _ opened other (both_under w.tree w.files.objects (w.files.table p) s (Renameat x from y target) x from y target s.walk refl fits)
       (λ one two first second. left (Two one two) (is_start _ d is dir, is_start _ into into_is into_dir, first, second)) (λ source place sure into_place.
       sound-renamed_from source _ sure.there (λ k linked.
-      sound-renamed_to (Renameat x from y target) into k target place (path_bytes target (both_right _ _ valid)) linked into_place.there into_place.vacant (into_place.named refl)))))))))
+      sound-renamed_to (Renameat x from y target) into k target place (path_bytes target (both_right (is_path from) _ valid)) linked into_place.there into_place.vacant (into_place.named refl)))))))))
   sound (Dup x) valid fits left =
       sound-entry (value_of s x) _ (λ d low fine.
       sound-number g (lowest_free (w.files.table p)) _ (λ number free.

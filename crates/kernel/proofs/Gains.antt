@@ -7,7 +7,7 @@ use Rattle.rights.specs.Sets.{all_rights, all_commands}
 use Rattle.rights.specs.Maps.{put, put2}
 use Rattle.rights.proofs.Changes.{put-cases}
 use Rattle.rights.proofs.Lists.{slice_get-set_cases}
-use Rattle.process.specs.State.{ProcessState, ended, forked}
+use Rattle.process.specs.State.{Deed, ProcessState, ended, forked, left_by}
 use Rattle.prog_asm.specs.Programs.{Syscall, Fork, Instruction, Set, Mov, Add, In, Jmp, Jeq, Jlt, Halt, Invoke}
 use Rattle.fd_table.specs.Descriptions.{Descriptor, Message, descriptor_of, IfHeld, EachPassed}
 use Rattle.kernel.specs.World.{World, Choice}
@@ -16,10 +16,12 @@ use Rattle.kernel.specs.Answers.{Walks}
 use Rattle.kernel.specs.Calls.{answer}
 use Rattle.kernel.specs.Changes.{table_after, queue_after, given, processes_after, files_after, changed}
 use Rattle.kernel.specs.Origins.{Caller, calls, calls_at, calls_by, caller_of, IsMade, ComesFrom, stood, was_made, was_copied, IsSent, QueuedFrom, had_waited, was_sent, origin}
-use Rattle.kernel.specs.Steps.{Programs, register, with_process, halted, failed, answered, jumped, executed, stepped_at, stepped_by, stepped, step}
+use Rattle.kernel.specs.Steps.{LineResult, Programs, after_deed, next_instruction, register, with_process, halted, failed, answered, jumped, executed, stepped_at, stepped_by, stepped, step}
 use Rattle.kernel.specs.Gains.{StaysIn, GainsNothing, NoRunGains}
 use Rattle.kernel.proofs.Origins.{MayTable, MayQueue, may_table, may_queue}
+use Rattle.kernel.proofs.Deeds.{after_keeps}
 use Rattle.kernel.proofs.KeptWalks.{slice_get-more_cases}
+use Rattle.kernel.proofs.Points.{still_on}
 
 -- a table or the queues, changed at one place
 at-place : {A : Type 0} (Q : ℕ → ℕ → A → Type 0) (f : ℕ → ℕ → A) (p n : ℕ) (v : A) → Q p n v → ((q m : ℕ) → Q q m (f q m)) → (q m : ℕ) → Q q m (put2 f p n v q m)
@@ -139,9 +141,11 @@ module _ (processes : List ProcessState) (p : ℕ) (s t : ProcessState) (made : 
       (λ at. subst (λ o. StaysIn (Some s) o (Some (forked t))) (sym (beyond processes m (at ∙ length-set processes p t))) stays)
       (λ _. modes_set m)
 
-still_on : (mode enters : Bool) → mode ≡ true → (mode || enters) ≡ true
-still_on true enters on = refl
-still_on false enters on = absurd cc
+-- what a deed leaves is in the mode if it was
+stays_left : (caller o : Option ProcessState) (deed : Deed) (t : ProcessState) → StaysIn caller o (Some t) → StaysIn caller o (Some (left_by deed t))
+stays_left caller (Some s) deed t stays = stays
+stays_left (Some s) None deed t stays = stays
+stays_left None None deed t stays = stays
 
 -- ## Steps
 module _ (w : World) (e : Event) (choice : Choice) (caller : Option Caller) where
@@ -205,15 +209,26 @@ module _ (w : World) (e : Event) (choice : Choice) (caller : Option Caller) wher
     executed_gains Halt calls = halt_gains
     executed_gains (Invoke call otherwise) calls = answered_gains otherwise call (answer w e.process s e call) calls refl
 
+    -- and what a deed leaves
+    after_gains : (o : Option Deed) (outcome : LineResult) (v : World) → GainsNothing w e.process caller v →
+        GainsNothing w e.process caller (record v { processes = after_deed o e.process (length w.processes) outcome v.processes })
+    after_gains o outcome v gains = record {
+      modes = λ m.
+          after_keeps (StaysIn (slice_get w.processes e.process) (slice_get w.processes m)) e.process (length w.processes) v.processes m o outcome
+          (stays_left (slice_get w.processes e.process) (slice_get w.processes m)) (gains.modes m);
+      entries = gains.entries;
+      messages = gains.messages;
+    }
+
     at_gains : (o : Option Instruction) → caller ≡ calls_at e.process s o → GainsNothing w e.process caller (stepped_at w e choice s o).world
     unfolding stepped_at
     at_gains None calls = same
-    at_gains (Some i) calls = executed_gains i calls
+    at_gains (Some i) calls = after_gains s.kept (executed w e choice s i).outcome (executed w e choice s i).world (executed_gains i calls)
 
     by_gains : (programs : Programs) (alive : Bool) → caller ≡ calls_by programs e.process s alive → GainsNothing w e.process caller (stepped_by programs w e choice s alive).world
     unfolding stepped_by
     by_gains programs false calls = same
-    by_gains programs true calls = at_gains (slice_get (programs s.program) s.point) calls
+    by_gains programs true calls = at_gains (next_instruction s.kept (slice_get (programs s.program) s.point)) calls
 
   of_gains : (programs : Programs) (o : Option ProcessState) → slice_get w.processes e.process ≡ o → caller ≡ calls programs e.process o →
       GainsNothing w e.process caller (stepped programs w e choice o).world

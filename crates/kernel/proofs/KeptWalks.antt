@@ -10,14 +10,14 @@ use Rattle.lookup.specs.Answers.{Way, Last}
 use Rattle.lookup.specs.UnderWay.{AreOpened, IsUnderWay}
 use Rattle.lookup.specs.Walks.{WalkState}
 use Rattle.process.specs.State.{ProcessState, Walking, One, Two, ended, forked}
-use Rattle.prog_asm.specs.Programs.{Invoke, Operand, Syscall}
+use Rattle.prog_asm.specs.Programs.{Instruction, Operand, Syscall}
 use Rattle.fd_table.specs.Descriptions.{At_node, At_end, Object, Descriptor, IfHeld}
 use Rattle.fd_table.specs.OpenFiles as open_files
 use Rattle.fd_table.specs.OpenFiles.{OpenFiles, Alike}
 use Rattle.kernel.specs.World.{World, Choice, IsFresh}
 use Rattle.kernel.specs.Answers.{TreeChange, TableChange, Same_table, Set_entry, Clear_entry, New_file, New_pair, New_process, operand_value, value_of}
 use Rattle.kernel.specs.Changes.{tree_after, objects_after, table_after, processes_after}
-use Rattle.kernel.specs.Steps.{Programs, with_process, halted}
+use Rattle.kernel.specs.Steps.{Programs, with_process, halted, next_instruction}
 use Rattle.kernel.specs.Walks.{FitsLookups, FitsIfWalking, From_directories, From_directory, From_root, IsDirectory, IsDirectoryOf, IsWalker, IsWalkerIfMade, Lookups, No_path, call_in}
 use Rattle.kernel.specs.Walks.{lookups_of, under_way}
 use Rattle.kernel.specs.WellFormed.{Numbering, IsWorld}
@@ -207,17 +207,17 @@ walkers_changed programs numbering w good walkers choice fresh p t none tree New
     (λ _. set_later programs numbering w good walkers choice fresh p t none tree New_process q)
 
 -- what the process of the next instruction has under way is of its call
-pub walk_fits : (programs : Programs) (w : World) → AreWalkers programs w → (p : ℕ) (s : ProcessState) (call : Syscall) (otherwise : ℕ) → slice_get w.processes p ≡ Some s →
-    slice_get (programs s.program) s.point ≡ Some (Invoke call otherwise) → FitsIfWalking w.tree w.files.objects (w.files.table p) s (Some call) s.walk
-unfolding under_way
-walk_fits programs w walkers p s call otherwise made here =
+pub walk_fits : (programs : Programs) (w : World) → AreWalkers programs w → (p : ℕ) (s : ProcessState) (call : Syscall) → slice_get w.processes p ≡ Some s →
+    under_way programs s ≡ Some call → FitsIfWalking w.tree w.files.objects (w.files.table p) s (Some call) s.walk
+walk_fits programs w walkers p s call made here =
     let is : IsWalker programs w.tree w.files.objects (w.files.table p) s =
     subst (IsWalkerIfMade programs w.tree w.files.objects (w.files.table p)) made (walkers p) in
-    subst (λ o. FitsIfWalking w.tree w.files.objects (w.files.table p) s (call_in o) s.walk) here is.fits
+    subst (λ o. FitsIfWalking w.tree w.files.objects (w.files.table p) s o s.walk) here is.fits
 
-pub call_here : (programs : Programs) (s : ProcessState) (call : Syscall) (otherwise : ℕ) → slice_get (programs s.program) s.point ≡ Some (Invoke call otherwise) → under_way programs s ≡ Some call
+pub call_here : (programs : Programs) (s : ProcessState) (i : Instruction) → next_instruction s.kept (slice_get (programs s.program) s.point) ≡ Some i →
+    under_way programs s ≡ call_in (Some i)
 unfolding under_way
-call_here programs s call otherwise here = ap call_in here
+call_here programs s i here = ap call_in here
 
 -- the same in a world that says the same of all that is named
 module _ (programs : Programs) (w : World) (walkers : AreWalkers programs w) (g : OpenFiles) (alike : Alike w.files g) where

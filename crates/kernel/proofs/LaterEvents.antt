@@ -13,7 +13,7 @@ use Rattle.rights.proofs.Changes.{put-other}
 use Rattle.file_tree.specs.Nodes.{Kind, Dir, File, Link, is_dir, node}
 use Rattle.lookup.specs.Answers.{Way, Beneath, Last, Follow, Keep, LookupFault, Escape, No_entry, Not_dir, Loop, Too_long, Bad_last, Finding, Found_node, Found_free, Not_found}
 use Rattle.lookup.specs.Walks.{first_handled, handled}
-use Rattle.process.specs.State.{ProcessState, Walking, One, Two, ended, forked}
+use Rattle.process.specs.State.{Deed, ProcessState, Walking, One, Two, ended, forked, left_by}
 use Rattle.prog_asm.specs.Programs.{Instruction, Set, Mov, Add, In, Jmp, Jeq, Jlt, Halt, Invoke, Operand, called}
 use Rattle.prog_asm.specs.Programs.{Syscall, Open, Openat, Fstatat, Stat, Mkdirat, Mkdir, Unlinkat, Unlink, Renameat}
 use Rattle.fd_table.specs.Descriptions.{Object, At_node, At_end, Descriptor}
@@ -22,12 +22,13 @@ use Rattle.kernel.specs.Answers.{Event, AreEvents, TableChange, Same_table, Set_
 use Rattle.kernel.specs.Answers.{at_number, lookup_fails, value_of}
 use Rattle.kernel.specs.Calls.{answer, in_directory, last_if, looks, looks_twice, made_directory, no_request, opened, opened_as, renamed_from, renamed_over, renamed_to, stats_at, unlinks}
 use Rattle.kernel.specs.Changes.{changed, files_after, given, processes_after, table_after}
-use Rattle.kernel.specs.Steps.{Programs, answered, executed, failed, halted, jumped, register, step, stepped, stepped_at, stepped_by, with_process}
-use Rattle.kernel.specs.Walks.{FitsIfWalking, From_directory, IsDirectory, IsDirectoryOf, IsWalker, IsWalkerIfMade, lookups_of, under_way}
+use Rattle.kernel.specs.Steps.{LineResult, Programs, after_deed, next_instruction, answered, executed, failed, halted, jumped, register, step, stepped, stepped_at, stepped_by, with_process}
+use Rattle.kernel.specs.Walks.{FitsIfWalking, From_directory, IsDirectory, IsDirectoryOf, IsWalker, IsWalkerIfMade, call_in, lookups_of, under_way}
 use Rattle.kernel.proofs.FittingWalks.{both_starts, directory_start}
 use Rattle.kernel.specs.WellFormed.{ArePrograms, IsWellFormed}
 use Rattle.kernel.specs.LaterEvents.{AskAgain, AsksAgain, FailsLate, LacksRemoval, LaterEventsFailLate, is_early}
 use Rattle.kernel.proofs.Keeping.{kept}
+use Rattle.kernel.proofs.Deeds.{after_keeps}
 use Rattle.kernel.proofs.KeptWalks.{call_here, set_other_cases, slice_get-more_cases, table-kept}
 use Rattle.kernel.proofs.Looking.{any_event, any_one, any_two, looks_any, looks_twice_any}
 
@@ -352,7 +353,7 @@ module _ (programs : Programs) (w : World) (before : HaveAsked programs w) (e : 
   jumped_later s true target = asked_moved programs w before e.process _ refl
   jumped_later s false target = asked_moved programs w before e.process _ refl
 
-  executed_later : (s : ProcessState) (i : Instruction) → slice_get (programs s.program) s.point ≡ Some i → HaveAsked programs (executed w e choice s i).world
+  executed_later : (s : ProcessState) (i : Instruction) → under_way programs s ≡ call_in (Some i) → HaveAsked programs (executed w e choice s i).world
   unfolding executed
   executed_later s (Set r value) here = asked_moved programs w before e.process _ refl
   executed_later s (Mov r source) here = asked_moved programs w before e.process _ refl
@@ -362,17 +363,24 @@ module _ (programs : Programs) (w : World) (before : HaveAsked programs w) (e : 
   executed_later s (Jeq r value target) here = jumped_later s (register s r == value) target
   executed_later s (Jlt r value target) here = jumped_later s (nat_lt (register s r) value) target
   executed_later s Halt here = asked_halted programs w before e.process s
-  executed_later s (Invoke call otherwise) here = answered_later s call otherwise (answer w e.process s e call) (call_here programs s call otherwise here) refl
+  executed_later s (Invoke call otherwise) here = answered_later s call otherwise (answer w e.process s e call) here refl
 
-  at_later : (s : ProcessState) (o : Option Instruction) → slice_get (programs s.program) s.point ≡ o → HaveAsked programs (stepped_at w e choice s o).world
+  after_later : (o : Option Deed) (outcome : LineResult) (v : World) → HaveAsked programs v →
+      HaveAsked programs (record v { processes = after_deed o e.process (length w.processes) outcome v.processes })
+  after_later o outcome v asked q =
+      after_keeps (HasAsked programs (v.files.table q)) e.process (length w.processes) v.processes q o outcome
+      (λ deed t is. rests programs (v.files.table q) (left_by deed t) refl) (asked q)
+
+  at_later : (s : ProcessState) (o : Option Instruction) → next_instruction s.kept (slice_get (programs s.program) s.point) ≡ o →
+      HaveAsked programs (stepped_at w e choice s o).world
   unfolding stepped_at
   at_later s None here = before
-  at_later s (Some i) here = executed_later s i here
+  at_later s (Some i) here = after_later s.kept (executed w e choice s i).outcome (executed w e choice s i).world (executed_later s i (call_here programs s i here))
 
   by_later : (s : ProcessState) (alive : Bool) → HaveAsked programs (stepped_by programs w e choice s alive).world
   unfolding stepped_by
   by_later s false = before
-  by_later s true = at_later s (slice_get (programs s.program) s.point) refl
+  by_later s true = at_later s (next_instruction s.kept (slice_get (programs s.program) s.point)) refl
 
   of_later : (o : Option ProcessState) → HaveAsked programs (stepped programs w e choice o).world
   unfolding stepped

@@ -16,6 +16,7 @@ pub mod Fresh
 pub mod Points
 pub mod Later
 pub mod KeptWalks
+pub mod Deeds
 pub mod Keeping
 mod LateFailures
 pub mod LaterEvents
@@ -27,6 +28,9 @@ pub mod AlikeWorlds
 pub mod Aimed
 pub mod Determined
 pub mod Gains
+pub mod Hostile
+pub mod Marks
+mod DeedRows
 pub mod ChangeRows
 pub mod FirstWorld
 pub mod Gainful

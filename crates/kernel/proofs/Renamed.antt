@@ -14,13 +14,13 @@ use Rattle.lookup.specs.Walks.{WalkState, Progress, Done, More, begun, first_han
 use Rattle.process.specs.State.{ProcessState, Walking, One, Two}
 use Rattle.prog_asm.specs.Programs.{Syscall, Open, Openat, Read, Write, Sendfd, Recvfd, Lseek, Ftruncate, Fsync, Fstat, Fcntl_getfl, Fcntl_setfl, Fstatat, Stat, Mkdirat, Mkdir}
 use Rattle.prog_asm.specs.Programs.{Unlinkat, Unlink, Renameat, Dup, Close, Cap_rights_limit, Cap_fcntls_limit, Cap_enter, Cap_getmode, Socketpair, Fork}
-use Rattle.fd_table.specs.Descriptions.{Access, Made_at, Object, At_node, At_end, State, Descriptor, Message, other_side, status_number, with_status, IfHeld}
+use Rattle.fd_table.specs.Descriptions.{Access, Object, At_node, At_end, State, Descriptor, Message, other_side, status_number, with_status, IfHeld}
 use Rattle.fd_table.specs.OpenFiles.{OpenFiles, is_open, lowest_from, lowest_free}
 use Rattle.kernel.specs.World.{World}
 use Rattle.kernel.specs.Answers.{Event, Effect, TableChange, Same_table, Set_entry, Clear_entry, New_file, New_pair, New_process, QueueChange, Same_queue, Push, Pop, StateChange}
 use Rattle.kernel.specs.Answers.{Same_state, Set_state, Fill, Change, Answer, Fails, Waits, Gives, Walks, same, gives, does, unless, held, at_object, at_number, lookup_fails, value_of}
 use Rattle.rights.specs.Limits.{most_messages}
-use Rattle.kernel.specs.Calls.{looks, looks_twice, answer, opened, opened_as, read_byte, read_node, read_end, write_node, write_at, write_offset, sent_end, received, receive_end}
+use Rattle.kernel.specs.Calls.{looks, looks_twice, answer, opened, opened_as, read_byte, read_node, read_end, write_node, write_at, write_offset, sent_end, received, receive_end, own_class}
 use Rattle.kernel.specs.Calls.{found_last, is_at_last, lost, resumed_one, resumed_both, or_fails, walked, walked_both, walked_first, walked_second}
 use Rattle.kernel.specs.Calls.{stats_at, made_directory, unlinks, renamed_to, renamed_from, pair_at, blocked, in_directory, at_file, at_socket}
 use Rattle.kernel.specs.Renamings.{Renaming, SameObject, SameFiles, renamed_object, renamed_descriptor, renamed_entry, renamed_message, renamed_messages}
@@ -355,7 +355,7 @@ module _ (r : Renaming) (w : World) (g : OpenFiles) (alike : SameFiles r w.files
   both-pair_at (Some first) =
       along_path r _ _ _
       (ap (λ o. at_number o (λ second. unless (not e.refuse) ENFILE Refused
-      (Gives first (record same { table = New_pair first second (Made_at s.program s.point) }) [])))
+      (Gives first (record same { table = New_pair first second (own_class s) }) [])))
       (free-same r (15 - first) (first + 1) (w.files.table p) (g.table p) (alike.table p)))
       (both-number r (lowest_from (15 - first) (first + 1) (w.files.table p)) _ _ (λ second free. both-unless r _ _ _ _ _ (given r _ _ _)))
 

@@ -1,11 +1,10 @@
 -- Steps in worlds that differ only in numbers, where one choice is the other under the other numbers.
-use Rattle.std.proofs.Common.{◌≡◌, ℕ, Bool, true, false, List, [], ◌∷◌, refl, sym, subst}
+use Rattle.std.proofs.Common.{◌≡◌, ℕ, Bool, true, false, List, [], ◌∷◌, length, refl, sym, subst}
 use Rattle.std.specs.Prelude.{◌≤◌, Option, Some, None}
 use Rattle.std.specs.List.{slice_get}
 use Rattle.rights.specs.Maps.{put}
 use Rattle.rights.proofs.Changes.{put-cases, put-both}
-use Rattle.rights.proofs.Tests.{both_left}
-use Rattle.process.specs.State.{ProcessState}
+use Rattle.process.specs.State.{Deed, ProcessState}
 use Rattle.prog_asm.specs.Programs.{Instruction, Set, Mov, Add, In, Jmp, Jeq, Jlt, Halt, Invoke}
 use Rattle.fd_table.specs.Descriptions.{Descriptor, Message, IfHeld}
 use Rattle.fd_table.specs.OpenFiles.{OpenFiles, is_open}
@@ -13,15 +12,16 @@ use Rattle.kernel.specs.World.{World, Choice}
 use Rattle.kernel.specs.Answers.{Event, TableChange, Same_table, Set_entry, Clear_entry, New_file, New_pair, New_process, Change, Answer, Fails, Waits, Gives, Walks}
 use Rattle.kernel.specs.Calls.{answer}
 use Rattle.kernel.specs.Changes.{given, processes_after, changed}
-use Rattle.kernel.specs.Steps.{Programs, Executed, Stepped, with_process, plain, halted, failed, answered, executed, register, acted_as, stepped_at, stepped_by, stepped, step}
-use Rattle.kernel.specs.WellFormed.{ArePrograms, Numbering, IsDescriptor, EachMessage, IsWorld}
+use Rattle.kernel.specs.Steps.{Programs, after_deed, next_instruction, Executed, Stepped, with_process, plain, halted, failed, answered, executed, register, acted_as, stepped_at, stepped_by, stepped, step}
+use Rattle.kernel.specs.Walks.{call_in, under_way}
+use Rattle.kernel.specs.WellFormed.{ArePrograms, HasPaths, IfKept, IsProcess, IsProcessIfMade, Numbering, IsDescriptor, EachMessage, IsWorld}
 use Rattle.kernel.specs.Renamings.{Renaming, SameObject, EachNamed, SameFiles, renamed_entry}
 use Rattle.kernel.proofs.Brings.{ground, Known, Brings, Sound}
 use Rattle.kernel.proofs.Brought.{sound}
-use Rattle.kernel.proofs.KeptWalks.{AreWalkers, walk_fits}
+use Rattle.kernel.proofs.KeptWalks.{AreWalkers, call_here, walk_fits}
 use Rattle.kernel.proofs.Fresh.{held_map}
 use Rattle.kernel.proofs.Opens.{same_open}
-use Rattle.kernel.proofs.Points.{placed}
+use Rattle.kernel.proofs.Points.{instruction_paths, placed}
 use Rattle.kernel.proofs.Renamed.{renamed_table, renamed_change, renamed_answer, same_answer}
 use Rattle.kernel.proofs.ChangedAlike.{Aims, each_named, files_alike}
 
@@ -128,18 +128,18 @@ module _ (r : Renaming) (programs : Programs) (valid : ArePrograms programs) (nu
   answered_alike s otherwise (Gives value change effects) brings = record { world = changed_alike s value change brings; outcome = refl; effects = refl }
   answered_alike s otherwise (Walks walking) brings = record { world = process_alike (record s { walk = Some walking }); outcome = refl; effects = refl }
 
-  executed_alike : (s : ProcessState) (i : Instruction) → slice_get w.processes e.process ≡ Some s → slice_get (programs s.program) s.point ≡ Some i →
+  executed_alike : (s : ProcessState) (i : Instruction) → slice_get w.processes e.process ≡ Some s → under_way programs s ≡ call_in (Some i) → HasPaths (call_in (Some i)) →
       SameDone r (executed w e j s i) (executed other e k s i)
   unfolding executed
-  executed_alike s (Set register value) made here = plain_alike _
-  executed_alike s (Mov register source) made here = plain_alike _
-  executed_alike s (Add register addend) made here = plain_alike _
-  executed_alike s (In register) made here = plain_alike _
-  executed_alike s (Jmp target) made here = plain_alike _
-  executed_alike s (Jeq register value target) made here = plain_alike _
-  executed_alike s (Jlt register value target) made here = plain_alike _
-  executed_alike s Halt made here = record { world = halted_alike s; outcome = refl; effects = refl }
-  executed_alike s (Invoke call otherwise) made here =
+  executed_alike s (Set register value) made here paths = plain_alike _
+  executed_alike s (Mov register source) made here paths = plain_alike _
+  executed_alike s (Add register addend) made here paths = plain_alike _
+  executed_alike s (In register) made here paths = plain_alike _
+  executed_alike s (Jmp target) made here paths = plain_alike _
+  executed_alike s (Jeq register value target) made here paths = plain_alike _
+  executed_alike s (Jlt register value target) made here paths = plain_alike _
+  executed_alike s Halt made here paths = record { world = halted_alike s; outcome = refl; effects = refl }
+  executed_alike s (Invoke call otherwise) made here paths =
       subst (λ a. SameDone r (answered w e.process s j otherwise (answer w e.process s e call)) (answered other e.process s k otherwise a))
       (sym (same_answer r w g alike opens e.process s e call))
       (answered_alike s otherwise (answer w e.process s e call)
@@ -149,21 +149,34 @@ module _ (r : Renaming) (programs : Programs) (valid : ArePrograms programs) (nu
         entries = λ p n. known_one (w.files.table p n) (good.entries p n) (alike.entries p n);
         messages = λ pair side. known_each (w.files.queue pair side) (good.messages pair side) (alike.messages pair side);
       })
-      e.process s e call (both_left _ _ (placed (programs s.program) s.point (Invoke call otherwise) (valid s.program) here).fits)
-      (walk_fits programs w walkers e.process s call otherwise made here) (λ walking fits. tt)))
+      e.process s e call paths
+      (walk_fits programs w walkers e.process s call made here) (λ walking fits. tt)))
 
-  at_alike : (s : ProcessState) (o : Option Instruction) → slice_get w.processes e.process ≡ Some s → slice_get (programs s.program) s.point ≡ o →
+  -- the paths of what a process goes on with are ones
+  paths_here : (s : ProcessState) (i : Instruction) (o : Option Deed) → IfKept programs s o → next_instruction o (slice_get (programs s.program) s.point) ≡ Some i → HasPaths (call_in (Some i))
+  paths_here s i None kept here = instruction_paths (length (programs s.program)) i (placed (programs s.program) s.point i (valid s.program) here).fits
+  paths_here s i (Some deed) kept here = let same : deed.instruction ≡ i = cc in subst (λ j. HasPaths (call_in (Some j))) same kept.is.paths
+
+  at_alike : (s : ProcessState) (o : Option Instruction) → slice_get w.processes e.process ≡ Some s → next_instruction s.kept (slice_get (programs s.program) s.point) ≡ o →
       SameStep r (stepped_at w e j s o) (stepped_at other e k s o)
   unfolding stepped_at
   at_alike s None made here = record { line = refl; world = same_world }
   at_alike s (Some i) made here =
-      let both = executed_alike s i made here in
-      record { line = λ t. acted_as s (both.outcome t) (both.effects t); world = both.world }
+      let fine : IsProcess programs s = subst (IsProcessIfMade programs) made (good.processes e.process) in
+      let both = executed_alike s i made (call_here programs s i here) (paths_here s i s.kept fine.kept here) in
+      record {
+        line = λ t. acted_as s (both.outcome t) (both.effects t);
+        world = record {
+          tree = both.world.tree;
+          processes = λ t. after_deed s.kept e.process (length w.processes) (both.outcome t) (both.world.processes t);
+          files = both.world.files;
+        };
+      }
 
   by_alike : (s : ProcessState) (alive : Bool) → slice_get w.processes e.process ≡ Some s → SameStep r (stepped_by programs w e j s alive) (stepped_by programs other e k s alive)
   unfolding stepped_by
   by_alike s false made = record { line = refl; world = same_world }
-  by_alike s true made = at_alike s (slice_get (programs s.program) s.point) made refl
+  by_alike s true made = at_alike s (next_instruction s.kept (slice_get (programs s.program) s.point)) made refl
 
   of_alike : (o : Option ProcessState) → slice_get w.processes e.process ≡ o → SameStep r (stepped programs w e j o) (stepped programs other e k o)
   unfolding stepped

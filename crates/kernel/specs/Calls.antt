@@ -22,7 +22,7 @@ use Rattle.lookup.specs.Walks.{WalkState, Progress, Done, More, begun, first_han
 use Rattle.process.specs.State.{ProcessState, Walking, One, Two}
 use Rattle.prog_asm.specs.Programs.{Operand, Syscall, Open, Openat, Read, Write, Sendfd, Recvfd, Lseek, Ftruncate, Fsync, Fstat, Fcntl_getfl, Fcntl_setfl, Fstatat, Stat, Mkdirat}
 use Rattle.prog_asm.specs.Programs.{Mkdir, Unlinkat, Unlink, Renameat, Dup, Close, Cap_rights_limit, Cap_fcntls_limit, Cap_enter, Cap_getmode, Socketpair, Fork, called}
-use Rattle.fd_table.specs.Descriptions.{Access, Made_at, State, Descriptor, Message, other_side, bit_of, status_number, with_status}
+use Rattle.fd_table.specs.Descriptions.{Access, PairClass, Made_at, Made_by, State, Descriptor, Message, other_side, bit_of, status_number, with_status}
 use Rattle.fd_table.specs.OpenFiles.{is_open, lowest_from, lowest_free}
 use Rattle.kernel.specs.World.{World}
 use Rattle.kernel.specs.Answers.{Event, Effect, Make, Remove, Move, Fill, TreeChange, Same_tree, Set_entry, Clear_entry, New_file, New_pair, New_process, Push, Pop, Set_state}
@@ -97,6 +97,11 @@ is_at_last walk = nat_eq (length walk.stand.left) 1
 abbrev pub found_last : Progress → lookups.Finding
 found_last (Done finding) = finding
 found_last (More walk) = Not_found No_entry
+
+-- A pair is of the class of its maker's point, but that of an untrusted program's process in capability mode is of one that no
+-- certificate can name. (own)
+abbrev pub own_class : ProcessState → PairClass
+own_class s = if s.marked && s.mode then Made_by s.program else Made_at s.program s.point
 
 -- In this world, process p, which stands at s, makes its call at this event.
 module _ (w : World) (p : ℕ) (s : ProcessState) (e : Event) where
@@ -346,7 +351,7 @@ module _ (w : World) (p : ℕ) (s : ProcessState) (e : Event) where
   pair_at None = Fails EMFILE Full
   pair_at (Some first) =
       at_number (lowest_from (most_descriptors - 1 - first) (first + 1) (w.files.table p)) (λ second.
-      unrefused ENFILE (Gives first (record same { table = New_pair first second (Made_at s.program s.point) }) []))
+      unrefused ENFILE (Gives first (record same { table = New_pair first second (own_class s) }) []))
 
   -- ## The calls
   unfoldable pub answer : Syscall → Answer

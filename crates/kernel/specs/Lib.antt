@@ -11,5 +11,6 @@ pub mod Runs
 pub mod Renamings
 pub mod Alike
 pub mod Gains
+pub mod Hostile
 pub mod Gainful
 pub mod Scans

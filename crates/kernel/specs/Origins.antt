@@ -11,7 +11,7 @@ use Rattle.prog_asm.specs.Programs.{Mov, Add, In, Jmp, Jeq, Jlt, Halt, Invoke}
 use Rattle.fd_table.specs.Descriptions.{Object, At_node, At_end, Descriptor, Message, other_side}
 use Rattle.kernel.specs.World.{World}
 use Rattle.kernel.specs.Answers.{Event, value_of}
-use Rattle.kernel.specs.Steps.{Programs}
+use Rattle.kernel.specs.Steps.{Programs, next_instruction}
 
 -- a call under way: its process, which stands so
 pub record Caller : Type 0 where
@@ -19,7 +19,7 @@ pub record Caller : Type 0 where
   pub state : ProcessState
   pub call : Syscall
 
--- The call that an event has its process make, if that was made, is alive, and stands at one.
+-- The call that an event has its process make, if that was made, is alive, and goes on with one.
 abbrev pub calls_at : ProcessNumber → ProcessState → Option Instruction → Option Caller
 calls_at p s None = None
 calls_at p s (Some (Set r value)) = None
@@ -34,7 +34,7 @@ calls_at p s (Some (Invoke call otherwise)) = Some (record { process = p; state 
 
 abbrev pub calls_by : Programs → ProcessNumber → ProcessState → Bool → Option Caller
 calls_by programs p s false = None
-calls_by programs p s true = calls_at p s (slice_get (programs s.program) s.point)
+calls_by programs p s true = calls_at p s (next_instruction s.kept (slice_get (programs s.program) s.point))
 
 abbrev pub calls : Programs → ProcessNumber → Option ProcessState → Option Caller
 calls programs p None = None

@@ -1,10 +1,10 @@
 -- One step of a run: the instruction of one process, and the line that a trace has of it. (own)
-use Rattle.std.specs.Prelude.{◌+◌, ◌%◌, ◌^◌, ◌==◌, ℕ, Bool, true, false, nat_lt, List, [], slice_set, slice_index_or, Option, Some, None}
+use Rattle.std.specs.Prelude.{◌+◌, ◌%◌, ◌^◌, ◌==◌, ℕ, zero, suc, Bool, true, false, nat_lt, List, [], ◌∷◌, length, slice_set, slice_index_or, Option, Some, None}
 use Rattle.std.specs.List.{slice_get}
 use Rattle.rights.specs.Values.{ProcessNumber}
 use Rattle.rights.specs.Errors.{Errno, errno_number, Cause}
 use Rattle.rights.specs.Maps.{put}
-use Rattle.process.specs.State.{ProcessState, ended, moved_to}
+use Rattle.process.specs.State.{Deed, ProcessState, ended, handed_to, left_by, moved_to}
 use Rattle.prog_asm.specs.Programs.{Instruction, Set, Mov, Add, In, Jmp, Jeq, Jlt, Halt, Invoke}
 use Rattle.kernel.specs.World.{World, Choice}
 use Rattle.kernel.specs.Answers.{Event, Effect, Answer, Fails, Waits, Gives, Walks}
@@ -81,6 +81,27 @@ executed w e choice s (Jlt r value target) = plain w e.process (jumped s (nat_lt
 executed w e choice s Halt = record { world = halted w e.process s; outcome = Halted; effects = [] }
 executed w e choice s (Invoke call otherwise) = answered w e.process s choice otherwise (answer w e.process s e call)
 
+-- ## Deeds
+-- A process of an untrusted program that is in the mode may be made to do any instruction, whatever its program has at its point.
+-- the instruction that a process goes on with
+abbrev pub next_instruction : Option Deed → Option Instruction → Option Instruction
+next_instruction None here = here
+next_instruction (Some deed) here = Some deed.instruction
+
+-- the list with the process of this number changed, if it was made
+abbrev pub changed_at : List ProcessState → ProcessNumber → (ProcessState → ProcessState) → List ProcessState
+changed_at [] p change = []
+changed_at (s ∷ processes) zero change = change s ∷ processes
+changed_at (s ∷ processes) (suc p) change = s ∷ changed_at processes p change
+
+-- What comes after a deed of process p, before which so many processes were made: the process, and the child that it has made if it
+-- has made one, have the registers and the point of the deed, after an error and where it waits too. While names of a path are
+-- left, the deed goes on.
+abbrev pub after_deed : Option Deed → ProcessNumber → ℕ → LineResult → List ProcessState → List ProcessState
+after_deed None p made outcome processes = processes
+after_deed (Some deed) p made Walks_on processes = processes
+after_deed (Some deed) p made _ processes = changed_at (changed_at processes p (left_by deed)) made (left_by deed)
+
 -- The process of an event, if it was made, with its program and point; and what its step comes to. A process
 -- at a point without an instruction, where no run comes, changes nothing.
 pub record Acted : Type 0 where
@@ -103,11 +124,14 @@ unfoldable pub stepped_at : World → Event → Choice → ProcessState → Opti
 stepped_at w e choice s None = record { world = w; acted = acted_as s Ended [] }
 stepped_at w e choice s (Some i) =
     let x = executed w e choice s i in
-    record { world = x.world; acted = acted_as s x.outcome x.effects }
+    record {
+      world = record x.world { processes = after_deed s.kept e.process (length w.processes) x.outcome x.world.processes };
+      acted = acted_as s x.outcome x.effects;
+    }
 
 unfoldable pub stepped_by : Programs → World → Event → Choice → ProcessState → Bool → Stepped
 stepped_by programs w e choice s false = record { world = w; acted = acted_as s Ended [] }
-stepped_by programs w e choice s true = stepped_at w e choice s (slice_get (programs s.program) s.point)
+stepped_by programs w e choice s true = stepped_at w e choice s (next_instruction s.kept (slice_get (programs s.program) s.point))
 
 unfoldable pub stepped : Programs → World → Event → Choice → Option ProcessState → Stepped
 stepped programs w e choice None = record { world = w; acted = None }
@@ -116,3 +140,10 @@ stepped programs w e choice (Some s) = stepped_by programs w e choice s s.alive
 -- The step of an event, under the numbers that are chosen for what it makes.
 unfoldable pub step : Programs → World → Event → Choice → Stepped
 step programs w e choice = stepped programs w e choice (slice_get w.processes e.process)
+
+-- The same, but that its process does this deed if it may do anything.
+abbrev pub handed : World → ProcessNumber → Deed → World
+handed w p deed = record w { processes = changed_at w.processes p (handed_to deed) }
+
+abbrev pub step_as : Programs → World → Event → Choice → Deed → Stepped
+step_as programs w e choice deed = step programs (handed w e.process deed) e choice

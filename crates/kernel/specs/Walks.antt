@@ -1,5 +1,5 @@
 -- The lookups of a call, and when what a process has under way is of its call. (own)
-use Rattle.std.specs.Prelude.{◌≡◌, false, List, Option, Some, None}
+use Rattle.std.specs.Prelude.{◌≡◌, ◌&&◌, Bool, true, false, List, Option, Some, None}
 use Rattle.std.specs.List.{slice_get}
 use Rattle.rights.specs.Values.{PathText, DescriptionNumber, DescriptorNumber}
 use Rattle.file_tree.specs.Nodes.{Dir, Node, node}
@@ -7,11 +7,11 @@ use Rattle.lookup.specs.Answers.{Beneath, Global, Last, Follow, Keep}
 use Rattle.lookup.specs.UnderWay.{IsUnderWay}
 use Rattle.lookup.specs.Walks.{WalkState}
 use Rattle.process.specs.State.{ProcessState, Walking, One, Two}
-use Rattle.prog_asm.specs.Programs.{Instruction, Invoke, Operand, Syscall, Open, Openat, Fstatat, Stat, Mkdirat, Mkdir, Unlinkat, Unlink, Renameat}
+use Rattle.prog_asm.specs.Programs.{Instruction, Invoke, Operand, Syscall, Open, Openat, Fstatat, Stat, Mkdirat, Mkdir, Unlinkat, Unlink, Renameat, is_path}
 use Rattle.fd_table.specs.Descriptions.{Object, At_node, At_end, Descriptor}
 use Rattle.kernel.specs.Answers.{value_of}
 use Rattle.kernel.specs.Calls.{last_if}
-use Rattle.kernel.specs.Steps.{Programs}
+use Rattle.kernel.specs.Steps.{Programs, next_instruction}
 
 -- what a call looks up: nothing; a path from the root, or beneath the directory of a descriptor; or two of these
 pub data Lookups : Type 0 where
@@ -32,6 +32,13 @@ lookups_of (Unlink path directory) = From_root path Keep
 lookups_of (Renameat x from y to) = From_directories x from y to
 lookups_of _ = No_path
 
+-- each path that is looked up is one
+abbrev pub are_paths : Lookups → Bool
+are_paths No_path = true
+are_paths (From_root path last) = is_path path
+are_paths (From_directory directory path last) = is_path path
+are_paths (From_directories old from new to) = is_path from && is_path to
+
 -- what holds of the lookup that is under way, and of the two, if they are
 abbrev pub IfOne : (WalkState → Type 0) → Option Walking → Type 0
 IfOne Under None = Unit {0}
@@ -43,13 +50,13 @@ IfTwo First Second None = Unit {0}
 IfTwo First Second (Some (One walk)) = Unit {0}
 IfTwo First Second (Some (Two one other)) = First one × Second other
 
--- the call at which a process stands
+-- the call of an instruction, and the one that a process goes on with
 abbrev pub call_in : Option Instruction → Option Syscall
 call_in (Some (Invoke call otherwise)) = Some call
 call_in _ = None
 
 unfoldable pub under_way : Programs → ProcessState → Option Syscall
-under_way programs s = call_in (slice_get (programs s.program) s.point)
+under_way programs s = call_in (next_instruction s.kept (slice_get (programs s.program) s.point))
 
 -- the descriptor is of a directory
 abbrev pub IsDirectoryOf : List Node → Object → Type 0
@@ -79,7 +86,7 @@ module _ (tree : List Node) (objects : DescriptionNumber → Object) (row : Desc
   FitsIfWalking None (Some walking) = ⊥
   FitsIfWalking (Some call) (Some walking) = FitsLookups (lookups_of call) walking
 
--- A process that walks lives, and what it has under way is of the call at its point.
+-- A process that walks lives, and what it has under way is of its call.
 pub record IsWalker (programs : Programs) (tree : List Node) (objects : DescriptionNumber → Object) (row : DescriptorNumber → Option Descriptor) (s : ProcessState) : Type 0 where
   pub lives : s.alive ≡ false → s.walk ≡ None
   pub fits : FitsIfWalking tree objects row s (under_way programs s) s.walk

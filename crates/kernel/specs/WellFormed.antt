@@ -5,12 +5,12 @@ use Rattle.rights.specs.Sets.{is_within, all_rights, all_commands}
 use Rattle.file_tree.specs.Nodes.{Node, node, is_link}
 use Rattle.rights.specs.Limits.{most_bytes, most_messages, most_processes, most_descriptors, register_count}
 use Rattle.file_tree.specs.WellFormed.{IsTree}
-use Rattle.process.specs.State.{ProcessState}
-use Rattle.prog_asm.specs.Programs.{Instruction, is_program}
+use Rattle.process.specs.State.{Deed, ProcessState}
+use Rattle.prog_asm.specs.Programs.{Instruction, Syscall, is_program}
 use Rattle.fd_table.specs.Descriptions.{PairClass, Object, At_node, At_end, State, Descriptor, Message, IfHeld}
 use Rattle.kernel.specs.World.{World}
 use Rattle.kernel.specs.Steps.{Programs}
-use Rattle.kernel.specs.Walks.{IsWalkerIfMade}
+use Rattle.kernel.specs.Walks.{IsWalkerIfMade, are_paths, call_in, lookups_of}
 
 -- Each program of a task is valid. Where a task has none, there is the empty list.
 abbrev pub IsCode : List Instruction → Type 0
@@ -56,11 +56,34 @@ abbrev pub FitsRegister : Option ℕ → Type 0
 FitsRegister None = Unit {0}
 FitsRegister (Some value) = value < 2 ^ 32
 
+-- What a process of this program may be made to do: any instruction, with eight registers of 32 bits and a point of the program
+-- afterwards. Its paths are of the bytes that assembly has in one.
+abbrev pub HasPaths : Option Syscall → Type 0
+HasPaths None = Unit {0}
+HasPaths (Some call) = are_paths (lookups_of call) ≡ true
+
+pub record IsDeed (programs : Programs) (program : ℕ) (deed : Deed) : Type 0 where
+  pub paths : HasPaths (call_in (Some deed.instruction))
+  pub placed : IsPoint (slice_get (programs program) deed.point)
+  pub eight : length deed.registers ≡ register_count
+  pub small : (r : ℕ) → FitsRegister (slice_get deed.registers r)
+
+-- A process that is to do a deed is of an untrusted program and in capability mode.
+pub record IsKeptDeed (programs : Programs) (s : ProcessState) (deed : Deed) : Type 0 where
+  pub marked : s.marked ≡ true
+  pub mode : s.mode ≡ true
+  pub is : IsDeed programs s.program deed
+
+abbrev pub IfKept : Programs → ProcessState → Option Deed → Type 0
+IfKept programs s None = Unit {0}
+IfKept programs s (Some deed) = IsKeptDeed programs s deed
+
 -- A living process stands at an instruction of its program. It has eight registers of 32 bits.
 pub record IsProcess (programs : Programs) (s : ProcessState) : Type 0 where
   pub placed : s.alive ≡ true → IsPoint (slice_get (programs s.program) s.point)
   pub eight : length s.registers ≡ register_count
   pub small : (r : ℕ) → FitsRegister (slice_get s.registers r)
+  pub kept : IfKept programs s s.kept
 
 abbrev pub IsProcessIfMade : Programs → Option ProcessState → Type 0
 IsProcessIfMade programs None = Unit {0}

@@ -3,6 +3,7 @@
 ghost use Rattle.kernel.specs.Alike.{AlikeWorldsActAlike, AlikeWorldsShareNumbers, AlikeWorldsTwice};
 ghost use Rattle.kernel.specs.Gainful.{NothingComesFromElsewhere};
 ghost use Rattle.kernel.specs.Gains.{NoRunGains};
+ghost use Rattle.kernel.specs.Hostile.{NextWorldExistsAsWell, NoRunGainsAsWell, NumbersDoNotMatterAsWell};
 ghost use Rattle.kernel.specs.LaterEvents.{LaterEventsFailLate};
 ghost use Rattle.kernel.specs.Renamings.{NumbersAreIgnoredTwice, NumbersDoNotMatter};
 ghost use Rattle.kernel.specs.Runs.{AlikeWorldsRunAlike, FreshNumbersExist, NextWorldExists, RunExists, RunsShowTheSame, RunsShowTheSameLines, WellFormedWorldExists};
@@ -117,4 +118,21 @@ pub fn open_ends_are_named()
 /// where a rename's second descriptor lacks the right to remove what it would replace, which is asked once both paths are found.
 pub fn later_events_fail_late()
     ensures { LaterEventsFailLate }
+{}
+
+/// From a well-formed world each event has a next world, and each is well formed, too where its process does anything that it
+/// likes, since its program is untrusted. (own)
+pub fn a_deed_has_a_next_world()
+    ensures { NextWorldExistsAsWell }
+{}
+
+/// Which numbers are chosen doesn't matter there either.
+pub fn numbers_do_not_matter_to_a_deed()
+    ensures { NumbersDoNotMatterAsWell }
+{}
+
+/// In every run in which processes of untrusted programs do anything that they like, none leaves capability mode, and each descriptor
+/// comes from where the call that was made takes it. (cap_enter(2), capsicum(4), cap_rights_limit(2), fork(2), sendmsg(2))
+pub fn no_deed_gains()
+    ensures { NoRunGainsAsWell }
 {}

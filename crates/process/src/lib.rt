@@ -1,13 +1,15 @@
-//! One process of a run: its program and point, its registers, whether it is in capability mode, and the lookups that its call
-//! has under way.
+//! One process of a run: its program and point, its registers, whether it is in capability mode, the lookups that its call
+//! has under way, and what it is made to do where its program is untrusted.
 #![tactic(auto)]
 
 ghost use Rattle.std.specs.Prelude.{◌≡◌, true, None, Some, is_some};
-ghost use Rattle.process.specs.State.{moved_to, ended, forked, new_process};
-ghost use Rattle.process.specs.Views.{walking_in, walking_of};
+ghost use Rattle.process.specs.State.{forked, ended, is_hostile, left_by, moved_to, new_process};
+ghost use Rattle.process.specs.Views.{deed_in, deed_of, walking_in, walking_of};
 
+pub mod deeds;
 pub mod walking;
 
+pub use deeds::Deed;
 use rights::limits::REGISTERS;
 use std::marker::Model;
 pub use walking::Walking;
@@ -25,11 +27,13 @@ pub struct Process {
     /// Whether it has not ended.
     pub alive: bool,
     walk: Option<Walking>,
+    marked: bool,
+    kept: Option<Deed>,
 }
 
 impl Model for Process {
     ghost use Rattle.process.specs.State.{ProcessState};
-    ghost use Rattle.process.specs.Views.{walking_in};
+    ghost use Rattle.process.specs.Views.{deed_in, walking_in};
 
     ghost Value = { ProcessState };
 
@@ -40,11 +44,14 @@ impl Model for Process {
       mode = p.mode;
       alive = p.alive;
       walk = walking_in p.walk;
+      marked = p.marked;
+      kept = deed_in p.kept;
     } };
 }
 
 impl Process {
-    /// A living process at point 0 with all registers 0, in capability mode or not. No call is under way.
+    /// A living process at point 0 with all registers 0, in capability mode or not, of a program that is trusted. No call is
+    /// under way.
     pub fn new(program: u8, mode: bool) -> Process
         ensures { result ≡ new_process program mode }
     {
@@ -55,7 +62,23 @@ impl Process {
             mode,
             alive: true,
             walk: None,
+            marked: false,
+            kept: None,
         }
+    }
+
+    /// Notes that its program is untrusted. It stays so, and so are its children.
+    pub fn mark(&mut self)
+        ensures { self.new ≡ record self.old { marked = true } }
+    {
+        self.marked = true;
+    }
+
+    /// Whether its program is untrusted.
+    pub fn is_marked(&self) -> bool
+        ensures { result ≡ self.now.marked }
+    {
+        self.marked
     }
 
     /// Whether the process is in capability mode. (cap_getmode(2))
@@ -110,6 +133,38 @@ impl Process {
         self.walk = Some(walking);
     }
 
+    /// Whether it may be made to do anything: its program is untrusted, it is in capability mode and lives, and no call of it is
+    /// under way. (own)
+    pub fn is_hostile(&self) -> bool
+        ensures { result ≡ is_hostile self.now }
+    {
+        self.marked && self.mode && self.alive && self.walk.is_none()
+    }
+
+    /// Has it do this next, in the place of the instruction at its point. (own)
+    pub fn keep(&mut self, deed: Deed)
+        ensures { self.new ≡ record self.old { kept = Some (deed_of deed) } }
+    {
+        self.kept = Some(deed);
+    }
+
+    /// Takes what it is to do next out of the process. `keep` puts it back.
+    pub fn take_deed(&mut self) -> Option<Deed>
+        ensures taken { deed_in result ≡ self.old.kept }
+        ensures left { self.new ≡ record self.old { kept = None } }
+    {
+        self.kept.take()
+    }
+
+    /// Has the registers and the point that a deed leaves. Nothing is under way then. (own)
+    pub fn leave(&mut self, deed: &Deed)
+        ensures { self.new ≡ left_by (deed_of deed.now) self.old }
+    {
+        self.registers = deed.registers;
+        self.move_to(deed.point);
+        self.kept = None;
+    }
+
     /// A child: a copy of all, the mode too, but for register 0, which is 0. (fork(2), capsicum(4))
     ///
     /// The process may have no lookup under way, so it takes no memory.
@@ -126,6 +181,8 @@ impl Process {
             mode: self.mode,
             alive: self.alive,
             walk: None,
+            marked: self.marked,
+            kept: None,
         }
     }
 }

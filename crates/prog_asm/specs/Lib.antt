@@ -10,3 +10,4 @@ pub mod Lines
 pub mod Programs
 pub mod ReadingViews
 pub mod Views
+pub mod Paths

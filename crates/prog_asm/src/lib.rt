@@ -2,6 +2,7 @@
 #![tactic(auto)]
 
 mod assembler;
+mod copies;
 mod drafts;
 pub mod faults;
 mod fields;

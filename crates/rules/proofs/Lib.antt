@@ -7,6 +7,7 @@ pub mod worlds
 pub mod frames
 pub mod findings
 pub mod calls
+pub mod hostile
 pub mod expansions
 pub mod rows
 pub mod Step

@@ -2,3 +2,4 @@
 pub mod Findings
 pub mod OpenedPaths
 pub mod FoundIn
+pub mod LooksIn

@@ -4,6 +4,7 @@ use Rattle.certificate.specs.Bounds.{Bound, Certificate, bound_at}
 use Rattle.prog_asm.specs.Programs.{Instruction}
 use Rattle.task.specs.Plans.{NamedProgram, Plan, program_name, none_marked}
 use Rattle.task.specs.Limits.{is_plan}
+use Rattle.task.specs.Confined.{IsConfined}
 use Rattle.task.specs.Sandboxed.{IsSandboxed}
 use Rattle.rules.specs.Points.{instruction_at}
 use Rattle.rules.specs.Rules.{tests, tests_without, least_broken}
@@ -56,6 +57,11 @@ abbrev pub FirstIsFound : Type 0
 FirstIsFound = (plan : Plan) (certificate : Certificate) → IsFirst plan certificate (first_found plan certificate)
 
 -- ## What it means
+-- Where a certificate meets the rules, every run of the task is confined: whatever list of events, inputs, schedules and refusals,
+-- whatever processes of marked programs do in the mode, and whatever fresh numbers are chosen at each step.
+abbrev pub IsConfining : Type 0
+IsConfining = (plan : Plan) (certificate : Certificate) → is_plan plan ≡ true → MeetsRules plan certificate → IsConfined plan
+
 -- Where a certificate meets the rules and no program is marked, every run of the task is sandboxed: whatever list of events,
 -- inputs, schedules and refusals, and whatever fresh numbers are chosen at each step.
 abbrev pub IsSound : Type 0

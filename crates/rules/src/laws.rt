@@ -3,7 +3,7 @@
 ghost use Rattle.rules.specs.Expansions.{ExpansionBounds, ExpansionIsGrown};
 ghost use Rattle.rules.specs.Refusals.{EachRuleIsBroken, EachRuleIsKept, LeastIsTold};
 ghost use Rattle.rules.specs.MarkedRefusals.{EachMarkRuleIsBroken, EachMarkRuleIsKept, LeastMarkRuleIsTold};
-ghost use Rattle.rules.specs.Verdicts.{FirstIsFound, IsSound};
+ghost use Rattle.rules.specs.Verdicts.{FirstIsFound, IsConfining, IsSound};
 
 /// Where going through all points in order finds none that breaks a rule, the certificate meets the rules at every point;
 /// and what it finds is the first program, the first point there, and the least rule that is broken there. (own)
@@ -46,4 +46,11 @@ pub fn the_expansion_is_what_its_lines_make()
 /// descriptor more than its source has. (own)
 pub fn what_meets_the_rules_is_sandboxed()
     ensures { IsSound }
+{}
+
+/// Soundness whatever programs are marked: where a certificate meets the rules, no run of the task, whatever its events, inputs, schedule and
+/// refusals, and whatever processes of marked programs do in capability mode, does in the mode what the policy doesn't allow, has a call of an
+/// unmarked program's process refused for a missing right or by the mode, or gives a descriptor more than its source has. (own)
+pub fn what_meets_the_rules_is_confined()
+    ensures { IsConfining }
 {}

@@ -1,4 +1,6 @@
 pub mod Doing
+pub mod Aside
+pub mod DeedsDone
 pub mod Built
 pub mod Numbered
 pub mod Waiting

@@ -115,7 +115,7 @@ module _ (plan : Plan) (test : is_plan plan ≡ true) (w : World) (d : DiffersIn
 
 -- where all are open as they are given, the world is the model's but for numbers
 pub begun_world : (plan : Plan) (tree : List Node) (f : OpenFiles) (processes : List ProcessState) → Awaits (gifts_from 0 plan.starts) [] f →
-    tree ≡ plan.nodes → processes ≡ map first_process plan.starts → DiffersInNumbers (first_world plan) (world_with tree f processes)
+    tree ≡ plan.nodes → processes ≡ map (first_process plan.programs) plan.starts → DiffersInNumbers (first_world plan) (world_with tree f processes)
 unfolding first_world awaiting first_files
 begun_world plan tree f processes b same_tree same_processes =
     record { renaming = b.renaming; tree = same_tree; processes = same_processes; files = subst (λ given. SameFiles b.renaming (first_files given) f) (all_given plan.starts) b.files }

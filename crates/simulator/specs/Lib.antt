@@ -1,5 +1,6 @@
 pub mod Lines
 pub mod Steps
+pub mod Deeds
 pub mod Views
 pub mod Traces
 pub mod Simulations

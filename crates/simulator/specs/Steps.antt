@@ -1,5 +1,5 @@
 -- What a step comes to, in a world that says the same of all that is named. (own)
-use Rattle.std.specs.Prelude.{◌≡◌, ◌%◌, ◌+◌, ◌==◌, ◌^◌, ℕ, nat_lt, List, map, Some}
+use Rattle.std.specs.Prelude.{◌≡◌, ◌%◌, ◌+◌, ◌==◌, ◌^◌, ◌<◌, ℕ, nat_lt, List, map, Some}
 use Rattle.std.specs.List.{slice_get}
 use Rattle.std.specs.Option.{option_map}
 use Rattle.process.specs.State.{ProcessState, moved_to}
@@ -8,7 +8,8 @@ use Rattle.kernel.specs.World.{World, Choice, IsFresh}
 use Rattle.kernel.specs.Answers.{Event}
 use Rattle.kernel.specs.Steps.{LineResult, Programs, executed, goes_on, jumped, register, step, stepped, with_register}
 use Rattle.kernel.specs.Alike.{AlikeWorlds}
-use Rattle.kernel.specs.WellFormed.{ArePrograms, IsWellFormed}
+use Rattle.kernel.specs.Walks.{FitsIfWalking, call_in}
+use Rattle.kernel.specs.WellFormed.{IsWorld, Numbering}
 use Rattle.syscalls.specs.Shows.{Shown, shown}
 use Rattle.simulator.specs.Lines.{Line, line_at, shown_step}
 
@@ -29,14 +30,22 @@ pub record Executes (w : World) (e : Event) (i : Instruction) (outcome : LineRes
   pub prints : effects ≡ map shown (executed w e choice process i).effects
   pub world_is : AlikeWorlds (executed w e choice process i).world next
 
--- A process of a well-formed world stands at this instruction of its program.
-pub record StandsAt (w : World) (p : ℕ) (i : Instruction) : Type 0 where
+-- what holds of an instruction behind which there is another
+abbrev pub NeedsNext : Instruction → Type 0 → Type 0
+NeedsNext (Jmp target) Next = Unit {0}
+NeedsNext Halt Next = Unit {0}
+NeedsNext _ Next = Next
+
+-- The world is well formed, for some programs, but for what its processes have under way; the process was made, and it has a next
+-- point, where the instruction needs one; and what it has under way itself, if anything, is of this instruction's call.
+pub record MayExecute (w : World) (p : ℕ) (i : Instruction) : Type 0 where
   pub programs : Programs
-  pub valid : ArePrograms programs
-  pub good : IsWellFormed programs w
+  pub numbering : Numbering
+  pub good : IsWorld programs numbering w
   pub process : ProcessState
   pub made : slice_get w.processes p ≡ Some process
-  pub here : slice_get (programs process.program) process.point ≡ Some i
+  pub next : NeedsNext i (process.point + 1 < 256)
+  pub fits : FitsIfWalking w.tree w.files.objects (w.files.table p) process (call_in (Some i)) process.walk
 
 -- The same of the event's process, which was made, and may have ended.
 pub record DoesAs (programs : Programs) (w : World) (e : Event) (outcome : LineResult) (effects : List Shown) (next : World) : Type 0 where
@@ -71,9 +80,3 @@ acted_on s input (Jeq r value target) = jumped s (register s r == value) target
 acted_on s input (Jlt r value target) = jumped s (nat_lt (register s r) value) target
 acted_on s input Halt = s
 acted_on s input (Invoke call otherwise) = s
-
--- what holds of an instruction behind which there is another
-abbrev pub NeedsNext : Instruction → Type 0 → Type 0
-NeedsNext (Jmp target) Next = Unit {0}
-NeedsNext Halt Next = Unit {0}
-NeedsNext _ Next = Next

@@ -5,6 +5,7 @@
 
 mod actions;
 mod building;
+mod deeds;
 mod gifts;
 pub mod lines;
 pub mod machine;

@@ -1,21 +1,26 @@
 //! A machine that runs a task step by step.
 
-ghost use Rattle.std.specs.Prelude.{◌≡◌, ◌<◌, ◌↔◌, IfOk, IsErrOf, OnErr, OnOk, true, false};
+ghost use Rattle.std.specs.Prelude.{◌≡◌, ◌<◌, ◌↔◌, IfOk, IsErrOf, OnErr, OnOk, slice_get, true, false};
 ghost use Rattle.kernel.specs.Renamings.{DiffersInNumbers};
+ghost use Rattle.kernel.specs.Steps.{handed};
 ghost use Rattle.kernel.specs.WellFormed.{IsWellFormed};
+ghost use Rattle.prog_asm.specs.Views.{instruction_of};
 ghost use Rattle.syscalls.specs.Views.{event_of};
 ghost use Rattle.task.specs.Begins.{first_world};
 ghost use Rattle.task.specs.Limits.{is_plan};
 ghost use Rattle.task.specs.Plans.{programs_of_plan};
+ghost use Rattle.simulator.specs.Deeds.{may_stand_at};
 ghost use Rattle.simulator.specs.Machines.{machine_world};
 ghost use Rattle.simulator.specs.Steps.{StepsMachine};
 ghost use Rattle.simulator.specs.Views.{line_of};
 
 use crate::lines::Line;
 use crate::starting::first_world;
-use crate::steps::step_world;
+use crate::steps::{may_stand_at, step_world, step_world_as};
 use file_tree::Tree;
+use prog_asm::Instruction;
 use rights::Stop;
+use rights::limits::REGISTERS;
 use std::alloc::Global;
 use std::marker::Model;
 use syscalls::{Event, World};
@@ -79,6 +84,59 @@ impl<'a, T: Tree> Machine<'a, T> {
             return Err(Stop::Spent);
         }
         match step_world(self.alloc, self.task, &mut self.world, event) {
+            Ok(line) => Ok(line),
+            Err(_) => {
+                self.spent = true;
+                Err(Stop::Memory)
+            }
+        }
+    }
+
+    /// Whether the process may be left at this point by `step_as`: it is a point of its program, if the process may do anything. (own)
+    pub fn may_stand_at(&self, process: u8, point: u8) -> bool
+        ensures { result ≡ may_stand_at (programs_of_plan self.now.plan) (slice_get self.now.processes process) point }
+    {
+        may_stand_at(self.task, &self.world.processes, process, point)
+    }
+
+    /// One step in which the event's process does this instruction, if it may do anything: if its program is untrusted, and it is in
+    /// capability mode, lives and has no call under way. Whatever comes of it, an error or that it waits too, it has these registers
+    /// and this point afterwards, and so has a child that it has made; while names of a path are left, later steps go on with it.
+    /// Where the process may not do anything, it is `step`. (own)
+    ///
+    /// Its caller knows that the point is one of the process's program, where it may do anything (`may_stand_at`). The instruction
+    /// may be any; it is copied. A refused growth is `Memory`, and from then on each step is `Spent`.
+    pub fn step_as(
+        &mut self,
+        event: Event,
+        instruction: &Instruction,
+        registers: [u32; REGISTERS],
+        point: u8,
+    ) -> Result<Line, Stop>
+        requires { may_stand_at (programs_of_plan self.old.plan) (slice_get self.old.processes event.process) point ≡ true }
+        ensures step { IfOk result (λ line. StepsMachine (programs_of_plan self.old.plan)
+            (handed (machine_world self.old) event.process (record { instruction = instruction_of instruction.now; registers = registers; point = point }))
+            (event_of event) (line_of line) (machine_world self.new)) }
+        ensures well_formed { OnOk result (IsWellFormed (programs_of_plan self.new.plan) (machine_world self.new)) }
+        ensures plan { self.new.plan ≡ self.old.plan }
+        ensures spent { IsErrOf result Stop.Spent ↔ (self.old.spent ≡ true) }
+        ensures runs_on { OnOk result (self.new.spent ≡ false) }
+        ensures stops { OnErr result (self.new.spent ≡ true) }
+        ensures no_device { IsErrOf result Stop.Device → ⊥ }
+        ensures byte { OnOk result (event.input < 256) }
+    {
+        if self.spent {
+            return Err(Stop::Spent);
+        }
+        match step_world_as(
+            self.alloc,
+            self.task,
+            &mut self.world,
+            event,
+            instruction,
+            registers,
+            point,
+        ) {
             Ok(line) => Ok(line),
             Err(_) => {
                 self.spent = true;

@@ -11,7 +11,7 @@ ghost use Rattle.syscalls.specs.Views.{world_of};
 ghost use Rattle.task.specs.Begins.{first_process, first_world};
 ghost use Rattle.task.specs.Limits.{is_plan};
 ghost use Rattle.task.specs.Plans.{programs_of_plan};
-ghost use Rattle.task.specs.Views.{starts_of};
+ghost use Rattle.task.specs.Views.{programs_of, start_of, starts_of};
 ghost use Rattle.simulator.specs.GiftViews.{gifts_of};
 ghost use Rattle.simulator.specs.Starts.{AreNumbers, Awaits, HasPairs, IsGiftOfEnd, are_among, are_gifts, gifts_from};
 
@@ -24,7 +24,7 @@ use rights::limits::MAX_PAIRS;
 use rights::{Memory, OpenFlags};
 use std::alloc::Global;
 use syscalls::World;
-use task::{FirstObject, Start, Task};
+use task::{FirstObject, NamedProgram, Start, Task};
 
 /// Opens an initial pair, if some descriptor is of it. Each of its sides goes to the last descriptor of that side, with all
 /// rights, or nowhere.
@@ -142,13 +142,30 @@ fn open_all(alloc: Global, numbers: &[NodeId], starts: &[Start]) -> Result<Files
     Ok(files)
 }
 
-/// The first processes, each at point 0.
-fn first_processes(alloc: Global, starts: &[Start]) -> Result<Vec<Process>, Memory>
-    ensures { IfOk result (λ processes. processes.items ≡ map first_process (starts_of starts.now)) }
+/// A first process, at point 0. It is marked if its program is.
+fn first_process(programs: &[NamedProgram], start: &Start) -> Process
+    ensures { result ≡ first_process (programs_of programs.now) (start_of start.now) }
+{
+    let mut process = Process::new(start.program, start.mode);
+    if let Some(named) = programs.get(start.program as usize) {
+        if named.untrusted {
+            process.mark();
+        }
+    }
+    process
+}
+
+/// The first processes.
+fn first_processes(
+    alloc: Global,
+    programs: &[NamedProgram],
+    starts: &[Start],
+) -> Result<Vec<Process>, Memory>
+    ensures { IfOk result (λ processes. processes.items ≡ map (first_process (programs_of programs.now)) (starts_of starts.now)) }
 {
     let mut processes = Vec::new(alloc);
     for start in starts {
-        processes.push(Process::new(start.program, start.mode))?;
+        processes.push(first_process(programs, start))?;
     }
     Ok(processes)
 }
@@ -163,7 +180,7 @@ pub(crate) fn first_world<T: Tree>(alloc: Global, task: &Task) -> Result<World<T
 {
     let built = build_tree(alloc, task.nodes())?;
     let files = open_all(alloc, &built.numbers, task.starts())?;
-    let processes = first_processes(alloc, task.starts())?;
+    let processes = first_processes(alloc, task.programs(), task.starts())?;
     Ok(World {
         tree: built.tree,
         files,

@@ -1,22 +1,27 @@
 //! The step of an event.
 
-ghost use Rattle.std.specs.Prelude.{◌≡◌, ◌<◌, [], IfOk, length, option_map, slice_get, Some};
+ghost use Rattle.std.specs.Prelude.{◌≡◌, ◌<◌, [], IfOk, OnOk, length, option_map, slice_get, None, Some, true};
 ghost use Rattle.kernel.specs.Alike.{AlikeWorlds};
-ghost use Rattle.kernel.specs.Steps.{Halted, halted};
+ghost use Rattle.kernel.specs.Steps.{Halted, halted, handed};
 ghost use Rattle.kernel.specs.WellFormed.{IsWellFormed};
 ghost use Rattle.process.specs.State.{ProcessState};
 ghost use Rattle.prog_asm.specs.Views.{instruction_of};
 ghost use Rattle.syscalls.specs.Views.{effects_of, event_of, world_of};
+ghost use Rattle.task.specs.Limits.{is_plan};
 ghost use Rattle.task.specs.Plans.{code_in, programs_of_plan};
 ghost use Rattle.task.specs.Views.{programs_of};
-ghost use Rattle.simulator.specs.Steps.{DoesAs, Executes, StandsAt, StepsMachine};
+ghost use Rattle.simulator.specs.Deeds.{may_stand_at};
+ghost use Rattle.simulator.specs.Steps.{DoesAs, Executes, MayExecute, StepsMachine};
 ghost use Rattle.simulator.specs.Views.{line_of, result_of};
 
 use crate::actions::{Action, act};
+use crate::deeds::{finish_deed, hand, note_paths, note_registers};
 use crate::lines::{Acted, Line, LineResult, result_of_call};
 use file_tree::Tree;
+use process::Process;
 use prog_asm::Instruction;
 use rights::Memory;
+use rights::limits::REGISTERS;
 use std::alloc::Global;
 use syscalls::{Effect, Event, World, call};
 use task::{NamedProgram, Task};
@@ -54,14 +59,14 @@ fn halt<T: Tree>(alloc: Global, world: &mut World<T>, number: u8) -> Executed
     without_effects(alloc, LineResult::Halted)
 }
 
-/// Does the instruction at which the process stands.
+/// Does an instruction of a process.
 fn execute<T: Tree>(
     alloc: Global,
     world: &mut World<T>,
     event: Event,
     instruction: &Instruction,
 ) -> Result<Executed, Memory>
-    requires stands { StandsAt (world_of T.nodes world.old) event.process (instruction_of instruction.now) }
+    requires may { MayExecute (world_of T.nodes world.old) event.process (instruction_of instruction.now) }
     ensures { IfOk result (λ done. Executes (world_of T.nodes world.old) (event_of event) (instruction_of instruction.now)
         (result_of done.outcome) (effects_of done.effects.items) (world_of T.nodes world.new)) }
 {
@@ -89,7 +94,43 @@ fn instruction_at(programs: &[NamedProgram], program: u8, point: u8) -> Option<&
     }
 }
 
-/// The step of a process that was made: the instruction at its point, unless it has ended.
+/// Whether this is a point of a process's program, if the process may do anything.
+pub(crate) fn may_stand_at(task: &Task, processes: &[Process], number: u8, point: u8) -> bool
+    ensures { result ≡ may_stand_at (programs_of_plan task.now) (slice_get processes.now number) point }
+{
+    match processes.get(number as usize) {
+        None => true,
+        Some(process) => {
+            !process.is_hostile()
+                || instruction_at(task.programs(), process.program, point).is_some()
+        }
+    }
+}
+
+/// The step of a process that follows its program: the instruction at its point.
+fn follow<T: Tree>(
+    alloc: Global,
+    task: &Task,
+    world: &mut World<T>,
+    event: Event,
+) -> Result<Executed, Memory>
+    requires good { IsWellFormed (programs_of_plan task.now) (world_of T.nodes world.old) }
+    requires made { event.process < length world.old.processes.items }
+    requires lives { (s : ProcessState) → slice_get world.old.processes.items event.process ≡ Some s → s.alive ≡ true }
+    requires alone { (s : ProcessState) → slice_get world.old.processes.items event.process ≡ Some s → s.kept ≡ None }
+    ensures { IfOk result (λ done. DoesAs (programs_of_plan task.now) (world_of T.nodes world.old) (event_of event)
+        (result_of done.outcome) (effects_of done.effects.items) (world_of T.nodes world.new)) }
+{
+    let process = &world.processes[event.process as usize];
+    match instruction_at(task.programs(), process.program, process.point) {
+        None => Ok(without_effects(alloc, LineResult::Ended)),
+        Some(instruction) => execute(alloc, world, event, instruction),
+    }
+}
+
+/// The step of a process that was made, unless it has ended: what it is to do, or the instruction at its point.
+///
+/// What a process is to do needn't have a point behind it. It comes to the same at any point, so it is done at point 0.
 fn step_process<T: Tree>(
     alloc: Global,
     task: &Task,
@@ -101,14 +142,20 @@ fn step_process<T: Tree>(
     ensures { IfOk result (λ done. DoesAs (programs_of_plan task.now) (world_of T.nodes world.old) (event_of event)
         (result_of done.outcome) (effects_of done.effects.items) (world_of T.nodes world.new)) }
 {
-    let process = &world.processes[event.process as usize];
+    let number = event.process as usize;
+    let made = world.processes.len();
+    let process = &mut world.processes[number];
     if !process.alive {
         return Ok(without_effects(alloc, LineResult::Ended));
     }
-    match instruction_at(task.programs(), process.program, process.point) {
-        None => Ok(without_effects(alloc, LineResult::Ended)),
-        Some(instruction) => execute(alloc, world, event, instruction),
-    }
+    let Some(deed) = process.take_deed() else {
+        return follow(alloc, task, world, event);
+    };
+    let point = process.point;
+    process.point = 0;
+    let done = execute(alloc, world, event, &deed.instruction)?;
+    finish_deed(world, number, made, point, deed, done.outcome);
+    Ok(done)
 }
 
 /// Notes that what an event gives is a byte, as its type says.
@@ -148,4 +195,29 @@ pub(crate) fn step_world<T: Tree>(
             effects: done.effects,
         }),
     })
+}
+
+/// The step of an event whose process does this, if it may do anything, and its line.
+pub(crate) fn step_world_as<T: Tree>(
+    alloc: Global,
+    task: &Task,
+    world: &mut World<T>,
+    event: Event,
+    instruction: &Instruction,
+    registers: [u32; REGISTERS],
+    point: u8,
+) -> Result<Line, Memory>
+    requires valid { is_plan task.now ≡ true }
+    requires good { IsWellFormed (programs_of_plan task.now) (world_of T.nodes world.old) }
+    requires placed { may_stand_at (programs_of_plan task.now) (slice_get world.old.processes.items event.process) point ≡ true }
+    ensures step { IfOk result (λ line. StepsMachine (programs_of_plan task.now)
+        (handed (world_of T.nodes world.old) event.process (record { instruction = instruction_of instruction.now; registers = registers; point = point }))
+        (event_of event) (line_of line) (world_of T.nodes world.new)) }
+    ensures good { OnOk result (IsWellFormed (programs_of_plan task.now) (world_of T.nodes world.new)) }
+    ensures byte { event.input < 256 }
+{
+    note_paths(instruction);
+    note_registers(&registers);
+    hand(alloc, world, event.process, instruction, registers, point)?;
+    step_world(alloc, task, world, event)
 }

@@ -4,13 +4,13 @@ use Rattle.std.specs.Prelude.{Option, Some, None}
 use Rattle.rights.specs.Errors.{EMFILE, ENFILE, Full, Refused}
 use Rattle.process.specs.State.{ProcessState}
 use Rattle.file_tree.specs.Nodes.{Node}
-use Rattle.fd_table.specs.Descriptions.{PairClass, Made_at}
+use Rattle.fd_table.specs.Descriptions.{PairClass}
 use Rattle.fd_table.specs.OpenFiles.{OpenFiles, lowest_free, lowest_from}
 use Rattle.fd_table.specs.Filled.{Entry, IsFreeAt, Pairs}
 use Rattle.prog_asm.specs.Programs.{Socketpair}
 use Rattle.kernel.specs.World.{World}
 use Rattle.kernel.specs.Answers.{Event, Answer, Fails, Gives, same, New_pair, at_number}
-use Rattle.kernel.specs.Calls.{answer, pair_at, unrefused}
+use Rattle.kernel.specs.Calls.{answer, own_class, pair_at, unrefused}
 use Rattle.kernel.specs.Changes.{files_after}
 use Rattle.syscalls.specs.declared.outcomes.Besides.TheVariants as besides
 use Rattle.syscalls.specs.AnswerViews.{Succeeds}
@@ -35,7 +35,7 @@ module _ (t : List Node) (f : OpenFiles) (processes : List ProcessState) (p : �
   w = world_with t f processes
 
   abbrev made : ℕ → ℕ → Answer
-  made first second = Gives first (record same { table = New_pair first second (Made_at s.program s.point) }) []
+  made first second = Gives first (record same { table = New_pair first second (own_class s) }) []
 
   with_first : (first : ℕ) → lowest_free (f.table p) ≡ Some first → answer w p s e Socketpair ≡ at_number (second_from f p first) (λ second. unrefused w p s e ENFILE (made first second))
   unfolding answer
@@ -60,14 +60,14 @@ module _ (t : List Node) (f : OpenFiles) (processes : List ProcessState) (p : �
 
   -- a pair is made
   pub pairs : (first second : ℕ) (left : OpenFiles) (shows : List Shown) → lowest_free (f.table p) ≡ Some first → second_from f p first ≡ Some second →
-      e.refuse ≡ false → [] ≡ shows → (class : PairClass) → class ≡ Made_at s.program s.point →
+      e.refuse ≡ false → [] ≡ shows → (class : PairClass) → class ≡ own_class s →
       Pairs f left class (Some (record { process = p; number = first })) (Some (record { process = p; number = second })) →
       Succeeds w p t left first (besides.Second second) shows (answer w p s e Socketpair)
   unfolding files_after
   pairs first second left shows one two is prints class made_there left_so =
       let y = subst (λ x. Pairs f left x (Some (record { process = p; number = first })) (Some (record { process = p; number = second }))) made_there left_so in
       record {
-        change = record same { table = New_pair first second (Made_at s.program s.point) };
+        change = record same { table = New_pair first second (own_class s) };
         effects = [];
         choice = record { first = y.first; second = y.second; pair = y.pair };
         is = with_second first second one two ∙ passes _ _ _ _ (ap not is);

@@ -3,7 +3,7 @@
 ghost use Rattle.std.specs.Prelude.{◌<◌, ◌≡◌, List, None, Some, if◌then◌else◌, option_map};
 ghost use Rattle.rights.specs.Errors.{EAGAIN, Refused};
 ghost use Rattle.file_tree.specs.Nodes.{Node};
-ghost use Rattle.fd_table.specs.Descriptions.{Made_at, other_side};
+ghost use Rattle.fd_table.specs.Descriptions.{other_side};
 ghost use Rattle.fd_table.specs.Filled.{IsEndThere, IsFreeAt, IsNamed, MayPass};
 ghost use Rattle.fd_table.specs.Kept.{open_files};
 ghost use Rattle.fd_table.specs.Views.{class_seen, descriptor_seen, side_seen};
@@ -23,13 +23,18 @@ use prog_asm::Operand;
 use rights::{Call, Cause, Errno};
 use std::alloc::Global;
 
-/// Where the pair is made.
+/// Where the pair is made. Of a process of an untrusted program in capability mode its point says nothing. (own)
 fn class_of(process: &Process) -> Class
-    ensures { class_seen result ≡ Made_at process.now.program process.now.point }
+    ensures { class_seen result ≡ model.own_class process.now }
 {
-    Class::MadeAt {
-        program: process.program,
-        point: process.point,
+    let program = process.program;
+    if process.is_marked() && process.mode() {
+        Class::MadeBy { program }
+    } else {
+        Class::MadeAt {
+            program,
+            point: process.point,
+        }
     }
 }
 

@@ -4,17 +4,17 @@ use Rattle.std.specs.Prelude.{◌↔◌, Option, Some, None, option_map}
 use Rattle.std.specs.List.{slice_get}
 use Rattle.file_tree.specs.Nodes.{Node}
 use Rattle.fd_table.specs.Descriptions.{Descriptor}
-use Rattle.task.specs.Plans.{FirstObject, On_node, On_end, FirstDescriptor, Start}
+use Rattle.task.specs.Plans.{FirstObject, On_node, On_end, FirstDescriptor, Start, NamedProgram}
 use Rattle.task.specs.Limits.{is_object}
 use Rattle.task.specs.Begins.{given_to, given_by, description_of, first_entry, first_entries, first_files, first_process, first_world}
 use Rattle.task.specs.Laws.{IsFirstProcess, IsFirstEntry, IsShared, FirstWorldsAreFirst}
 use Rattle.task.proofs.Openings.{IsAt, a_side, given_at, object_is}
 use Rattle.task.proofs.FirstWorlds.{checked}
 
-first_processes : (starts : List Start) (p : ℕ) → IsFirstProcess (slice_get starts p) (slice_get (map first_process starts) p)
-first_processes [] p = tt
-first_processes (s ∷ starts) zero = refl
-first_processes (s ∷ starts) (suc p) = first_processes starts p
+first_processes : (programs : List NamedProgram) (starts : List Start) (p : ℕ) → IsFirstProcess programs (slice_get starts p) (slice_get (map (first_process programs) starts) p)
+first_processes programs [] p = tt
+first_processes programs (s ∷ starts) zero = refl
+first_processes programs (s ∷ starts) (suc p) = first_processes programs starts p
 
 -- ## Which descriptions are shared
 same_number : (tree : List Node) (p n : ℕ) (x : FirstObject) (q m : ℕ) (y : FirstObject) → n < 16 → m < 16 → is_object tree x ≡ true →
@@ -55,7 +55,7 @@ first_is_first plan good =
     let facts = checked plan good in
     record {
       tree = refl;
-      processes = first_processes plan.starts;
+      processes = first_processes plan.programs plan.starts;
       entries = λ p n. entry p n (given_to (slice_get plan.starts p) n) refl;
       shared = λ p n q m given other d e one two at_d at_e.
           let left : IsAt plan.nodes plan.starts p n given = given_at plan.nodes (length plan.programs) plan.starts p n given facts.starts one in

@@ -51,7 +51,7 @@ second_step plan valid unsafe sandboxed =
 not_true : false ≡ true → ⊥
 not_true is = absurd cc
 
-forbidden : (grants : List Grant) (operation : Operation) (place : List (List ℕ)) → is_allowed grants operation place ≡ false → Allowed grants operation place → ⊥
+pub forbidden : (grants : List Grant) (operation : Operation) (place : List (List ℕ)) → is_allowed grants operation place ≡ false → Allowed grants operation place → ⊥
 forbidden grants operation place is allowed = let tested : is_allowed grants operation place ≡ true = (allowed_is_tested grants operation place).1 allowed in absurd cc
 
 missing_right : IsSandboxed reading_plan → ⊥

@@ -71,7 +71,7 @@ starts_at_point (p ∷ programs) zero good below = has_point p.code (both_right 
 starts_at_point (p ∷ programs) (suc n) good below = starts_at_point programs n (both_right (is_program_named p) _ good) (omega arith)
 
 -- first processes
-zeros : (n r : ℕ) → FitsRegister (slice_get (replicate n 0) r)
+pub zeros : (n r : ℕ) → FitsRegister (slice_get (replicate n 0) r)
 zeros zero r = tt
 zeros (suc n) zero = lit
   where
@@ -81,7 +81,7 @@ zeros (suc n) (suc r) = zeros n r
 
 first_made : (plan : Plan) → list_all is_program_named plan.programs ≡ true → (starts : List Start) →
     list_all (is_start plan.nodes (length plan.programs)) starts ≡ true → (p : ℕ) →
-    IsProcessIfMade (programs_of_plan plan) (slice_get (map first_process starts) p)
+    IsProcessIfMade (programs_of_plan plan) (slice_get (map (first_process plan.programs) starts) p)
 first_made plan valid [] good p = tt
 first_made plan valid (s ∷ starts) good zero =
     let start : is_start plan.nodes (length plan.programs) s ≡ true = both_left _ (list_all (is_start plan.nodes (length plan.programs)) starts) good in
@@ -90,20 +90,22 @@ first_made plan valid (s ∷ starts) good zero =
       placed = λ _. starts_at_point plan.programs s.program valid below;
       eight = refl;
       small = zeros 8;
+      kept = tt;
     }
 first_made plan valid (s ∷ starts) good (suc p) =
     first_made plan valid starts (both_right (is_start plan.nodes (length plan.programs) s) _ good) p
 
 -- a first process lives, and where none was made there are no entries
-none_gone : (starts : List Start) (p : ℕ) {row : ℕ → Option Descriptor} → (length starts ≤ p → (n : ℕ) → row n ≡ None) → HasNone (slice_get (map first_process starts) p) row
-none_gone [] p none = none (omega arith)
-none_gone (s ∷ starts) zero none = λ ended. absurd cc
-none_gone (s ∷ starts) (suc p) none = none_gone starts p (λ far. none (omega (arith, far)))
+none_gone : (plan : Plan) (starts : List Start) (p : ℕ) {row : ℕ → Option Descriptor} → (length starts ≤ p → (n : ℕ) → row n ≡ None) → HasNone
+    (slice_get (map (first_process plan.programs) starts) p) row
+none_gone plan [] p none = none (omega arith)
+none_gone plan (s ∷ starts) zero none = λ ended. absurd cc
+none_gone plan (s ∷ starts) (suc p) none = none_gone plan starts p (λ far. none (omega (arith, far)))
 
 first_is_world : (plan : Plan) → Checked plan → IsWorld (programs_of_plan plan) (numbering_of plan.starts) (first_world plan)
 unfolding first_world first_files
 first_is_world plan facts =
-    let same : length (map first_process plan.starts) ≡ length plan.starts = length-map plan.starts first_process in
+    let same : length (map (first_process plan.programs) plan.starts) ≡ length plan.starts = length-map plan.starts (first_process plan.programs) in
     let some : 1 ≤ length plan.starts = facts.some in
     let few : length plan.starts ≤ most_processes = facts.few in
     record {
@@ -113,7 +115,7 @@ first_is_world plan facts =
       processes = first_made plan (named_programs plan.programs facts.programs) plan.starts facts.starts;
       entries = λ p n. good_entry plan.nodes (length plan.programs) plan.starts p n facts.starts;
       numbers = λ p n far. no_entry plan.nodes (length plan.programs) plan.starts p n facts.starts far;
-      gone = λ p. none_gone plan.starts p (λ far n. not_made plan.starts p n far);
+      gone = λ p. none_gone plan plan.starts p (λ far n. not_made plan.starts p n far);
       messages = λ pair side. tt;
       short = λ pair side. omega arith;
       idle = λ pair side far. refl;
@@ -122,7 +124,7 @@ first_is_world plan facts =
 
 -- nothing is under way
 pub none_walks : (plan : Plan) (tree : List Node) (objects : ℕ → Object) (row : ℕ → Option Descriptor) (starts : List Start) (p : ℕ) →
-    IsWalkerIfMade (programs_of_plan plan) tree objects row (slice_get (map first_process starts) p)
+    IsWalkerIfMade (programs_of_plan plan) tree objects row (slice_get (map (first_process plan.programs) starts) p)
 none_walks plan tree objects row [] p = tt
 none_walks plan tree objects row (s ∷ starts) zero = record { lives = λ ended. refl; fits = tt }
 none_walks plan tree objects row (s ∷ starts) (suc p) = none_walks plan tree objects row starts p

@@ -6,3 +6,5 @@ pub mod Allowances
 pub mod KeptLimits
 pub mod Samples
 pub mod Breaches
+pub mod Trusted
+pub mod Escapes

@@ -8,7 +8,7 @@ use Rattle.process.specs.State.{ProcessState, new_process}
 use Rattle.fd_table.specs.Descriptions.{Object, At_node, At_end, Initial, Descriptor, descriptor_of, new_state}
 use Rattle.fd_table.specs.OpenFiles.{OpenFiles}
 use Rattle.kernel.specs.World.{World}
-use Rattle.task.specs.Plans.{FirstObject, On_node, On_end, FirstDescriptor, Start, Plan}
+use Rattle.task.specs.Plans.{FirstObject, On_node, On_end, FirstDescriptor, NamedProgram, Start, Plan, marked_in}
 
 -- the first descriptor of a process at a number
 abbrev pub with_number : DescriptorNumber → List FirstDescriptor → Option FirstDescriptor
@@ -67,12 +67,12 @@ first_files given = record {
 }
 
 -- at point 0, with all registers 0
-abbrev pub first_process : Start → ProcessState
-first_process s = new_process s.program s.mode
+abbrev pub first_process : List NamedProgram → Start → ProcessState
+first_process programs s = record (new_process s.program s.mode) { marked = marked_in (slice_get programs s.program) }
 
 unfoldable pub first_world : Plan → World
 first_world plan = record {
   tree = plan.nodes;
   files = first_files (given_by plan.starts);
-  processes = map first_process plan.starts;
+  processes = map (first_process plan.programs) plan.starts;
 }

@@ -7,7 +7,7 @@ use Rattle.fd_table.specs.Descriptions.{Descriptor, new_state}
 use Rattle.fd_table.specs.OpenFiles.{OpenFiles}
 use Rattle.kernel.specs.World.{World}
 use Rattle.kernel.specs.WellFormed.{ArePrograms, IsWellFormed}
-use Rattle.task.specs.Plans.{Grant, FirstObject, On_node, On_end, FirstDescriptor, Start, Plan, programs_of_plan}
+use Rattle.task.specs.Plans.{Grant, FirstObject, On_node, On_end, FirstDescriptor, NamedProgram, Start, Plan, marked_in, programs_of_plan}
 use Rattle.task.specs.Limits.{is_plan}
 use Rattle.task.specs.Policies.{is_allowed}
 use Rattle.task.specs.Sandboxed.{Allowed}
@@ -18,13 +18,13 @@ abbrev pub FirstWorldsAreWellFormed : Type 0
 FirstWorldsAreWellFormed =
     (plan : Plan) → is_plan plan ≡ true → ArePrograms (programs_of_plan plan) × IsWellFormed (programs_of_plan plan) (first_world plan)
 
--- A first process stands at point 0 of its program with all registers 0, in capability mode if the task says so.
-abbrev pub IsFirstProcess : Option Start → Option ProcessState → Type 0
-IsFirstProcess None None = Unit {0}
-IsFirstProcess None (Some s) = ⊥
-IsFirstProcess (Some start) None = ⊥
-IsFirstProcess (Some start) (Some s) =
-    s ≡ new_process start.program start.mode
+-- A first process stands at point 0 of its program with all registers 0, in capability mode if the task says so, and is marked if
+-- its program is.
+abbrev pub IsFirstProcess : List NamedProgram → Option Start → Option ProcessState → Type 0
+IsFirstProcess programs None None = Unit {0}
+IsFirstProcess programs None (Some s) = ⊥
+IsFirstProcess programs (Some start) None = ⊥
+IsFirstProcess programs (Some start) (Some s) = s ≡ record (new_process start.program start.mode) { marked = marked_in (slice_get programs start.program) }
 
 -- A descriptor that is given has its rights and commands, and is of its node, for its access, or of its end, at offset 0 and
 -- with no status flags. (open(2), socketpair(2))
@@ -51,7 +51,7 @@ IsShared p n (On_end pair side) q m (On_end other its) = (pair ≡ other) × (si
 -- whose descriptions are shared just so, and nothing is queued.
 pub record IsFirstWorld (plan : Plan) (w : World) : Type 0 where
   pub tree : w.tree ≡ plan.nodes
-  pub processes : (p : ℕ) → IsFirstProcess (slice_get plan.starts p) (slice_get w.processes p)
+  pub processes : (p : ℕ) → IsFirstProcess plan.programs (slice_get plan.starts p) (slice_get w.processes p)
   pub entries : (p n : ℕ) → IsFirstEntry w.files (given_to (slice_get plan.starts p) n) (w.files.table p n)
   pub shared :
       (p n q m : ℕ) (given other : FirstDescriptor) (d e : Descriptor) → given_to (slice_get plan.starts p) n ≡ Some given

@@ -6,4 +6,6 @@ pub mod KeptLimits
 pub mod Laws
 pub mod Views
 pub mod Sandboxed
+pub mod Confined
 pub mod Breaches
+pub mod Escapes

@@ -69,6 +69,11 @@ name_in (Some p) = p.name
 abbrev pub program_name : Plan → ℕ → Name
 program_name plan n = name_in (slice_get plan.programs n)
 
+-- whether a program is marked, by its number
+abbrev pub marked_in : Option NamedProgram → Bool
+marked_in None = false
+marked_in (Some p) = p.marked
+
 -- whether the program of this name is marked
 abbrev pub is_marked : List NamedProgram → Name → Bool
 is_marked programs name = list_any (λ (p : NamedProgram). p.marked && bytes_eq p.name name) programs

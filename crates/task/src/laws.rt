@@ -1,6 +1,8 @@
 //! Laws of tasks. Each is the contract of a function that does nothing.
 
 ghost use Rattle.task.specs.Breaches.{SomeAreNotSandboxed};
+ghost use Rattle.task.specs.Confined.{TrustedTasksAreSandboxed};
+ghost use Rattle.task.specs.Escapes.{SomeAreNotConfined};
 ghost use Rattle.task.specs.KeptLimits.{PlansKeepLimits, TreesAreMadeInOrder};
 ghost use Rattle.task.specs.Laws.{AllowedIsTested, FirstWorldsAreFirst, FirstWorldsAreWellFormed, PlanExists};
 
@@ -45,4 +47,16 @@ pub fn a_valid_plan_exists()
 /// calls nothing has a descriptor more, though its line shows nothing of that; no step of the kernel is such a one.
 pub fn some_tasks_are_not_sandboxed()
     ensures { SomeAreNotSandboxed }
+{}
+
+/// A task that is confined is sandboxed, where no program of it is marked.
+pub fn trusted_tasks_are_sandboxed()
+    ensures { TrustedTasksAreSandboxed }
+{}
+
+/// To be confined says something. These tasks of a trusted program and a marked one aren't: one whose marked process holds a
+/// directory with a right too many, and uses it; one whose trusted process reads through what the marked one sends it, which
+/// can't be read through; and one whose trusted process sends the root with all rights, and the marked one makes a directory there.
+pub fn some_tasks_are_not_confined()
+    ensures { SomeAreNotConfined }
 {}

@@ -1,5 +1,6 @@
 -- A mistake of a first part is the whole's, and programs are assembled one by one.
-use Rattle.std.proofs.Common.{◌≡◌, ℕ, ◌+◌, ◌<◌, ◌≤◌, List, [], ◌∷◌, ◌++◌, length, get_or, take, drop, Option, Some, None, Result, Ok, Err, string_bytes, refl, ap, sym, ◌∙◌, append_assoc, append-nil}
+use Rattle.std.proofs.Common.{◌≡◌, ℕ, ◌+◌, ◌<◌, ◌≤◌, Bool, List, [], ◌∷◌, ◌++◌, length, get_or, take, drop, Option, Some, None, Result, Ok, Err, string_bytes, refl, ap}
+use Rattle.std.proofs.Common.{sym, ◌∙◌, append_assoc, append-nil}
 use Rattle.std.proofs.lemmas.List.{drop_more, take-append-le, take_all}
 use Rattle.rights.specs.Limits.{most_programs}
 use Rattle.prog_asm.specs.declared.faults.AsmFault.{AsmFault}
@@ -30,14 +31,15 @@ fault-passes code.Limit r f is = rw is refl
 fault-passes code.Memory r f is = is
 
 -- The fault of a text is its program's.
-pub text-fault : (e : AsmFault) (name : List ℕ) (read : Result (List Instruction) Fault) → (e ≡ asm.Memory → ⊥) → texts.FaultIs e read → IsProgramFault name (text_fault e) (program_from name read)
-text-fault (asm.Word line) name read other is = rw is refl
-text-fault (asm.Operand line) name read other is = rw is refl
-text-fault (asm.NoLabel line) name read other is = rw is refl
-text-fault (asm.TwiceLabel line) name read other is = rw is refl
-text-fault (asm.TooMany line) name read other is = rw is refl
-text-fault (asm.FallsOff line) name read other is = rw is refl
-text-fault asm.Memory name read other is = absurd (other refl)
+pub text-fault : (e : AsmFault) (name : List ℕ) (marked : Bool) (read : Result (List Instruction) Fault) → (e ≡ asm.Memory → ⊥) → texts.FaultIs e read
+    → IsProgramFault name (text_fault e) (program_from name marked read)
+text-fault (asm.Word line) name marked read other is = rw is refl
+text-fault (asm.Operand line) name marked read other is = rw is refl
+text-fault (asm.NoLabel line) name marked read other is = rw is refl
+text-fault (asm.TwiceLabel line) name marked read other is = rw is refl
+text-fault (asm.TooMany line) name marked read other is = rw is refl
+text-fault (asm.FallsOff line) name marked read other is = rw is refl
+text-fault asm.Memory name marked read other is = absurd (other refl)
 
 -- what is assembled so far, and then what is left
 abbrev pub after : List NamedProgram → Result (List NamedProgram) Mistake → Result (List NamedProgram) Mistake

@@ -1,5 +1,5 @@
 -- The base task, and changes of it: what each document stands for.
-use Rattle.std.proofs.Common.{◌++◌, Bool, ◌≡◌, ℕ, true, false, List, [], ◌∷◌, codes, refl, Result, Ok, Err}
+use Rattle.std.proofs.Common.{◌++◌, Bool, ◌≡◌, ℕ, true, false, List, [], ◌∷◌, codes, refl, Result, Ok, Err, map}
 use Rattle.std.specs.Prelude.{pos, replicate}
 use Rattle.std.specs.Str.{is_utf8, chars}
 use Rattle.rights.specs.Sets.{all_rights, all_commands}
@@ -13,9 +13,9 @@ use Rattle.prog_asm.specs.Programs as programs
 use Rattle.prog_asm.specs.Forms as forms
 use Rattle.prog_asm.specs.Assembly.{assembly_of, line_read, fault, Word, FallsOff}
 use Rattle.kernel.proofs.Samples.{base}
-use Rattle.toml.specs.Data.{Data, string, integer, array, table, Members, no_members, member}
+use Rattle.toml.specs.Data.{Data, string, integer, boolean, array, table, Members, no_members, member}
 use Rattle.toml.proofs.OnLiterals.{toml_on_literals}
-use Rattle.task.specs.Plans.{Grant, On_node, FirstDescriptor, Plan, plan_with, unmarked}
+use Rattle.task.specs.Plans.{Grant, NamedProgram, On_node, FirstDescriptor, Plan, plan_with, unmarked}
 use Rattle.task_reader.specs.Written.{written_task}
 use Rattle.task_reader.specs.Paths.{place_of}
 use Rattle.task_reader.specs.Reading.{Mistake, can_stand, can_grant, can_open, Not_toml, Wrong_field, Wrong_node, Wrong_grant, Wrong_descriptor, Wrong_program, Past_limit, plan_of, plan_in, task_of}
@@ -353,3 +353,28 @@ seventeen_processes = refl
 a_descriptor_before_seventeen_processes : plan_in (with_processes (replicate 16 base_process ++ process (on 16 (codes "/work") ∷ []) ∷ [])) ≡ Err Wrong_descriptor
 unfolding base created can_stand can_grant can_open written_task plan_of plan_in place_of node_at is_within_limits is_file_name is_target assembly_of line_read forms.written_at
 a_descriptor_before_seventeen_processes = refl
+
+-- A program is marked where a truth value says that it is untrusted; nothing else may say so.
+abbrev said_of : Data → Members
+said_of value = with_programs (table (member (codes "code") (string (codes "halt\n")) (member (codes "name") (string (codes "main"))
+    (member (codes "untrusted") value no_members))) ∷ [])
+
+abbrev marks : Result Plan Mistake → List Bool
+marks (Ok plan) = map (λ (p : NamedProgram). p.marked) plan.programs
+marks (Err mistake) = []
+
+a_program_said_to_be_untrusted : marks (plan_in (said_of (boolean true))) ≡ true ∷ []
+unfolding base created can_stand can_grant can_open written_task plan_of plan_in place_of node_at is_within_limits is_file_name is_target assembly_of line_read forms.written_at
+a_program_said_to_be_untrusted = refl
+
+a_program_said_not_to_be : marks (plan_in (said_of (boolean false))) ≡ false ∷ []
+unfolding base created can_stand can_grant can_open written_task plan_of plan_in place_of node_at is_within_limits is_file_name is_target assembly_of line_read forms.written_at
+a_program_said_not_to_be = refl
+
+a_word_that_says_it : plan_in (said_of (string (codes "true"))) ≡ Err Wrong_field
+unfolding base created can_stand can_grant can_open written_task plan_of plan_in place_of node_at is_within_limits is_file_name is_target assembly_of line_read forms.written_at
+a_word_that_says_it = refl
+
+a_number_that_says_it : plan_in (said_of (integer (pos 1))) ≡ Err Wrong_field
+unfolding base created can_stand can_grant can_open written_task plan_of plan_in place_of node_at is_within_limits is_file_name is_target assembly_of line_read forms.written_at
+a_number_that_says_it = refl

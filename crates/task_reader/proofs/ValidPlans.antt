@@ -18,7 +18,7 @@ use Rattle.prog_asm.specs.Programs.{Instruction}
 use Rattle.prog_asm.specs.Assembly.{Fault, assembly_of}
 use Rattle.prog_asm.proofs.GoodPrograms.{assembly-good}
 use Rattle.toml.specs.Data.{Members}
-use Rattle.task.specs.Plans.{Grant, NamedProgram, FirstObject, On_node, On_end, FirstDescriptor, Start, Plan, unmarked, none_marked}
+use Rattle.task.specs.Plans.{Grant, NamedProgram, FirstObject, On_node, On_end, FirstDescriptor, Start, Plan}
 use Rattle.texts.specs.Names.{is_name}
 use Rattle.task.specs.Limits.{all_apart, can_follow, are_made, is_tree, is_grant, are_grants_apart, are_grants, is_program_named, are_named_apart, are_programs, is_object}
 use Rattle.task.specs.Limits.{is_descriptor, are_numbered_apart, are_descriptors, is_start, are_starts, is_plan}
@@ -30,8 +30,7 @@ use Rattle.task_reader.specs.Written.{names_of_programs, written_task}
 use Rattle.task_reader.specs.Reading.{Mistake, Wrong_field, Wrong_node, Wrong_grant, Wrong_descriptor, ◌>>=◌, or_mistake, can_stand, node_placed, node_behind, node_made, tree_from}
 use Rattle.task_reader.specs.Reading.{tree_of, can_grant, grant_at, grant_placed, granted_place, grants_placed, are_disjoint, disjoint, policy_of, number_below, can_open}
 use Rattle.task_reader.specs.Reading.{number_of_path, opened_object, object_placed, descriptor_at, descriptor_placed, descriptors_placed, numbered_apart, table_of, start_from}
-use Rattle.task_reader.specs.Reading.{start_placed, starts_placed, program_from, assembled, all_assembled, is_short, keeps_limits, plan_of, plan_in, task_of, Not_toml}
-use Rattle.task_reader.specs.Documents.{document_of}
+use Rattle.task_reader.specs.Reading.{start_placed, starts_placed, program_from, assembled, all_assembled, is_short, keeps_limits, plan_of, plan_in}
 use Rattle.task_reader.proofs.WrittenLaws.{some-equal, and_then-some, map-some, if-some, is_named_grant, is_named_program, has_side, is_bounded, is_given, IsWritten, task-written}
 
 ok-equal : {A : Type 0} (x y : A) → or_mistake Wrong_field (Some x) ≡ Ok y → x ≡ y
@@ -166,13 +165,13 @@ grants-valid tree written grants words once is few =
     (all-apart p.0 (subst (λ ns. are_once ns ≡ true) (sym all.named) once) q.0))
 
 -- the programs
-program-is : (name : List ℕ) (read : Result (List Instruction) Fault) (q : NamedProgram) → program_from name read ≡ Ok q
-    → (q.name ≡ name) × (read ≡ Ok q.code) × (q.marked ≡ false)
-program-is name (Ok code) q is =
-    let made : NamedProgram = unmarked name code in
+program-is : (name : List ℕ) (marked : Bool) (read : Result (List Instruction) Fault) (q : NamedProgram) → program_from name marked read ≡ Ok q
+    → (q.name ≡ name) × (read ≡ Ok q.code)
+program-is name marked (Ok code) q is =
+    let made : NamedProgram = record { name = name; code = code; marked = marked } in
     let same : made ≡ q = ok-equal made q is in
-    (ap (λ (x : NamedProgram). x.name) (sym same), ap (λ (x : NamedProgram). Ok x.code) same, ap (λ (x : NamedProgram). x.marked) (sym same))
-program-is name (Err fault) q is = absurd cc
+    (ap (λ (x : NamedProgram). x.name) (sym same), ap (λ (x : NamedProgram). Ok x.code) same)
+program-is name marked (Err fault) q is = absurd cc
 
 abbrev program_names : List NamedProgram → List (List ℕ)
 program_names programs = map (λ (p : NamedProgram). p.name) programs
@@ -180,21 +179,19 @@ program_names programs = map (λ (p : NamedProgram). p.name) programs
 record Assembled (written : List WrittenProgram) (programs : List NamedProgram) : Type 0 where
   named : program_names programs ≡ names_of_programs written
   are : list_all is_named_program written ≡ true → list_all is_program_named programs ≡ true
-  plain : list_all (λ (p : NamedProgram). not p.marked) programs ≡ true
 
 all-assembled : (written : List WrittenProgram) (programs : List NamedProgram) → all_assembled written ≡ Ok programs → Assembled written programs
-all-assembled [] programs is = subst (Assembled []) (ok-equal [] programs is) (record { named = refl; are = λ all. refl; plain = refl })
+all-assembled [] programs is = subst (Assembled []) (ok-equal [] programs is) (record { named = refl; are = λ all. refl })
 all-assembled (p ∷ written) programs is =
     let a = ok-then (assembled p) (λ first. all_assembled written >>= (λ rest. Ok (first ∷ rest))) programs is in
     let b = ok-then (all_assembled written) (λ rest. Ok (a.0 ∷ rest)) programs a.2 in
     let more = all-assembled written b.0 b.1 in
-    let facts = program-is p.name (assembly_of p.text) a.0 a.1 in
+    let facts = program-is p.name p.marked (assembly_of p.text) a.0 a.1 in
     let whole : Assembled (p ∷ written) (a.0 ∷ b.0) = record {
       named = ap (λ name. name ∷ program_names b.0) facts.0 ∙ ap (λ others. p.name ∷ others) more.named;
       are = λ all. both_true
           (both_true (subst (λ name. is_name name ≡ true) (sym facts.0) (both_left (is_named_program p) (list_all is_named_program written) all)) (assembly-good p.text a.0.code facts.1))
           (more.are (both_right (is_named_program p) (list_all is_named_program written) all));
-      plain = both_true (ap not facts.2) more.plain;
     } in
     subst (Assembled (p ∷ written)) (ok-equal (a.0 ∷ b.0) programs b.2) whole
 
@@ -379,21 +376,3 @@ unfolding plan_in
 read-valid ms plan is =
     let t = ok-some Wrong_field (written_task ms) plan_of plan is in
     plan-valid t.0 plan (task-written ms t.0 t.1) t.2
-
--- No program of a task that is read is marked.
-plan-unmarked : (task : WrittenTask) (plan : Plan) → plan_of task ≡ Ok plan → none_marked plan ≡ true
-unfolding plan_of
-plan-unmarked task plan is =
-    let t = ok-some Wrong_node (tree_of task.nodes) _ plan is in
-    let g = ok-some Wrong_grant (policy_of t.0 task.grants) _ plan t.2 in
-    let s = ok-some Wrong_descriptor (starts_placed t.0 task.starts) _ plan g.2 in
-    let p = ok-then (all_assembled task.programs) _ plan s.2 in
-    let l = if-ok _ (keeps_limits task t.0) _ plan p.2 in
-    subst (λ x. none_marked x ≡ true) l.1 (all-assembled task.programs p.0 p.1).plain
-
-pub read_unmarked : (bytes : List ℕ) (plan : Plan) → task_of bytes ≡ Ok plan → none_marked plan ≡ true
-unfolding task_of plan_in
-read_unmarked bytes plan is =
-    let document = ok-some Not_toml (document_of bytes) plan_in plan is in
-    let written = ok-some Wrong_field (written_task document.0) plan_of plan document.2 in
-    plan-unmarked written.0 plan written.2

@@ -73,16 +73,17 @@ grant-named d g is =
     let q = if-some (only_keys (codes "name" ∷ codes "path" ∷ codes "ops" ∷ []) p.0) _ g p.2 in
     name-is (codes "name") p.0 g.name (grant-parts _ _ _ g q.1)
 
-program-parts : (name text : Option (List ℕ)) (p : WrittenProgram) → program_with name text ≡ Some p → name ≡ Some p.name
-program-parts None text p is = absurd cc
-program-parts (Some n) None p is = absurd cc
-program-parts (Some n) (Some t) p is = let same : record { name = n; text = t } ≡ p = cc in ap (λ (x : WrittenProgram). Some x.name) same
+program-parts : (name text : Option (List ℕ)) (marked : Option Bool) (p : WrittenProgram) → program_with name text marked ≡ Some p → name ≡ Some p.name
+program-parts None text marked p is = absurd cc
+program-parts (Some n) None marked p is = absurd cc
+program-parts (Some n) (Some t) None p is = absurd cc
+program-parts (Some n) (Some t) (Some m) p is = let same : record { name = n; text = t; marked = m } ≡ p = cc in ap (λ (x : WrittenProgram). Some x.name) same
 
 program-named : (d : Data) (p : WrittenProgram) → written_program d ≡ Some p → is_named_program p ≡ true
 program-named d x is =
     let p = and_then-some program_in (as_table d) x is in
-    let q = if-some (only_keys (codes "name" ∷ codes "code" ∷ []) p.0) _ x p.2 in
-    name-is (codes "name") p.0 x.name (program-parts _ _ x q.1)
+    let q = if-some (only_keys (codes "name" ∷ codes "code" ∷ codes "untrusted" ∷ []) p.0) _ x p.2 in
+    name-is (codes "name") p.0 x.name (program-parts _ _ _ x q.1)
 
 -- sets
 abbrev holds_row : ℕ → (List ℕ × ℕ) → Bool

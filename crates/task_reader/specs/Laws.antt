@@ -2,7 +2,7 @@
 use Rattle.std.specs.Prelude.{◌≡◌, ℕ, true, List, Some, Ok}
 use Rattle.std.specs.List.{list_all}
 use Rattle.file_tree.specs.Places.{place_text}
-use Rattle.task.specs.Plans.{Plan, none_marked}
+use Rattle.task.specs.Plans.{Plan}
 use Rattle.task.specs.Limits.{is_plan}
 use Rattle.task_reader.specs.Paths.{is_path_name, place_of}
 use Rattle.task_reader.specs.Reading.{task_of}
@@ -10,10 +10,6 @@ use Rattle.task_reader.specs.Reading.{task_of}
 -- What is read as a task is one.
 abbrev pub TasksReadAreValid : Type 0
 TasksReadAreValid = (bytes : List ℕ) (plan : Plan) → task_of bytes ≡ Ok plan → is_plan plan ≡ true
-
--- No program of it is marked.
-abbrev pub TasksReadAreUnmarked : Type 0
-TasksReadAreUnmarked = (bytes : List ℕ) (plan : Plan) → task_of bytes ≡ Ok plan → none_marked plan ≡ true
 
 -- A path is the text of the place that it is, and the text of each place of path names is a path.
 abbrev pub PathsAreTexts : Type 0

@@ -11,7 +11,7 @@ use Rattle.prog_asm.specs.Programs.{Instruction}
 use Rattle.prog_asm.specs.Assembly.{Fault, assembly_of}
 use Rattle.fd_table.specs.Descriptions.{Access}
 use Rattle.toml.specs.Data.{Members}
-use Rattle.task.specs.Plans.{Grant, NamedProgram, FirstObject, On_node, On_end, FirstDescriptor, Start, Plan, plan_with, unmarked}
+use Rattle.task.specs.Plans.{Grant, NamedProgram, FirstObject, On_node, On_end, FirstDescriptor, Start, Plan, plan_with}
 use Rattle.task.specs.Limits.{all_apart, are_numbered_apart}
 use Rattle.task_reader.specs.Documents.{document_of}
 use Rattle.task_reader.specs.Paths.{place_of}
@@ -146,12 +146,12 @@ starts_placed tree (s ∷ starts) =
     option_and_then (λ x. option_map (λ rest. x ∷ rest) (starts_placed tree starts)) (start_placed tree s)
 
 -- The programs are assembled in the order of the task.
-abbrev pub program_from : List ℕ → Result (List Instruction) Fault → Result NamedProgram Mistake
-program_from name (Ok code) = Ok (unmarked name code)
-program_from name (Err fault) = Err (Wrong_program name fault)
+abbrev pub program_from : List ℕ → Bool → Result (List Instruction) Fault → Result NamedProgram Mistake
+program_from name marked (Ok code) = Ok (record { name = name; code = code; marked = marked })
+program_from name marked (Err fault) = Err (Wrong_program name fault)
 
 abbrev pub assembled : WrittenProgram → Result NamedProgram Mistake
-assembled p = program_from p.name (assembly_of p.text)
+assembled p = program_from p.name p.marked (assembly_of p.text)
 
 abbrev pub all_assembled : List WrittenProgram → Result (List NamedProgram) Mistake
 all_assembled [] = Ok []

@@ -9,7 +9,7 @@ use Rattle.file_tree.specs.Nodes.{Kind, File, Dir, Link}
 use Rattle.fd_table.specs.Descriptions.{Access}
 use Rattle.texts.specs.Names.{is_name}
 use Rattle.prog_asm.specs.Fields.{set_of_word}
-use Rattle.toml.specs.Data.{Data, Members, get_member, as_str, as_table}
+use Rattle.toml.specs.Data.{Data, Members, get_member, as_str, as_bool, as_table}
 use Rattle.task_reader.specs.Documents.{is_among, are_once, only_keys, text_at, integer_at, items_at, each_item, words_in, read_or}
 
 pub record WrittenNode : Type 0 where
@@ -25,6 +25,7 @@ pub record WrittenGrant : Type 0 where
 pub record WrittenProgram : Type 0 where
   pub name : List ℕ
   pub text : List ℕ
+  pub marked : Bool
 
 -- what a descriptor is of: the node at a path, which is opened so; or an end of a socket pair, by the pair's number, which
 -- may be any yet, and the side, 0 (a) or 1 (b)
@@ -123,15 +124,16 @@ grant_in ms =
 abbrev pub written_grant : Data → Option WrittenGrant
 written_grant d = option_and_then grant_in (as_table d)
 
--- A program has a name and a text.
-abbrev pub program_with : Option (List ℕ) → Option (List ℕ) → Option WrittenProgram
-program_with (Some name) (Some text) = Some (record { name = name; text = text })
-program_with _ _ = None
+-- A program has a name and a text. It is marked if it is said to be untrusted.
+abbrev pub program_with : Option (List ℕ) → Option (List ℕ) → Option Bool → Option WrittenProgram
+program_with (Some name) (Some text) (Some marked) = Some (record { name = name; text = text; marked = marked })
+program_with _ _ _ = None
 
 abbrev pub program_in : Members → Option WrittenProgram
 program_in ms =
-    if only_keys (codes "name" ∷ codes "code" ∷ []) ms
+    if only_keys (codes "name" ∷ codes "code" ∷ codes "untrusted" ∷ []) ms
     then program_with (name_at (codes "name") ms) (text_at (codes "code") ms)
+    (read_or false as_bool (get_member (codes "untrusted") ms))
     else None
 
 abbrev pub written_program : Data → Option WrittenProgram

@@ -26,7 +26,7 @@ abbrev pub grants_seen : List GrantCode → List WrittenGrant
 grants_seen grants = map grant_seen grants
 
 abbrev pub program_seen : ProgramCode → WrittenProgram
-program_seen p = record { name = p.name.now; text = p.text.now }
+program_seen p = record { name = p.name.now; text = p.text.now; marked = p.untrusted }
 
 abbrev pub programs_seen : List ProgramCode → List WrittenProgram
 programs_seen programs = map program_seen programs

@@ -23,7 +23,7 @@ fn assemble_one(alloc: Global, written: &WrittenProgram<'_>) -> Result<NamedProg
         Ok(program) => Ok(NamedProgram {
             name,
             program,
-            untrusted: false,
+            untrusted: written.untrusted,
         }),
         Err(AsmFault::Memory) => Err(TaskFault::Memory),
         Err(fault) => Err(TaskFault::Asm {

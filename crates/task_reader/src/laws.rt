@@ -1,15 +1,10 @@
 //! Laws of the reading of tasks. Each is the contract of a function that does nothing.
 
-ghost use Rattle.task_reader.specs.Laws.{PathsAreTexts, TasksReadAreUnmarked, TasksReadAreValid};
+ghost use Rattle.task_reader.specs.Laws.{PathsAreTexts, TasksReadAreValid};
 
 /// What some bytes are read as is a valid plan, by the definitions alone.
 pub fn tasks_read_are_valid()
     ensures { TasksReadAreValid }
-{}
-
-/// No program of a task that is read is marked: a task with a marked program is a value that no text stands for.
-pub fn tasks_read_are_unmarked()
-    ensures { TasksReadAreUnmarked }
 {}
 
 /// A path is the text of the place that it is read as, and each place whose names are path names is read back from its

@@ -25,6 +25,7 @@ pub(crate) struct WrittenGrant<'a> {
 pub(crate) struct WrittenProgram<'a> {
     pub(crate) name: &'a str,
     pub(crate) text: &'a str,
+    pub(crate) untrusted: bool,
 }
 
 /// What a first descriptor is of.

@@ -1,9 +1,10 @@
 //! The verdict on two texts.
 
-ghost use Rattle.std.specs.Prelude.{◌≡◌, Ok};
+ghost use Rattle.std.specs.Prelude.{◌≡◌, true, Ok};
 ghost use Rattle.certificate_text.specs.Readings.{certificate_of_text};
 ghost use Rattle.checker.specs.Verdicts.{Yes};
-ghost use Rattle.task.specs.Plans.{Plan};
+ghost use Rattle.task.specs.Confined.{IsConfined};
+ghost use Rattle.task.specs.Plans.{Plan, none_marked};
 ghost use Rattle.task.specs.Sandboxed.{IsSandboxed};
 ghost use Rattle.task_reader.specs.Reading.{task_of};
 ghost use Rattle.text_checker.specs.CheckViews.{ChecksTexts, ReadsTexts, SaysYes};
@@ -53,17 +54,19 @@ pub fn read_texts(alloc: Global, task: &[u8], cert: &[u8]) -> Result<Claim, Faul
 
 /// The verdict of `check` on the task and the certificate that two texts stand for.
 ///
-/// A yes means that the first text stands for a task, every run of which is sandboxed: whatever list of events, inputs,
-/// schedules and refusals, no process in capability mode does to the tree what the policy doesn't allow, no call is refused
-/// for a missing right or by capability mode, and no descriptor has more rights or commands than its source. (own)
+/// A yes means that the first text stands for a task, every run of which is confined: whatever list of events, inputs, schedules
+/// and refusals, and whatever processes of the programs that it says to be untrusted do in capability mode, no process in the mode
+/// does to the tree what the policy doesn't allow, no descriptor has more rights or commands than its source, and no call of a
+/// process of another program is refused for a missing right or by capability mode. Where the text says of no program that it is
+/// untrusted, every run is sandboxed: so is no call of any process. (own)
 ///
 /// # Errors
 ///
 /// Those of [`read_texts`].
-#[tactic(auto, using(task_reader::proofs::ValidPlans::read_unmarked))]
 pub fn check_text(alloc: Global, task: &[u8], cert: &[u8]) -> Result<Verdict, Fault>
     ensures exact { ChecksTexts result (task_of task.now) (certificate_of_text cert.now) }
-    ensures sound { SaysYes result → (plan : Plan) × (task_of task.now ≡ Ok plan) × IsSandboxed plan }
+    ensures sound { SaysYes result → (plan : Plan) × (task_of task.now ≡ Ok plan) × (none_marked plan ≡ true → IsSandboxed plan) }
+    ensures confined { SaysYes result → (plan : Plan) × (task_of task.now ≡ Ok plan) × IsConfined plan }
 {
     let claim = read_texts(alloc, task, cert)?;
     Ok(check(&claim.task, &claim.cert))

@@ -57,21 +57,21 @@ abbrev at_node : List (List ℕ) → ℕ → ℕ → Seen
 at_node place rights fcntls = record { subject = Node_at place; rights = rights; fcntls = fcntls }
 
 -- What a lookup finds, or where what it would make comes to stand.
-abbrev IsReached : List Node → List ℕ → Bool → (List (List ℕ) → Type 0) → lookups.Finding → Type 0
+abbrev pub IsReached : List Node → List ℕ → Bool → (List (List ℕ) → Type 0) → lookups.Finding → Type 0
 IsReached t path create Reaches (Found_node n) = (n < length t) × Reaches (node t n).place
 IsReached t path create Reaches (Found_free d) = (create ≡ true) × Reaches (at_name (node t d).place (last_component path))
 IsReached t path create Reaches (Not_found fault) = Unit {0}
 
 -- a node's place stays when its file is emptied, and a new node has its own
-truncated_place : (t : List Node) (b : Bool) (n : ℕ) → n < length t → (node (tree_after t (truncated b n)) n).place ≡ (node t n).place
+pub truncated_place : (t : List Node) (b : Bool) (n : ℕ) → n < length t → (node (tree_after t (truncated b n)) n).place ≡ (node t n).place
 truncated_place t true n there = ap (λ (m : Node). m.place) (filled_same t n [] there)
 truncated_place t false n there = refl
 
-last_node : (t : List Node) (m : Node) → node (t ++ m ∷ []) (length t) ≡ m
+pub last_node : (t : List Node) (m : Node) → node (t ++ m ∷ []) (length t) ≡ m
 last_node [] m = refl
 last_node (x ∷ t) m = last_node t m
 
-deep_truncated : (plan : Plan) (t : List Node) (b : Bool) (n : ℕ) → IsDeepChange plan.grants t (truncated b n)
+pub deep_truncated : (plan : Plan) (t : List Node) (b : Bool) (n : ℕ) → IsDeepChange plan.grants t (truncated b n)
 deep_truncated plan t true n = tt
 deep_truncated plan t false n = tt
 
@@ -150,15 +150,15 @@ module _ (plan : Plan) (certificate : Certificate) (w : World) (e : Event) (s : 
 
 -- ## What lookups reach
 -- A name is found free only by a call that may create it.
-free_made : (t : List Node) (d : ℕ) (create : Bool) → (last_if create ≡ Follow → IsFollowed t (Found_free d)) → create ≡ true
+pub free_made : (t : List Node) (d : ℕ) (create : Bool) → (last_if create ≡ Follow → IsFollowed t (Found_free d)) → create ≡ true
 free_made t d true followed = refl
 free_made t d false followed = absurd (followed refl)
 
 -- in each grant that a place is in
-abbrev IsBeside : List Grant → List (List ℕ) → List (List ℕ) → Type 0
+abbrev pub IsBeside : List Grant → List (List ℕ) → List (List ℕ) → Type 0
 IsBeside grants from place = (name : List ℕ) → grant_holds grants name from ≡ true → grant_holds grants name place ≡ true
 
-reached_beneath : (grants : List Grant) (t : List Node) (start : ℕ) (path : List ℕ) (create : Bool) (a : lookups.Finding)
+pub reached_beneath : (grants : List Grant) (t : List Node) (start : ℕ) (path : List ℕ) (create : Bool) (a : lookups.Finding)
     → FoundBeneath grants t start path (last_if create) a → IsReached t path create (IsBeside grants (node t start).place) a
 reached_beneath grants t start path create (Found_node n) found = (found.found.there.there, found.within)
 reached_beneath grants t start path create (Found_free d) found =

@@ -1,7 +1,7 @@
 -- What is owed of the answer of a call, by its tests; and that plain instructions, and successes that change neither the tree
 -- nor a table, owe it.
 use Rattle.std.proofs.Common.{◌≡◌, ℕ, Bool, true, false, List, refl, sym, ◌∙◌, subst, append-nil}
-use Rattle.std.specs.Prelude.{◌||◌, slice_set, Option, Some, None}
+use Rattle.std.specs.Prelude.{◌&&◌, ◌||◌, slice_set, Option, Some, None}
 use Rattle.rights.specs.Errors.{Errno, Cause, EBADF, BadDescriptor, EMFILE, Full}
 use Rattle.process.specs.State.{ProcessState}
 use Rattle.fd_table.specs.Descriptions.{PairClass, Access, Object, At_node, At_end, Descriptor}
@@ -19,7 +19,7 @@ use Rattle.rules.specs.Demands.{demands}
 use Rattle.rules.proofs.worlds.Seen.{table_of}
 use Rattle.rules.proofs.worlds.Invariant.{IsCarried, IsDescribed, bounds}
 use Rattle.rules.proofs.frames.KeptTrees.{IsDeepChange}
-use Rattle.rules.proofs.frames.Frames.{KeepsClasses, IfPushed, bounds_persist}
+use Rattle.rules.proofs.frames.Frames.{KeepsClasses, IfPushed, described_stays}
 use Rattle.rules.proofs.frames.ChangeKinds.{frame_changed}
 use Rattle.rules.proofs.bounds.Describing.{Described, described, from_described, register_changed}
 use Rattle.rules.proofs.outcomes.Outcomes.{GoesOn}
@@ -35,7 +35,7 @@ pub plain_owed :
     → Owed plan certificate w e.process s choice known.inv.classes (executed w e choice s i)
 plain_owed plan certificate w e s choice i byte known moves =
     subst (Owed plan certificate w e.process s choice known.inv.classes) (sym moves.is)
-    (owed_plain plan certificate w e.process s choice i known moves.to moves.resting moves.arrives)
+    (owed_plain plan certificate w e.process s choice i known moves.to ((λ k. moves.marked k && moves.mode k) ∙ known.follows) moves.resting moves.arrives)
 
 -- a call that changes neither the tree, but for contents, nor a table
 abbrev pub quiet : TreeChange → QueueChange → StateChange → Bool → Change
@@ -115,13 +115,14 @@ module _ (plan : Plan) (certificate : Certificate) (w : World) (p : ℕ) (s : Pr
 
   pub owed_quiet :
       (value : ℕ) (tree : TreeChange) (queue : QueueChange) (state : StateChange) (enters : Bool) (effects : List Effect) (after : Bound) (i : Interval)
+      → (s.marked && (s.mode || enters)) ≡ false
       → IsDeepChange plan.grants w.tree tree → (s.mode ≡ true → AreAllowed plan.grants effects)
       → IfPushed (IsCarried (bounds plan certificate) (changed w p (given s value (quiet tree queue state enters)) choice (quiet tree queue state enters)) known.inv.classes) queue
       → GoesOn plan certificate s after i → interval_describes i value ≡ true
       → Described (grant_holds plan.grants) after (s.mode || enters) s.registers (table_of plan (changed w p (given s value (quiet tree queue state enters)) choice (quiet tree queue state enters)) p)
       → OwedBy (Gives value (quiet tree queue state enters) effects)
   unfolding OwedBy answered
-  owed_quiet value tree queue state enters effects after i deep allowed pushed leads fits inside =
+  owed_quiet value tree queue state enters effects after i follows deep allowed pushed leads fits inside =
       let change : Change = quiet tree queue state enters in
       let t : ProcessState = given s value change in
       let v : World = changed w p t choice change in
@@ -135,11 +136,11 @@ module _ (plan : Plan) (certificate : Certificate) (w : World) (p : ℕ) (s : Pr
           kept = classes_same t tree queue state enters;
           owes = record {
             own =
-                in_place plan certificate w p s choice (Invoke call otherwise) known v t (processes_same t tree queue state enters)
-                (λ alive. living_there plan certificate v p t refl
+                in_place plan certificate w p s choice known.acts known.inv v t (processes_same t tree queue state enters)
+                (λ alive. living_there plan certificate v p t follows refl
                 (arrives plan certificate t (table_of plan v p) (with_interval after 0 i) leads
                 (register_changed (grant_holds plan.grants) after (s.mode || enters) s.registers (table_of plan v p) 0 value i fits inside)));
-            child = no_child plan certificate w p s choice (Invoke call otherwise) known v t (processes_same t tree queue state enters);
+            child = no_child plan certificate w p s choice known.acts known.inv v t (processes_same t tree queue state enters);
             pushed = pushed;
           };
         };
@@ -164,7 +165,7 @@ module _ (plan : Plan) (certificate : Certificate) (w : World) (p : ℕ) (s : Pr
         is = from_described holds b s.mode s.registers (table_of plan w p) known.stands.inside;
       } in
       let after : IsDescribed plan certificate v p s =
-      (bounds_persist plan w v choice queue p (frame_changed plan w p s choice known.acts t change deep) certificate).lives p s
+      described_stays plan w v choice queue p (frame_changed plan w p s choice known.acts t change deep) certificate p s
       (table_same t tree queue state enters) before in
       let clash : Some after.bound ≡ Some b = sym after.at ∙ known.stands.at in
       let same : after.bound ≡ b = cc in
@@ -180,6 +181,6 @@ module _ (plan : Plan) (certificate : Certificate) (w : World) (p : ℕ) (s : Pr
       → OwedBy (Gives value (quiet tree queue state false) effects)
   owed_value value tree queue state effects i deep allowed pushed leads fits =
       let t : ProcessState = given s value (quiet tree queue state false) in
-      owed_quiet value tree queue state false effects known.stands.bound i deep allowed pushed leads fits
+      owed_quiet value tree queue state false effects known.stands.bound i (subst (λ on. (s.marked && on) ≡ false) (sym (off_stays s.mode)) known.follows) deep allowed pushed leads fits
       (subst (λ on. Described (grant_holds plan.grants) known.stands.bound on s.registers (table_of plan (changed w p t choice (quiet tree queue state false)) p))
       (sym (off_stays s.mode)) (inside_later t tree queue state false deep))

@@ -1,6 +1,6 @@
 -- What is owed of a success that changes a table.
 use Rattle.std.proofs.Common.{◌≡◌, ℕ, true, false, List, length, refl, sym, subst}
-use Rattle.std.specs.Prelude.{◌||◌, slice_set, Some}
+use Rattle.std.specs.Prelude.{◌&&◌, ◌||◌, slice_set, Some}
 use Rattle.process.specs.State.{ProcessState, forked}
 use Rattle.fd_table.specs.Descriptions.{Descriptor, IfHeld}
 use Rattle.prog_asm.specs.Programs.{Syscall, Invoke}
@@ -14,14 +14,14 @@ use Rattle.task.specs.Plans.{Plan}
 use Rattle.task.specs.Policies.{grant_holds}
 use Rattle.task.specs.Sandboxed.{AreAllowed}
 use Rattle.rules.proofs.worlds.Seen.{table_of}
-use Rattle.rules.proofs.worlds.Invariant.{IsLiving, IsDescribed, bounds}
+use Rattle.rules.proofs.worlds.Invariant.{IsLiving, LivesBy, is_free, bounds}
 use Rattle.rules.proofs.frames.ChangeKinds.{frame_changed}
 use Rattle.rules.proofs.frames.PairClasses.{classes_after, IsNamed, entry_named, classes_changed}
 use Rattle.rules.proofs.bounds.Describing.{Described, register_changed}
 use Rattle.rules.proofs.frames.Arrivals.{OwesChange, if_child, lives_on, own_owed, child_owed}
 use Rattle.rules.proofs.outcomes.Outcomes.{GoesOn}
 use Rattle.rules.proofs.outcomes.Plain.{arrives}
-use Rattle.rules.proofs.calls.Owing.{Standing, described_there}
+use Rattle.rules.proofs.calls.Owing.{Standing, described_there, lives_described}
 use Rattle.rules.proofs.calls.OwedCalls.{OwedBy, off_stays, owed_by}
 
 module _ (plan : Plan) (certificate : Certificate) (w : World) (p : ℕ) (s : ProcessState) (choice : Choice) (call : Syscall) (otherwise : ℕ)
@@ -62,17 +62,18 @@ module _ (plan : Plan) (certificate : Certificate) (w : World) (p : ℕ) (s : Pr
       → second_number change.table (slice_set s.registers 0 value) ≡ slice_set registers 0 value
       → GoesOn plan certificate s after i → interval_describes i value ≡ true
       → Described (grant_holds plan.grants) after s.mode registers (table_of plan (changed w p (given s value change) choice change) p)
-      → IsDescribed plan certificate (changed w p (given s value change) choice change) p (given s value change)
+      → LivesBy plan certificate (is_free (given s value change)) (changed w p (given s value change) choice change) p (given s value change)
   own_described value change after i registers enters second leads fits inside =
       let t : ProcessState = given s value change in
       let v : World = changed w p t choice change in
       let holds = grant_holds plan.grants in
       let on : (s.mode || change.enters) ≡ s.mode = subst (λ b. (s.mode || b) ≡ s.mode) (sym enters) (off_stays s.mode) in
-      described_there plan certificate v p t
+      lives_described plan certificate v p t (subst (λ m. (s.marked && m) ≡ false) (sym on) known.follows)
+      (described_there plan certificate v p t
       (arrives plan certificate t (table_of plan v p) (with_interval after 0 i) leads
       (subst (λ m. Described holds (with_interval after 0 i) m t.registers (table_of plan v p)) (sym on)
       (subst (λ rs. Described holds (with_interval after 0 i) s.mode rs (table_of plan v p)) (sym second)
-      (register_changed holds after s.mode registers (table_of plan v p) 0 value i fits inside))))
+      (register_changed holds after s.mode registers (table_of plan v p) 0 value i fits inside)))))
 
   -- what a number of the process has is named
   pub held_named : (n : ℕ) (d : Descriptor) → w.files.table p n ≡ Some d → IsNamed w choice known.inv.classes d

@@ -1,21 +1,22 @@
 -- `recvfd`, `sendfd`, `socketpair` and `fork` owe what they should.
 use Rattle.std.proofs.Common.{◌≡◌, ◌≢◌, ℕ, ◌+◌, Bool, true, false, List, [], ◌∷◌, length, refl, arith, ap, sym, ◌∙◌, subst}
-use Rattle.std.specs.Prelude.{◌-◌, ◌%◌, ◌<◌, Option, Some, None, nat_lt, ◌||◌, slice_set, if◌then◌else◌}
+use Rattle.std.specs.Prelude.{◌-◌, ◌%◌, ◌<◌, Option, Some, None, nat_lt, ◌&&◌, ◌||◌, slice_set, if◌then◌else◌}
 use Rattle.std.specs.Option.{option_map}
 use Rattle.std.specs.Cmp.Derive.{both_true}
 use Rattle.std.proofs.lemmas.Bool.{ltb-true, le-leb}
 use Rattle.rights.specs.Limits.{most_processes, most_messages, most_descriptors}
+use Rattle.rights.specs.Classes.{Class}
 use Rattle.rights.specs.Classes as classes
 use Rattle.process.specs.State.{ProcessState, forked}
-use Rattle.fd_table.specs.Descriptions.{PairClass, Made_at, At_end, Descriptor, Message, IfHeld, other_side}
+use Rattle.fd_table.specs.Descriptions.{PairClass, Initial, Made_at, Made_by, At_end, Descriptor, Message, IfHeld, other_side}
 use Rattle.fd_table.specs.OpenFiles.{lowest_from, lowest_free}
 use Rattle.prog_asm.specs.Programs.{Operand, Syscall, Sendfd, Recvfd, Socketpair, Fork, Invoke}
 use Rattle.certificate.specs.Bounds.{with_interval, Socket, Held, with_slot, Bound, Certificate}
 use Rattle.certificate.specs.Bounds as slots
-use Rattle.certificate.specs.Describes.{Seen, Holds, interval_describes}
+use Rattle.certificate.specs.Describes.{End_of, Seen, Holds, held_describes, interval_describes}
 use Rattle.kernel.specs.World.{World, Choice}
 use Rattle.kernel.specs.Answers.{Event, Answer, Same_tree, New_pair, New_process, Push, Pop, Same_queue, Same_state, Change, value_of}
-use Rattle.kernel.specs.Calls.{answer, receive_end, received, pair_at}
+use Rattle.kernel.specs.Calls.{answer, own_class, receive_end, received, pair_at, sent_end}
 use Rattle.kernel.specs.Changes.{second_number, given, changed}
 use Rattle.kernel.specs.WellFormed.{IsDescriptor, EachMessage}
 use Rattle.task.specs.Plans.{Plan, program_name}
@@ -23,24 +24,24 @@ use Rattle.task.specs.Policies.{grant_holds}
 use Rattle.rules.specs.Intervals.{only}
 use Rattle.rules.specs.Channels.{channel_at}
 use Rattle.rules.specs.Outcomes.{from_to, all_held, with_pair}
-use Rattle.rules.proofs.worlds.Seen.{class_of, subject_of, seen_of, table_of}
+use Rattle.rules.proofs.worlds.Seen.{end_of, subject_of, seen_of, table_of}
 use Rattle.rules.proofs.bounds.IntervalLaws.{only_fits}
 use Rattle.rules.proofs.bounds.Describing.{Described, register_changed, set_apart}
-use Rattle.rules.proofs.worlds.Invariant.{IsInLine, IsDescribed, line_describes, bounds}
+use Rattle.rules.proofs.worlds.Invariant.{Carries, IsInLine, LivesBy, is_free, line_describes, bounds}
 use Rattle.rules.proofs.frames.Frames.{bounds_persist}
 use Rattle.rules.proofs.frames.ChangeKinds.{frame_changed}
 use Rattle.rules.proofs.frames.PairClasses.{IsNamed}
 use Rattle.rules.proofs.frames.OwnTables.{old_slots, child_slots, parent_slots, pair_slots}
 use Rattle.rules.proofs.frames.Arrivals.{named_end, sent_arrives}
-use Rattle.rules.proofs.frames.Bounded.{front_in_line}
-use Rattle.rules.proofs.points.Known.{Line, sends_line}
+use Rattle.rules.proofs.frames.Bounded.{front_carried}
+use Rattle.rules.proofs.points.Known.{Line, never_sends_own, sends_line}
 use Rattle.rules.proofs.outcomes.CallOutcomes.{leads_fork, leads_fork_child}
 use Rattle.rules.proofs.outcomes.Outcomes.{Takes}
-use Rattle.rules.proofs.outcomes.TakenOutcomes.{IsComing, leads_recvfd, end_described, leads_pair, leads_sendfd}
+use Rattle.rules.proofs.outcomes.TakenOutcomes.{IsComing, fresh, leads_recvfd, leads_own_recvfd, end_described, leads_pair, leads_sendfd}
 use Rattle.rules.proofs.points.Taken.{number_taken, pair_taken}
 use Rattle.rules.proofs.points.Uses.{through}
 use Rattle.rules.proofs.outcomes.Plain.{arrives}
-use Rattle.rules.proofs.calls.Owing.{Standing, described_there}
+use Rattle.rules.proofs.calls.Owing.{Standing, described_there, lives_described}
 use Rattle.rules.proofs.calls.OwedCalls.{OwedBy, off_stays, quiet, owed_fails, owed_passed, owed_unless, owed_held, owed_object, owed_number, owed_value}
 use Rattle.rules.proofs.calls.OwedTests.{owed_blocked}
 use Rattle.rules.proofs.calls.OwedChanges.{owed_change, own_described, held_named}
@@ -66,11 +67,35 @@ module _ (plan : Plan) (certificate : Certificate) (w : World) (p : ℕ) (s : Pr
 
 module _ (plan : Plan) (certificate : Certificate) (w : World) (e : Event) (s : ProcessState) (choice : Choice) where
   -- ## recvfd
+  -- the number takes what the front message carries, whatever the class of the pair
+  takes_carried : (x : Operand) (otherwise : ℕ) (known : Standing plan certificate w e.process s choice (Invoke (Recvfd x) otherwise))
+      → (pair side number : ℕ) (class : PairClass) (d c : Descriptor) → w.files.table e.process (value_of s x) ≡ Some d
+      → w.files.objects d.description ≡ At_end pair side class → lowest_free (w.files.table e.process) ≡ Some number
+      → Carries plan certificate w class (other_side side) c → IsDescriptor w.tree known.acts.formed.numbering w.files.objects w.files.states c
+      → Takes plan certificate s known.stands.bound number (seen_of plan w c)
+  takes_carried x otherwise known pair side number (Initial n) d c here end free carried formed =
+      let holds = grant_holds plan.grants in
+      leads_recvfd plan certificate s (table_of plan w e.process) x otherwise known.stands (seen_of plan w d) (classes.Initial n) side (seen_of plan w c) number
+      (ap (option_map (seen_of plan w)) here) (ap (subject_of plan w.tree) end)
+      (coming holds (channel_at certificate (classes.Initial n) (other_side side)) (seen_of plan w c) carried) formed.rights formed.fcntls
+      (number_taken plan certificate s (seen_of plan w) (w.files.table e.process) (Recvfd x) otherwise known.stands refl number free)
+  takes_carried x otherwise known pair side number (Made_at program point) d c here end free carried formed =
+      let holds = grant_holds plan.grants in
+      let class = classes.Made_at (program_name plan program) point in
+      leads_recvfd plan certificate s (table_of plan w e.process) x otherwise known.stands (seen_of plan w d) class side (seen_of plan w c) number
+      (ap (option_map (seen_of plan w)) here) (ap (subject_of plan w.tree) end)
+      (coming holds (channel_at certificate class (other_side side)) (seen_of plan w c) carried) formed.rights formed.fcntls
+      (number_taken plan certificate s (seen_of plan w) (w.files.table e.process) (Recvfd x) otherwise known.stands refl number free)
+  takes_carried x otherwise known pair side number (Made_by program) d c here end free carried formed =
+      leads_own_recvfd plan certificate s (table_of plan w e.process) x otherwise known.stands (seen_of plan w d) (program_name plan program) side (seen_of plan w c) number
+      (ap (option_map (seen_of plan w)) here) (ap (subject_of plan w.tree) end) formed.rights formed.fcntls
+      (number_taken plan certificate s (seen_of plan w) (w.files.table e.process) (Recvfd x) otherwise known.stands refl number free)
+
   -- what the front message carries
   owed_received : (x : Operand) (otherwise : ℕ) (known : Standing plan certificate w e.process s choice (Invoke (Recvfd x) otherwise))
       → (pair side number : ℕ) (class : PairClass) (d : Descriptor) → w.files.table e.process (value_of s x) ≡ Some d
       → w.files.objects d.description ≡ At_end pair side class → lowest_free (w.files.table e.process) ≡ Some number → (o : Option Descriptor)
-      → IfHeld (λ c. IsNamed w choice known.inv.classes c × IsInLine plan certificate w (known.inv.classes pair) (other_side side) c) o
+      → IfHeld (λ c. IsNamed w choice known.inv.classes c × Carries plan certificate w (known.inv.classes pair) (other_side side) c) o
       → IfHeld (IsDescriptor w.tree known.acts.formed.numbering w.files.objects w.files.states) o
       → OwedBy plan certificate w e.process s choice (Recvfd x) otherwise known (received w e.process s e pair side number o)
   owed_received x otherwise known pair side number class d here end free None carried formed =
@@ -78,16 +103,10 @@ module _ (plan : Plan) (certificate : Certificate) (w : World) (e : Event) (s : 
   owed_received x otherwise known pair side number class d here end free (Some c) carried formed =
       let call = Recvfd x in
       let p = e.process in
-      let holds = grant_holds plan.grants in
       let named : IsNamed w choice known.inv.classes d = held_named plan certificate w p s choice call otherwise known (value_of s x) d here in
       let one : known.inv.classes pair ≡ class = (named_end plan w p s choice known.acts (bounds plan certificate) known.inv d pair side class named end).1 in
-      let line : line_describes holds (channel_at certificate (class_of plan class) (other_side side)) (seen_of plan w c) ≡ true =
-      subst (λ k. IsInLine plan certificate w k (other_side side) c) one carried.1 in
       let is : Takes plan certificate s known.stands.bound number (seen_of plan w c) =
-      leads_recvfd plan certificate s (table_of plan w p) x otherwise known.stands (seen_of plan w d) (class_of plan class) side (seen_of plan w c) number
-      (ap (option_map (seen_of plan w)) here) (ap (subject_of plan w.tree) end)
-      (coming holds (channel_at certificate (class_of plan class) (other_side side)) (seen_of plan w c) line) formed.rights formed.fcntls
-      (number_taken plan certificate s (seen_of plan w) (w.files.table p) call otherwise known.stands refl number free) in
+      takes_carried x otherwise known pair side number class d c here end free (subst (λ k. Carries plan certificate w k (other_side side) c) one carried.1) formed in
       owed_set_queued plan certificate w p s choice call otherwise known number number c (Pop pair (other_side side)) is.held (only number) tt carried.0
       is.describes (only_fits number) is.leads
 
@@ -104,7 +123,7 @@ module _ (plan : Plan) (certificate : Certificate) (w : World) (e : Event) (s : 
       subst (EachMessage (IsDescriptor w.tree known.acts.formed.numbering w.files.objects w.files.states)) is
       (known.acts.formed.world.messages pair (other_side side)) in
       owed_received x otherwise known pair side number class d here end free m.passed
-      (front_in_line plan certificate w e.process s choice known.acts known.inv pair (other_side side) m messages is) formed.1
+      (front_carried plan certificate w e.process s choice known.acts known.inv pair (other_side side) m messages is) formed.1
 
   pub owed_recvfd : (x : Operand) (otherwise : ℕ) (known : Standing plan certificate w e.process s choice (Invoke (Recvfd x) otherwise))
       → OwedBy plan certificate w e.process s choice (Recvfd x) otherwise known (answer w e.process s e (Recvfd x))
@@ -122,23 +141,20 @@ module _ (plan : Plan) (certificate : Certificate) (w : World) (e : Event) (s : 
       owed_receive_end x otherwise known pair side number class d here is free (w.files.queue pair (other_side side)) refl))))
 
   -- ## sendfd
-  pub owed_sendfd : (x y v : Operand) (otherwise : ℕ) (known : Standing plan certificate w e.process s choice (Invoke (Sendfd x y v) otherwise))
-      → OwedBy plan certificate w e.process s choice (Sendfd x y v) otherwise known (answer w e.process s e (Sendfd x y v))
-  unfolding answer
-  owed_sendfd x y v otherwise known =
+  -- into an end of a class that a certificate can name
+  owed_sent : (x y v : Operand) (otherwise : ℕ) (known : Standing plan certificate w e.process s choice (Invoke (Sendfd x y v) otherwise))
+      → (d passed : Descriptor) → w.files.table e.process (value_of s x) ≡ Some d → w.files.table e.process (value_of s y) ≡ Some passed
+      → (pair side : ℕ) (class : PairClass) → w.files.objects d.description ≡ At_end pair side class → (named : Class) → end_of plan class side ≡ End_of named side
+      → (IsInLine plan certificate w named side passed → Carries plan certificate w class side passed)
+      → OwedBy plan certificate w e.process s choice (Sendfd x y v) otherwise known
+      (sent_end w e.process s e d.description pair side (record { byte = value_of s v % 256; passed = Some passed }))
+  owed_sent x y v otherwise known d passed here also pair side class is class_named end_is carried =
       let call = Sendfd x y v in
       let p = e.process in
       let holds = grant_holds plan.grants in
-      owed_held plan certificate w p s choice call otherwise known refl (w.files.table p (value_of s x)) _ (λ d here.
-      owed_held plan certificate w p s choice call otherwise known refl (w.files.table p (value_of s y)) _ (λ passed also.
       let there = ap (option_map (seen_of plan w)) here in
       let beside = ap (option_map (seen_of plan w)) also in
-      let has = (through plan certificate s (table_of plan w p) call otherwise known.stands x (seen_of plan w d) refl there).has in
-      owed_passed plan certificate w p s choice call otherwise known _ _ _ _ has.rights
-      (owed_object plan certificate w p s choice call otherwise known (w.files.objects d.description) _ _
-      (λ n access is. owed_fails plan certificate w p s choice call otherwise known refl _ _ tt)
-      (λ pair side class is.
-      let end = ap (subject_of plan w.tree) is in
+      let end = ap (subject_of plan w.tree) is ∙ end_is in
       let message : Message = record { byte = value_of s v % 256; passed = Some passed } in
       let change : Change = quiet Same_tree (Push pair side message) Same_state false in
       let t : ProcessState = given s 1 change in
@@ -146,10 +162,10 @@ module _ (plan : Plan) (certificate : Certificate) (w : World) (e : Event) (s : 
       let through_end : (pair ≢ choice.pair) × (known.inv.classes pair ≡ class) =
       named_end plan w p s choice known.acts (bounds plan certificate) known.inv d pair side class
       (held_named plan certificate w p s choice call otherwise known (value_of s x) d here) is in
-      let line : Line holds (channel_at certificate (class_of plan class) side) (seen_of plan w passed) =
-      sends_line plan certificate s (table_of plan w p) x y v otherwise known.stands (seen_of plan w d) (seen_of plan w passed) (class_of plan class) side there beside end in
-      let carries : IsInLine plan certificate w (known.inv.classes pair) side passed =
-      subst (λ k. IsInLine plan certificate w k side passed) (sym through_end.1) (in_line holds (channel_at certificate (class_of plan class) side) (seen_of plan w passed) line) in
+      let line : Line holds (channel_at certificate class_named side) (seen_of plan w passed) =
+      sends_line plan certificate s (table_of plan w p) x y v otherwise known.stands (seen_of plan w d) (seen_of plan w passed) class_named side there beside end in
+      let carries : Carries plan certificate w (known.inv.classes pair) side passed =
+      subst (λ k. Carries plan certificate w k side passed) (sym through_end.1) (carried (in_line holds (channel_at certificate class_named side) (seen_of plan w passed) line)) in
       owed_unless plan certificate w p s choice call otherwise known refl _ _ _ _ tt (λ opened.
       owed_if plan certificate w p s choice call otherwise known (nat_lt (length (w.files.queue pair side)) most_messages) _ _
       (λ room.
@@ -157,9 +173,36 @@ module _ (plan : Plan) (certificate : Certificate) (w : World) (e : Event) (s : 
       (sent_arrives plan w p s choice known.acts (bounds plan certificate) known.inv t change tt
       (bounds_persist plan w (changed w p t choice change) choice (Push pair side message) p (frame_changed plan w p s choice known.acts t change tt) certificate)
       pair side through_end.0 passed named carries)
-      (leads_sendfd plan certificate s (table_of plan w p) x y v otherwise known.stands (seen_of plan w d) (seen_of plan w passed) (class_of plan class) side there beside end)
+      (leads_sendfd plan certificate s (table_of plan w p) x y v otherwise known.stands (seen_of plan w d) (seen_of plan w passed) class_named side there beside end)
       (only_fits 1))
-      (owed_blocked plan certificate w e s choice call otherwise known refl (w.files.states d.description).nonblock))))))
+      (owed_blocked plan certificate w e s choice call otherwise known refl (w.files.states d.description).nonblock))
+
+  owed_into : (x y v : Operand) (otherwise : ℕ) (known : Standing plan certificate w e.process s choice (Invoke (Sendfd x y v) otherwise))
+      → (d passed : Descriptor) → w.files.table e.process (value_of s x) ≡ Some d → w.files.table e.process (value_of s y) ≡ Some passed
+      → (pair side : ℕ) (class : PairClass) → w.files.objects d.description ≡ At_end pair side class
+      → OwedBy plan certificate w e.process s choice (Sendfd x y v) otherwise known
+      (sent_end w e.process s e d.description pair side (record { byte = value_of s v % 256; passed = Some passed }))
+  owed_into x y v otherwise known d passed here also pair side (Initial n) is =
+      owed_sent x y v otherwise known d passed here also pair side (Initial n) is (classes.Initial n) refl (λ line. line)
+  owed_into x y v otherwise known d passed here also pair side (Made_at program point) is =
+      owed_sent x y v otherwise known d passed here also pair side (Made_at program point) is (classes.Made_at (program_name plan program) point) refl (λ line. line)
+  owed_into x y v otherwise known d passed here also pair side (Made_by program) is =
+      absurd (never_sends_own plan certificate s (table_of plan w e.process) x y v otherwise known.stands (seen_of plan w d) (program_name plan program) side
+      (ap (option_map (seen_of plan w)) here) (ap (subject_of plan w.tree) is))
+
+  pub owed_sendfd : (x y v : Operand) (otherwise : ℕ) (known : Standing plan certificate w e.process s choice (Invoke (Sendfd x y v) otherwise))
+      → OwedBy plan certificate w e.process s choice (Sendfd x y v) otherwise known (answer w e.process s e (Sendfd x y v))
+  unfolding answer
+  owed_sendfd x y v otherwise known =
+      let call = Sendfd x y v in
+      let p = e.process in
+      owed_held plan certificate w p s choice call otherwise known refl (w.files.table p (value_of s x)) _ (λ d here.
+      owed_held plan certificate w p s choice call otherwise known refl (w.files.table p (value_of s y)) _ (λ passed also.
+      let has = (through plan certificate s (table_of plan w p) call otherwise known.stands x (seen_of plan w d) refl (ap (option_map (seen_of plan w)) here)).has in
+      owed_passed plan certificate w p s choice call otherwise known _ _ _ _ has.rights
+      (owed_object plan certificate w p s choice call otherwise known (w.files.objects d.description) _ _
+      (λ n access is. owed_fails plan certificate w p s choice call otherwise known refl _ _ tt)
+      (λ pair side class is. owed_into x y v otherwise known d passed here also pair side class is))))
 
   -- ## socketpair
   at_second : (otherwise : ℕ) (known : Standing plan certificate w e.process s choice (Invoke Socketpair otherwise)) (first : ℕ)
@@ -173,7 +216,9 @@ module _ (plan : Plan) (certificate : Certificate) (w : World) (e : Event) (s : 
       owed_number plan certificate w p s choice Socketpair otherwise known refl (lowest_from (most_descriptors - 1 - first) (first + 1) (w.files.table p)) _
       (λ second free_too.
       owed_unless plan certificate w p s choice Socketpair otherwise known refl _ _ _ _ tt (λ goes.
-      let change : Change = entries (New_pair first second (Made_at s.program s.point)) Same_queue in
+      let class : PairClass = own_class s in
+      let own : class ≡ Made_at s.program s.point = ap (λ b. if b then Made_by s.program else Made_at s.program s.point) known.follows in
+      let change : Change = entries (New_pair first second class) Same_queue in
       let t : ProcessState = given s first change in
       let one : Held = all_held (Socket (classes.Made_at name s.point) 0) in
       let other : Held = all_held (Socket (classes.Made_at name s.point) 1) in
@@ -183,8 +228,9 @@ module _ (plan : Plan) (certificate : Certificate) (w : World) (e : Event) (s : 
         mode = known.stands.inside.mode;
         registers = known.stands.inside.registers;
         slots =
-            pair_slots plan w p s choice known.acts t change tt first second (Made_at s.program s.point) refl one other
-            (end_described plan certificate s (table_of plan w p) name s.point 0) (end_described plan certificate s (table_of plan w p) name s.point 1)
+            pair_slots plan w p s choice known.acts t change tt first second class refl one other
+            (subst (λ c. held_describes holds one (fresh (end_of plan c 0)) ≡ true) (sym own) (end_described plan certificate s (table_of plan w p) name s.point 0))
+            (subst (λ c. held_describes holds other (fresh (end_of plan c 1)) ≡ true) (sym own) (end_described plan certificate s (table_of plan w p) name s.point 1))
             b.slots known.stands.inside.slots;
       } in
       owed_change plan certificate w p s choice Socketpair otherwise known first change [] (λ on. tt) (record {
@@ -253,7 +299,7 @@ module _ (plan : Plan) (certificate : Certificate) (w : World) (e : Event) (s : 
       child_described : (otherwise : ℕ) (known : Standing plan certificate w e.process s choice (Invoke Fork otherwise)) (made : ℕ) (change : Change)
           → change ≡ entries New_process Same_queue
           → Described (grant_holds plan.grants) known.stands.bound s.mode s.registers (table_of plan (changed w e.process (given s made change) choice change) made)
-          → IsDescribed plan certificate (changed w e.process (given s made change) choice change) made (forked (given s made change))
+          → LivesBy plan certificate (is_free (given s made change)) (changed w e.process (given s made change) choice change) made (forked (given s made change))
       child_described otherwise known made change is child =
           let holds = grant_holds plan.grants in
           let t : ProcessState = given s made change in
@@ -261,9 +307,10 @@ module _ (plan : Plan) (certificate : Certificate) (w : World) (e : Event) (s : 
           let enters : (s.mode || change.enters) ≡ s.mode = ap (λ (c : Change). s.mode || c.enters) is ∙ off_stays s.mode in
           let registers : (forked t).registers ≡ slice_set s.registers 0 0 =
           ap (λ (c : Change). slice_set (second_number c.table (slice_set s.registers 0 made)) 0 0) is ∙ set_twice s.registers made 0 in
-          described_there plan certificate v made (forked t)
+          lives_described plan certificate v made (forked t) (subst (λ m. (s.marked && m) ≡ false) (sym enters) known.follows)
+          (described_there plan certificate v made (forked t)
           (arrives plan certificate (forked t) (table_of plan v made) (with_interval known.stands.bound 0 (only 0))
           (leads_fork_child plan certificate s (table_of plan w e.process) otherwise known.stands)
           (subst (λ m. Described holds (with_interval known.stands.bound 0 (only 0)) m (forked t).registers (table_of plan v made)) (sym enters)
           (subst (λ rs. Described holds (with_interval known.stands.bound 0 (only 0)) s.mode rs (table_of plan v made)) (sym registers)
-          (register_changed holds known.stands.bound s.mode s.registers (table_of plan v made) 0 0 (only 0) (only_fits 0) child))))
+          (register_changed holds known.stands.bound s.mode s.registers (table_of plan v made) 0 0 (only 0) (only_fits 0) child)))))

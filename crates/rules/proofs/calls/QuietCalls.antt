@@ -1,6 +1,6 @@
 -- Calls that change neither places nor tables owe what they should.
 use Rattle.std.proofs.Common.{◌≡◌, ℕ, Bool, true, false, [], refl, ap}
-use Rattle.std.specs.Prelude.{◌||◌}
+use Rattle.std.specs.Prelude.{◌&&◌, ◌||◌}
 use Rattle.std.specs.Option.{option_map}
 use Rattle.process.specs.State.{ProcessState}
 use Rattle.fd_table.specs.Descriptions.{State, status_number, bit_of}
@@ -53,7 +53,8 @@ module _ (plan : Plan) (certificate : Certificate) (w : World) (e : Event) (s : 
   unfolding answer
   owed_cap_enter otherwise known =
       let inside = inside_later plan certificate w e.process s choice Cap_enter otherwise known (given s 0 (quiet Same_tree Same_queue Same_state true)) Same_tree Same_queue Same_state true tt in
-      owed_quiet plan certificate w e.process s choice Cap_enter otherwise known 0 Same_tree Same_queue Same_state true [] (record known.stands.bound { mode = On }) (only 0) tt (λ on. tt) tt
+      owed_quiet plan certificate w e.process s choice Cap_enter otherwise known 0 Same_tree Same_queue Same_state true [] (record known.stands.bound { mode = On }) (only 0)
+      (ap (λ m. m && (s.mode || true)) (known.stays refl)) tt (λ on. tt) tt
       (leads_cap_enter plan certificate s (table_of plan w e.process) otherwise known.stands) (only_fits 0)
       (record { mode = turned_on s.mode; registers = inside.registers; slots = inside.slots })
 

@@ -1,5 +1,5 @@
 -- What a step of a process leaves of the rest of a world, and the invariant after it.
-use Rattle.std.proofs.Common.{◌≡◌, ◌≢◌, ℕ, ◌+◌, ◌<◌, length, true, false, List, [], ◌∷◌, ◌++◌, inl, inr, refl, ap, sym, ◌∙◌, subst, drop}
+use Rattle.std.proofs.Common.{◌≡◌, ◌≢◌, Bool, ℕ, ◌+◌, ◌<◌, length, true, false, List, [], ◌∷◌, ◌++◌, inl, inr, refl, ap, sym, ◌∙◌, subst, drop}
 use Rattle.std.specs.Prelude.{◌&&◌, Option, Some, None}
 use Rattle.std.specs.List.{slice_get}
 use Rattle.std.specs.Option.{option_map}
@@ -14,7 +14,8 @@ use Rattle.process.specs.State.{ProcessState}
 use Rattle.certificate.specs.Bounds.{Target, In_grant, Any_node, Socket, Unknown, Held, Slot, Closed, Open, Maybe, Certificate}
 use Rattle.certificate.specs.Describes.{Holds, target_describes, held_describes, slot_describes, mode_describes, registers_describe, slots_describe}
 use Rattle.certificate.proofs.Smaller.{between, from_between}
-use Rattle.fd_table.specs.Descriptions.{PairClass, Access, Object, At_node, At_end, Descriptor, Message, IfHeld, EachPassed}
+use Rattle.rights.specs.Classes as classes
+use Rattle.fd_table.specs.Descriptions.{PairClass, Initial, Made_at, Made_by, Access, Object, At_node, At_end, Descriptor, Message, IfHeld, EachPassed}
 use Rattle.fd_table.specs.OpenFiles.{is_end, IsOther}
 use Rattle.kernel.specs.World.{World, Choice, IsFresh}
 use Rattle.kernel.specs.Answers.{QueueChange, Same_queue, Push, Pop}
@@ -23,12 +24,14 @@ use Rattle.kernel.specs.WellFormed.{EachMessage, IsObject, IsDescriptor, IsWellF
 use Rattle.lookup.proofs.UnderWay.{there_if_opened}
 use Rattle.kernel.proofs.Brings.{ground, Known}
 use Rattle.kernel.proofs.Fresh.{IsApart, known_messages}
-use Rattle.task.specs.Plans.{Plan, programs_of_plan}
+use Rattle.kernel.proofs.Marks.{AreMarkedAs}
+use Rattle.task.specs.Plans.{Plan, program_name, programs_of_plan}
 use Rattle.task.specs.Policies.{grant_holds}
 use Rattle.task.specs.KeptLimits.{KeepsGrants}
 use Rattle.rules.specs.Channels.{channel_at}
-use Rattle.rules.proofs.worlds.Seen.{class_of, subject_of, seen_of, table_of}
-use Rattle.rules.proofs.worlds.Invariant.{Asks, IfAlive, IsLiving, IsOfClass, HasClass, IsCarried, Invariant, IsDescribed, line_describes, bounds}
+use Rattle.rules.proofs.worlds.Seen.{subject_of, seen_of, table_of}
+use Rattle.rules.proofs.worlds.Within.{IsTableWithin, IsWithin, MayHave, own_authority}
+use Rattle.rules.proofs.worlds.Invariant.{Asks, IfAlive, IsLiving, IsOfClass, HasClass, IsCarried, Invariant, IsDescribed, Carries, LivesBy, is_free, line_describes, marks, bounds}
 use Rattle.rules.proofs.worlds.Walks.{IsWalkerIn}
 use Rattle.rules.proofs.frames.KeptTrees.{KeepsTree, goes_on, clear_stays}
 use Rattle.rules.proofs.frames.KeptWalks.{walker_later}
@@ -160,9 +163,10 @@ module _ (plan : Plan) (w v : World) (choice : Choice) (queue : QueueChange) (p 
         ]
 
     -- ### The invariant after a step
-    pub next : KeepsGrants plan → IsWellFormed (programs_of_plan plan) v → Owes plan asks w v after queue p → Invariant plan asks v
-    next grants formed owes = record {
+    pub next : KeepsGrants plan → IsWellFormed (programs_of_plan plan) v → AreMarkedAs (marks plan) v → Owes plan asks w v after queue p → Invariant plan asks v
+    next grants formed marked owes = record {
       formed = formed;
+      marked = marked;
       classes = after;
       living = λ q. living q (ℕ_discrete q p) (slice_get w.processes q) refl;
       ends = kept.ends;
@@ -205,11 +209,17 @@ module _ (plan : Plan) (w v : World) (choice : Choice) (queue : QueueChange) (p 
   target_stays : (t : Target) (o : Object) → target_describes (grant_holds plan.grants) t (subject_of plan w.tree o) ≡ true
       → target_describes (grant_holds plan.grants) t (subject_of plan v.tree o) ≡ true
   target_stays (In_grant name) (At_node n access) is = goes_on plan.grants w.tree v.tree frame.keeps.tree n name is
-  target_stays (In_grant name) (At_end pair side class) is = absurd cc
+  target_stays (In_grant name) (At_end pair side (Initial number)) is = absurd cc
+  target_stays (In_grant name) (At_end pair side (Made_at program point)) is = absurd cc
+  target_stays (In_grant name) (At_end pair side (Made_by program)) is = absurd cc
   target_stays Any_node (At_node n access) is = refl
-  target_stays Any_node (At_end pair side class) is = absurd cc
+  target_stays Any_node (At_end pair side (Initial number)) is = absurd cc
+  target_stays Any_node (At_end pair side (Made_at program point)) is = absurd cc
+  target_stays Any_node (At_end pair side (Made_by program)) is = absurd cc
   target_stays (Socket class side) (At_node n access) is = absurd cc
-  target_stays (Socket class side) (At_end pair s c) is = is
+  target_stays (Socket class side) (At_end pair s (Initial number)) is = is
+  target_stays (Socket class side) (At_end pair s (Made_at program point)) is = is
+  target_stays (Socket class side) (At_end pair s (Made_by program)) is = absurd cc
   target_stays Unknown o is = refl
 
   pub held_stays : (h : Held) (d : Descriptor) → v.files.objects d.description ≡ w.files.objects d.description
@@ -251,7 +261,7 @@ module _ (plan : Plan) (w v : World) (choice : Choice) (queue : QueueChange) (p 
       (entry_stays s q n (both_left _ (slots_describe (grant_holds plan.grants) (n + 1) slots (table_of plan w q)) is)))
       (slots_stay (n + 1) slots q same (both_right (slot_describes (grant_holds plan.grants) s (table_of plan w q n)) _ is))
 
-  described_stays : (certificate : Certificate) (q : ℕ) (s : ProcessState) → ((n : ℕ) → v.files.table q n ≡ w.files.table q n)
+  pub described_stays : (certificate : Certificate) (q : ℕ) (s : ProcessState) → ((n : ℕ) → v.files.table q n ≡ w.files.table q n)
       → IsDescribed plan certificate w q s → IsDescribed plan certificate v q s
   described_stays certificate q s same inside =
       let b = inside.bound in
@@ -270,8 +280,48 @@ module _ (plan : Plan) (w v : World) (choice : Choice) (queue : QueueChange) (p 
   line_stays (Some None) d same is = absurd cc
   line_stays (Some (Some h)) d same is = held_stays h d same is
 
+  -- what a program may have it may have
+  may_stay : (program : ℕ) (certificate : Certificate) (o : Object) (rights : ℕ)
+      → MayHave plan.grants (own_authority plan certificate program) (program_name plan program) (subject_of plan w.tree o) rights
+      → MayHave plan.grants (own_authority plan certificate program) (program_name plan program) (subject_of plan v.tree o) rights
+  may_stay program certificate (At_node n access) rights is =
+      record { name = is.name; holds = goes_on plan.grants w.tree v.tree frame.keeps.tree n is.name is.holds; below = is.below }
+  may_stay program certificate (At_end pair side (Initial number)) rights is = is
+  may_stay program certificate (At_end pair side (Made_at of point)) rights is = is
+  may_stay program certificate (At_end pair side (Made_by of)) rights is = is
+
+  pub within_stays : (certificate : Certificate) (program : ℕ) (d : Descriptor) → v.files.objects d.description ≡ w.files.objects d.description
+      → IsWithin plan certificate w program d → IsWithin plan certificate v program d
+  within_stays certificate program d same is =
+      subst (λ o. MayHave plan.grants (own_authority plan certificate program) (program_name plan program) (subject_of plan v.tree o) d.rights) (sym same)
+      (may_stay program certificate (w.files.objects d.description) d.rights is)
+
+  pub entry_within : (certificate : Certificate) (program : ℕ) (o : Option Descriptor) → IsOther choice.first o → IsOther choice.second o
+      → IfHeld (IsWithin plan certificate w program) o → IfHeld (IsWithin plan certificate v program) o
+  entry_within certificate program None one two is = tt
+  entry_within certificate program (Some d) one two is = within_stays certificate program d (frame.keeps.objects d.description one two) is
+
+  -- a row of the world before
+  pub row_within : (certificate : Certificate) (program q : ℕ) → IsTableWithin plan certificate w q program → (n : ℕ)
+      → IfHeld (IsWithin plan certificate v program) (w.files.table q n)
+  row_within certificate program q is n =
+      entry_within certificate program (w.files.table q n) (frame.fresh.first.entries q n) (frame.fresh.second.entries q n) (is n)
+
+  lives_stay : (certificate : Certificate) (free : Bool) (q : ℕ) (s : ProcessState) → ((n : ℕ) → v.files.table q n ≡ w.files.table q n)
+      → LivesBy plan certificate free w q s → LivesBy plan certificate free v q s
+  lives_stay certificate true q s same is = λ n.
+      subst (IfHeld (IsWithin plan certificate v s.program)) (sym (same n)) (row_within certificate s.program q is n)
+  lives_stay certificate false q s same is = described_stays certificate q s same is
+
+  carries_stay : (certificate : Certificate) (class : PairClass) (side : ℕ) (d : Descriptor) → v.files.objects d.description ≡ w.files.objects d.description
+      → Carries plan certificate w class side d → Carries plan certificate v class side d
+  carries_stay certificate (Initial pair) side d same is = line_stays (channel_at certificate (classes.Initial pair) side) d same is
+  carries_stay certificate (Made_at program point) side d same is =
+      line_stays (channel_at certificate (classes.Made_at (program_name plan program) point) side) d same is
+  carries_stay certificate (Made_by program) side d same is = within_stays certificate program d same is
+
   pub bounds_persist : (certificate : Certificate) → Persists (bounds plan certificate) w v
   bounds_persist certificate = record {
-    lives = described_stays certificate;
-    carries = λ class side d same is. line_stays (channel_at certificate (class_of plan class) side) d same is;
+    lives = λ q s same is. lives_stay certificate (is_free s) q s same is;
+    carries = carries_stay certificate;
   }

@@ -94,7 +94,7 @@ named_there (h ∷ grants) name g is = go (bytes_eq h.name name) is (named_there
     go true here rest = (0, here)
     go false later rest = let found = rest later in (suc found.0, found.1)
 
-both_or_none : (a b : Bool) → (a ≡ true → b ≡ true) → (b ≡ true → a ≡ true) → a ≡ b
+pub both_or_none : (a b : Bool) → (a ≡ true → b ≡ true) → (b ≡ true → a ≡ true) → a ≡ b
 both_or_none true b there back = sym (there refl)
 both_or_none false true there back = back refl
 both_or_none false false there back = refl

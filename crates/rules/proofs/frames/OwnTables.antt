@@ -6,14 +6,14 @@ use Rattle.rights.specs.Sets.{all_rights, all_commands}
 use Rattle.file_tree.specs.Nodes.{node}
 use Rattle.process.specs.State.{ProcessState}
 use Rattle.certificate.specs.Bounds.{Held, Slot, Closed, Open}
-use Rattle.certificate.specs.Describes.{Seen, Node_at, End_of, held_describes, slots_describe}
+use Rattle.certificate.specs.Describes.{Seen, Node_at, held_describes, slots_describe}
 use Rattle.fd_table.specs.Descriptions.{Access, PairClass, Descriptor, descriptor_of}
 use Rattle.kernel.specs.World.{World, Choice}
 use Rattle.kernel.specs.Answers.{TableChange, Same_table, Set_entry, Clear_entry, New_file, New_pair, New_process, Change}
 use Rattle.kernel.specs.Changes.{tree_after, objects_after, table_after, files_after, changed}
 use Rattle.task.specs.Plans.{Plan}
 use Rattle.task.specs.Policies.{grant_holds}
-use Rattle.rules.proofs.worlds.Seen.{class_of, subject_of, seen_of, table_of}
+use Rattle.rules.proofs.worlds.Seen.{end_of, subject_of, seen_of, table_of}
 use Rattle.rules.proofs.frames.KeptTrees.{IsDeepChange}
 use Rattle.rules.proofs.frames.Frames.{object_stays, held_stays}
 use Rattle.rules.proofs.frames.ChangeKinds.{Acts, get_below, frame_changed}
@@ -109,8 +109,8 @@ module _ (plan : Plan) (w : World) (p : ℕ) (s : ProcessState) (choice : Choice
       (old_slots slots is))
 
   pub pair_slots : (first second : ℕ) (class : PairClass) → change.table ≡ New_pair first second class → (one other : Held)
-      → held_describes (grant_holds plan.grants) one (record { subject = End_of (class_of plan class) 0; rights = all_rights; fcntls = all_commands }) ≡ true
-      → held_describes (grant_holds plan.grants) other (record { subject = End_of (class_of plan class) 1; rights = all_rights; fcntls = all_commands }) ≡ true
+      → held_describes (grant_holds plan.grants) one (record { subject = end_of plan class 0; rights = all_rights; fcntls = all_commands }) ≡ true
+      → held_describes (grant_holds plan.grants) other (record { subject = end_of plan class 1; rights = all_rights; fcntls = all_commands }) ≡ true
       → (slots : List Slot) → slots_describe (grant_holds plan.grants) 0 slots (table_of plan w p) ≡ true
       → slots_describe (grant_holds plan.grants) 0 (slice_set (slice_set slots first (Open one)) second (Open other)) (table_of plan (changed w p t choice change) p) ≡ true
   unfolding changed files_after

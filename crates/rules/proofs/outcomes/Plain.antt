@@ -39,11 +39,12 @@ arrives plan certificate t table b there is = record {
       (from_described (grant_holds plan.grants) b t.mode t.registers table is);
 }
 
--- What a plain instruction comes to: another state of the process alone, of the same program, mode and life.
+-- What a plain instruction comes to: another state of the process alone, of the same program, mark, mode and life.
 pub record Moves (plan : Plan) (certificate : Certificate) (w : World) (e : Event) (choice : Choice) (s : ProcessState) (table : ℕ → Option Seen) (i : Instruction) : Type 0 where
   pub to : ProcessState
   pub is : executed w e choice s i ≡ plain w e.process to
   pub program : to.program ≡ s.program
+  pub marked : to.marked ≡ s.marked
   pub mode : to.mode ≡ s.mode
   pub alive : to.alive ≡ s.alive
   pub resting : to.walk ≡ None
@@ -112,20 +113,20 @@ module _ (plan : Plan) (certificate : Certificate) (s : ProcessState) (table : �
 moves :
     (plan : Plan) (certificate : Certificate) (w : World) (e : Event) (choice : Choice) (s : ProcessState) (table : ℕ → Option Seen) (i : Instruction)
     (t : ProcessState)
-    → executed w e choice s i ≡ plain w e.process t → t.program ≡ s.program → t.mode ≡ s.mode → t.alive ≡ s.alive → t.walk ≡ None → Arrives plan certificate t table
+    → executed w e choice s i ≡ plain w e.process t → t.program ≡ s.program → t.marked ≡ s.marked → t.mode ≡ s.mode → t.alive ≡ s.alive → t.walk ≡ None → Arrives plan certificate t table
     → Moves plan certificate w e choice s table i
-moves plan certificate w e choice s table i t is program mode alive resting there =
-    record { to = t; is = is; program = program; mode = mode; alive = alive; resting = resting; arrives = there }
+moves plan certificate w e choice s table i t is program marked mode alive resting there =
+    record { to = t; is = is; program = program; marked = marked; mode = mode; alive = alive; resting = resting; arrives = there }
 
 pub plain_moves :
     (plan : Plan) (certificate : Certificate) (w : World) (e : Event) (choice : Choice) (s : ProcessState) (table : ℕ → Option Seen) (i : Instruction)
     → IsEvent e → Stands plan certificate s table i → IfPlain i (Moves plan certificate w e choice s table i)
 unfolding executed jumped successes
 plain_moves plan certificate w e choice s table (Set r v) byte known =
-    moves plan certificate w e choice s table (Set r v) (goes_on (with_register s r v)) refl refl refl refl refl
+    moves plan certificate w e choice s table (Set r v) (goes_on (with_register s r v)) refl refl refl refl refl refl
     (sets plan certificate s table (Set r v) known r v (only v) refl (only_fits v))
 plain_moves plan certificate w e choice s table (Mov r source) byte known =
-    moves plan certificate w e choice s table (Mov r source) (goes_on (with_register s r (register s source))) refl refl refl refl refl
+    moves plan certificate w e choice s table (Mov r source) (goes_on (with_register s r (register s source))) refl refl refl refl refl refl
     (sets plan certificate s table (Mov r source) known r (register s source) (interval known.bound.registers source) refl
     (register_inside plan certificate s table (Mov r source) known source))
 plain_moves plan certificate w e choice s table (Add r addend) byte known =
@@ -133,14 +134,14 @@ plain_moves plan certificate w e choice s table (Add r addend) byte known =
     let sum : ℕ = (register s r + register s addend) % 2 ^ 32 in
     let mine = interval known.bound.registers r in
     let other = interval known.bound.registers addend in
-    moves plan certificate w e choice s table i (goes_on (with_register s r sum)) refl refl refl refl refl
+    moves plan certificate w e choice s table i (goes_on (with_register s r sum)) refl refl refl refl refl refl
     (sets plan certificate s table i known r sum (sums mine other) refl
     (sum_fits mine other (register s r) (register s addend) (register_inside plan certificate s table i known r) (register_inside plan certificate s table i known addend)))
 plain_moves plan certificate w e choice s table (In r) byte known =
-    moves plan certificate w e choice s table (In r) (goes_on (with_register s r e.input)) refl refl refl refl refl
+    moves plan certificate w e choice s table (In r) (goes_on (with_register s r e.input)) refl refl refl refl refl refl
     (sets plan certificate s table (In r) known r e.input (from_to 0 255) refl (inside_of (from_to 0 255) e.input (omega arith) (omega (arith, byte))))
 plain_moves plan certificate w e choice s table (Jmp target) byte known =
-    moves plan certificate w e choice s table (Jmp target) (moved_to s target) refl refl refl refl refl
+    moves plan certificate w e choice s table (Jmp target) (moved_to s target) refl refl refl refl refl refl
     (jumps plan certificate s table (Jmp target) known target refl)
 plain_moves plan certificate w e choice s table (Jeq r v target) byte known = jump (register s r == v) refl
   where
@@ -155,11 +156,11 @@ plain_moves plan certificate w e choice s table (Jeq r v target) byte known = ju
 
     jump : (taken : Bool) → (register s r == v) ≡ taken → Moves plan certificate w e choice s table i
     jump true is =
-        moves plan certificate w e choice s table i (moved_to s target) (ap (λ c. plain w e.process (jumped s c target)) is) refl refl refl refl
+        moves plan certificate w e choice s table i (moved_to s target) (ap (λ c. plain w e.process (jumped s c target)) is) refl refl refl refl refl
         (takes_jump plan certificate s table i known r target (equal_part n v) (outcomes_in (s.point + 1) known.bound r (other_part n v)) refl
         (has_equal n v (register s r) inside (eqb-true _ _ is)))
     jump false is =
-        moves plan certificate w e choice s table i (goes_on s) (ap (λ c. plain w e.process (jumped s c target)) is) refl refl refl refl
+        moves plan certificate w e choice s table i (goes_on s) (ap (λ c. plain w e.process (jumped s c target)) is) refl refl refl refl refl
         (passes_by plan certificate s table i known r (other_part n v) (outcomes_in target known.bound r (equal_part n v)) refl
         (has_other n v (register s r) inside (λ same. absurd (let clash : true ≡ false = sym (eq-eqb _ _ same) ∙ is in cc))))
 plain_moves plan certificate w e choice s table (Jlt r v target) byte known = jump (nat_lt (register s r) v) refl
@@ -175,11 +176,11 @@ plain_moves plan certificate w e choice s table (Jlt r v target) byte known = ju
 
     jump : (taken : Bool) → nat_lt (register s r) v ≡ taken → Moves plan certificate w e choice s table i
     jump true is =
-        moves plan certificate w e choice s table i (moved_to s target) (ap (λ c. plain w e.process (jumped s c target)) is) refl refl refl refl
+        moves plan certificate w e choice s table i (moved_to s target) (ap (λ c. plain w e.process (jumped s c target)) is) refl refl refl refl refl
         (takes_jump plan certificate s table i known r target (lower_part n v) (outcomes_in (s.point + 1) known.bound r (upper_part n v)) refl
         (has_lower n v (register s r) inside (ltb-true _ _ is)))
     jump false is =
-        moves plan certificate w e choice s table i (goes_on s) (ap (λ c. plain w e.process (jumped s c target)) is) refl refl refl refl
+        moves plan certificate w e choice s table i (goes_on s) (ap (λ c. plain w e.process (jumped s c target)) is) refl refl refl refl refl
         (passes_by plan certificate s table i known r (upper_part n v) (outcomes_in target known.bound r (lower_part n v)) refl
         (has_upper n v (register s r) inside (ltb-false _ _ is)))
 plain_moves plan certificate w e choice s table Halt byte known = tt

@@ -18,7 +18,7 @@ use Rattle.task.specs.Policies.{grant_holds}
 use Rattle.certificate.specs.Bounds.{Target, In_grant, Any_node, Socket, Unknown, Held, Closed, with_slot, Certificate}
 use Rattle.certificate.specs.Bounds as bounds
 use Rattle.certificate.specs.OrderLaws.{class_is, target-refl}
-use Rattle.certificate.specs.Describes.{Subject, Node_at, End_of, Seen, Holds, target_describes, held_describes, sends_describes}
+use Rattle.certificate.specs.Describes.{Subject, Node_at, End_of, Own_end, Seen, Holds, target_describes, held_describes, sends_describes}
 use Rattle.certificate.proofs.Smaller.{from_between}
 use Rattle.rules.specs.Intervals.{only}
 use Rattle.rules.specs.Slots.{OpenSlot, slots_in, free_numbers}
@@ -206,6 +206,39 @@ module _ (plan : Plan) (certificate : Certificate) (s : ProcessState) (table : �
       let way : Through plan certificate b s.mode x (value_of s x) (first_use b (Recvfd x)) d = through plan certificate s table (Recvfd x) otherwise known x d refl here in
       let g : Gone holds b x (value_of s x) d = way.slot in
       let comes_as = received_at otherwise x known k g.held.target class side e (subject_is holds g.held d (End_of class side) g.facts end) way.has.channel coming rights fcntls numbers in
+      record {
+        held = comes_as.0;
+        describes = comes_as.1;
+        leads =
+            goes_through plan certificate s table (Recvfd x) otherwise known x d g
+            (λ (u : OpenSlot). receives_at plan.grants certificate (program_name plan s.program) s.point b u.held.target)
+            (to_next plan certificate s table (with_slot b k (bounds.Open comes_as.0)) (only k)) refl comes_as.2;
+      }
+
+  -- What comes through a pair that no certificate names comes through a slot of unknown kind.
+  own_received_at :
+      (otherwise : ℕ) (x : Operand) (known : Stands plan certificate s table (Invoke (Recvfd x) otherwise)) (k : ℕ) (t : Target) (program : List ℕ)
+      (side : ℕ) (d : Seen)
+      → target_describes holds t (Own_end program side) ≡ true → is_within d.rights all_rights ≡ true → is_within d.fcntls all_commands ≡ true
+      → free_numbers 1 known.bound ≡ Some (k ∷ [])
+      → (h : Held) × (held_describes holds h d ≡ true)
+      × Among (to_next plan certificate s table (with_slot known.bound k (bounds.Open h)) (only k)) (receives_at plan.grants certificate (program_name plan s.program) s.point known.bound t)
+  own_received_at otherwise x known k (In_grant name) program side d is rights fcntls numbers = absurd cc
+  own_received_at otherwise x known k Any_node program side d is rights fcntls numbers = absurd cc
+  own_received_at otherwise x known k (Socket c t) program side d is rights fcntls numbers = absurd cc
+  own_received_at otherwise x known k Unknown program side d is rights fcntls numbers =
+      (unknown_held, unknown_described holds d rights fcntls, taken plan certificate s table (Recvfd x) otherwise known k unknown_held numbers)
+
+  pub leads_own_recvfd :
+      (x : Operand) (otherwise : ℕ) (known : Stands plan certificate s table (Invoke (Recvfd x) otherwise)) (d : Seen) (program : List ℕ) (side : ℕ)
+      (e : Seen) (k : ℕ)
+      → table (value_of s x) ≡ Some d → d.subject ≡ Own_end program side → is_within e.rights all_rights ≡ true → is_within e.fcntls all_commands ≡ true
+      → free_numbers 1 known.bound ≡ Some (k ∷ []) → Takes plan certificate s known.bound k e
+  leads_own_recvfd x otherwise known d program side e k here end rights fcntls numbers =
+      let b = known.bound in
+      let way : Through plan certificate b s.mode x (value_of s x) (first_use b (Recvfd x)) d = through plan certificate s table (Recvfd x) otherwise known x d refl here in
+      let g : Gone holds b x (value_of s x) d = way.slot in
+      let comes_as = own_received_at otherwise x known k g.held.target program side e (subject_is holds g.held d (Own_end program side) g.facts end) rights fcntls numbers in
       record {
         held = comes_as.0;
         describes = comes_as.1;

@@ -1,33 +1,20 @@
 -- What it says that nothing is found at a point.
 use Rattle.std.proofs.Common.{◌≡◌, ℕ, Bool, true, false, List, [], ◌∷◌, refl, ap, sym, ◌∙◌, subst}
 use Rattle.std.specs.Prelude.{◌&&◌, ◌||◌, not, Option, Some, None, cond, is_some, if◌then◌else◌}
-use Rattle.std.specs.List.{list_all}
-use Rattle.std.specs.Str.{bytes_eq}
 use Rattle.rights.proofs.Tests.{both_left, both_right, not_true}
 use Rattle.certificate.specs.Bounds.{Bound, Certificate, bound_at}
 use Rattle.certificate.specs.Order.{bound_within}
 use Rattle.prog_asm.specs.Programs.{Instruction}
-use Rattle.task.specs.Plans.{NamedProgram, Plan, program_name, is_marked, none_marked}
+use Rattle.task.specs.Plans.{Plan, program_name}
 use Rattle.rules.specs.Points.{instruction_at}
 use Rattle.rules.specs.Uses.{uses}
 use Rattle.rules.specs.Channels.{keeps_channel_bound, all_have_channels}
 use Rattle.rules.specs.Demands.{demands, keeps_single, keeps_numbers, keeps_beneath}
-use Rattle.rules.specs.Outcomes.{Outcome, enters_mode, successes, successes_in, error_outcomes}
+use Rattle.rules.specs.Outcomes.{Outcome, is_followed, successes, successes_in, error_outcomes}
 use Rattle.rules.specs.Rules.{Test, starts_within, within_if_there, all_within, all_there, keeps_rights, keeps_commands, keeps_limit, works_on_known, keeps_policy, names_known}
-use Rattle.rules.specs.Rules.{moves_within, of_call, each_use, in_the_mode, marked_at, is_started, tests, tests_without, least_broken}
+use Rattle.rules.specs.Rules.{moves_within, of_call, each_use, in_the_mode, is_started, tests, tests_without, least_broken}
 use Rattle.rules.specs.Verdicts.{found_with, found_at}
 use Rattle.rules.proofs.Members.{Among, each_of}
-
--- Where no program is marked, none of any name is.
-never_marked : (programs : List NamedProgram) (name : List ℕ) → list_all (λ (p : NamedProgram). not p.marked) programs ≡ true → is_marked programs name ≡ false
-never_marked [] name none = refl
-never_marked (p ∷ programs) name none =
-    let plain : p.marked ≡ false = not_true p.marked (both_left _ (list_all (λ (q : NamedProgram). not q.marked) programs) none) in
-    ap (λ m. (m && bytes_eq p.name name) || is_marked programs name) plain
-    ∙ never_marked programs name (both_right (not p.marked) _ none)
-
-pub plain_at : (plan : Plan) → none_marked plan ≡ true → (program : ℕ) → marked_at plan program ≡ false
-plain_at plan none program = never_marked plan.programs (program_name plan program) none
 
 -- every test is kept
 abbrev pub AreKept : List Test → Type 0
@@ -67,7 +54,7 @@ all_lead certificate name outs within there o among =
     (each_of (λ (x : Outcome). within_if_there x.bound (bound_at certificate name x.point)) outs within o among)
     (each_of (λ (x : Outcome). is_some (bound_at certificate name x.point)) outs there o among)
 
--- ## The rules at a point with an instruction and a bound, of a program that isn't marked
+-- ## The rules at a point with an instruction and a bound, that is followed by the program's points
 pub record Asked (plan : Plan) (certificate : Certificate) (program point : ℕ) (i : Instruction) (b : Bound) : Type 0 where
   pub starts : starts_within plan program point b ≡ true
   pub successes : AllLead certificate (program_name plan program) (successes plan.grants certificate (program_name plan program) point b i)
@@ -87,19 +74,20 @@ pub record Asked (plan : Plan) (certificate : Certificate) (program point : ℕ)
   pub channels : of_call (λ call. all_have_channels certificate (uses b call)) i ≡ true
 
 all_followed :
-    (plan : Plan) (certificate : Certificate) (program point : ℕ) (i : Instruction) (b : Bound) → marked_at plan program ≡ false
+    (plan : Plan) (certificate : Certificate) (program point : ℕ) (i : Instruction) (b : Bound) → is_followed plan (program_name plan program) i ≡ true
     → AllLead certificate (program_name plan program) (successes_in plan certificate (program_name plan program) point b i)
     → AllLead certificate (program_name plan program) (successes plan.grants certificate (program_name plan program) point b i)
 unfolding successes_in
-all_followed plan certificate program point i b plain all =
+all_followed plan certificate program point i b followed all =
     let name = program_name plan program in
-    subst (λ (m : Bool). AllLead certificate name (if not (m && enters_mode i) then successes plan.grants certificate name point b i else [])) plain all
+    subst (λ (m : Bool). AllLead certificate name (if m then successes plan.grants certificate name point b i else [])) followed all
 
 asked_of :
-    (plan : Plan) (certificate : Certificate) (program point : ℕ) (i : Instruction) (b : Bound) → marked_at plan program ≡ false → least_broken (tests plan certificate program point i b) ≡ None
+    (plan : Plan) (certificate : Certificate) (program point : ℕ) (i : Instruction) (b : Bound) → is_followed plan (program_name plan program) i ≡ true → least_broken
+    (tests plan certificate program point i b) ≡ None
     → Asked plan certificate program point i b
 unfolding tests
-asked_of plan certificate program point i b plain none =
+asked_of plan certificate program point i b followed none =
     let name = program_name plan program in
     let good = successes_in plan certificate name point b i in
     let bad = error_outcomes b i in
@@ -110,7 +98,7 @@ asked_of plan certificate program point i b plain none =
     record {
       starts = all.0;
       successes =
-          all_followed plan certificate program point i b plain
+          all_followed plan certificate program point i b followed
           (all_lead certificate name good all.1.0 (both_left _ (all_there certificate name bad) there));
       errors = all_lead certificate name bad all.1.1.0 (both_right (all_there certificate name good) _ there);
       single = from_4.0;
@@ -130,11 +118,11 @@ asked_of plan certificate program point i b plain none =
 
 pub asked :
     (plan : Plan) (certificate : Certificate) (program point : ℕ) (i : Instruction) (b : Bound) → instruction_at plan program point ≡ Some i
-    → bound_at certificate (program_name plan program) point ≡ Some b → marked_at plan program ≡ false → found_at plan certificate program point ≡ None
+    → bound_at certificate (program_name plan program) point ≡ Some b → is_followed plan (program_name plan program) i ≡ true → found_at plan certificate program point ≡ None
     → Asked plan certificate program point i b
 unfolding found_at found_with
-asked plan certificate program point i b here bounded plain none =
-    asked_of plan certificate program point i b plain
+asked plan certificate program point i b here bounded followed none =
+    asked_of plan certificate program point i b followed
     (subst (λ o. found_with plan certificate program point (Some i) o ≡ None) bounded
     (subst (λ o. found_with plan certificate program point o (bound_at certificate (program_name plan program) point) ≡ None) here none))
 

@@ -15,7 +15,7 @@ use Rattle.task.proofs.Allowances.{allowed_is_tested}
 use Rattle.certificate.specs.Bounds.{Target, In_grant, Any_node, Socket, Unknown, Held, Open, Certificate}
 use Rattle.certificate.specs.Order.{same_class, held_within}
 use Rattle.certificate.specs.OrderLaws.{class_is}
-use Rattle.certificate.specs.Describes.{Node_at, End_of, Seen, Holds, target_describes, held_describes}
+use Rattle.certificate.specs.Describes.{Node_at, End_of, Own_end, Seen, Holds, target_describes, held_describes}
 use Rattle.certificate.proofs.Smaller.{from_between, slot_smaller}
 use Rattle.rules.specs.Slots.{OpenSlot, slots_in}
 use Rattle.rules.specs.Needs.{moving_to}
@@ -151,6 +151,23 @@ sends_line plan certificate s table x y v otherwise known d passed class side he
     sent certificate holds way.slot.held.target class side (slots_in b y) (record { number = value_of s y; held = k.held }) passed
     (subst (λ z. target_describes holds way.slot.held.target z ≡ true) end way.slot.facts.target)
     way.has.channel_bound way.has.channel k.among (from_between holds k.held passed k.facts)
+
+-- Nothing is sent into a pair that no certificate names.
+own_unknown : (certificate : Certificate) (holds : Holds) (t : Target) (program : List ℕ) (side : ℕ) → target_describes holds t (Own_end program side) ≡ true → sends_known certificate t ≡ true → ⊥
+own_unknown certificate holds (In_grant name) program side is known = absurd cc
+own_unknown certificate holds Any_node program side is known = absurd cc
+own_unknown certificate holds (Socket c s) program side is known = absurd cc
+own_unknown certificate holds Unknown program side is known = absurd cc
+
+pub never_sends_own :
+    (plan : Plan) (certificate : Certificate) (s : ProcessState) (table : ℕ → Option Seen) (x y v : Operand) (otherwise : ℕ)
+    (known : Stands plan certificate s table (Invoke (Sendfd x y v) otherwise)) (d : Seen) (program : List ℕ) (side : ℕ)
+    → table (value_of s x) ≡ Some d → d.subject ≡ Own_end program side → ⊥
+never_sends_own plan certificate s table x y v otherwise known d program side here end =
+    let holds = grant_holds plan.grants in
+    let call = Sendfd x y v in
+    let way : Through plan certificate known.bound s.mode x (value_of s x) (first_use known.bound call) d = through plan certificate s table call otherwise known x d refl here in
+    own_unknown certificate holds way.slot.held.target program side (subst (λ z. target_describes holds way.slot.held.target z ≡ true) end way.slot.facts.target) way.has.channel
 
 -- ## Moves
 -- Where both slots of `renameat` are known, they are of one grant.

@@ -12,7 +12,7 @@ use Rattle.certificate.specs.Describes.{Seen, Holds, held_describes, slot_descri
 use Rattle.certificate.proofs.Smaller.{Between, between}
 use Rattle.rules.specs.Points.{instruction_at}
 use Rattle.rules.specs.Slots.{operand_interval, holds_number, open_slot, slots_from, slots_in}
-use Rattle.rules.specs.Rules.{marked_at}
+use Rattle.rules.specs.Outcomes.{is_followed}
 use Rattle.rules.specs.Verdicts.{found_at}
 use Rattle.rules.proofs.bounds.Describing.{Described, described, register_at, slot_at}
 use Rattle.rules.proofs.bounds.IntervalLaws.{only_fits}
@@ -31,13 +31,13 @@ pub stands :
     (plan : Plan) (certificate : Certificate) (s : ProcessState) (table : ℕ → Option Seen) (i : Instruction) (b : Bound)
     → instruction_at plan s.program s.point ≡ Some i → bound_at certificate (program_name plan s.program) s.point ≡ Some b
     → describes (grant_holds plan.grants) b s.mode s.registers table ≡ true → ((m : ℕ) → 16 ≤ m → table m ≡ None)
-    → marked_at plan s.program ≡ false → found_at plan certificate s.program s.point ≡ None → Stands plan certificate s table i
-stands plan certificate s table i b here at is few plain none = record {
+    → is_followed plan (program_name plan s.program) i ≡ true → found_at plan certificate s.program s.point ≡ None → Stands plan certificate s table i
+stands plan certificate s table i b here at is few followed none = record {
   bound = b;
   at = at;
   inside = described (grant_holds plan.grants) b s.mode s.registers table is;
   few = few;
-  asked = asked plan certificate s.program s.point i b here at plain none;
+  asked = asked plan certificate s.program s.point i b here at followed none;
 }
 
 -- ## The slot of a descriptor that is there

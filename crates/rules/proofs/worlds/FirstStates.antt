@@ -1,35 +1,45 @@
 -- The invariant holds of a task's first world.
-use Rattle.std.proofs.Common.{◌≡◌, ℕ, zero, suc, Bool, true, false, List, [], ◌∷◌, refl, ap, sym, ◌∙◌, subst, replicate, cond}
-use Rattle.std.specs.Prelude.{◌==◌, ◌||◌, not, Option, Some, None}
-use Rattle.std.specs.List.{slice_get, list_any}
+use Rattle.std.proofs.Common.{◌≡◌, ℕ, zero, suc, Bool, true, false, List, [], ◌∷◌, inl, inr, refl, ap, sym, ◌∙◌, subst, replicate, cond}
+use Rattle.std.specs.Prelude.{◌==◌, ◌&&◌, ◌||◌, not, Option, Some, None}
+use Rattle.std.specs.List.{slice_get, list_all}
+use Rattle.std.specs.Cmp.Derive.{both_true}
 use Rattle.std.specs.Option.{option_map}
 use Rattle.std.proofs.lemmas.Bool.{eq-eqb}
 use Rattle.rights.specs.Limits.{register_count}
 use Rattle.rights.proofs.Lists.{list_all-slice_get}
-use Rattle.rights.proofs.Tests.{not_true}
-use Rattle.file_tree.specs.Nodes.{Node}
+use Rattle.rights.specs.Sets.{is_within}
+use Rattle.rights.proofs.Tests.{both_left, both_right, not_true}
+use Rattle.file_tree.specs.Places.{begins}
+use Rattle.file_tree.specs.Nodes.{Node, node}
 use Rattle.file_tree.specs.WellFormed.{has_directory}
-use Rattle.process.specs.State.{ProcessState, new_process}
-use Rattle.certificate.specs.Bounds.{Bound, Certificate, bound_at}
+use Rattle.process.specs.State.{ProcessState}
+use Rattle.certificate.specs.Bounds.{Authority, Bound, Certificate, bound_at}
 use Rattle.certificate.specs.Describes.{Seen, describes}
 use Rattle.fd_table.specs.Descriptions.{Object, At_node, At_end, Descriptor, IfHeld, EachPassed}
 use Rattle.prog_asm.specs.Programs.{Instruction}
 use Rattle.kernel.specs.World.{World}
 use Rattle.kernel.specs.WellFormed.{Numbering, IsObject, IsDescriptor, IsProcessIfMade, IsPoint, IsWellFormed}
-use Rattle.task.specs.Plans.{FirstObject, On_node, On_end, FirstDescriptor, Start, Plan, program_name, programs_of_plan}
+use Rattle.kernel.proofs.Marks.{AreMarkedAs}
+use Rattle.task.specs.Plans.{Grant, FirstObject, On_node, On_end, FirstDescriptor, Start, Plan, program_name, programs_of_plan}
 use Rattle.task.specs.Limits.{is_plan}
-use Rattle.task.specs.Policies.{grant_holds}
-use Rattle.task.specs.Begins.{first_object, first_world, given_to, with_number}
+use Rattle.task.specs.Policies.{grant_holds, holds_in}
+use Rattle.task.specs.Begins.{first_object, first_process, first_world, given_to, with_number}
 use Rattle.task.specs.Laws.{IsFirstProcess, IsFirstEntry, IsFirstWorld}
 use Rattle.task.proofs.AsGiven.{first_is_first}
 use Rattle.task.proofs.FirstWorlds.{first_well_formed}
 use Rattle.task.proofs.KeptLimits.{plans_keep_limits}
+use Rattle.task.proofs.Trusted.{first_marked}
 use Rattle.rules.specs.Points.{instruction_at}
-use Rattle.rules.specs.Rules.{Test, first_subject, first_seen, first_table, start_within, starts_within, all_starts_within, marked_at, starts_program, is_started, tests, tests_without, least_broken}
+use Rattle.rules.specs.Rules.{Test, first_subject, first_seen, first_table, start_within, starts_within, all_starts_within, is_bounded_start, marked_at, is_started}
+use Rattle.rules.specs.Rules.{tests, tests_without, least_broken}
+use Rattle.rules.specs.Authority.{ceiling_in, is_below_ceiling, may_start_on, may_start_with}
 use Rattle.rules.specs.Verdicts.{MeetsRules, found_with, found_at}
+use Rattle.rules.proofs.Members.{Among, each_of}
+use Rattle.rules.proofs.points.Marked.{FirstAsked, any_at, any_found, first_asked, marked_by_name}
 use Rattle.rules.proofs.worlds.Seen.{subject_of, seen_of, table_of}
 use Rattle.rules.proofs.worlds.Walks.{rests}
-use Rattle.rules.proofs.worlds.Invariant.{IfAlive, IsLiving, IsOfClass, HasClass, IsCarried, Invariant, IsDescribed, bounds}
+use Rattle.rules.proofs.worlds.Within.{IsTableWithin, IsWithin, MayHave, own_authority}
+use Rattle.rules.proofs.worlds.Invariant.{IfAlive, IsLiving, IsOfClass, HasClass, IsCarried, Invariant, IsDescribed, LivesBy, is_free, marks, bounds}
 
 -- ## What the rules say at point 0
 abbrev IsFirstKept : List Test → Type 0
@@ -53,23 +63,6 @@ not_started : (plan : Plan) (certificate : Certificate) (program : ℕ) → leas
 unfolding tests_without
 not_started plan certificate program none = not_true (is_started plan program) (first_kept (tests_without plan certificate program 0) none)
 
--- an element that passes the test
-any_at : {A : Type 0} (test : A → Bool) (xs : List A) (j : ℕ) (x : A) → slice_get xs j ≡ Some x → test x ≡ true → list_any test xs ≡ true
-any_at test [] j x here passes = absurd cc
-any_at test (y ∷ xs) zero x here passes =
-    let same : y ≡ x = cc in
-    let passed : test y ≡ true = ap test same ∙ passes in
-    either_left (test y) (list_any test xs) passed
-  where
-    either_left : (a b : Bool) → a ≡ true → (a || b) ≡ true
-    either_left true b h = refl
-    either_left false b h = absurd cc
-any_at test (y ∷ xs) (suc j) x here passes = either_right (test y) (list_any test xs) (any_at test xs j x here passes)
-  where
-    either_right : (a b : Bool) → b ≡ true → (a || b) ≡ true
-    either_right true b h = refl
-    either_right false b h = h
-
 -- what a first descriptor is of, as a bound sees it, and an entry
 object_seen : (plan : Plan) (x : FirstObject) → first_subject plan.nodes x ≡ subject_of plan plan.nodes (first_object x)
 object_seen plan (On_node n access) = refl
@@ -89,12 +82,23 @@ entry_seen plan w tree (Some given) (Some d) is =
       fcntls = sym is.fcntls i;
     }))
 
-module _ (plan : Plan) (certificate : Certificate) (valid : is_plan plan ≡ true) (plain : (program : ℕ) → marked_at plan program ≡ false)
-    (meets : MeetsRules plan certificate) where
+-- a descriptor that is given is one of the start's
+given_among : (n : ℕ) (ds : List FirstDescriptor) (d : FirstDescriptor) → with_number n ds ≡ Some d → Among d ds
+given_among n [] d is = absurd cc
+given_among n (x ∷ ds) d is = go (x.number == n) is (given_among n ds d)
+  where
+    go : (b : Bool) → cond b (Some x) (with_number n ds) ≡ Some d → (with_number n ds ≡ Some d → Among d ds) → Among d (x ∷ ds)
+    go true here later = let same : x ≡ d = cc in inl (sym same)
+    go false there later = inr (later there)
+
+module _ (plan : Plan) (certificate : Certificate) (valid : is_plan plan ≡ true) (meets : MeetsRules plan certificate) where
   abbrev first : World
   first = first_world plan
 
-  -- a program that a process starts has a bound at point 0, which describes each first process of it
+  by_name : (program : ℕ) → marks plan program ≡ marked_at plan program
+  by_name program = marked_by_name plan (plans_keep_limits plan valid).programs program
+
+  -- a program that a process starts has a bound at point 0, which describes each first process of it that it bounds
   record IsBounded (program : ℕ) : Type 0 where
     bound : Bound
     at : bound_at certificate (program_name plan program) 0 ≡ Some bound
@@ -117,53 +121,116 @@ module _ (plan : Plan) (certificate : Certificate) (valid : is_plan plan ≡ tru
 
   -- ## A first process
   module _ (p : ℕ) (st : Start) (here : slice_get plan.starts p ≡ Some st) where
-    own_start : (b : Bound) → starts_within plan st.program 0 b ≡ true → start_within plan b st ≡ true
-    own_start b within =
-        own (st.program == st.program) (eq-eqb st.program st.program refl)
-        (list_all-slice_get (λ (s : Start). not (s.program == st.program) || start_within plan b s) plan.starts p st
-        (subst (λ (m : Bool). all_starts_within plan m st.program b plan.starts ≡ true) (plain st.program) within) here)
-      where
-        own : (a : Bool) → a ≡ true → (not a || start_within plan b st) ≡ true → start_within plan b st ≡ true
-        own true is h = h
-        own false is h = absurd cc
-
     first_is : (m : ℕ) → first_table plan.nodes st m ≡ table_of plan (first_world plan) p m
     first_is m =
         let is = first_is_first plan valid in
         entry_seen plan (first_world plan) is.tree (with_number m st.descriptors) ((first_world plan).files.table p m)
         (subst (λ o. IsFirstEntry (first_world plan).files (given_to o m) ((first_world plan).files.table p m)) here (is.entries p m))
 
-    first_described : (b : Bound) → start_within plan b st ≡ true
-        → describes (grant_holds plan.grants) b st.mode (replicate register_count 0) (table_of plan (first_world plan) p) ≡ true
-    first_described b within =
-        subst (λ (table : ℕ → Option Seen). describes (grant_holds plan.grants) b st.mode (replicate register_count 0) table ≡ true) (λ i m. first_is m i) within
+    -- ### That follows its program
+    module _ (follows : (marks plan st.program && st.mode) ≡ false) where
+      is_bounded : is_bounded_start (marked_at plan st.program) st.program st ≡ true
+      is_bounded = both_true (ap not (ap (λ m. m && st.mode) (sym (by_name st.program)) ∙ follows)) (eq-eqb st.program st.program refl)
 
-    first_inside : IsPoint (instruction_at plan st.program 0) → IsDescribed plan certificate (first_world plan) p (new_process st.program st.mode)
-    first_inside point = go (instruction_at plan st.program 0) refl point
+      own_start : (b : Bound) → starts_within plan st.program 0 b ≡ true → start_within plan b st ≡ true
+      own_start b within =
+          own (is_bounded_start (marked_at plan st.program) st.program st) is_bounded
+          (list_all-slice_get (λ (s : Start). not (is_bounded_start (marked_at plan st.program) st.program s) || start_within plan b s) plan.starts p st within here)
+        where
+          own : (a : Bool) → a ≡ true → (not a || start_within plan b st) ≡ true → start_within plan b st ≡ true
+          own true is h = h
+          own false is h = absurd cc
+
+      first_described : (b : Bound) → start_within plan b st ≡ true
+          → describes (grant_holds plan.grants) b st.mode (replicate register_count 0) (table_of plan (first_world plan) p) ≡ true
+      first_described b within =
+          subst (λ (table : ℕ → Option Seen). describes (grant_holds plan.grants) b st.mode (replicate register_count 0) table ≡ true) (λ i m. first_is m i) within
+
+      first_inside : IsPoint (instruction_at plan st.program 0) → IsDescribed plan certificate (first_world plan) p (first_process plan.programs st)
+      first_inside point = go (instruction_at plan st.program 0) refl point
+        where
+          go : (o : Option Instruction) → instruction_at plan st.program 0 ≡ o → IsPoint o → IsDescribed plan certificate (first_world plan) p (first_process plan.programs st)
+          go None at none = absurd none
+          go (Some i) at some =
+              let b = bounded st.program i at (any_at (is_bounded_start (marked_at plan st.program) st.program) plan.starts p st here is_bounded) in
+              record { bound = b.bound; at = b.at; is = first_described b.bound (own_start b.bound b.starts) }
+
+    -- ### That doesn't: it holds what its program may have
+    module _ (free : (marks plan st.program && st.mode) ≡ true) (asked : FirstAsked plan certificate st.program) where
+      abbrev a : Authority
+      a = own_authority plan certificate st.program
+
+      may_start : list_all (may_start_with plan a) st.descriptors ≡ true
+      may_start =
+          own (st.mode && (st.program == st.program)) (both_true (both_right (marks plan st.program) st.mode free) (eq-eqb st.program st.program refl))
+          (list_all-slice_get (λ (s : Start). not (s.mode && (s.program == st.program)) || list_all (may_start_with plan a) s.descriptors) plan.starts p st asked.starts here)
+        where
+          own : (b : Bool) → b ≡ true → (not b || list_all (may_start_with plan a) st.descriptors) ≡ true → list_all (may_start_with plan a) st.descriptors ≡ true
+          own true is h = h
+          own false is h = absurd cc
+
+      may_have : (x : FirstObject) (rights : ℕ) → may_start_on plan a rights x ≡ true → MayHave plan.grants a (program_name plan st.program) (subject_of plan plan.nodes (first_object x)) rights
+      may_have (On_node n access) rights may =
+          let place = (node plan.nodes n).place in
+          let found = any_found (is_below_ceiling a rights place) plan.grants may in
+          let g : Grant = found.element in
+          record {
+            name = g.name;
+            holds =
+                subst (λ o. holds_in o place ≡ true) (sym ((plans_keep_limits plan valid).grants.found found.number g found.there))
+                (both_left _ (is_within rights (ceiling_in a.ceilings g.name)) found.passes);
+            below = both_right (begins g.path place) _ found.passes;
+          }
+      may_have (On_end pair side) rights may = may
+
+      first_within : IsTableWithin plan certificate (first_world plan) p st.program
+      first_within n =
+          let is = first_is_first plan valid in
+          entry (with_number n st.descriptors) refl ((first_world plan).files.table p n)
+          (subst (λ o. IsFirstEntry (first_world plan).files (given_to o n) ((first_world plan).files.table p n)) here (is.entries p n))
+        where
+          entry : (given : Option FirstDescriptor) → with_number n st.descriptors ≡ given → (o : Option Descriptor) → IsFirstEntry (first_world plan).files given o
+              → IfHeld (IsWithin plan certificate (first_world plan) st.program) o
+          entry None at None is = tt
+          entry None at (Some d) is = absurd is
+          entry (Some given) at None is = absurd is
+          entry (Some given) at (Some d) is =
+              let one = each_of (may_start_with plan a) st.descriptors may_start given (given_among n st.descriptors given at) in
+              let tree = (first_is_first plan valid).tree in
+              subst (λ r. MayHave plan.grants a (program_name plan st.program) (subject_of plan (first_world plan).tree ((first_world plan).files.objects d.description)) r) (sym is.rights)
+              (subst (λ o. MayHave plan.grants a (program_name plan st.program) (subject_of plan (first_world plan).tree o) given.rights) (sym is.object)
+              (subst (λ t. MayHave plan.grants a (program_name plan st.program) (subject_of plan t (first_object given.object)) given.rights) (sym tree)
+              (may_have given.object given.rights one)))
+
+    first_asks : IsPoint (instruction_at plan st.program 0) → (free : Bool) → (marks plan st.program && st.mode) ≡ free
+        → LivesBy plan certificate free (first_world plan) p (first_process plan.programs st)
+    first_asks point true free = go (instruction_at plan st.program 0) refl point
       where
-        go : (o : Option Instruction) → instruction_at plan st.program 0 ≡ o → IsPoint o → IsDescribed plan certificate (first_world plan) p (new_process st.program st.mode)
+        go : (o : Option Instruction) → instruction_at plan st.program 0 ≡ o → IsPoint o → LivesBy plan certificate true (first_world plan) p (first_process plan.programs st)
         go None at none = absurd none
         go (Some i) at some =
-            let is : is_started plan st.program ≡ true =
-            subst (λ (m : Bool). starts_program m st.program plan.starts ≡ true) (sym (plain st.program))
-            (any_at (λ (s : Start). s.program == st.program) plan.starts p st here (eq-eqb st.program st.program refl)) in
-            let b = bounded st.program i at is in
-            record { bound = b.bound; at = b.at; is = first_described b.bound (own_start b.bound b.starts) }
+            first_within free
+            (first_asked plan certificate st.program (sym (by_name st.program) ∙ both_left (marks plan st.program) st.mode free) i at (meets st.program 0))
+    first_asks point false follows = first_inside follows point
 
   inside : (p : ℕ) (start : Option Start) → slice_get plan.starts p ≡ start → (o : Option ProcessState) → IsProcessIfMade (programs_of_plan plan) o
-      → IsFirstProcess start o → IfAlive (IsLiving plan (bounds plan certificate) (first_world plan) p) o
+      → IsFirstProcess plan.programs start o → IfAlive (IsLiving plan (bounds plan certificate) (first_world plan) p) o
   inside p start here None made is = tt
   inside p None here (Some s) made is = absurd is
   inside p (Some st) here (Some s) made is = λ alive.
       let placed : IsPoint (instruction_at plan s.program s.point) = made.placed alive in
       record {
         asked =
-            subst (IsDescribed plan certificate (first_world plan) p) (sym is)
-            (first_inside p st here (subst (λ (t : ProcessState). IsPoint (instruction_at plan t.program t.point)) is placed));
+            subst (λ (t : ProcessState). LivesBy plan certificate (is_free t) (first_world plan) p t) (sym is)
+            (first_asks p st here (subst (λ (t : ProcessState). IsPoint (instruction_at plan t.program t.point)) is placed) (marks plan st.program && st.mode) refl);
         walker =
             rests plan (first_world plan).tree (first_world plan).files.objects ((first_world plan).files.table p) s
             (ap (λ (t : ProcessState). t.walk) is);
       }
+
+  first_marks : AreMarkedAs (marks plan) (first_world plan)
+  unfolding first_world
+  first_marks p = first_marked plan.programs plan.starts p
 
   -- ## Ends
   class_given : (tree : List Node) (numbering : Numbering) (description : ℕ) (o : Object) → IsObject tree numbering description o → IsOfClass numbering.class o
@@ -182,6 +249,7 @@ module _ (plan : Plan) (certificate : Certificate) (valid : is_plan plan ≡ tru
       let is : IsFirstWorld plan (first_world plan) = first_is_first plan valid in
       record {
         formed = formed;
+        marked = first_marks;
         classes = formed.numbering.class;
         living = λ p. inside p (slice_get plan.starts p) refl (slice_get (first_world plan).processes p) (formed.world.processes p) (is.processes p);
         ends = λ p n. end_given formed.numbering ((first_world plan).files.table p n) (formed.world.entries p n);

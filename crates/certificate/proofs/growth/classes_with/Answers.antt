@@ -1,4 +1,4 @@
-use Rattle.std.proofs.Common.{◌≡◌, ◌≢◌, ◌+◌, ◌<◌, ◌||◌, ◌++◌, ◌∷◌, [], Bool, true, false, List, ℕ, length, ap, sym, ◌∙◌, arith, refl}
+use Rattle.std.proofs.Common.{◌≡◌, ◌≢◌, ◌+◌, ◌<◌, ◌||◌, Bool, true, false, List, length, ap, sym, ◌∙◌, arith, refl}
 use Rattle.std.specs.Prelude.{◌≤◌, Some, option_map}
 use Rattle.std.specs.List.{flat_map, list_any}
 use Rattle.std.proofs.lemmas.List.{length_push}

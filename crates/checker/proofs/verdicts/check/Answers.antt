@@ -5,7 +5,7 @@ use Rattle.prog_asm.specs.Views.{instruction_of}
 use Rattle.kernel.proofs.Fresh.{lt_or_le}
 use Rattle.rules.specs.Expansions.{expansion}
 use Rattle.rules.specs.Verdicts.{MeetsRules, found_at}
-use Rattle.rules.proofs.Sound.{sound}
+use Rattle.rules.proofs.Sound.{confining, sound}
 use Rattle.transfer.specs.Limits.{leaves_known}
 use Rattle.transfer.proofs.Known.{program_known}
 use Rattle.std.specs.List.{list_all}
@@ -57,3 +57,6 @@ returns-clause-exact c = all_meet c
 
 pub returns-clause-sound : goal.returns-clause-sound
 returns-clause-sound c = λ yes none. sound c.args.task.now (expansion c.args.task.now c.args.cert.now) c.programs-program-items.ensures.valid none (all_meet c)
+
+pub returns-clause-confined : goal.returns-clause-confined
+returns-clause-confined c = λ yes. confining c.args.task.now (expansion c.args.task.now c.args.cert.now) c.programs-program-items.ensures.valid (all_meet c)

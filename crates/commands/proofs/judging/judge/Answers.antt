@@ -14,4 +14,4 @@ returns-in_err-write_all-clause-begun g c =
     let after = g.W.Out.taken c.write_all.new.out in
     let told : text ≡ verdict_text plan verdict = search rules in
     let begun : TookFront before after text = search rules in
-    λ device. verdict_begun plan c.args.cert.now verdict text before after c.check-verdict.ensures.exact c.check-verdict.ensures.sound told begun
+    λ device. verdict_begun plan c.args.cert.now verdict text before after c.check-verdict.ensures.exact c.check-verdict.ensures.sound c.check-verdict.ensures.confined told begun

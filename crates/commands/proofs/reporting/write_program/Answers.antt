@@ -1,11 +1,10 @@
-use Rattle.std.proofs.Common.{◌≡◌, ◌++◌, [], List, ℕ, ap}
+use Rattle.std.proofs.Common.{◌++◌, [], List, ℕ, ap}
 use Rattle.std.specs.Prelude.{if◌then◌else◌}
-use Rattle.certificate_text.specs.Pieces.{in_order}
 use Rattle.certificate_text.proofs.Written.{passed_on, written-as, written-both, written-front}
 use Rattle.prog_asm.specs.Views.{code_of}
 use Rattle.task.specs.Views.{grants_of, program_of}
-use Rattle.commands.specs.Reports.{ceiling_lines, program_lines}
-use Rattle.commands.proofs.Listings.{lines_at, points-as}
+use Rattle.commands.specs.Reports.{ceiling_lines}
+use Rattle.commands.proofs.Listings.{points-as}
 use Rattle.commands.proofs.reporting.write_program.Goals as goal
 
 pub returns-in_err-write_points : goal.returns-in_err-write_points

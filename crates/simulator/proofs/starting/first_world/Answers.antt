@@ -31,7 +31,7 @@ same g c =
     begun_world c.args.task.now (g.T.Tree.nodes c.in_ok-built.built.tree) (open_files c.in_ok-files.files) c.in_ok-processes.processes.items
     (subst (λ starts. Awaits (gifts_from 0 starts) [] (open_files c.in_ok-files.files)) c.starts.ensures c.in_ok-files.ensures)
     (c.in_ok-built.ensures.nodes ∙ c.nodes.ensures.nodes)
-    (c.in_ok-processes.ensures ∙ ap (map first_process) c.starts-2.ensures)
+    (c.in_ok-processes.ensures ∙ (λ i. map (first_process (c.programs.ensures.programs i)) (c.starts-2.ensures i)))
 
 pub returns-clause-same : goal.returns-clause-same
 returns-clause-same g c = same g c

@@ -14,42 +14,42 @@ use Rattle.simulator.proofs.Doing.{calls_unchanged, ends_unchanged, executes_cal
 use Rattle.simulator.proofs.steps.execute.Goals as goal
 
 pub act-requires : goal.act-requires
-act-requires g c = needs_next (world_of g.T.Tree.nodes c.args.world.now) c.args.event.process (instruction_of c.args.instruction.now) c.index_mut.result.now c.requires.stands c.index_mut.ensures.value
+act-requires g c = needs_next (world_of g.T.Tree.nodes c.args.world.now) c.args.event.process (instruction_of c.args.instruction.now) c.index_mut.result.now c.requires.may c.index_mut.ensures.value
 
 pub halt-requires-clause-made : goal.halt-requires-clause-made
 halt-requires-clause-made g c =
     subst (λ (ps : List ProcessState). c.args.event.process < length ps)
     (sym (ends_unchanged (world_of g.T.Tree.nodes c.args.world.now) c.args.event.process c.index_mut.result.now c.act.new.process c.args.event.input
-    c.index_mut.ensures.value (instruction_of c.args.instruction.now) c.requires.stands c.in-Ends.ensures.action c.in-Ends.ensures.process))
-    (made_within (world_of g.T.Tree.nodes c.args.world.now) c.args.event.process (instruction_of c.args.instruction.now) c.requires.stands)
+    c.index_mut.ensures.value (instruction_of c.args.instruction.now) c.requires.may c.in-Ends.ensures.action c.in-Ends.ensures.process))
+    (made_within (world_of g.T.Tree.nodes c.args.world.now) c.args.event.process (instruction_of c.args.instruction.now) c.requires.may)
 
 pub halt-requires-clause-few : goal.halt-requires-clause-few
-halt-requires-clause-few g c = made_few (world_of g.T.Tree.nodes c.args.world.now) c.args.event.process (instruction_of c.args.instruction.now) c.requires.stands
+halt-requires-clause-few g c = made_few (world_of g.T.Tree.nodes c.args.world.now) c.args.event.process (instruction_of c.args.instruction.now) c.requires.may
 
 pub call-requires : goal.call-requires
 call-requires g c =
     subst (λ (ps : List ProcessState). MayInvoke (world_with (g.T.Tree.nodes c.args.world.now.tree) (open_files c.args.world.now.files) ps) c.args.event.process
     (instruction_of c.args.instruction.now))
     (sym (calls_unchanged (world_of g.T.Tree.nodes c.args.world.now) c.args.event.process c.index_mut.result.now c.act.new.process c.args.event.input
-    c.index_mut.ensures.value (instruction_of c.args.instruction.now) c.requires.stands c.in-Calls.ensures.action c.in-Calls.ensures.process))
-    (may_call (world_of g.T.Tree.nodes c.args.world.now) c.args.event.process (instruction_of c.args.instruction.now) c.requires.stands c.in-Calls.ensures.action)
+    c.index_mut.ensures.value (instruction_of c.args.instruction.now) c.requires.may c.in-Calls.ensures.action c.in-Calls.ensures.process))
+    (may_call (world_of g.T.Tree.nodes c.args.world.now) c.args.event.process (instruction_of c.args.instruction.now) c.requires.may c.in-Calls.ensures.action)
 
 pub returns-in-Moves : goal.returns-in-Moves
 returns-in-Moves g c =
     executes_moved (world_of g.T.Tree.nodes c.args.world.now) (event_of c.args.event) c.index_mut.result.now c.act.new.process (instruction_of c.args.instruction.now)
-    (result_of c.without_effects.result.outcome) (effects_of c.without_effects.result.effects.items) c.requires.stands c.index_mut.ensures.value c.in-Moves.ensures.action
+    (result_of c.without_effects.result.outcome) (effects_of c.without_effects.result.effects.items) c.requires.may c.index_mut.ensures.value c.in-Moves.ensures.action
     c.in-Moves.ensures.process
     c.without_effects.ensures.outcome c.without_effects.ensures.effects
 
 pub returns-in-Ends : goal.returns-in-Ends
 returns-in-Ends g c =
     executes_ended (world_of g.T.Tree.nodes c.args.world.now) (event_of c.args.event) (instruction_of c.args.instruction.now)
-    (result_of c.halt.result.outcome) (effects_of c.halt.result.effects.items) _ c.requires.stands c.in-Ends.ensures.action c.halt.ensures.outcome c.halt.ensures.effects
+    (result_of c.halt.result.outcome) (effects_of c.halt.result.effects.items) _ c.requires.may c.in-Ends.ensures.action c.halt.ensures.outcome c.halt.ensures.effects
     (subst (λ (ps : List ProcessState). (s : ProcessState) → slice_get ps c.args.event.process ≡ Some s →
     AlikeWorlds (halted (world_with (g.T.Tree.nodes c.args.world.now.tree) (open_files c.args.world.now.files) ps) c.args.event.process s)
     (world_of g.T.Tree.nodes c.halt.new.world))
     (ends_unchanged (world_of g.T.Tree.nodes c.args.world.now) c.args.event.process c.index_mut.result.now c.act.new.process c.args.event.input
-    c.index_mut.ensures.value (instruction_of c.args.instruction.now) c.requires.stands c.in-Ends.ensures.action c.in-Ends.ensures.process)
+    c.index_mut.ensures.value (instruction_of c.args.instruction.now) c.requires.may c.in-Ends.ensures.action c.in-Ends.ensures.process)
     c.halt.ensures.world)
 
 pub returns-in_ok-outcome-in-Calls : goal.returns-in_ok-outcome-in-Calls
@@ -57,9 +57,9 @@ returns-in_ok-outcome-in-Calls g c =
     let v = world_of g.T.Tree.nodes c.call.new.world in
     let shows = effects_of c.in_ok-outcome-in-Calls.effects.items in
     let unchanged = calls_unchanged (world_of g.T.Tree.nodes c.args.world.now) c.args.event.process c.index_mut.result.now c.act.new.process
-    c.args.event.input c.index_mut.ensures.value (instruction_of c.args.instruction.now) c.requires.stands c.in-Calls.ensures.action
+    c.args.event.input c.index_mut.ensures.value (instruction_of c.args.instruction.now) c.requires.may c.in-Calls.ensures.action
     c.in-Calls.ensures.process in
-    executes_called (world_of g.T.Tree.nodes c.args.world.now) (event_of c.args.event) (instruction_of c.args.instruction.now) (result_of c.result_of_call.result) shows v c.requires.stands
+    executes_called (world_of g.T.Tree.nodes c.args.world.now) (event_of c.args.event) (instruction_of c.args.instruction.now) (result_of c.result_of_call.result) shows v c.requires.may
     (subst (λ told. CallComes (world_of g.T.Tree.nodes c.args.world.now) c.args.event.process (event_of c.args.event)
     (instruction_of c.args.instruction.now) told shows v) (sym c.result_of_call.ensures)
     (subst (λ (ps : List ProcessState). CallComes

@@ -213,7 +213,8 @@ returns-in-CapRightsLimit g c =
     let call = syscall_of c.args.call.now in
     performs_at_rest t f c.args.caller.now c.args.walk t (open_files c.limit_rights.new.files) c.limit_rights.result call
     (programs.Cap_rights_limit (operand_of c.in-CapRightsLimit.descriptor) c.in-CapRightsLimit.rights.0) (ap syscall_of c.in-CapRightsLimit.is)
-    (none_under t f.objects (f.table c.args.caller.now.number) c.args.caller.now.process.now call (walking_in c.args.walk) (ap (λ k. lookups_of (syscall_of k)) c.in-CapRightsLimit.is) c.requires.fits)
+    (none_under t f.objects (f.table c.args.caller.now.number) c.args.caller.now.process.now call (walking_in c.args.walk) (ap (λ k. lookups_of (syscall_of k)) c.in-CapRightsLimit.is)
+    c.requires.fits)
     c.requires.rests (λ processes e same made. c.limit_rights.ensures t processes e same)
 
 pub returns-in-CapFcntlsLimit : goal.returns-in-CapFcntlsLimit
@@ -224,7 +225,8 @@ returns-in-CapFcntlsLimit g c =
     let call = syscall_of c.args.call.now in
     performs_at_rest t f c.args.caller.now c.args.walk t (open_files c.limit_fcntls.new.files) c.limit_fcntls.result call
     (programs.Cap_fcntls_limit (operand_of c.in-CapFcntlsLimit.descriptor) c.in-CapFcntlsLimit.commands.0) (ap syscall_of c.in-CapFcntlsLimit.is)
-    (none_under t f.objects (f.table c.args.caller.now.number) c.args.caller.now.process.now call (walking_in c.args.walk) (ap (λ k. lookups_of (syscall_of k)) c.in-CapFcntlsLimit.is) c.requires.fits)
+    (none_under t f.objects (f.table c.args.caller.now.number) c.args.caller.now.process.now call (walking_in c.args.walk) (ap (λ k. lookups_of (syscall_of k)) c.in-CapFcntlsLimit.is)
+    c.requires.fits)
     c.requires.rests (λ processes e same made. c.limit_fcntls.ensures t processes e same)
 
 pub returns-in-CapEnter : goal.returns-in-CapEnter

@@ -1,7 +1,6 @@
 use Rattle.std.proofs.Common.{◌≡◌, ◌≤◌, ◌∙◌, ap, sym, refl, subst, length, ℕ, List, rules}
 use Rattle.std.specs.Prelude.{Option, Some, None, Ok, option_map}
 use Rattle.std.specs.Str.{bytes_eq}
-use Rattle.certificate.specs.declared.points.Point.{Point}
 use Rattle.certificate.specs.declared.lines.Channel.{Channel}
 use Rattle.certificate.specs.declared.authorities.Authority.{Authority}
 use Rattle.rights.specs.Classes.{Class}
@@ -13,7 +12,7 @@ use Rattle.certificate.specs.Room.{listed_with}
 use Rattle.certificate.specs.CountViews.{programs_listed}
 use Rattle.certificate.specs.Views.{authorities_of, certificate_with, channels_of, line_of, version_of}
 use Rattle.certificate.proofs.Behind.{classes_few}
-use Rattle.certificate.proofs.Growing.{line_keeps, room_no_class, room_no_program, room_yes, taken_no_room, taken_ok, taken_out_of_order}
+use Rattle.certificate.proofs.Growing.{room_no_class, room_no_program, room_yes, taken_no_room, taken_ok, taken_out_of_order}
 use Rattle.certificate.proofs.Made.{grown}
 use Rattle.certificate.proofs.certs.Cert.push.Goals as goal
 

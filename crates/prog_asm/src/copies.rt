@@ -1,0 +1,204 @@
+//! Copies of instructions, for who has to keep one.
+
+ghost use Rattle.std.specs.Prelude.{◌≡◌, IfOk, false};
+ghost use Rattle.prog_asm.specs.Paths.{has_path};
+ghost use Rattle.prog_asm.specs.Views.{instruction_of, syscall_of};
+
+use crate::instructions::{Instruction, Syscall};
+use crate::operands::Path;
+use rights::Memory;
+use std::alloc::Global;
+
+impl Path {
+    /// A copy. Want of memory alone keeps it from being made. (own)
+    pub(crate) fn copy(&self, alloc: Global) -> Result<Path, Memory>
+        ensures { IfOk result (λ copied. copied ≡ self.now) }
+    {
+        let bytes = Vec::from_slice(alloc, self.bytes())?;
+        Ok(Path::new(bytes))
+    }
+}
+
+impl Syscall {
+    /// A copy of a call that has no path.
+    fn copy_plain(&self) -> Syscall
+        requires { has_path (syscall_of self.now) ≡ false }
+        ensures { syscall_of result ≡ syscall_of self.now }
+    {
+        match *self {
+            Syscall::Read { descriptor } => Syscall::Read { descriptor },
+            Syscall::Write { descriptor, value } => Syscall::Write { descriptor, value },
+            Syscall::Sendfd {
+                descriptor,
+                sent,
+                value,
+            } => Syscall::Sendfd {
+                descriptor,
+                sent,
+                value,
+            },
+            Syscall::Recvfd { descriptor } => Syscall::Recvfd { descriptor },
+            Syscall::Lseek { descriptor, offset } => Syscall::Lseek { descriptor, offset },
+            Syscall::Ftruncate { descriptor, len } => Syscall::Ftruncate { descriptor, len },
+            Syscall::Fsync { descriptor } => Syscall::Fsync { descriptor },
+            Syscall::Fstat { descriptor } => Syscall::Fstat { descriptor },
+            Syscall::FcntlGetfl { descriptor } => Syscall::FcntlGetfl { descriptor },
+            Syscall::FcntlSetfl { descriptor, flags } => Syscall::FcntlSetfl { descriptor, flags },
+            Syscall::Dup { descriptor } => Syscall::Dup { descriptor },
+            Syscall::Close { descriptor } => Syscall::Close { descriptor },
+            Syscall::CapRightsLimit { descriptor, rights } => {
+                Syscall::CapRightsLimit { descriptor, rights }
+            }
+            Syscall::CapFcntlsLimit {
+                descriptor,
+                commands,
+            } => {
+                Syscall::CapFcntlsLimit {
+                    descriptor,
+                    commands,
+                }
+            }
+            Syscall::CapEnter => Syscall::CapEnter,
+            Syscall::CapGetmode => Syscall::CapGetmode,
+            Syscall::Socketpair => Syscall::Socketpair,
+            Syscall::Fork => Syscall::Fork,
+            _ => unreachable!(),
+        }
+    }
+
+    /// A copy. Want of memory alone keeps it from being made. (own)
+    pub(crate) fn copy(&self, alloc: Global) -> Result<Syscall, Memory>
+        ensures { IfOk result (λ copied. syscall_of copied ≡ syscall_of self.now) }
+    {
+        match self {
+            Syscall::Open { path, flags } => {
+                let path = path.copy(alloc)?;
+                Ok(Syscall::Open {
+                    path,
+                    flags: *flags,
+                })
+            }
+            Syscall::Openat {
+                descriptor,
+                path,
+                flags,
+            } => {
+                let path = path.copy(alloc)?;
+                Ok(Syscall::Openat {
+                    descriptor: *descriptor,
+                    path,
+                    flags: *flags,
+                })
+            }
+            Syscall::Fstatat { descriptor, path } => {
+                let path = path.copy(alloc)?;
+                Ok(Syscall::Fstatat {
+                    descriptor: *descriptor,
+                    path,
+                })
+            }
+            Syscall::Stat { path } => {
+                let path = path.copy(alloc)?;
+                Ok(Syscall::Stat { path })
+            }
+            Syscall::Mkdirat { descriptor, path } => {
+                let path = path.copy(alloc)?;
+                Ok(Syscall::Mkdirat {
+                    descriptor: *descriptor,
+                    path,
+                })
+            }
+            Syscall::Mkdir { path } => {
+                let path = path.copy(alloc)?;
+                Ok(Syscall::Mkdir { path })
+            }
+            Syscall::Unlinkat {
+                descriptor,
+                path,
+                directory,
+            } => {
+                let path = path.copy(alloc)?;
+                Ok(Syscall::Unlinkat {
+                    descriptor: *descriptor,
+                    path,
+                    directory: *directory,
+                })
+            }
+            Syscall::Unlink { path, directory } => {
+                let path = path.copy(alloc)?;
+                Ok(Syscall::Unlink {
+                    path,
+                    directory: *directory,
+                })
+            }
+            Syscall::Renameat {
+                descriptor,
+                path,
+                target,
+                new_path,
+            } => {
+                let path = path.copy(alloc)?;
+                let new_path = new_path.copy(alloc)?;
+                Ok(Syscall::Renameat {
+                    descriptor: *descriptor,
+                    path,
+                    target: *target,
+                    new_path,
+                })
+            }
+            _ => Ok(self.copy_plain()),
+        }
+    }
+}
+
+impl Instruction {
+    /// A copy. Want of memory alone keeps it from being made. (own)
+    pub fn copy(&self, alloc: Global) -> Result<Instruction, Memory>
+        ensures { IfOk result (λ copied. instruction_of copied ≡ instruction_of self.now) }
+    {
+        match self {
+            Instruction::Set { register, value } => Ok(Instruction::Set {
+                register: *register,
+                value: *value,
+            }),
+            Instruction::Mov { register, source } => Ok(Instruction::Mov {
+                register: *register,
+                source: *source,
+            }),
+            Instruction::Add { register, addend } => Ok(Instruction::Add {
+                register: *register,
+                addend: *addend,
+            }),
+            Instruction::In { register } => Ok(Instruction::In {
+                register: *register,
+            }),
+            Instruction::Jmp { target } => Ok(Instruction::Jmp { target: *target }),
+            Instruction::Jeq {
+                register,
+                value,
+                target,
+            } => Ok(Instruction::Jeq {
+                register: *register,
+                value: *value,
+                target: *target,
+            }),
+            Instruction::Jlt {
+                register,
+                value,
+                target,
+            } => Ok(Instruction::Jlt {
+                register: *register,
+                value: *value,
+                target: *target,
+            }),
+            Instruction::Halt => Ok(Instruction::Halt),
+            Instruction::Invoke { call, otherwise } => {
+                let call = call.copy(alloc)?;
+                Ok(Instruction::Invoke {
+                    call,
+                    otherwise: *otherwise,
+                })
+            }
+        }
+    }
+}
