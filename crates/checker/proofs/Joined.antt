@@ -28,7 +28,7 @@ broken_later (t ∷ ts) later is = go t.kept is (broken_later ts later)
     go true is rest = rest is
     go false is rest = cc
 
-or_true : (b : Bool) → (b || true) ≡ true
+pub or_true : (b : Bool) → (b || true) ≡ true
 or_true true = refl
 or_true false = refl
 

@@ -5,3 +5,5 @@ pub mod Standing
 pub mod KnownLimits
 pub mod Along
 pub mod Marked
+pub mod Apart
+pub mod FindingLaws

@@ -41,7 +41,7 @@ named_code plan program name code valid named there is =
 
 module _ (plan : Plan) (c : Certificate) (program point : ℕ) (name : List ℕ) (carried : Option Bound) (valid : is_plan plan ≡ true) (made : IsCertificate c)
     (named : name ≡ program_name plan program) (is : carried ≡ carried_to plan c name point) where
-  bound_is : (o : Option Bound) → o ≡ or_carried (bound_at c name point) carried → bound_at (expansion plan c) (program_name plan program) point ≡ o
+  pub bound_is : (o : Option Bound) → o ≡ or_carried (bound_at c name point) carried → bound_at (expansion plan c) (program_name plan program) point ≡ o
   bound_is o same =
       ap (λ n. bound_at (expansion plan c) n point) (sym named) ∙ expansion_bounds plan c name point valid made
       ∙ ap (or_carried (bound_at c name point)) (sym is) ∙ sym same

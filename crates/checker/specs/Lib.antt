@@ -1,4 +1,6 @@
 pub mod AllowanceViews
+pub mod FindingViews
+pub mod Findings
 pub mod SiteViews
 pub mod Verdicts
 pub mod Views

@@ -1,5 +1,5 @@
 //! The checker: whether a certificate meets the rules K1 to K22 at every point of a task's programs. `check` answers, and
-//! names the first rule that is broken; `expand` writes out the bounds that a certificate of version 2 or 3 leaves to be carried.
+//! names the first rule that is broken; `all_findings` lists all that are; `expand` writes out the bounds that a certificate of version 2 or 3 leaves to be carried.
 #![tactic(auto)]
 
 pub mod allowances;
@@ -7,13 +7,17 @@ mod arrivals;
 mod broken;
 mod carrying;
 pub mod expanding;
+pub mod findings;
+pub mod laws;
 mod marks;
 pub mod points;
+mod rule_tests;
 mod starts;
 mod uses;
 pub mod verdicts;
 
 pub use allowances::ceiling_at;
 pub use expanding::expand;
-pub use points::{code_named, is_named};
+pub use findings::{BrokenRule, all_findings};
+pub use points::{code_named, instruction_at, is_named};
 pub use verdicts::{Verdict, check};

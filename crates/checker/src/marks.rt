@@ -36,14 +36,14 @@ fn starts_in_authority(task: &Task, allowance: &Allowance<'_>, program: u8, poin
 }
 
 /// Whether rule 17 is kept: the points of a marked program bound it outside the mode alone.
-fn stays_outside(marked: bool, bound: &Bound) -> bool
+pub(crate) fn stays_outside(marked: bool, bound: &Bound) -> bool
     ensures { result ≡ (not marked || not (may_be_on (bound_of bound.now).mode)) }
 {
     !marked || !may_be_on(bound.mode())
 }
 
 /// Whether rule 18 is kept at a point with a bound.
-fn keeps_to_authority(
+pub(crate) fn keeps_to_authority(
     site: &Site<'_>,
     marked: bool,
     allowance: &Allowance<'_>,
@@ -59,7 +59,7 @@ fn keeps_to_authority(
 }
 
 /// Whether it is kept at one without.
-fn starts_within_authority(
+pub(crate) fn starts_within_authority(
     task: &Task,
     marked: bool,
     allowance: &Allowance<'_>,
@@ -72,14 +72,14 @@ fn starts_within_authority(
 }
 
 /// Whether the program of this name is marked.
-fn is_marked_in(task: &Task, name: &Name) -> bool
+pub(crate) fn is_marked_in(task: &Task, name: &Name) -> bool
     ensures { result ≡ is_marked task.now.programs (name_of name.now) }
 {
     is_marked(task.programs(), name.as_bytes())
 }
 
 /// Whether a point without a bound has to have one: point 0 of a program with a process that is bounded by its points.
-fn lacks_bound(task: &Task, name: &Name, program: u8, point: u8) -> bool
+pub(crate) fn lacks_bound(task: &Task, name: &Name, program: u8, point: u8) -> bool
     requires { name_of name.now ≡ program_name task.now program }
     ensures { result ≡ ((point == 0) && is_started task.now program) }
 {
@@ -87,7 +87,7 @@ fn lacks_bound(task: &Task, name: &Name, program: u8, point: u8) -> bool
 }
 
 /// Whether the rules 19 to 22 are asked: at point 0 of a marked program.
-fn is_asked_first(task: &Task, name: &Name, program: u8, point: u8) -> bool
+pub(crate) fn is_asked_first(task: &Task, name: &Name, program: u8, point: u8) -> bool
     requires { name_of name.now ≡ program_name task.now program }
     ensures { result ≡ is_asked_first task.now program point }
 {

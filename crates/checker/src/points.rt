@@ -21,7 +21,7 @@ pub(crate) fn instruction_in(code: &[Instruction], point: u8) -> Option<&Instruc
 }
 
 /// The instruction at a point of a program, by its place in the task, if both are there.
-pub(crate) fn instruction_at(task: &Task, program: u8, point: u8) -> Option<&Instruction>
+pub fn instruction_at(task: &Task, program: u8, point: u8) -> Option<&Instruction>
     ensures there { option_map (λ i. instruction_of i.now) result ≡ instruction_at task.now program point }
     ensures known { IfSome result (λ i. leaves_known (instruction_of i.now) ≡ true) }
 {

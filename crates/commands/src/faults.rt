@@ -19,7 +19,7 @@ use task_reader::TaskFault;
 
 /// Why the program does not do what its words say.
 #[derive(Drop)]
-pub(crate) enum Fault<'a> {
+pub enum Fault<'a> {
     /// The words are none of the program's.
     Words,
     /// The file of this name can't be read.
@@ -81,8 +81,8 @@ impl<'a> From<text_checker::Fault> for Fault<'a> {
     }
 }
 
-/// The status of a fault.
-fn status_of(fault: &Fault<'_>) -> u8
+/// The status of a fault: 2 of one in words or files, 3 of want of memory and of a failed output. (own)
+pub fn status_of(fault: &Fault<'_>) -> u8
     ensures { result ≡ fault_status (fault_of fault.now) }
 {
     match fault {
@@ -183,7 +183,7 @@ fn words_of_certificate(alloc: Global, fault: CertFault) -> Result<Vec<u8>, Allo
 }
 
 /// The words for a fault.
-fn words_of(alloc: Global, fault: &Fault<'_>) -> Result<Vec<u8>, AllocError>
+pub fn words_of(alloc: Global, fault: &Fault<'_>) -> Result<Vec<u8>, AllocError>
     ensures { IfOk result (λ words. words.items ≡ fault_words (fault_of fault.now)) }
 {
     match fault {

@@ -52,8 +52,8 @@ fn example<'a, W: Out>(alloc: Global, out: &mut W) -> Result<(), Fault<'a>>
     Ok(())
 }
 
-/// The bytes of a file.
-fn fetch<'a, S: Source>(files: &mut S, name: &'a str) -> Result<Vec<u8>, Fault<'a>>
+/// The bytes of a file. It fails where there is none, or for want of memory. (own)
+pub fn fetch<'a, S: Source>(files: &mut S, name: &'a str) -> Result<Vec<u8>, Fault<'a>>
     ensures text { IfOk result (λ bytes. IsFile (S.files files.old) name.now bytes.items) }
     ensures missing { IfErr result (λ fault. (fault_of fault ≡ No_memory) ⊎ ((fault_of fault ≡ Refused (No_file name.now)) × IsMissing (S.files files.old) name.now)) }
     ensures same { S.files files.new ≡ S.files files.old }

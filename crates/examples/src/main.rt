@@ -1,4 +1,4 @@
-//! Asks the program what each case of `cases.toml` says, over the files of the folder that this runs in. A line names each
+//! Asks the programs what each case of `cases.toml` says, over the files of the folder that this runs in. A line names each
 //! case that differs from what is wanted, and the last line counts.
 #![tactic(auto)]
 
@@ -18,6 +18,10 @@ use std::process::ExitCode;
 #[serde(deny_unknown_fields)]
 struct Case {
     words: Vec<String>,
+
+    /// Whether `capwhy` is asked, and not `capcheck`.
+    #[serde(default)]
+    why: bool,
 
     /// The file with the wanted output; without one none is wanted.
     out: Option<String>,
@@ -103,12 +107,16 @@ struct Said {
     err: Vec<u8>,
 }
 
-/// Serves the words. A status for want of memory or a failed output comes only from memory here, and is no answer.
-fn asked(rt: &HostRuntime, words: &[String], found: Option<&[u8]>) -> Result<Said> {
+/// Serves the words to one of the programs. A status for want of memory or a failed output comes only from memory here, and is no answer.
+fn asked(rt: &HostRuntime, why: bool, words: &[String], found: Option<&[u8]>) -> Result<Said> {
     let mut files = Files { rt, found };
     let mut out = empty_sink(rt.alloc());
     let mut err = empty_sink(rt.alloc());
-    let status = serve(rt.alloc(), words, &mut files, &mut out, &mut err);
+    let status = if why {
+        explain::serve(rt.alloc(), words, &mut files, &mut out, &mut err)
+    } else {
+        serve(rt.alloc(), words, &mut files, &mut out, &mut err)
+    };
     if status == STOPPED || err.failures > 0 {
         bail!("no memory");
     }
@@ -129,7 +137,7 @@ fn is_accepted(rt: &HostRuntime, words: &[String], found: &[u8]) -> Result<bool>
     for word in ["check", task.as_str(), FOUND] {
         check.push(String::from_str(alloc, word)?)?;
     }
-    let said = asked(rt, &check, Some(found))?;
+    let said = asked(rt, false, &check, Some(found))?;
     Ok(said.status == DONE && said.out.as_slice() == b"yes\n".as_slice() && said.err.is_empty())
 }
 
@@ -148,7 +156,7 @@ fn wanted(rt: &HostRuntime, name: &Option<String>) -> Result<Vec<u8>> {
 
 /// What differs of a case from what is wanted.
 fn differences(rt: &HostRuntime, case: &Case) -> Result<Vec<&'static str>> {
-    let said = asked(rt, &case.words, None)?;
+    let said = asked(rt, case.why, &case.words, None)?;
     let out = wanted(rt, &case.out)?;
     let err = wanted(rt, &case.err)?;
     let mut differ = Vec::new(rt.alloc());

@@ -9,4 +9,4 @@ mod searching;
 mod shortening;
 mod spots;
 
-pub use searching::search;
+pub use searching::{reached, search};

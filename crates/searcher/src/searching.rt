@@ -107,6 +107,19 @@ fn searched(alloc: Global, task: &Task) -> Result<Option<Cert>, Memory>
     }
 }
 
+/// What the search point by point comes to, whether or not the checker accepts it: the bounds of version 2 of each point that it
+/// reaches. Nothing of a task with a marked program, and where it gives up: its bounds don't settle, or are more than a certificate has.
+/// `Memory` may come in place of any other answer. (own)
+pub fn reached(alloc: Global, task: &Task) -> Result<Option<Cert>, Memory>
+    ensures version { IfOk result (λ found. IfSome found (λ cert. cert.version ≡ Two)) }
+    ensures marked { none_marked task.now ≡ false → result ≡ Ok None }
+{
+    if !none_marked(task.programs()) {
+        return Ok(None);
+    }
+    proposed(alloc, task)
+}
+
 /// A certificate of a task, of version 2, that the checker accepts, if the search finds one: that of what it finds point by
 /// point, or the flat one. Where its short form is accepted, with bounds at named points alone, it is given in that form. Where
 /// the flat certificate is accepted, it finds one. Of a task with a marked program it finds none. `Memory` may come in place of any

@@ -1,0 +1,54 @@
+-- What is read as a fault is no task, and a fault's status is no answer's.
+use Rattle.std.proofs.Common.{◌≡◌, ◌≢◌, ◌<◌, ◌≤◌, ℕ, true, false, [], ◌∷◌, inl, inr, arith, length, map, refl, sym, ◌∙◌}
+use Rattle.std.specs.Prelude.{Option, Some, None, Result, Ok, Err}
+use Rattle.commands.specs.Faults.{Fault, Refused, No_memory, No_output, fault_status}
+use Rattle.commands.specs.Served.{is_done_status}
+use Rattle.prog_asm.specs.Assembly as assembly
+use Rattle.task_reader.specs.declared.faults.TaskFault.{TaskFault}
+use Rattle.task_reader.specs.declared.faults.TaskFault.TheVariants as code
+use Rattle.task_reader.specs.FaultViews.{FaultIs, IsProgramFault, text_fault}
+use Rattle.task_reader.specs.Reading.{Mistake}
+use Rattle.std.specs.Prelude.{List, string_bytes}
+use Rattle.task_reader.specs.Reading.{task_of}
+use Rattle.certificate.specs.Bounds.{Certificate}
+use Rattle.checker.specs.FindingViews.{broken_rule_of}
+use Rattle.checker.specs.Findings.{findings}
+use Rattle.checker.specs.declared.findings.BrokenRule.{BrokenRule as BrokenRuleCode}
+use Rattle.checker.specs.Verdicts.{IsAccepted}
+use Rattle.checker.proofs.FindingLaws.{none_meets}
+use Rattle.rules.specs.Expansions.{expansion}
+use Rattle.task.specs.Plans.{Plan}
+use Rattle.explain.specs.Answered.{IsTaskText, SaysWhether}
+
+no_program : {Y : Type 0} (name : List ℕ) (why : Option assembly.Fault) (read : Result Y Mistake) (y : Y) → IsProgramFault name why read → read ≡ Ok y → ⊥
+no_program name None read y is good = is
+no_program name (Some why) read y is good = let clash = sym is ∙ good in cc
+
+pub no_task : {Y : Type 0} (fault : TaskFault) (read : Result Y Mistake) (y : Y) → FaultIs fault read → fault ≢ code.Memory → read ≡ Ok y → ⊥
+no_task code.NotToml read y is other good = let clash = sym is ∙ good in cc
+no_task code.Field read y is other good = let clash = sym is ∙ good in cc
+no_task code.Node read y is other good = let clash = sym is ∙ good in cc
+no_task code.Grant read y is other good = let clash = sym is ∙ good in cc
+no_task code.Descriptor read y is other good = let clash = sym is ∙ good in cc
+no_task (code.Asm program why) read y is other good = no_program (string_bytes program) (text_fault why) read y is good
+no_task code.Limit read y is other good = let clash = sym is ∙ good in cc
+no_task code.Memory read y is other good = other refl
+
+pub refused_text : (text : List ℕ) (fault : TaskFault) → FaultIs fault (task_of text) → fault ≢ code.Memory → IsTaskText text → ⊥
+refused_text text fault is other good = no_task fault (task_of text) good.0 is other good.1
+
+-- what the rules that are broken say
+pub none_says : (plan : Plan) (c : Certificate) (found : List BrokenRuleCode) → length found < 1 → map broken_rule_of found ≡ findings plan (expansion plan c)
+    → SaysWhether 0 (IsAccepted plan c)
+none_says plan c [] below is = inl (refl, (none_meets plan (expansion plan c)).0 (sym is))
+none_says plan c (x ∷ xs) below is = absurd (omega (arith, below))
+
+pub some_says : (plan : Plan) (c : Certificate) (found : List BrokenRuleCode) → 1 ≤ length found → map broken_rule_of found ≡ findings plan (expansion plan c)
+    → SaysWhether 1 (IsAccepted plan c)
+some_says plan c [] least is = absurd (omega (arith, least))
+some_says plan c (x ∷ xs) least is = inr (refl, λ accepted. let clash = is ∙ (none_meets plan (expansion plan c)).1 accepted in absurd cc)
+
+pub no_answer : (fault : Fault) → is_done_status (fault_status fault) ≡ false
+no_answer (Refused why) = refl
+no_answer No_memory = refl
+no_answer No_output = refl

@@ -1,0 +1,53 @@
+-- What the status says of what was asked. (own)
+use Rattle.std.specs.Prelude.{◌≡◌, ◌⊎◌, ℕ, true, List, Option, Some, Ok}
+use Rattle.certificate.specs.Bounds.{Certificate}
+use Rattle.certificate_text.specs.Readings.{certificate_of_text}
+use Rattle.checker.specs.Verdicts.{IsAccepted}
+use Rattle.commands.specs.Files.{Files, IsFile}
+use Rattle.commands.specs.Served.{is_done_status}
+use Rattle.task.specs.Plans.{Plan}
+use Rattle.task_reader.specs.Reading.{task_of}
+use Rattle.explain.specs.Questions.{Question, Usage, Listing, Broken, Unfound, Faulty, question_in}
+
+-- It is 0 where this holds, and 1 where it doesn't.
+abbrev pub SaysWhether : ℕ → Type 0 → Type 0
+SaysWhether status Holds = ((status ≡ 0) × Holds) ⊎ ((status ≡ 1) × (Holds → ⊥))
+
+-- of the text of a task, whether it is one
+abbrev pub IsTaskText : List ℕ → Type 0
+IsTaskText text = (plan : Plan) × (task_of text ≡ Ok plan)
+
+-- of the texts of a task and a certificate, whether the certificate is accepted
+pub record SaysBroken (status : ℕ) (task certificate : List ℕ) : Type 0 where
+  pub plan : Plan
+  pub is_task : task_of task ≡ Ok plan
+  pub bounds : Certificate
+  pub is_certificate : certificate_of_text certificate ≡ Ok bounds
+  pub says : SaysWhether status (IsAccepted plan bounds)
+
+-- The files are there. `text` says whether the one is a task's text; `no` whether the certificate of the other is accepted, where no
+-- rule is broken; `none` has both statuses, and all else is done with 0.
+pub record SaysOfFile (files : Files) (name : List ℕ) (status : ℕ) : Type 0 where
+  pub text : List ℕ
+  pub is_file : IsFile files name text
+  pub says : SaysWhether status (IsTaskText text)
+
+pub record SaysOfFiles (files : Files) (task certificate : List ℕ) (status : ℕ) : Type 0 where
+  pub text : List ℕ
+  pub is_file : IsFile files task text
+  pub bounds_text : List ℕ
+  pub is_bounds : IsFile files certificate bounds_text
+  pub says : SaysBroken status text bounds_text
+
+abbrev pub Answers : Files → Question → ℕ → Type 0
+Answers files Usage status = status ≡ 0
+Answers files (Listing task certificate) status = status ≡ 0
+Answers files (Broken task certificate) status = SaysOfFiles files task certificate status
+Answers files (Unfound task) status = is_done_status status ≡ true
+Answers files (Faulty task) status = SaysOfFile files task status
+
+-- The words ask something, and it is answered.
+pub record AnswersWords (files : Files) (words : List (List ℕ)) (status : ℕ) : Type 0 where
+  pub question : Question
+  pub asked : question_in words ≡ Some question
+  pub answered : Answers files question status

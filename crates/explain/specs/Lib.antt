@@ -1,0 +1,3 @@
+pub mod Questions
+pub mod QuestionViews
+pub mod Answered

@@ -1,0 +1,38 @@
+-- The words of `capwhy`, and what they ask. (own)
+use Rattle.std.specs.Prelude.{◌==◌, ◌||◌, ℕ, Bool, false, List, [], ◌∷◌, Option, Some, None, codes, if◌then◌else◌}
+use Rattle.std.specs.Str.{bytes_eq}
+use Rattle.command_line.specs.Orders.{is_dashed}
+
+-- what there is to ask; for a listing of a task, with the bounds of a certificate or without; for all rules that a certificate breaks;
+-- for what the search comes to; for the faults of a task's text
+pub data Question : Type 0 where
+  Usage : Question
+  Listing : (task : List ℕ) (certificate : Option (List ℕ)) → Question
+  Broken : (task certificate : List ℕ) → Question
+  Unfound : (task : List ℕ) → Question
+  Faulty : (task : List ℕ) → Question
+
+abbrev pub if_so : Bool → Question → Option Question
+if_so asked question = if asked then Some question else None
+
+-- of one file, and of two
+abbrev pub of_task : List ℕ → List ℕ → Option Question
+of_task command task =
+    if is_dashed task then None
+    else if bytes_eq command (codes "list") then Some (Listing task None)
+    else if bytes_eq command (codes "none") then Some (Unfound task)
+    else if_so (bytes_eq command (codes "text")) (Faulty task)
+
+abbrev pub of_pair : List ℕ → List ℕ → List ℕ → Option Question
+of_pair command task certificate =
+    if is_dashed task || is_dashed certificate then None
+    else if bytes_eq command (codes "list") then Some (Listing task (Some certificate))
+    else if_so (bytes_eq command (codes "no")) (Broken task certificate)
+
+-- No words, or `--help`; `list TASK`, `none TASK`, `text TASK`; `list TASK CERT`, `no TASK CERT`. No name begins with `-`.
+abbrev pub question_in : List (List ℕ) → Option Question
+question_in [] = Some Usage
+question_in (word ∷ []) = if_so (bytes_eq word (codes "--help")) Usage
+question_in (command ∷ task ∷ []) = of_task command task
+question_in (command ∷ task ∷ certificate ∷ []) = of_pair command task certificate
+question_in (command ∷ task ∷ certificate ∷ word ∷ words) = None

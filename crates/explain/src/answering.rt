@@ -1,0 +1,260 @@
+//! What is answered to a question, and how.
+
+ghost use Rattle.std.specs.Prelude.{◌≡◌, ◌<◌, ◌-◌, ◌^◌, IfOk, IsTrue, false, map, string_bytes, true};
+ghost use Rattle.checker.specs.FindingViews.{broken_rule_of};
+ghost use Rattle.checker.specs.Findings.{findings};
+ghost use Rattle.checker.specs.Verdicts.{IsAccepted};
+ghost use Rattle.commands.specs.Served.{is_done_status, is_status};
+ghost use Rattle.rules.specs.Expansions.{expansion};
+ghost use Rattle.explain.specs.Answered.{Answers, IsTaskText, SaysBroken, SaysWhether, AnswersWords};
+ghost use Rattle.explain.specs.QuestionViews.{question_of};
+
+use crate::failing::add_unfound;
+use crate::listing::add_listing;
+use crate::older::add_older;
+use crate::pages::Page;
+use crate::program_texts::texts_of_file;
+use crate::questions::{Question, read_question};
+use crate::refusing::add_findings;
+use crate::scenes::Scene;
+use crate::task_faults::add_task_faults;
+use crate::usage::USAGE;
+use certificate::{Cert, Version};
+use checker::{BrokenRule, all_findings, expand};
+use commands::faults::{Fault, status_of, words_of};
+use commands::statuses::{BROKEN, DONE, STOPPED};
+use commands::{Source, fetch};
+use rights::{Memory, Out, write_all};
+use std::alloc::{AllocError, Global};
+use task::Task;
+use task_reader::read_task;
+use text_checker::read_texts;
+
+/// An answer: its text, and the status that the program ends with.
+#[derive(Drop)]
+struct Answer {
+    page: Page,
+    status: u8,
+    ghost status_is: { is_done_status status ≡ true },
+}
+
+/// A certificate with all its bounds written.
+fn expanded<'a>(alloc: Global, task: &Task, cert: &Cert) -> Result<Cert, Fault<'a>> {
+    match expand(alloc, task, cert) {
+        Ok(cert) => Ok(cert),
+        Err(Memory) => Err(Fault::Memory),
+    }
+}
+
+/// The listing of a task, without bounds.
+fn listing_alone<'a>(alloc: Global, file: &[u8]) -> Result<Answer, Fault<'a>>
+    ensures { IfOk result (λ answer. answer.status ≡ 0) }
+{
+    let task = read_task(alloc, file)?;
+    let texts = texts_of_file(alloc, file)?;
+    let mut page = Page::new(alloc);
+    let scene = Scene {
+        file,
+        texts: &texts,
+        task: &task,
+        cert: &Cert::new(alloc, Version::One),
+    };
+    add_listing(alloc, &mut page, &scene, false)?;
+    Ok(Answer { page, status: DONE })
+}
+
+/// The listing of a task with the bounds of a certificate.
+fn listing_with<'a>(alloc: Global, file: &[u8], cert: &[u8]) -> Result<Answer, Fault<'a>>
+    ensures { IfOk result (λ answer. answer.status ≡ 0) }
+{
+    let claim = read_texts(alloc, file, cert)?;
+    let texts = texts_of_file(alloc, file)?;
+    let expanded = expanded(alloc, &claim.task, &claim.cert)?;
+    let mut page = Page::new(alloc);
+    let scene = Scene {
+        file,
+        texts: &texts,
+        task: &claim.task,
+        cert: &expanded,
+    };
+    add_listing(alloc, &mut page, &scene, true)?;
+    Ok(Answer { page, status: DONE })
+}
+
+/// The status of an answer that tells these rules.
+fn status_of_rules(task: &Task, cert: &Cert, found: &[BrokenRule]) -> u8
+    requires { map broken_rule_of found.now ≡ findings task.now (expansion task.now cert.now) }
+    ensures says { SaysWhether result (IsAccepted task.now cert.now) }
+    ensures done { is_done_status result ≡ true }
+{
+    match found {
+        [] => DONE,
+        [_first, ..] => BROKEN,
+    }
+}
+
+/// Adds all rules that a certificate breaks.
+fn add_broken(
+    alloc: Global,
+    page: &mut Page,
+    scene: &Scene<'_>,
+    cert: &Cert,
+    found: &[BrokenRule],
+) -> Result<(), AllocError> {
+    if found.is_empty() {
+        return page.text("no rule is broken: the certificate is accepted\n");
+    }
+    add_older(alloc, page, scene.task, cert)?;
+    add_findings(alloc, page, scene, found)
+}
+
+/// All rules that a certificate breaks.
+fn broken<'a>(alloc: Global, file: &[u8], cert: &[u8]) -> Result<Answer, Fault<'a>>
+    ensures { IfOk result (λ answer. SaysBroken answer.status file.now cert.now) }
+{
+    let claim = read_texts(alloc, file, cert)?;
+    let texts = texts_of_file(alloc, file)?;
+    let expanded = expanded(alloc, &claim.task, &claim.cert)?;
+    let found = all_findings(alloc, &claim.task, &claim.cert)?;
+    let status = status_of_rules(&claim.task, &claim.cert, &found);
+    let mut page = Page::new(alloc);
+    let scene = Scene {
+        file,
+        texts: &texts,
+        task: &claim.task,
+        cert: &expanded,
+    };
+    add_broken(alloc, &mut page, &scene, &claim.cert, &found)?;
+    Ok(Answer { page, status })
+}
+
+/// What the search comes to.
+fn unfound<'a>(alloc: Global, file: &[u8]) -> Result<Answer, Fault<'a>> {
+    let task = read_task(alloc, file)?;
+    let texts = texts_of_file(alloc, file)?;
+    let mut page = Page::new(alloc);
+    let Ok(is_found) = add_unfound(alloc, &mut page, file, &texts, &task) else {
+        return Err(Fault::Memory);
+    };
+    let status = if is_found { DONE } else { BROKEN };
+    Ok(Answer { page, status })
+}
+
+/// The status of an answer that says whether a text is a task's.
+fn status_of_text(file: &[u8], is_good: bool) -> u8
+    requires good { is_good ≡ true → IsTaskText file.now }
+    requires bad { is_good ≡ false → IsTaskText file.now → ⊥ }
+    ensures says { SaysWhether result (IsTaskText file.now) }
+    ensures done { is_done_status result ≡ true }
+{
+    if is_good {
+        return DONE;
+    }
+    BROKEN
+}
+
+/// The faults of a task's text.
+fn faulty<'a>(alloc: Global, file: &[u8]) -> Result<Answer, Fault<'a>>
+    ensures { IfOk result (λ answer. SaysWhether answer.status (IsTaskText file.now)) }
+{
+    let mut page = Page::new(alloc);
+    let is_good = add_task_faults(alloc, &mut page, file)?;
+    let status = status_of_text(file, is_good);
+    Ok(Answer { page, status })
+}
+
+/// The answer to a question.
+fn reply<'a, S: Source>(
+    alloc: Global,
+    question: Question<'a>,
+    files: &mut S,
+) -> Result<Answer, Fault<'a>>
+    ensures { IfOk result (λ answer. Answers (S.files files.old) (question_of question.entry) answer.status) }
+{
+    match question {
+        Question::Usage => {
+            let mut page = Page::new(alloc);
+            page.text(USAGE)?;
+            Ok(Answer { page, status: DONE })
+        }
+        Question::Listing { task, cert: None } => {
+            let task_text = fetch(files, task)?;
+            listing_alone(alloc, &task_text)
+        }
+        Question::Listing {
+            task,
+            cert: Some(cert),
+        } => {
+            let task_text = fetch(files, task)?;
+            let cert_text = fetch(files, cert)?;
+            listing_with(alloc, &task_text, &cert_text)
+        }
+        Question::Broken { task, cert } => {
+            let task_text = fetch(files, task)?;
+            let cert_text = fetch(files, cert)?;
+            broken(alloc, &task_text, &cert_text)
+        }
+        Question::Unfound { task } => {
+            let task_text = fetch(files, task)?;
+            unfound(alloc, &task_text)
+        }
+        Question::Faulty { task } => {
+            let task_text = fetch(files, task)?;
+            faulty(alloc, &task_text)
+        }
+    }
+}
+
+/// The line that tells a fault.
+fn line_of(alloc: Global, fault: &Fault<'_>) -> Result<Vec<u8>, AllocError> {
+    let mut line = Vec::from_slice(alloc, b"capwhy: ")?;
+    line.extend_from_slice(&words_of(alloc, fault)?)?;
+    line.extend_from_slice(b"\n")?;
+    Ok(line)
+}
+
+/// Tells a fault, and gives its status.
+#[tactic(auto, using(crate::proofs::Refused::no_answer))]
+fn tell<V: Out>(alloc: Global, fault: &Fault<'_>, err: &mut V) -> u8
+    requires { V.faults err.old < 2 ^ 64 - 1 }
+    ensures told { is_done_status result ≡ false }
+    ensures known { IsTrue (is_status result) }
+{
+    match line_of(alloc, fault) {
+        Ok(line) => {
+            let _ = write_all(err, &line);
+            status_of(fault)
+        }
+        Err(_) => {
+            let _ = write_all(err, b"capwhy: memory\n");
+            STOPPED
+        }
+    }
+}
+
+/// The program: answers what its words ask, or tells the fault on the error stream, and gives the status: 0; or 1 where rules are
+/// broken, so that the certificate isn't accepted, no certificate is found or the text is no task's; or 2 for a fault in words or files, or 3 for want of memory or a
+/// failed output. Faults are told as `capcheck` tells them. (own)
+pub fn serve<S: Source, W: Out, V: Out>(
+    alloc: Global,
+    words: &[String],
+    files: &mut S,
+    out: &mut W,
+    err: &mut V,
+) -> u8
+    requires out { W.faults out.old < 2 ^ 64 - 1 }
+    requires err { V.faults err.old < 2 ^ 64 - 1 }
+    ensures done { IsTrue (is_done_status result) → AnswersWords (S.files files.old) (map string_bytes words.now) result }
+    ensures known { IsTrue (is_status result) }
+{
+    let Some(question) = read_question(words) else {
+        return tell(alloc, &Fault::Words, err);
+    };
+    match reply(alloc, question, files) {
+        Ok(answer) => match write_all(out, answer.page.as_bytes()) {
+            Ok(()) => answer.status,
+            Err(_) => tell(alloc, &Fault::Output, err),
+        },
+        Err(fault) => tell(alloc, &fault, err),
+    }
+}

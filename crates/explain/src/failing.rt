@@ -1,0 +1,143 @@
+//! What the search for a certificate came to.
+
+use crate::listing::add_listing;
+use crate::pages::Page;
+use crate::pages::Piece::{Bytes, Number, Text};
+use crate::program_texts::ProgramText;
+use crate::refusing::add_findings;
+use crate::scenes::{Scene, short};
+use crate::starting::add_object;
+use checker::{BrokenRule, all_findings, expand};
+use prog_asm::{Instruction, Syscall};
+use rights::Memory;
+use searcher::{reached, search};
+use std::alloc::{AllocError, Global};
+use task::{FirstObject, Task, TaskNode};
+
+/// Whether a path is that of a grant, byte for byte.
+fn is_granted(task: &Task, path: &[u8]) -> bool {
+    for grant in task.grants() {
+        if is_place(&grant.path, path) {
+            return true;
+        }
+    }
+    false
+}
+
+/// Whether a path is the text of a place: each name after a `/`.
+fn is_place(place: &[Vec<u8>], path: &[u8]) -> bool {
+    let mut rest = path;
+    for name in place {
+        let Some(behind) = rest.strip_prefix(b"/".as_slice()) else {
+            return false;
+        };
+        let Some(left) = behind.strip_prefix(name.as_slice()) else {
+            return false;
+        };
+        rest = left;
+    }
+    rest.is_empty()
+}
+
+/// Whether a node lies in a grant.
+fn lies_in_grant(task: &Task, node: &TaskNode) -> bool {
+    for grant in task.grants() {
+        if node.place.starts_with(&grant.path) {
+            return true;
+        }
+    }
+    false
+}
+
+/// Adds each path that is opened and is no grant's: what comes of it lies in no grant.
+fn add_opens(page: &mut Page, scene: &Scene<'_>) -> Result<(), AllocError> {
+    for (program, named) in scene.task.programs().iter().enumerate() {
+        for (point, instruction) in named.program.code().iter().enumerate() {
+            if let Instruction::Invoke {
+                call: Syscall::Open { path, .. },
+                ..
+            } = instruction
+            {
+                if !is_granted(scene.task, path.bytes()) {
+                    page.text("a grant of ")?;
+                    page.pieces(&[
+                        Bytes(path.bytes()),
+                        Text(" would be needed, if it is a directory: "),
+                    ])?;
+                    scene.add_point(page, program, point)?;
+                    page.text(" opens it by its path\n")?;
+                }
+            }
+        }
+    }
+    Ok(())
+}
+
+/// Adds each first descriptor of a node that lies in no grant.
+fn add_first(page: &mut Page, scene: &Scene<'_>) -> Result<(), AllocError> {
+    for (number, start) in scene.task.starts().iter().enumerate() {
+        for descriptor in &start.descriptors {
+            if let FirstObject::Node { node, .. } = descriptor.object {
+                let lies = match scene.task.nodes().get(node as usize) {
+                    Some(node) => lies_in_grant(scene.task, node),
+                    None => true,
+                };
+                if !lies {
+                    page.text("a grant over ")?;
+                    add_object(page, scene, descriptor.object)?;
+                    page.pieces(&[
+                        Text(" would be needed: process "),
+                        Number(short(number)),
+                        Text(" starts with descriptor "),
+                        Number(u32::from(descriptor.number)),
+                        Text(" of it\n"),
+                    ])?;
+                }
+            }
+        }
+    }
+    Ok(())
+}
+
+/// Whether a rule is broken by what lies in no grant.
+fn wants_grant(found: &[BrokenRule]) -> bool {
+    found
+        .iter()
+        .any(|finding| finding.rule == 10 || finding.rule == 12)
+}
+
+/// Adds what the search came to. Whether it finds a certificate.
+pub(crate) fn add_unfound(
+    alloc: Global,
+    page: &mut Page,
+    file: &[u8],
+    texts: &[ProgramText],
+    task: &Task,
+) -> Result<bool, Memory> {
+    if search(alloc, task)?.is_some() {
+        page.text("a certificate is found: `capcheck search` prints it\n")?;
+        return Ok(true);
+    }
+    let Some(cert) = reached(alloc, task)? else {
+        page.text(
+            "the search gave up: the task has an untrusted program, or its bounds don't settle or are too many\n",
+        )?;
+        return Ok(false);
+    };
+    let expanded = expand(alloc, task, &cert)?;
+    let scene = Scene {
+        file,
+        texts,
+        task,
+        cert: &expanded,
+    };
+    let found = all_findings(alloc, task, &cert)?;
+    add_findings(alloc, page, &scene, &found)?;
+    if wants_grant(&found) {
+        add_opens(page, &scene)?;
+        add_first(page, &scene)?;
+    }
+    page.text("\nThe bounds that the search reached:\n")?;
+    add_listing(alloc, page, &scene, true)?;
+    Ok(false)
+}

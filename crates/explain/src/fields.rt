@@ -1,0 +1,330 @@
+//! The tables of a task's text: each key with the place of its value. What is no task has tables and keys too.
+
+use crate::tokens::{Token, TokenKind, tokens_of};
+use std::alloc::{AllocError, Global};
+
+/// What a table is of, by where it stands.
+#[derive(Clone, Copy, PartialEq, Eq)]
+pub(crate) enum TableKind {
+    Top,
+    Node,
+    Grant,
+    Process,
+    Descriptor,
+    Program,
+    Other,
+}
+
+/// A table.
+#[derive(Clone, Copy)]
+pub(crate) struct Table {
+    pub kind: TableKind,
+    /// The offset of its first byte.
+    pub start: usize,
+    /// The table that it is in, by its place among all.
+    pub parent: usize,
+}
+
+/// A key of a table, and the first token of its value.
+#[derive(Clone, Copy)]
+pub(crate) struct Entry {
+    pub table: usize,
+    pub key: Token,
+    pub value: Option<Token>,
+}
+
+/// A word of a list, which is the value of a key.
+#[derive(Clone, Copy)]
+pub(crate) struct Item {
+    pub entry: usize,
+    pub word: Token,
+}
+
+/// The tables, keys and words of a text, each in the order of the text.
+#[derive(Drop)]
+pub(crate) struct Fields {
+    pub tables: Vec<Table>,
+    pub entries: Vec<Entry>,
+    pub items: Vec<Item>,
+}
+
+/// What is open around a token.
+#[derive(Clone, Copy)]
+enum Frame {
+    /// A table in braces.
+    Braces { table: usize },
+    /// A list that is the value of a key.
+    List { entry: usize },
+}
+
+/// Where in a statement a token stands.
+#[derive(Clone, Copy)]
+enum Step {
+    Key,
+    /// Behind a key.
+    Equals { key: Token },
+    /// Before the value of a key.
+    Value { entry: usize },
+    /// In a table's header in brackets.
+    Header { name: Option<Token> },
+}
+
+/// A reader of fields.
+#[derive(Drop)]
+struct Reader {
+    fields: Fields,
+    frames: Vec<Frame>,
+    step: Step,
+    /// The table of the last header.
+    current: usize,
+}
+
+/// The kind of the table that stands at a key of another.
+fn kind_beneath(parent: TableKind, key: &[u8]) -> TableKind {
+    match parent {
+        TableKind::Top => {
+            if key == b"node".as_slice() {
+                TableKind::Node
+            } else if key == b"grant".as_slice() {
+                TableKind::Grant
+            } else if key == b"process".as_slice() {
+                TableKind::Process
+            } else if key == b"program".as_slice() {
+                TableKind::Program
+            } else if key == b"process.fd".as_slice() {
+                TableKind::Descriptor
+            } else {
+                TableKind::Other
+            }
+        }
+        TableKind::Process => {
+            if key == b"fd".as_slice() {
+                TableKind::Descriptor
+            } else {
+                TableKind::Other
+            }
+        }
+        _ => TableKind::Other,
+    }
+}
+
+impl Fields {
+    /// The kind of a table.
+    pub(crate) fn kind_of(&self, table: usize) -> TableKind {
+        match self.tables.get(table) {
+            Some(table) => table.kind,
+            None => TableKind::Other,
+        }
+    }
+
+    /// The table of a key, and the kind of a table that stands at the key.
+    fn beneath(&self, file: &[u8], entry: usize) -> (usize, TableKind) {
+        let Some(entry) = self.entries.get(entry) else {
+            return (0, TableKind::Other);
+        };
+        let kind = kind_beneath(self.kind_of(entry.table), entry.key.written(file));
+        (entry.table, kind)
+    }
+
+    /// The value of a key of a table, if it has it.
+    pub(crate) fn value_at(&self, file: &[u8], table: usize, key: &[u8]) -> Option<Token> {
+        for entry in &self.entries {
+            if entry.table == table && entry.key.written(file) == key {
+                return entry.value;
+            }
+        }
+        None
+    }
+
+    /// The table of the last process before a header.
+    fn last_process(&self) -> usize {
+        let mut last = 0;
+        for (number, table) in self.tables.iter().enumerate() {
+            if table.kind == TableKind::Process {
+                last = number;
+            }
+        }
+        last
+    }
+}
+
+impl Reader {
+    /// The table whose keys are read.
+    fn table(&self) -> usize {
+        let mut found = self.current;
+        for frame in &self.frames {
+            if let Frame::Braces { table } = frame {
+                found = *table;
+            }
+        }
+        found
+    }
+
+    /// Begins a table in braces, at this offset, as the value of a key.
+    fn open_table(&mut self, file: &[u8], entry: usize, start: usize) -> Result<(), AllocError> {
+        let (parent, kind) = self.fields.beneath(file, entry);
+        let table = self.fields.tables.len();
+        self.fields.tables.push(Table {
+            kind,
+            start,
+            parent,
+        })?;
+        self.frames.push(Frame::Braces { table })?;
+        self.step = Step::Key;
+        Ok(())
+    }
+
+    /// Ends a header, with the table that it begins.
+    fn close_header(&mut self, file: &[u8], name: Token) -> Result<(), AllocError> {
+        let kind = kind_beneath(TableKind::Top, name.written(file));
+        let parent = match kind {
+            TableKind::Descriptor => self.fields.last_process(),
+            _ => 0,
+        };
+        self.current = self.fields.tables.len();
+        self.fields.tables.push(Table {
+            kind,
+            start: name.start,
+            parent,
+        })?;
+        Ok(())
+    }
+
+    /// Takes the token that a value begins with.
+    fn value(&mut self, file: &[u8], entry: usize, token: Token) -> Result<(), AllocError> {
+        self.step = Step::Key;
+        if token.kind == TokenKind::NewLine {
+            return Ok(());
+        }
+        if let Some(entry) = self.fields.entries.get_mut(entry) {
+            entry.value = Some(token);
+        }
+        match token.kind {
+            TokenKind::OpenBracket => self.open_list(entry),
+            TokenKind::OpenBrace => self.open_table(file, entry, token.start),
+            _ => Ok(()),
+        }
+    }
+
+    /// Begins a list.
+    fn open_list(&mut self, entry: usize) -> Result<(), AllocError> {
+        self.frames.push(Frame::List { entry })?;
+        Ok(())
+    }
+
+    /// Takes a token of a list.
+    fn in_list(&mut self, file: &[u8], entry: usize, token: Token) -> Result<(), AllocError> {
+        match token.kind {
+            TokenKind::OpenBracket => self.open_list(entry),
+            TokenKind::OpenBrace => self.open_table(file, entry, token.start),
+            TokenKind::CloseBracket => {
+                self.frames.pop();
+                Ok(())
+            }
+            TokenKind::Word | TokenKind::Text(_) => {
+                self.fields.items.push(Item { entry, word: token })?;
+                Ok(())
+            }
+            _ => Ok(()),
+        }
+    }
+
+    /// Takes a token where a key may begin.
+    fn key(&mut self, token: Token) {
+        match token.kind {
+            TokenKind::Word | TokenKind::Text(_) => self.step = Step::Equals { key: token },
+            TokenKind::CloseBrace => {
+                self.frames.pop();
+            }
+            TokenKind::OpenBracket => {
+                if self.frames.is_empty() {
+                    self.step = Step::Header { name: None };
+                }
+            }
+            _ => {}
+        }
+    }
+
+    /// Takes a token behind a key.
+    fn behind_key(&mut self, key: Token, token: Token) -> Result<(), AllocError> {
+        self.step = Step::Key;
+        if token.kind != TokenKind::Equals {
+            return Ok(());
+        }
+        let entry = self.fields.entries.len();
+        let table = self.table();
+        self.fields.entries.push(Entry {
+            table,
+            key,
+            value: None,
+        })?;
+        self.step = Step::Value { entry };
+        Ok(())
+    }
+
+    /// Takes a token of a header.
+    fn in_header(
+        &mut self,
+        file: &[u8],
+        name: Option<Token>,
+        token: Token,
+    ) -> Result<(), AllocError> {
+        match token.kind {
+            TokenKind::Word | TokenKind::Text(_) => {
+                self.step = Step::Header { name: Some(token) };
+                Ok(())
+            }
+            TokenKind::NewLine => {
+                self.step = Step::Key;
+                match name {
+                    Some(name) => self.close_header(file, name),
+                    None => Ok(()),
+                }
+            }
+            _ => Ok(()),
+        }
+    }
+
+    /// Takes a token.
+    fn take(&mut self, file: &[u8], token: Token) -> Result<(), AllocError> {
+        match self.step {
+            Step::Value { entry } => self.value(file, entry, token),
+            Step::Equals { key } => self.behind_key(key, token),
+            Step::Header { name } => self.in_header(file, name, token),
+            Step::Key => match self.frames.last() {
+                Some(Frame::List { entry }) => {
+                    let entry = *entry;
+                    self.in_list(file, entry, token)
+                }
+                _ => {
+                    self.key(token);
+                    Ok(())
+                }
+            },
+        }
+    }
+}
+
+/// The fields of a text.
+pub(crate) fn fields_of(alloc: Global, file: &[u8]) -> Result<Fields, AllocError> {
+    let mut fields = Fields {
+        tables: Vec::new(alloc),
+        entries: Vec::new(alloc),
+        items: Vec::new(alloc),
+    };
+    fields.tables.push(Table {
+        kind: TableKind::Top,
+        start: 0,
+        parent: 0,
+    })?;
+    let mut reader = Reader {
+        fields,
+        frames: Vec::new(alloc),
+        step: Step::Key,
+        current: 0,
+    };
+    for token in &tokens_of(alloc, file)? {
+        reader.take(file, *token)?;
+    }
+    Ok(reader.fields)
+}

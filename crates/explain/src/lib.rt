@@ -1,0 +1,37 @@
+//! Why not, and where: what `capwhy` answers. It tells all rules that a certificate breaks with what each compares, what the search
+//! came to where it finds none, where the faults of a task's text are, and lists a task's programs with remarks. Nothing of it is
+//! needed to believe a yes of `capcheck`.
+#![tactic(auto)]
+
+pub mod answering;
+mod arriving;
+mod call_rules;
+mod code_faults;
+mod code_forms;
+mod decoded;
+mod failing;
+mod field_faults;
+mod fields;
+mod known_words;
+mod listing;
+mod naming;
+mod near;
+mod older;
+mod pages;
+mod path_faults;
+mod places;
+mod program_texts;
+pub mod questions;
+mod reaching;
+mod refusing;
+mod remarks;
+mod scenes;
+mod sentences;
+mod starting;
+mod task_faults;
+mod tokens;
+mod usage;
+mod uses;
+
+pub use answering::serve;
+pub use questions::{Question, read_question};

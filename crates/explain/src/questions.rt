@@ -1,0 +1,94 @@
+//! What `capwhy` is asked, by its words.
+
+ghost use Rattle.std.specs.Prelude.{◌≡◌, map, option_map, string_bytes};
+ghost use Rattle.command_line.specs.Orders.{is_dashed};
+ghost use Rattle.explain.specs.Questions.{of_pair, of_task, question_in};
+ghost use Rattle.explain.specs.QuestionViews.{question_of};
+
+/// What is asked. It borrows the names of files from the words.
+#[derive(Clone, Copy, PartialEq, Eq)]
+pub enum Question<'a> {
+    /// What there is to ask: no words, or `--help`.
+    Usage,
+    /// `list TASK` or `list TASK CERT`: the programs of a task, with remarks.
+    Listing {
+        task: &'a str,
+        cert: Option<&'a str>,
+    },
+    /// `no TASK CERT`: all rules that a certificate breaks.
+    Broken {
+        task: &'a str,
+        cert: &'a str,
+    },
+    /// `none TASK`: what the search comes to.
+    Unfound {
+        task: &'a str,
+    },
+    /// `text TASK`: the faults of a task's text.
+    Faulty {
+        task: &'a str,
+    },
+}
+
+/// Whether a word begins with `-`.
+fn is_dashed(word: &str) -> bool
+    ensures { result ≡ is_dashed word.now }
+{
+    word.as_bytes().first() == Some(&b'-')
+}
+
+/// What a command asks of one file.
+fn of_task<'a>(command: &str, task: &'a str) -> Option<Question<'a>>
+    ensures { option_map question_of result ≡ of_task command.now task.now }
+{
+    if is_dashed(task) {
+        return None;
+    }
+    if command == "list" {
+        return Some(Question::Listing { task, cert: None });
+    }
+    if command == "none" {
+        return Some(Question::Unfound { task });
+    }
+    if command == "text" {
+        return Some(Question::Faulty { task });
+    }
+    None
+}
+
+/// What it asks of two.
+fn of_pair<'a>(command: &str, task: &'a str, cert: &'a str) -> Option<Question<'a>>
+    ensures { option_map question_of result ≡ of_pair command.now task.now cert.now }
+{
+    if is_dashed(task) || is_dashed(cert) {
+        return None;
+    }
+    if command == "list" {
+        return Some(Question::Listing {
+            task,
+            cert: Some(cert),
+        });
+    }
+    if command == "no" {
+        return Some(Question::Broken { task, cert });
+    }
+    None
+}
+
+/// What the words ask, if they ask anything. A name of a file may be empty, and have any bytes but a leading `-`. (own)
+pub fn read_question<'a>(words: &'a [String]) -> Option<Question<'a>>
+    ensures { option_map question_of result ≡ question_in (map string_bytes words.now) }
+{
+    match words {
+        [] => Some(Question::Usage),
+        [word] => {
+            if word.as_str() == "--help" {
+                return Some(Question::Usage);
+            }
+            None
+        }
+        [command, task] => of_task(command.as_str(), task.as_str()),
+        [command, task, cert] => of_pair(command.as_str(), task.as_str(), cert.as_str()),
+        _ => None,
+    }
+}

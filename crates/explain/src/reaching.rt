@@ -1,0 +1,150 @@
+//! Where instructions lead by the text of a program alone, and what the calls need that come from there on.
+
+use certificate::{Bound, Domain, Target};
+use prog_asm::{Instruction, Operand, Syscall};
+use rights::Rights;
+use std::alloc::{AllocError, Global};
+use transfer::{Need, Passed, Through, needed, operand_interval};
+
+/// The points that an instruction may lead to: the next, and that of its jump or its `else`.
+fn leads_to(instruction: &Instruction, point: usize) -> (Option<usize>, Option<usize>) {
+    let next = Some(point.saturating_add(1));
+    match instruction {
+        Instruction::Jmp { target } => (None, Some(usize::from(*target))),
+        Instruction::Jeq { target, .. } | Instruction::Jlt { target, .. } => {
+            (next, Some(usize::from(*target)))
+        }
+        Instruction::Halt => (None, None),
+        Instruction::Invoke {
+            call: Syscall::CapEnter | Syscall::CapGetmode,
+            ..
+        } => (next, None),
+        Instruction::Invoke { otherwise, .. } => (next, Some(usize::from(*otherwise))),
+        Instruction::Set { .. }
+        | Instruction::Mov { .. }
+        | Instruction::Add { .. }
+        | Instruction::In { .. } => (next, None),
+    }
+}
+
+/// Whether descriptors of two targets may be of one thing.
+fn may_be_same(target: &Target, other: &Target) -> bool {
+    target.within(other) || other.within(target)
+}
+
+/// Whether an operand may name a slot of what a target may be.
+fn names_target(bound: &Bound, operand: Operand, target: &Target) -> bool {
+    let interval = operand_interval(bound, operand);
+    for (number, slot) in bound.slots().iter().enumerate() {
+        let is_named = interval.low() as usize <= number && number <= interval.high() as usize;
+        if let Some(held) = slot.held() {
+            if is_named && may_be_same(&held.target(), target) {
+                return true;
+            }
+        }
+    }
+    false
+}
+
+/// Whether a call sends away what a target may be.
+fn sends_target(bound: &Bound, passed: Passed, target: &Target) -> bool {
+    match passed {
+        Passed::Sent(sent) => names_target(bound, sent, target),
+        Passed::Nothing | Passed::Received => false,
+    }
+}
+
+/// The rights that a call needs of what a target may be by one of its operands, or keeps by a limit; all of them where it sends
+/// such a descriptor away.
+fn needs_by(bound: &Bound, operand: Operand, need: Need, target: &Target) -> Rights {
+    if sends_target(bound, need.passed, target) {
+        return Rights::all();
+    }
+    if names_target(bound, operand, target) {
+        return need.rights.union(need.kept_rights);
+    }
+    Rights::empty()
+}
+
+/// The same, where the call has the operand.
+fn needs_through(bound: &Bound, through: Option<Through>, target: &Target) -> Rights {
+    match through {
+        Some(through) => needs_by(bound, through.operand, through.need, target),
+        None => Rights::empty(),
+    }
+}
+
+/// The rights that an instruction needs of what a target may be.
+fn needs_of(instruction: &Instruction, bound: &Option<Bound>, target: &Target) -> Rights {
+    let (Instruction::Invoke { call, .. }, Some(bound)) = (instruction, bound) else {
+        return Rights::empty();
+    };
+    let needs = needed(call);
+    needs_through(bound, needs.first, target).union(needs_through(bound, needs.second, target))
+}
+
+/// What is set of a point, if it is there.
+fn at<T: Copy>(points: &[T], point: Option<usize>, default: T) -> T {
+    match point {
+        Some(point) => match points.get(point) {
+            Some(value) => *value,
+            None => default,
+        },
+        None => default,
+    }
+}
+
+/// For each point the rights that some call needs that may come from there on, of what a target may be.
+pub(crate) fn rights_used(
+    alloc: Global,
+    code: &[Instruction],
+    bounds: &[Option<Bound>],
+    target: &Target,
+) -> Result<Vec<Rights>, AllocError> {
+    let mut used = Vec::with_capacity(alloc, code.len())?;
+    for (point, instruction) in code.iter().enumerate() {
+        let needs = match bounds.get(point) {
+            Some(bound) => needs_of(instruction, bound, target),
+            None => Rights::empty(),
+        };
+        used.push(needs)?;
+    }
+    for _ in 0..code.len() {
+        for (point, instruction) in code.iter().enumerate() {
+            let (next, target) = leads_to(instruction, point);
+            let later = at(&used, next, Rights::empty()).union(at(&used, target, Rights::empty()));
+            if let Some(here) = used.get_mut(point) {
+                *here = here.union(later);
+            }
+        }
+    }
+    Ok(used)
+}
+
+/// Sets the flag of a point, if it is there.
+fn set(flags: &mut [bool], point: Option<usize>) {
+    if let Some(point) = point {
+        if let Some(flag) = flags.get_mut(point) {
+            *flag = true;
+        }
+    }
+}
+
+/// For each point whether instructions lead to it from point 0.
+pub(crate) fn points_reached(alloc: Global, code: &[Instruction]) -> Result<Vec<bool>, AllocError> {
+    let mut reached = Vec::with_capacity(alloc, code.len())?;
+    for _ in code {
+        reached.push(false)?;
+    }
+    set(&mut reached, Some(0));
+    for _ in 0..code.len() {
+        for (point, instruction) in code.iter().enumerate() {
+            if at(&reached, Some(point), false) {
+                let (next, target) = leads_to(instruction, point);
+                set(&mut reached, next);
+                set(&mut reached, target);
+            }
+        }
+    }
+    Ok(reached)
+}

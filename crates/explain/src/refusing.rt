@@ -1,0 +1,38 @@
+//! All rules that a certificate breaks, with where and why.
+
+use crate::pages::Page;
+use crate::pages::Piece::{Bytes, Text};
+use crate::scenes::Scene;
+use crate::sentences::add_rule;
+use checker::BrokenRule;
+use std::alloc::{AllocError, Global};
+
+/// Adds the line of a point: its instruction as it is written.
+fn add_head(page: &mut Page, scene: &Scene<'_>, found: BrokenRule) -> Result<(), AllocError> {
+    let (program, point) = (usize::from(found.program), usize::from(found.point));
+    scene.add_point(page, program, point)?;
+    page.pieces(&[
+        Text(": "),
+        Bytes(scene.written(program, point).text),
+        Text("\n"),
+    ])
+}
+
+/// Adds the rules that are broken, point by point.
+pub(crate) fn add_findings(
+    alloc: Global,
+    page: &mut Page,
+    scene: &Scene<'_>,
+    found: &[BrokenRule],
+) -> Result<(), AllocError> {
+    let mut last = None;
+    for finding in found {
+        let here = (finding.program, finding.point);
+        if last != Some(here) {
+            last = Some(here);
+            add_head(page, scene, *finding)?;
+        }
+        add_rule(alloc, page, scene, *finding)?;
+    }
+    Ok(())
+}

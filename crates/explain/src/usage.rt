@@ -1,0 +1,10 @@
+//! What there is to ask.
+
+/// What `capwhy` prints without words.
+pub(crate) const USAGE: &str =
+    "capwhy list TASK [CERT]  the programs of a task by point and line, with bounds and remarks
+capwhy no TASK CERT      all rules that a certificate breaks, with where and why
+capwhy none TASK         what the search for a certificate came to
+capwhy text TASK         where the faults of a task's text are
+capwhy --help            this text
+";
