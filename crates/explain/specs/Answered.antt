@@ -25,12 +25,24 @@ pub record SaysBroken (status : ℕ) (task certificate : List ℕ) : Type 0 wher
   pub is_certificate : certificate_of_text certificate ≡ Ok bounds
   pub says : SaysWhether status (IsAccepted plan bounds)
 
+-- of a task's text, that a certificate of it is accepted, with status 0; 1 says nothing
+pub record SaysFound (status : ℕ) (task : List ℕ) : Type 0 where
+  pub plan : Plan
+  pub is_task : task_of task ≡ Ok plan
+  pub is_done : is_done_status status ≡ true
+  pub found : status ≡ 0 → (bounds : Certificate) × IsAccepted plan bounds
+
 -- The files are there. `text` says whether the one is a task's text; `no` whether the certificate of the other is accepted, where no
--- rule is broken; `none` has both statuses, and all else is done with 0.
+-- rule is broken; `none` says with 0 that some certificate is; all else is done with 0.
 pub record SaysOfFile (files : Files) (name : List ℕ) (status : ℕ) : Type 0 where
   pub text : List ℕ
   pub is_file : IsFile files name text
   pub says : SaysWhether status (IsTaskText text)
+
+pub record SaysOfSearch (files : Files) (name : List ℕ) (status : ℕ) : Type 0 where
+  pub text : List ℕ
+  pub is_file : IsFile files name text
+  pub says : SaysFound status text
 
 pub record SaysOfFiles (files : Files) (task certificate : List ℕ) (status : ℕ) : Type 0 where
   pub text : List ℕ
@@ -43,7 +55,7 @@ abbrev pub Answers : Files → Question → ℕ → Type 0
 Answers files Usage status = status ≡ 0
 Answers files (Listing task certificate) status = status ≡ 0
 Answers files (Broken task certificate) status = SaysOfFiles files task certificate status
-Answers files (Unfound task) status = is_done_status status ≡ true
+Answers files (Unfound task) status = SaysOfSearch files task status
 Answers files (Faulty task) status = SaysOfFile files task status
 
 -- The words ask something, and it is answered.

@@ -6,7 +6,7 @@ ghost use Rattle.checker.specs.Findings.{findings};
 ghost use Rattle.checker.specs.Verdicts.{IsAccepted};
 ghost use Rattle.commands.specs.Served.{is_done_status, is_status};
 ghost use Rattle.rules.specs.Expansions.{expansion};
-ghost use Rattle.explain.specs.Answered.{Answers, IsTaskText, SaysBroken, SaysWhether, AnswersWords};
+ghost use Rattle.explain.specs.Answered.{Answers, IsTaskText, SaysBroken, SaysFound, SaysWhether, AnswersWords};
 ghost use Rattle.explain.specs.QuestionViews.{question_of};
 
 use crate::failing::add_unfound;
@@ -129,7 +129,9 @@ fn broken<'a>(alloc: Global, file: &[u8], cert: &[u8]) -> Result<Answer, Fault<'
 }
 
 /// What the search comes to.
-fn unfound<'a>(alloc: Global, file: &[u8]) -> Result<Answer, Fault<'a>> {
+fn unfound<'a>(alloc: Global, file: &[u8]) -> Result<Answer, Fault<'a>>
+    ensures { IfOk result (λ answer. SaysFound answer.status file.now) }
+{
     let task = read_task(alloc, file)?;
     let texts = texts_of_file(alloc, file)?;
     let mut page = Page::new(alloc);

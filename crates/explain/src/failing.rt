@@ -1,5 +1,9 @@
 //! What the search for a certificate came to.
 
+ghost use Rattle.std.specs.Prelude.{◌≡◌, IfOk, true};
+ghost use Rattle.certificate.specs.Bounds.{Certificate};
+ghost use Rattle.checker.specs.Verdicts.{IsAccepted};
+
 use crate::listing::add_listing;
 use crate::pages::Page;
 use crate::pages::Piece::{Bytes, Number, Text};
@@ -113,7 +117,9 @@ pub(crate) fn add_unfound(
     file: &[u8],
     texts: &[ProgramText],
     task: &Task,
-) -> Result<bool, Memory> {
+) -> Result<bool, Memory>
+    ensures { IfOk result (λ is_found. is_found ≡ true → (found : Certificate) × IsAccepted task.now found) }
+{
     if search(alloc, task)?.is_some() {
         page.text("a certificate is found: `capcheck search` prints it\n")?;
         return Ok(true);

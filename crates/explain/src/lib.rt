@@ -5,6 +5,7 @@
 
 pub mod answering;
 mod arriving;
+mod authority_rules;
 mod call_rules;
 mod code_faults;
 mod code_forms;

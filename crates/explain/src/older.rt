@@ -31,22 +31,23 @@ struct Move {
 }
 
 impl Move {
-    /// Where a point has come to.
-    fn place(&self, point: usize) -> usize {
+    /// Where a point has come to; none where that lies before the first.
+    fn place(&self, point: usize) -> Option<usize> {
         if point < self.from {
-            return point;
+            return Some(point);
         }
         if self.is_on {
-            return point.saturating_add(self.far);
+            return point.checked_add(self.far);
         }
-        point.saturating_sub(self.far)
+        point.checked_sub(self.far)
     }
 
     /// Whether each point has come to one whose flag is set.
     fn fits(&self, points: &[usize], flags: &[bool]) -> bool {
-        points
-            .iter()
-            .all(|&point| flags.get(self.place(point)) == Some(&true))
+        points.iter().all(|&point| match self.place(point) {
+            Some(place) => flags.get(place) == Some(&true),
+            None => false,
+        })
     }
 }
 

@@ -1,6 +1,7 @@
 //! The rules, each in a sentence with what it compares at a point that breaks it.
 
 use crate::arriving::{Arrival, add_parts, failures, successes};
+use crate::authority_rules::{add_authority, add_beyond, add_bounded};
 use crate::call_rules::{Told, add_call_rule};
 use crate::pages::Page;
 use crate::pages::Piece::{Bytes, Number, Text};
@@ -149,6 +150,7 @@ fn add_compared(
             page.text("; ")?;
             add_call_rule(page, &told, found.rule)
         }
+        17 => add_bounded(page, spot.bound),
         _ => Ok(()),
     }
 }
@@ -165,7 +167,15 @@ fn add_detail(
     else {
         return Ok(());
     };
-    match scene.cert.bound_at(name.as_bytes(), point) {
+    let bound = scene.cert.bound_at(name.as_bytes(), point);
+    if found.rule == 18 {
+        let at = bound.as_ref().map(|bound| (instruction, bound));
+        return add_beyond(page, scene, &name, found.program, found.point, at);
+    }
+    if found.rule > 18 {
+        return add_authority(page, scene, &name, found.rule);
+    }
+    match bound {
         Some(bound) => {
             let spot = Spot {
                 name: &name,
