@@ -3,7 +3,7 @@
 ghost use Rattle.std.specs.Prelude.{◌≡◌, option_map, true};
 ghost use Rattle.certificate.specs.Bounds.{bound_in};
 ghost use Rattle.certificate.specs.Rising.{places_of, rises};
-ghost use Rattle.certificate.specs.Views.{bound_of, points_of};
+ghost use Rattle.certificate.specs.Views.{point_of, points_of};
 
 use crate::authorities::Authority;
 use crate::bounds::Bound;
@@ -73,10 +73,10 @@ impl Model for Cert {
         × (c.classes ≡ length (distinct same_class (classes_of certificate))) };
 }
 
-/// The bound of a point among some that rise, by halving them.
-fn bound_among(points: &[Point], program: &[u8], point: usize) -> Option<Bound>
+/// The point of this number in the program of this name, among some that rise, by halving them.
+fn point_among<'a>(points: &'a [Point], program: &[u8], point: usize) -> Option<&'a Point>
     requires { rises (places_of (points_of points.now)) ≡ true }
-    ensures { option_map bound_of result ≡ bound_in (points_of points.now) program.now point }
+    ensures { option_map (λ found. (point_of found.now).bound) result ≡ bound_in (points_of points.now) program.now point }
 {
     if points.is_empty() {
         return None;
@@ -84,14 +84,14 @@ fn bound_among(points: &[Point], program: &[u8], point: usize) -> Option<Bound>
     let middle = points.len() / 2;
     let found = &points[middle];
     match found.program.compare_point(found.point, program, point) {
-        Ordering::Less => bound_among(&points[middle + 1..], program, point),
-        Ordering::Equal => Some(found.bound()),
-        Ordering::Greater => bound_among(&points[..middle], program, point),
+        Ordering::Less => point_among(&points[middle + 1..], program, point),
+        Ordering::Equal => Some(found),
+        Ordering::Greater => point_among(&points[..middle], program, point),
     }
 }
 
 impl Cert {
-    ghost use Rattle.std.specs.Prelude.{◌≡◌, option_map, true};
+    ghost use Rattle.std.specs.Prelude.{◌≡◌, is_some, option_map, true};
     ghost use Rattle.certificate.specs.Bounds.{bound_at};
     ghost use Rattle.certificate.specs.Lines.{is_line, is_of_version};
     ghost use Rattle.certificate.specs.Growth.{IsCertificate, empty, taken};
@@ -183,6 +183,16 @@ impl Cert {
     pub fn bound_at(&self, program: &[u8], point: usize) -> Option<Bound>
         ensures { option_map bound_of result ≡ bound_at self.now program.now point }
     {
-        bound_among(&self.points, program, point)
+        match point_among(&self.points, program, point) {
+            None => None,
+            Some(found) => Some(found.bound()),
+        }
+    }
+
+    /// Whether a point of the program of this name has a bound.
+    pub fn has_bound(&self, program: &[u8], point: usize) -> bool
+        ensures { result ≡ is_some (bound_at self.now program.now point) }
+    {
+        point_among(&self.points, program, point).is_some()
     }
 }

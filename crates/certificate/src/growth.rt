@@ -1,7 +1,7 @@
 //! How a certificate grows by a line: whether there is room for it, whether it stands in its place, and what it adds.
 
-ghost use Rattle.std.specs.Prelude.{◌≡◌, ◌≤◌, ◌∷◌, [], length, map, option_map, IfErr, MatchOption, OnErr, OnOk};
-ghost use Rattle.std.specs.List.{flat_map, list_any};
+ghost use Rattle.std.specs.Prelude.{◌≡◌, ◌≤◌, ◌∷◌, [], length, map, nat_lt, option_map, IfErr, MatchOption, OnErr, OnOk};
+ghost use Rattle.std.specs.List.{flat_map, list_all, list_any};
 ghost use Rattle.std.specs.Str.{bytes_eq};
 ghost use Rattle.rights.specs.Limits.{most_programs};
 ghost use Rattle.certificate.specs.Order.{same_class};
@@ -12,7 +12,7 @@ ghost use Rattle.certificate.specs.Growth.{classes_of_ends, distinct, may_bound_
 ghost use Rattle.certificate.specs.Growth.{on_last, programs_in_line, programs_of_class, programs_of_held, stands, with_ceiling, with_held_end, with_last, with_line};
 ghost use Rattle.certificate.specs.Room.{listed_with};
 ghost use Rattle.certificate.specs.CountViews.{programs_listed};
-ghost use Rattle.certificate.specs.Views.{authorities_of, ceiling_of, certificate_with, channel_of, channels_of, class_of, held_end_of, held_of, interval_of, line_of, name_of, points_of, slot_of};
+ghost use Rattle.certificate.specs.Views.{authorities_of, ceiling_of, certificate_with, channel_of, channels_of, class_of, held_end_of, held_of, interval_of, line_of, name_of, point_of, points_of, slot_of};
 ghost use Rattle.certificate.specs.declared.lines.Refusal.TheVariants as refusal;
 
 use crate::authorities::{Authority, Ceiling, End};
@@ -20,7 +20,7 @@ use crate::bounds::{Held, Interval, Slot, Target};
 use crate::classes::Class;
 use crate::lines::{Channel, Line, Refusal};
 use crate::names::Name;
-use crate::points::Point;
+use crate::points::{NumberedSlot, Point};
 use crate::program_names::ProgramNames;
 
 /// The classes that a certificate's channels and the ends of its authorities may be of.
@@ -193,6 +193,23 @@ fn are_closed(slots: &[Slot], from: usize) -> bool
     true
 }
 
+/// Whether the numbers of all these are below one.
+fn are_below(kept: &[NumberedSlot], number: u8) -> bool
+    ensures { result ≡ list_all (λ slot. nat_lt slot.number number) kept.now }
+{
+    match kept {
+        [] => true,
+        [first, rest @ ..] => first.number < number && are_below(rest, number),
+    }
+}
+
+/// Whether all slots of a point from this number on are closed: so they are where no number is kept that isn't below it.
+fn is_closed_from(point: &Point, number: u8) -> bool
+    ensures { result ≡ all_from is_closed number (point_of point.now).bound.slots }
+{
+    are_below(&point.slots, number) || are_closed(point.bound().slots(), number as usize)
+}
+
 /// Whether a register of the last block may be bounded.
 fn may_bound_register(points: &[Point], register: u8) -> bool
     ensures { result ≡ may_bound_register (points_of points.now) register }
@@ -200,8 +217,7 @@ fn may_bound_register(points: &[Point], register: u8) -> bool
     match points.split_last() {
         None => false,
         Some((last, _)) => {
-            let bound = last.bound();
-            are_full(bound.registers(), register as usize) && are_closed(bound.slots(), 0)
+            are_full(&last.registers, register as usize) && is_closed_from(last, 0)
         }
     }
 }
@@ -212,7 +228,7 @@ fn may_bound_slot(points: &[Point], number: u8) -> bool
 {
     match points.split_last() {
         None => false,
-        Some((last, _)) => are_closed(last.bound().slots(), number as usize),
+        Some((last, _)) => is_closed_from(last, number),
     }
 }
 

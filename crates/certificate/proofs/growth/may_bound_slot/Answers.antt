@@ -1,5 +1,5 @@
-use Rattle.std.proofs.Common.{ap, sym, ◌∙◌}
-use Rattle.certificate.specs.Bounds.{Bound, PointBound}
+use Rattle.std.proofs.Common.{sym, ◌∙◌}
+use Rattle.certificate.specs.Bounds.{PointBound}
 use Rattle.certificate.specs.Lines.{is_closed}
 use Rattle.certificate.specs.Growth.{all_from, may_bound_slot}
 use Rattle.certificate.specs.Views.{point_of}
@@ -14,7 +14,6 @@ returns-in-None c =
 pub returns-in-Some : goal.returns-in-Some
 returns-in-Some c =
     let n = c.args.number in
-    let closed = ap (all_from is_closed n) (c.slots.ensures.slots ∙ ap (λ (b : Bound). b.slots) c.bound.ensures) in
-    c.are_closed.ensures ∙ closed
+    c.is_closed_from.ensures
     ∙ sym (at_last point_of (λ points. may_bound_slot points n) (λ (b : PointBound). all_from is_closed n b.bound.slots)
     (may_bound_slot-last n) c.args.points.now _ c.in-Some.last.now c.in-Some.ensures.cases.0)

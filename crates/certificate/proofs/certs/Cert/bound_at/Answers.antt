@@ -4,6 +4,6 @@ use Rattle.certificate.specs.Views.{points_of}
 use Rattle.certificate.proofs.Rising.{certificates_rise}
 use Rattle.certificate.proofs.certs.Cert.bound_at.Goals as goal
 
-pub bound_among-requires : goal.bound_among-requires
-bound_among-requires c =
+pub point_among-requires : goal.point_among-requires
+point_among-requires c =
     subst (λ points. rises (places_of (points_of points)) ≡ true) (sym c.deref.ensures.value) (certificates_rise _ c.self.invariant.0)
