@@ -1,4 +1,5 @@
 pub mod Joined
+pub mod KeptRules
 pub mod PastEnds
 pub mod Named
 pub mod Standing

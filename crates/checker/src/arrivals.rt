@@ -55,6 +55,14 @@ impl<'a> Met<'a> {
             }
         }
     }
+
+    /// Whether there is a bound at a point.
+    fn has_bound(&self, point: usize) -> bool
+        ensures { result ≡ is_some (bound_met self.now.cert.now (name_of self.now.name.now) self.now.next (option_map bound_of self.now.carried.now) point) }
+    {
+        self.cert.has_bound(self.name.as_bytes(), point)
+            || point == self.next && self.carried.is_some()
+    }
 }
 
 /// The test whether an outcome is within the bound of the point that it goes to, if that has one.
@@ -94,7 +102,7 @@ impl<'a> OutcomeTest for IsThere<'a> {
     ghost kept = { λ t. None };
 
     fn asks(&mut self, outcome: &Outcome<'_>) -> bool {
-        self.met.bound_at(outcome.point).is_some()
+        self.met.has_bound(outcome.point)
     }
 }
 

@@ -2,7 +2,8 @@
 
 ghost use Rattle.std.specs.Prelude.{◌≡◌, ◌+◌, ℕ, IfSome, None, drop, option_map, take, true};
 ghost use Rattle.certificate.specs.Views.{bound_of, name_of};
-ghost use Rattle.checker.specs.SiteViews.{CarriesOn, SiteHas, call_tests, call_tests_of, tests_at};
+ghost use Rattle.checker.specs.KeptUses.{keeps_call_rules};
+ghost use Rattle.checker.specs.SiteViews.{CarriesOn, SiteHas, call_tests, call_tests_of, expansion_at, tests_at};
 ghost use Rattle.prog_asm.specs.Views.{instruction_of, syscall_of};
 ghost use Rattle.rules.specs.Expansions.{carried_to, expansion};
 ghost use Rattle.rules.specs.Points.{instruction_at};
@@ -17,7 +18,7 @@ use crate::marks::{broken_by_marks, broken_without};
 use crate::points::instruction_at;
 use crate::starts::starts_within;
 use crate::uses::{
-    KeepsChannelBound, KeepsCommands, KeepsLimit, KeepsPolicy, KeepsRights, MovesWithin,
+    KeepsAll, KeepsChannelBound, KeepsCommands, KeepsLimit, KeepsPolicy, KeepsRights, MovesWithin,
     NamesKnown, WorksOnKnown, in_the_mode,
 };
 use certificate::{Bound, Cert, Name};
@@ -25,6 +26,7 @@ use prog_asm::{Instruction, Syscall};
 use task::Task;
 use transfer::{
     Site, all_have_channels, all_uses_pass, demanded, keeps_beneath, keeps_numbers, keeps_single,
+    may_be_on,
 };
 
 /// The least of the rules 4 to 9 that a call breaks where that bound holds.
@@ -81,6 +83,42 @@ fn broken_in_targets(site: &Site<'_>, call: &Syscall) -> Option<u8>
     None
 }
 
+/// Whether a call keeps the rules 4 to 15, asked at once: each slot that it goes through is looked at one time.
+#[tactic(auto, using(rules::proofs::expansions::Channelled::expansion_channels))]
+fn keeps_call_rules(site: &Site<'_>, call: &Syscall) -> bool
+    ensures { result ≡ keeps_call_rules site.now.task.now (expansion_at site.now) (bound_of site.now.bound.now) (syscall_of call.now) }
+{
+    let (task, cert, bound) = (site.task, site.cert, site.bound);
+    let may_be_on = may_be_on(bound.mode());
+    keeps_single(bound, call)
+        && keeps_numbers(bound, call)
+        && keeps_beneath(bound, call)
+        && !demanded(call).changes_global_names
+        && all_uses_pass(
+            bound,
+            call,
+            &KeepsAll {
+                task,
+                cert,
+                may_be_on,
+            },
+        )
+        && all_have_channels(cert, bound, call)
+}
+
+/// The least of the rules 4 to 15 that a call breaks. Which it is is asked only where it breaks one.
+fn broken_in_call(site: &Site<'_>, call: &Syscall) -> Option<u8>
+    ensures { result ≡ least_broken (call_tests site.now (syscall_of call.now)) }
+{
+    if keeps_call_rules(site, call) {
+        return None;
+    }
+    match broken_in_needs(site, call) {
+        None => broken_in_targets(site, call),
+        Some(rule) => Some(rule),
+    }
+}
+
 /// The least of the rules 4 to 15 that an instruction breaks; what is no call breaks none.
 fn broken_by_call(site: &Site<'_>, instruction: &Instruction) -> Option<u8>
     ensures { result ≡ least_broken (call_tests_of site.now (instruction_of instruction.now)) }
@@ -88,10 +126,7 @@ fn broken_by_call(site: &Site<'_>, instruction: &Instruction) -> Option<u8>
     let Instruction::Invoke { call, .. } = instruction else {
         return None;
     };
-    match broken_in_needs(site, call) {
-        None => broken_in_targets(site, call),
-        Some(rule) => Some(rule),
-    }
+    broken_in_call(site, call)
 }
 
 /// The least rule that is broken at a point with a bound, which carries this on.

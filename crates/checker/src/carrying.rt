@@ -45,11 +45,11 @@ pub(crate) fn carried_past(
     ensures { option_map bound_of result
         ≡ carried_past task.now cert.now (name_of name.now) point (option_map bound_of carried.now) }
 {
-    let bound = bound_with(cert, name, point, carried)?;
     let instruction = instruction_in(code, point)?;
     if !may_carry(cert.version(), code, point as usize + 1) {
         return None;
     }
+    let bound = bound_with(cert, name, point, carried)?;
     let site = Site {
         task,
         cert,

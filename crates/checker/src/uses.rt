@@ -10,6 +10,7 @@ ghost use Rattle.prog_asm.specs.Views.{operand_of, syscall_of};
 ghost use Rattle.rules.specs.Expansions.{expansion};
 ghost use Rattle.rules.specs.Channels.{keeps_channel_bound, sends_into};
 ghost use Rattle.rules.specs.Rules.{in_the_mode, is_known, keeps_commands, keeps_limit, keeps_policy, keeps_rights, moves_within, names_known, same_grant, target_lists, works_on_known};
+ghost use Rattle.checker.specs.KeptUses.{keeps_all};
 ghost use Rattle.rules.specs.Slots.{slots_in};
 ghost use Rattle.transfer.specs.Views.{operation_list};
 
@@ -210,5 +211,30 @@ impl<'a> UseTest for KeepsChannelBound<'a> {
             Passed::Nothing | Passed::Received => true,
             Passed::Sent(sent) => sends_into(self.cert, bound, &held.target(), sent),
         }
+    }
+}
+
+/// The test of all that the rules 7 to 14 ask of a slot that a call goes through.
+#[derive(Clone, Copy)]
+pub(crate) struct KeepsAll<'a> {
+    pub task: &'a Task,
+    pub cert: &'a Cert,
+    /// The process may be in capability mode.
+    pub may_be_on: bool,
+}
+
+impl<'a> UseTest for KeepsAll<'a> {
+    ghost passes = { λ t u. keeps_all t.task.now (expansion t.task.now t.cert.now) t.may_be_on u };
+
+    fn asks(&self, bound: &Bound, need: &Need, number: u8, held: &Held) -> bool {
+        let (task, cert) = (self.task, self.cert);
+        KeepsRights.asks(bound, need, number, held)
+            && KeepsCommands.asks(bound, need, number, held)
+            && KeepsLimit.asks(bound, need, number, held)
+            && (!self.may_be_on || WorksOnKnown.asks(bound, need, number, held))
+            && (!self.may_be_on || KeepsPolicy { task }.asks(bound, need, number, held))
+            && NamesKnown.asks(bound, need, number, held)
+            && MovesWithin.asks(bound, need, number, held)
+            && KeepsChannelBound { task, cert }.asks(bound, need, number, held)
     }
 }

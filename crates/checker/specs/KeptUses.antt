@@ -1,0 +1,32 @@
+-- What the rules 4 to 15 ask of a call, at once.
+use Rattle.std.specs.Prelude.{◌&&◌, ◌||◌, not, Bool}
+use Rattle.std.specs.List.{list_all}
+use Rattle.certificate.specs.Bounds.{Bound, Certificate}
+use Rattle.prog_asm.specs.Programs.{Syscall}
+use Rattle.task.specs.Plans.{Plan}
+use Rattle.rules.specs.Channels.{all_have_channels, keeps_channel_bound}
+use Rattle.rules.specs.Demands.{demands, keeps_beneath, keeps_numbers, keeps_single}
+use Rattle.rules.specs.Rules.{keeps_commands, keeps_limit, keeps_policy, keeps_rights, moves_within, names_known, works_on_known}
+use Rattle.rules.specs.Slots.{may_be_on}
+use Rattle.rules.specs.Uses.{Use, uses}
+
+-- of a slot that it goes through: what the rules 7 to 14 do, two of them only where the process may be in capability mode
+abbrev pub keeps_all : Plan → Certificate → Bool → Use → Bool
+keeps_all plan c may_be_on u =
+    keeps_rights u
+    && keeps_commands u
+    && keeps_limit u
+    && (not may_be_on || works_on_known u)
+    && (not may_be_on || keeps_policy plan.grants u)
+    && names_known u
+    && moves_within u
+    && keeps_channel_bound c u u.passing
+
+abbrev pub keeps_call_rules : Plan → Certificate → Bound → Syscall → Bool
+keeps_call_rules plan c b call =
+    keeps_single b call
+    && keeps_numbers b call
+    && keeps_beneath b call
+    && not (demands call).changes_global_names
+    && list_all (keeps_all plan c (may_be_on b.mode)) (uses b call)
+    && all_have_channels c (uses b call)
