@@ -1,6 +1,6 @@
 -- Lines keep a certificate's version, and the flat certificate is of version 2.
-use Rattle.std.proofs.Common.{◌≡◌, Bool, true, false, List, [], sym, ◌∙◌}
-use Rattle.std.specs.Prelude.{IfSome, OnOk, Option, Some, None, Result, Ok, Err, if◌then◌else◌}
+use Rattle.std.proofs.Common.{◌≡◌, Bool, true, false, List, []}
+use Rattle.std.specs.Prelude.{OnOk, Option, Some, None, Result, Ok, Err, if◌then◌else◌}
 use Rattle.certificate.specs.Bounds.{Two, Certificate}
 use Rattle.certificate.specs.Growths.{grown}
 use Rattle.certificate.specs.GrowthViews.{Grows}
@@ -14,7 +14,7 @@ pub grows_keep : (lines : List Line) (c d : Certificate) (r : Result (Unit {0}) 
 grows_keep lines c d (Ok _) grows = grown_keeps lines c d grows
 grows_keep lines c d (Err refusal) grows = tt
 
-flat_is_two : (plan : Plan) (c : Certificate) → flat plan ≡ Some c → c.version ≡ Two
+pub flat_is_two : (plan : Plan) (c : Certificate) → flat plan ≡ Some c → c.version ≡ Two
 unfolding plain_flat
 flat_is_two plan c is = unmarked (none_marked plan) is
   where
@@ -25,7 +25,3 @@ flat_is_two plan c is = unmarked (none_marked plan) is
     unmarked : (none : Bool) → (if none then plain_flat plan else None) ≡ Some c → c.version ≡ Two
     unmarked true is = go (have_own plan.starts) is
     unmarked false is = absurd cc
-
-pub found_is_two : (plan : Plan) (given found : Option Certificate) → given ≡ flat plan → IfSome found (λ c. given ≡ Some c) → IfSome found (λ c. c.version ≡ Two)
-found_is_two plan given None is same = tt
-found_is_two plan given (Some c) is same = flat_is_two plan c (sym is ∙ same)

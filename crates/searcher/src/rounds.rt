@@ -112,10 +112,15 @@ fn take_waiting(
 ) -> Result<bool, Refusal>
     requires { list_all leaves_known (code_of code.now) ≡ true }
 {
+    let (first, end) = way.take_range();
     let mut any = false;
-    for (point, instruction) in code.iter().enumerate() {
+    for point in first..code.len() {
+        if end <= point && way.waiting_end() <= point {
+            break;
+        }
         if point < MAX_INSTRUCTIONS {
             if let Some(bound) = way.next_at(point) {
+                let instruction = &code[point];
                 any = true;
                 channels.learn(alloc, &bound, instruction)?;
                 take_outcomes(task, channels, way, point as u8, &bound, instruction);

@@ -27,19 +27,6 @@ fn is_accepted(task: &Task, cert: &Cert) -> bool
     check(task, cert) == Verdict::Yes
 }
 
-/// A certificate that was proposed, if the checker accepts it.
-fn accepted(task: &Task, proposed: Option<Cert>) -> Option<Cert>
-    ensures accepted { IfSome result (λ cert. IsAccepted task.now cert) }
-    ensures same { IfSome result (λ cert. proposed ≡ Some cert) }
-    ensures none { result ≡ None → IfSome proposed (λ cert. IsAccepted task.now cert → ⊥) }
-{
-    let cert = proposed?;
-    if is_accepted(task, &cert) {
-        return Some(cert);
-    }
-    None
-}
-
 /// What is found point by point, where the search settles.
 fn settled(alloc: Global, task: &Task, mut ways: Vec<Way>) -> Result<Option<Cert>, Refusal>
     ensures { IfOk result (λ found. IfSome found (λ cert. cert.version ≡ Two)) }
@@ -66,34 +53,53 @@ fn proposed(alloc: Global, task: &Task) -> Result<Option<Cert>, Memory>
     }
 }
 
-/// What the checker accepts of what is proposed: what is found point by point, or else the flat certificate.
-fn first_accepted(alloc: Global, task: &Task) -> Result<Option<Cert>, Memory>
-    ensures accepted { IfOk result (λ found. IfSome found (λ cert. IsAccepted task.now cert)) }
-    ensures version { IfOk result (λ found. IfSome found (λ cert. cert.version ≡ Two)) }
-    ensures flat { result ≡ Ok None → (certificate : Certificate) → flat task.now ≡ Some certificate → IsAccepted task.now certificate → ⊥ }
-{
-    if let Some(cert) = accepted(task, proposed(alloc, task)?) {
-        return Ok(Some(cert));
-    }
-    Ok(accepted(task, flat(alloc, task)?))
-}
-
-/// A certificate in its short form, if the checker accepts that too; else as it is.
-fn preferred(alloc: Global, task: &Task, cert: Cert) -> Result<Cert, Memory>
-    requires accepted { IsAccepted task.now cert }
+/// A certificate in its short form, if the checker accepts that; else as it is, if it accepts it so.
+fn preferred(alloc: Global, task: &Task, cert: Cert) -> Result<Option<Cert>, Memory>
     requires version { cert.version ≡ Two }
-    ensures accepted { IfOk result (λ given. IsAccepted task.now given) }
-    ensures version { IfOk result (λ given. given.version ≡ Two) }
-    ensures short { IfOk result (λ given. IsAccepted task.now (short_form task.now given) → given ≡ short_form task.now given) }
+    ensures accepted { IfOk result (λ found. IfSome found (λ given. IsAccepted task.now given)) }
+    ensures version { IfOk result (λ found. IfSome found (λ given. given.version ≡ Two)) }
+    ensures short { IfOk result (λ found. IfSome found (λ given.
+        IsAccepted task.now (short_form task.now given) → given ≡ short_form task.now given)) }
+    ensures none { result ≡ Ok None → IsAccepted task.now cert → ⊥ }
 {
     let short = shortened(alloc, task, &cert)?;
     if is_accepted(task, &short) {
-        return Ok(short);
+        return Ok(Some(short));
     }
-    Ok(cert)
+    if is_accepted(task, &cert) {
+        return Ok(Some(cert));
+    }
+    Ok(None)
 }
 
-/// What the search finds for a task, whatever is marked.
+/// The flat certificate of a task, in the form that is preferred, if it has one that the checker accepts.
+fn flat_preferred(alloc: Global, task: &Task) -> Result<Option<Cert>, Memory>
+    ensures accepted { IfOk result (λ found. IfSome found (λ cert. IsAccepted task.now cert)) }
+    ensures version { IfOk result (λ found. IfSome found (λ cert. cert.version ≡ Two)) }
+    ensures short { IfOk result (λ found. IfSome found (λ cert.
+        IsAccepted task.now (short_form task.now cert) → cert ≡ short_form task.now cert)) }
+    ensures flat { result ≡ Ok None → (certificate : Certificate) → flat task.now ≡ Some certificate → IsAccepted task.now certificate → ⊥ }
+{
+    match flat(alloc, task)? {
+        Some(cert) => preferred(alloc, task, cert),
+        None => Ok(None),
+    }
+}
+
+/// The certificate that the search point by point proposes, in the form that is preferred, if the checker accepts it.
+fn proposed_preferred(alloc: Global, task: &Task) -> Result<Option<Cert>, Memory>
+    ensures accepted { IfOk result (λ found. IfSome found (λ cert. IsAccepted task.now cert)) }
+    ensures version { IfOk result (λ found. IfSome found (λ cert. cert.version ≡ Two)) }
+    ensures short { IfOk result (λ found. IfSome found (λ cert.
+        IsAccepted task.now (short_form task.now cert) → cert ≡ short_form task.now cert)) }
+{
+    match proposed(alloc, task)? {
+        Some(cert) => preferred(alloc, task, cert),
+        None => Ok(None),
+    }
+}
+
+/// What the search finds for a task, whatever is marked: what it comes to point by point, or else the flat certificate.
 fn searched(alloc: Global, task: &Task) -> Result<Option<Cert>, Memory>
     ensures accepted { IfOk result (λ found. IfSome found (λ cert. IsAccepted task.now cert)) }
     ensures version { IfOk result (λ found. IfSome found (λ cert. cert.version ≡ Two)) }
@@ -101,9 +107,9 @@ fn searched(alloc: Global, task: &Task) -> Result<Option<Cert>, Memory>
         IsAccepted task.now (short_form task.now cert) → cert ≡ short_form task.now cert)) }
     ensures flat { result ≡ Ok None → (certificate : Certificate) → flat task.now ≡ Some certificate → IsAccepted task.now certificate → ⊥ }
 {
-    match first_accepted(alloc, task)? {
-        Some(cert) => Ok(Some(preferred(alloc, task, cert)?)),
-        None => Ok(None),
+    match proposed_preferred(alloc, task)? {
+        Some(cert) => Ok(Some(cert)),
+        None => flat_preferred(alloc, task),
     }
 }
 

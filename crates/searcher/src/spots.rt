@@ -27,38 +27,39 @@ pub(crate) struct Spot {
     pub waits: bool,
 }
 
-/// A program's points, with the constants at which its registers are compared or set.
+/// A program's points, with the constants at which its registers are compared or set. Those that wait are from one on and before
+/// another, so that no other is looked at.
 #[derive(Drop)]
 pub(crate) struct Way {
     pub name: Name,
     constants: Vec<u32>,
     pub spots: Vec<Spot>,
+    first_waiting: usize,
+    waiting_end: usize,
 }
 
-/// The greatest constant that isn't above a value, or 0.
+/// The greatest constant that isn't above a value, or 0; the constants rise.
 fn constant_below(constants: &[u32], value: u32) -> u32
     ensures { result ≤ value }
 {
-    let mut found = 0;
-    for constant in constants {
-        if *constant <= value && found < *constant {
-            found = *constant;
-        }
+    match constants.binary_search(&value) {
+        Ok(_) => value,
+        Err(0) => 0,
+        Err(above) => constants[above - 1].min(value),
     }
-    found
 }
 
-/// The least constant that isn't below a value, or the greatest value of a register.
+/// The least constant that isn't below a value, or the greatest value of a register; the constants rise.
 fn constant_above(constants: &[u32], value: u32) -> u32
     ensures { value ≤ result }
 {
-    let mut found = u32::MAX;
-    for constant in constants {
-        if value <= *constant && *constant < found {
-            found = *constant;
-        }
+    match constants.binary_search(&value) {
+        Ok(_) => value,
+        Err(above) => match constants.get(above) {
+            None => u32::MAX,
+            Some(constant) => (*constant).max(value),
+        },
     }
-    found
 }
 
 /// An interval that grew, with the ends that moved taken further.
@@ -137,16 +138,18 @@ impl Spot {
         ensures grows { (o : OutcomeSeen) → lies_in self.old.bound o ≡ true → lies_in self.new.bound o ≡ true }
         ensures waits { (self.new.waits ≡ true) ⊎ (self.new.bound ≡ self.old.bound) }
     {
-        let Some(there) = self.bound else {
+        let Some(there) = &self.bound else {
             self.bound = Some(outcome.bound_there());
             self.waits = true;
             return;
         };
-        if outcome.is_within(&there) {
+        if outcome.is_within(there) {
             return;
         }
-        self.changes = self.changes.saturating_add(1);
-        self.bound = Some(grown_to(&there, outcome, self.changes, constants));
+        let changes = self.changes.saturating_add(1);
+        let grown = grown_to(there, outcome, changes, constants);
+        self.changes = changes;
+        self.bound = Some(grown);
         self.waits = true;
     }
 }
@@ -161,7 +164,7 @@ fn constant_of(instruction: &Instruction) -> Option<u32> {
     }
 }
 
-/// The constants of a program, with the numbers beside them.
+/// The constants of a program, with the numbers beside them, rising, each once.
 fn constants_of(alloc: Global, code: &[Instruction]) -> Result<Vec<u32>, AllocError> {
     let mut constants = Vec::new(alloc);
     for instruction in code {
@@ -171,6 +174,8 @@ fn constants_of(alloc: Global, code: &[Instruction]) -> Result<Vec<u32>, AllocEr
             constants.push(value.saturating_add(1))?;
         }
     }
+    constants.sort_unstable();
+    constants.dedup();
     Ok(constants)
 }
 
@@ -186,7 +191,22 @@ impl Way {
             name,
             constants,
             spots,
+            first_waiting: usize::MAX,
+            waiting_end: 0,
         })
+    }
+
+    /// The point before which none waits, and the one from which on none does. From then on those alone are told that come to wait.
+    pub(crate) fn take_range(&mut self) -> (usize, usize) {
+        let range = (self.first_waiting, self.waiting_end);
+        self.first_waiting = usize::MAX;
+        self.waiting_end = 0;
+        range
+    }
+
+    /// The point from which on none waits, of those that came to wait.
+    pub(crate) fn waiting_end(&self) -> usize {
+        self.waiting_end
     }
 
     /// The bound of a point that waits, which waits no more.
@@ -203,6 +223,8 @@ impl Way {
     pub(crate) fn wake(&mut self, point: usize) {
         if let Some(spot) = self.spots.get_mut(point) {
             spot.waits = spot.bound.is_some();
+            self.first_waiting = self.first_waiting.min(point);
+            self.waiting_end = self.waiting_end.max(point.saturating_add(1));
         }
     }
 }
@@ -221,6 +243,10 @@ impl OutcomeTest for Way {
     {
         if let Some(spot) = self.spots.get_mut(outcome.point) {
             spot.take(outcome, &self.constants);
+            if spot.waits {
+                self.first_waiting = self.first_waiting.min(outcome.point);
+                self.waiting_end = self.waiting_end.max(outcome.point.saturating_add(1));
+            }
         }
         true
     }

@@ -7,4 +7,4 @@ pub returns-in_default-clause-outcome : goal.returns-in_default-clause-outcome
 returns-in_default-clause-outcome c = within_itself (outcome_of c.args.outcome.now).bound (bound_of c.bound_there.result) c.bound_there.ensures
 
 pub returns-clause-grows : goal.returns-clause-grows
-returns-clause-grows c = λ o lies. still_lies c.args.self.now.bound c.in-Some.there c.grown_to.result o c.in-Some.is c.grown_to.ensures.grows lies
+returns-clause-grows c = λ o lies. still_lies c.args.self.now.bound c.in-Some.there c.grown_to-grown.result o c.in-Some.is c.grown_to-grown.ensures.grows lies
