@@ -96,7 +96,7 @@ impl Cert {
     ghost use Rattle.certificate.specs.Lines.{is_line, is_of_version};
     ghost use Rattle.certificate.specs.Growth.{IsCertificate, empty, taken};
     ghost use Rattle.certificate.specs.GrowthViews.{LineTaken};
-    ghost use Rattle.certificate.specs.Views.{authorities_of, bound_of, channels_of, line_of, points_of, version_of};
+    ghost use Rattle.certificate.specs.Views.{authorities_of, bound_of, channels_of, line_of, point_of, points_of, version_of};
 
     /// The certificate of this version without lines. Takes no memory.
     pub fn new(alloc: Global, version: Version) -> Cert
@@ -179,11 +179,18 @@ impl Cert {
         &self.authorities
     }
 
+    /// The point of this number in the program of this name, if it is listed.
+    pub fn point_at(&self, program: &[u8], point: usize) -> Option<&Point>
+        ensures { option_map (λ found. (point_of found.now).bound) result ≡ bound_at self.now program.now point }
+    {
+        point_among(&self.points, program, point)
+    }
+
     /// The bound of a point of the program of this name, if it has one.
     pub fn bound_at(&self, program: &[u8], point: usize) -> Option<Bound>
         ensures { option_map bound_of result ≡ bound_at self.now program.now point }
     {
-        match point_among(&self.points, program, point) {
+        match self.point_at(program, point) {
             None => None,
             Some(found) => Some(found.bound()),
         }
@@ -193,6 +200,6 @@ impl Cert {
     pub fn has_bound(&self, program: &[u8], point: usize) -> bool
         ensures { result ≡ is_some (bound_at self.now program.now point) }
     {
-        point_among(&self.points, program, point).is_some()
+        self.point_at(program, point).is_some()
     }
 }

@@ -108,16 +108,23 @@ impl Point {
         self.point
     }
 
+    /// The process's mode there.
+    pub fn mode(&self) -> ModeBound
+        ensures { mode_of result ≡ (point_of self.now).bound.mode }
+    {
+        self.mode
+    }
+
     /// The bound on the process there.
     pub fn bound(&self) -> Bound
         ensures { bound_of result ≡ (point_of self.now).bound }
     {
-        let mut slots = [Slot::Closed; MAX_DESCRIPTORS];
-        fill(&mut slots, &self.slots);
-        Bound {
+        let mut bound = Bound {
             mode: self.mode,
             registers: self.registers,
-            slots,
-        }
+            slots: [Slot::Closed; MAX_DESCRIPTORS],
+        };
+        fill(&mut bound.slots, &self.slots);
+        bound
     }
 }

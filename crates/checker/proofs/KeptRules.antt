@@ -1,4 +1,4 @@
--- A call that keeps the rules 4 to 15 at once breaks none of them.
+-- What keeps several rules at once breaks none of them.
 use Rattle.std.proofs.Common.{◌≡◌, Bool, true, false, List, [], ◌∷◌, None, refl}
 use Rattle.std.specs.Prelude.{not, ◌&&◌, ◌||◌}
 use Rattle.std.specs.List.{list_all}
@@ -16,7 +16,7 @@ use Rattle.checker.specs.KeptUses.{keeps_all, keeps_call_rules}
 use Rattle.checker.specs.SiteViews.{call_tests, expansion_at}
 use Rattle.transfer.specs.declared.successes.Site.{Site}
 
-all_both : (p q : Use → Bool) (us : List Use) → list_all (λ u. p u && q u) us ≡ true → (list_all p us ≡ true) × (list_all q us ≡ true)
+pub all_both : {A : Type 0} (p q : A → Bool) (us : List A) → list_all (λ u. p u && q u) us ≡ true → (list_all p us ≡ true) × (list_all q us ≡ true)
 all_both p q [] all = (refl, refl)
 all_both p q (u ∷ us) all =
     let here = and_left (p u && q u) (list_all (λ u. p u && q u) us) all in

@@ -1,16 +1,20 @@
--- What the rules 4 to 15 ask of a call, at once.
-use Rattle.std.specs.Prelude.{◌&&◌, ◌||◌, not, Bool}
+-- What several rules ask at once.
+use Rattle.std.specs.Prelude.{◌&&◌, ◌||◌, not, Bool, Option, is_some}
 use Rattle.std.specs.List.{list_all}
 use Rattle.certificate.specs.Bounds.{Bound, Certificate}
 use Rattle.prog_asm.specs.Programs.{Syscall}
 use Rattle.task.specs.Plans.{Plan}
 use Rattle.rules.specs.Channels.{all_have_channels, keeps_channel_bound}
 use Rattle.rules.specs.Demands.{demands, keeps_beneath, keeps_numbers, keeps_single}
-use Rattle.rules.specs.Rules.{keeps_commands, keeps_limit, keeps_policy, keeps_rights, moves_within, names_known, works_on_known}
+use Rattle.rules.specs.Rules.{keeps_commands, keeps_limit, keeps_policy, keeps_rights, moves_within, names_known, within_if_there, works_on_known}
 use Rattle.rules.specs.Slots.{may_be_on}
 use Rattle.rules.specs.Uses.{Use, uses}
 
--- of a slot that it goes through: what the rules 7 to 14 do, two of them only where the process may be in capability mode
+-- The rules 2, 3 and 16: whether there is a bound, which another is within.
+abbrev pub arrives : Bound → Option Bound → Bool
+arrives b there = is_some there && within_if_there b there
+
+-- The rules 4 to 15 on a call. Of a slot that it goes through: what the rules 7 to 14 do, two of them only where the process may be in capability mode
 abbrev pub keeps_all : Plan → Certificate → Bool → Use → Bool
 keeps_all plan c may_be_on u =
     keeps_rights u

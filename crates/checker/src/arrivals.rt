@@ -3,12 +3,14 @@
 ghost use Rattle.std.specs.Prelude.{◌≡◌, ◌+◌, None, is_some, option_map, true};
 ghost use Rattle.certificate.specs.Bounds.{bound_at};
 ghost use Rattle.certificate.specs.Views.{bound_of, name_of};
+ghost use Rattle.checker.specs.KeptUses.{arrives};
 ghost use Rattle.checker.specs.SiteViews.{CarriesOn, SiteHas, expansion_at, site_name, expanded_successes};
 ghost use Rattle.prog_asm.specs.Views.{instruction_of};
 ghost use Rattle.rules.specs.Expansions.{bound_met};
 ghost use Rattle.rules.specs.Outcomes.{error_outcomes};
 ghost use Rattle.rules.specs.Rules.{all_there, all_within, within_if_there};
 ghost use Rattle.transfer.specs.CallViews.{successes_at};
+ghost use Rattle.transfer.specs.OutcomeViews.{outcome_of};
 ghost use Rattle.transfer.specs.Limits.{leaves_known};
 
 use certificate::{Bound, Cert, Name};
@@ -22,6 +24,26 @@ struct Met<'a> {
     name: &'a Name,
     next: usize,
     carried: &'a Option<Bound>,
+}
+
+/// Whether an outcome is within a bound, if there is one.
+fn is_within_if_there(outcome: &Outcome<'_>, there: &Option<Bound>) -> bool
+    ensures { result ≡ within_if_there (outcome_of outcome.now).bound (option_map bound_of there.now) }
+{
+    match there {
+        None => true,
+        Some(bound) => outcome.is_within(bound),
+    }
+}
+
+/// Whether there is a bound, which an outcome is within.
+fn is_there_and_within(outcome: &Outcome<'_>, there: &Option<Bound>) -> bool
+    ensures { result ≡ arrives (outcome_of outcome.now).bound (option_map bound_of there.now) }
+{
+    match there {
+        None => false,
+        Some(bound) => outcome.is_within(bound),
+    }
 }
 
 impl<'a> Met<'a> {
@@ -40,19 +62,25 @@ impl<'a> Met<'a> {
         }
     }
 
-    /// The bound at a point, if there is one.
-    fn bound_at(&self, point: usize) -> Option<Bound>
-        ensures { option_map bound_of result
-            ≡ bound_met self.now.cert.now (name_of self.now.name.now) self.now.next (option_map bound_of self.now.carried.now) point }
+    /// Whether an outcome is within the bound of its point, if that has one.
+    fn holds(&self, outcome: &Outcome<'_>) -> bool
+        ensures { result ≡ within_if_there (outcome_of outcome.now).bound
+            (bound_met self.now.cert.now (name_of self.now.name.now) self.now.next (option_map bound_of self.now.carried.now) outcome.now.point) }
     {
-        match self.cert.bound_at(self.name.as_bytes(), point) {
-            Some(given) => Some(given),
-            None => {
-                if point == self.next {
-                    return *self.carried;
-                }
-                None
-            }
+        match self.cert.point_at(self.name.as_bytes(), outcome.point) {
+            Some(found) => outcome.is_within(&found.bound()),
+            None => outcome.point != self.next || is_within_if_there(outcome, self.carried),
+        }
+    }
+
+    /// Whether an outcome's point has a bound, which it is within.
+    fn takes(&self, outcome: &Outcome<'_>) -> bool
+        ensures { result ≡ arrives (outcome_of outcome.now).bound
+            (bound_met self.now.cert.now (name_of self.now.name.now) self.now.next (option_map bound_of self.now.carried.now) outcome.now.point) }
+    {
+        match self.cert.point_at(self.name.as_bytes(), outcome.point) {
+            Some(found) => outcome.is_within(&found.bound()),
+            None => outcome.point == self.next && is_there_and_within(outcome, self.carried),
         }
     }
 
@@ -80,10 +108,7 @@ impl<'a> OutcomeTest for IsWithin<'a> {
     ghost kept = { λ t. None };
 
     fn asks(&mut self, outcome: &Outcome<'_>) -> bool {
-        match self.met.bound_at(outcome.point) {
-            None => true,
-            Some(there) => outcome.is_within(&there),
-        }
+        self.met.holds(outcome)
     }
 }
 
@@ -104,6 +129,45 @@ impl<'a> OutcomeTest for IsThere<'a> {
     fn asks(&mut self, outcome: &Outcome<'_>) -> bool {
         self.met.has_bound(outcome.point)
     }
+}
+
+/// The test whether the point that an outcome goes to has a bound, which the outcome is within.
+#[derive(Clone, Copy)]
+struct Arrives<'a> {
+    met: Met<'a>,
+}
+
+impl<'a> OutcomeTest for Arrives<'a> {
+    ghost passes = { λ t o. arrives o.bound
+        (bound_met t.met.cert.now (name_of t.met.name.now) t.met.next (option_map bound_of t.met.carried.now) o.point) };
+
+    ghost joins = { λ t. None };
+
+    ghost kept = { λ t. None };
+
+    fn asks(&mut self, outcome: &Outcome<'_>) -> bool {
+        self.met.takes(outcome)
+    }
+}
+
+/// Whether the point of each success has a bound, which it is within.
+pub(crate) fn successes_arrive(
+    site: &Site<'_>,
+    carried: &Option<Bound>,
+    instruction: &Instruction,
+) -> bool
+    requires stands { SiteHas site.now (instruction_of instruction.now) }
+    requires carries { CarriesOn site.now carried.now }
+    requires known { leaves_known (instruction_of instruction.now) ≡ true }
+    ensures within { result ≡ true → all_within (expansion_at site.now) (site_name site.now) (expanded_successes site.now (instruction_of instruction.now)) ≡ true }
+    ensures there { result ≡ true → all_there (expansion_at site.now) (site_name site.now) (expanded_successes site.now (instruction_of instruction.now)) ≡ true }
+{
+    site.task.note_valid();
+    site.cert.note_made();
+    let mut test = Arrives {
+        met: Met::of(site, carried),
+    };
+    successes_pass(site, instruction, &mut test)
 }
 
 /// Whether each success is within the bound of its point, if that has one.

@@ -3,7 +3,7 @@
 ghost use Rattle.std.specs.Prelude.{◌≡◌, ◌+◌, ℕ, IfSome, None, drop, option_map, take, true};
 ghost use Rattle.certificate.specs.Views.{bound_of, name_of};
 ghost use Rattle.checker.specs.KeptUses.{keeps_call_rules};
-ghost use Rattle.checker.specs.SiteViews.{CarriesOn, SiteHas, call_tests, call_tests_of, expansion_at, tests_at};
+ghost use Rattle.checker.specs.SiteViews.{CarriesOn, SiteHas, call_tests, call_tests_of, expansion_at, marks_at, tests_at};
 ghost use Rattle.prog_asm.specs.Views.{instruction_of, syscall_of};
 ghost use Rattle.rules.specs.Expansions.{carried_to, expansion};
 ghost use Rattle.rules.specs.Points.{instruction_at};
@@ -12,7 +12,9 @@ ghost use Rattle.rules.specs.Verdicts.{found_at, found_with};
 ghost use Rattle.task.specs.Plans.{program_name};
 ghost use Rattle.transfer.specs.Limits.{leaves_known};
 
-use crate::arrivals::{failure_there, failure_within, successes_there, successes_within};
+use crate::arrivals::{
+    failure_there, failure_within, successes_arrive, successes_there, successes_within,
+};
 use crate::carrying::bound_with;
 use crate::marks::{broken_by_marks, broken_without};
 use crate::points::instruction_at;
@@ -129,9 +131,64 @@ fn broken_by_call(site: &Site<'_>, instruction: &Instruction) -> Option<u8>
     broken_in_call(site, call)
 }
 
-/// The least rule that is broken at a point with a bound, which carries this on.
-#[tactic(auto, unfolding(rules::specs::Rules::tests))]
+/// Whether the rules 1 to 16 are kept at a point with a bound, which carries this on, asked at once: where each outcome goes is
+/// looked at one time.
+fn keeps_first(
+    site: &Site<'_>,
+    program: u8,
+    carried: &Option<Bound>,
+    instruction: &Instruction,
+) -> bool
+    requires name { name_of site.now.name.now ≡ program_name site.now.task.now program }
+    requires stands { SiteHas site.now (instruction_of instruction.now) }
+    requires carries { CarriesOn site.now carried.now }
+    requires known { leaves_known (instruction_of instruction.now) ≡ true }
+    ensures { result ≡ true → least_broken (marks_at site.now program (instruction_of instruction.now))
+        ≡ least_broken (tests_at site.now program (instruction_of instruction.now)) }
+{
+    if !starts_within(site.task, site.name, program, site.point, site.bound) {
+        return false;
+    }
+    if !successes_arrive(site, carried, instruction) {
+        return false;
+    }
+    let is_within = failure_within(site, carried, instruction);
+    if !is_within {
+        return false;
+    }
+    let is_there = failure_there(site, carried, instruction);
+    if !is_there {
+        return false;
+    }
+    match broken_by_call(site, instruction) {
+        None => true,
+        Some(_) => false,
+    }
+}
+
+/// The least rule that is broken at a point with a bound, which carries this on. Which of the first it is is asked only where one
+/// of them is broken.
 fn broken_with(
+    site: &Site<'_>,
+    program: u8,
+    carried: &Option<Bound>,
+    instruction: &Instruction,
+) -> Option<u8>
+    requires name { name_of site.now.name.now ≡ program_name site.now.task.now program }
+    requires stands { SiteHas site.now (instruction_of instruction.now) }
+    requires carries { CarriesOn site.now carried.now }
+    requires known { leaves_known (instruction_of instruction.now) ≡ true }
+    ensures { result ≡ least_broken (tests_at site.now program (instruction_of instruction.now)) }
+{
+    if keeps_first(site, program, carried, instruction) {
+        return broken_by_marks(site, program, instruction);
+    }
+    broken_in_turn(site, program, carried, instruction)
+}
+
+/// The least rule that is broken there, asked one after another.
+#[tactic(auto, unfolding(rules::specs::Rules::tests))]
+fn broken_in_turn(
     site: &Site<'_>,
     program: u8,
     carried: &Option<Bound>,
@@ -190,14 +247,14 @@ pub(crate) fn found_at(
     task.note_valid();
     cert.note_made();
     let instruction = instruction_at(task, program, point)?;
-    match bound_with(cert, name, point, carried) {
+    match &bound_with(cert, name, point, carried) {
         Some(bound) => {
             let site = Site {
                 task,
                 cert,
                 name,
                 point,
-                bound: &bound,
+                bound,
             };
             broken_with(&site, program, next, instruction)
         }

@@ -24,8 +24,8 @@ pub(crate) fn bound_with(
     ensures { option_map bound_of result
         ≡ or_carried (bound_at cert.now (name_of name.now) point) (option_map bound_of carried.now) }
 {
-    match cert.bound_at(name.as_bytes(), point as usize) {
-        Some(given) => Some(given),
+    match cert.point_at(name.as_bytes(), point as usize) {
+        Some(found) => Some(found.bound()),
         None => *carried,
     }
 }

@@ -1,12 +1,12 @@
 //! The expansion of a certificate: the one in which each carried bound is written.
 
-ghost use Rattle.std.specs.Prelude.{◌≡◌, ◌↔◌, None, IfOk, option_map};
+ghost use Rattle.std.specs.Prelude.{◌≡◌, ◌↔◌, None, IfOk, option_map, true};
 ghost use Rattle.std.specs.List.{flat_map};
 ghost use Rattle.certificate.specs.Growths.{grown, grown_by};
 ghost use Rattle.certificate.specs.GrowthViews.{Grows};
 ghost use Rattle.certificate.specs.Lines.{lines_of, rest_lines};
 ghost use Rattle.certificate.specs.Views.{bound_of, name_of, points_of, version_of};
-ghost use Rattle.certificate.specs.Bounds.{has_authorities};
+ghost use Rattle.certificate.specs.Bounds.{One, has_authorities};
 ghost use Rattle.checker.specs.Verdicts.{Verdict, IsVerdict};
 ghost use Rattle.rights.specs.Limits.{most_instructions};
 ghost use Rattle.rules.specs.Expansions.{expanded_points, expanded_version, expansion, points_along, programs_behind, with_bound};
@@ -146,6 +146,17 @@ fn version_of_expansion(version: Version) -> Version
     match version {
         Version::One | Version::Two => Version::One,
         Version::Three => Version::Three,
+    }
+}
+
+/// Whether a certificate is its own expansion, as each of version 1 is: nothing is carried in it. (own)
+pub fn is_expanded(task: &Task, cert: &Cert) -> bool
+    ensures own { result ≡ true → expansion task.now cert.now ≡ cert.now }
+    ensures one { (result ≡ true) ↔ (cert.now.version ≡ One) }
+{
+    match cert.version() {
+        Version::One => true,
+        Version::Two | Version::Three => false,
     }
 }
 

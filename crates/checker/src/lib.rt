@@ -17,7 +17,7 @@ mod uses;
 pub mod verdicts;
 
 pub use allowances::ceiling_at;
-pub use expanding::expand;
+pub use expanding::{expand, is_expanded};
 pub use findings::{BrokenRule, all_findings};
 pub use points::{code_named, instruction_at, is_named};
 pub use verdicts::{Verdict, check};

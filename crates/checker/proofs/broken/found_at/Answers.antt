@@ -1,4 +1,4 @@
-use Rattle.std.proofs.Common.{◌∙◌, sym}
+use Rattle.std.proofs.Common.{◌∙◌, ap, sym}
 use Rattle.std.specs.Prelude.{Some, None, option_map}
 use Rattle.certificate.specs.Views.{bound_of, name_of}
 use Rattle.prog_asm.specs.Views.{instruction_of}
@@ -22,7 +22,8 @@ returns-in-Some c =
     c.broken_with.ensures
     ∙ sym (found_is plan cert c.args.program c.args.point (name_of c.args.name.now) (option_map bound_of c.args.carried.now)
     c.note_valid.ensures c.note_made.ensures c.requires.name c.requires.carried
-    (instruction_of c.in_ok-instruction.instruction.now) (Some (bound_of c.in-Some.bound)) (sym c.in_ok-instruction.ensures.there) c.in-Some.ensures)
+    (instruction_of c.in_ok-instruction.instruction.now) (Some (bound_of c.in-Some.bound)) (sym c.in_ok-instruction.ensures.there)
+    (ap (option_map bound_of) (sym c.in-Some.is) ∙ c.bound_with.ensures))
 
 pub returns-in-None : goal.returns-in-None
 unfolding found_with
@@ -32,4 +33,5 @@ returns-in-None c =
     c.broken_without.ensures
     ∙ sym (found_is plan cert c.args.program c.args.point (name_of c.args.name.now) (option_map bound_of c.args.carried.now)
     c.note_valid.ensures c.note_made.ensures c.requires.name c.requires.carried
-    (instruction_of c.in_ok-instruction.instruction.now) None (sym c.in_ok-instruction.ensures.there) c.in-None.ensures)
+    (instruction_of c.in_ok-instruction.instruction.now) None (sym c.in_ok-instruction.ensures.there)
+    (ap (option_map bound_of) (sym c.in-None.is) ∙ c.bound_with.ensures))
