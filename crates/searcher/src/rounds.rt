@@ -112,10 +112,10 @@ fn take_waiting(
 ) -> Result<bool, Refusal>
     requires { list_all leaves_known (code_of code.now) ≡ true }
 {
-    let (first, end) = way.take_range();
+    let waiting = way.take_range();
     let mut any = false;
-    for point in first..code.len() {
-        if end <= point && way.waiting_end() <= point {
+    for point in waiting.first..code.len() {
+        if waiting.end <= point && way.waiting.end <= point {
             break;
         }
         if point < MAX_INSTRUCTIONS {

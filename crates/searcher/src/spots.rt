@@ -27,15 +27,35 @@ pub(crate) struct Spot {
     pub waits: bool,
 }
 
-/// A program's points, with the constants at which its registers are compared or set. Those that wait are from one on and before
-/// another, so that no other is looked at.
+/// The points from one on and before another.
+#[derive(Clone, Copy)]
+pub(crate) struct PointRange {
+    pub first: usize,
+    pub end: usize,
+}
+
+impl PointRange {
+    /// No points.
+    const NONE: PointRange = PointRange {
+        first: usize::MAX,
+        end: 0,
+    };
+
+    /// Grows to hold a point.
+    fn hold(&mut self, point: usize) {
+        self.first = self.first.min(point);
+        self.end = self.end.max(point.saturating_add(1));
+    }
+}
+
+/// A program's points, with the constants at which its registers are compared or set. Those that came to wait are in a range, so
+/// that no other is looked at.
 #[derive(Drop)]
 pub(crate) struct Way {
     pub name: Name,
     constants: Vec<u32>,
     pub spots: Vec<Spot>,
-    first_waiting: usize,
-    waiting_end: usize,
+    pub waiting: PointRange,
 }
 
 /// The greatest constant that isn't above a value, or 0; the constants rise.
@@ -191,22 +211,15 @@ impl Way {
             name,
             constants,
             spots,
-            first_waiting: usize::MAX,
-            waiting_end: 0,
+            waiting: PointRange::NONE,
         })
     }
 
-    /// The point before which none waits, and the one from which on none does. From then on those alone are told that come to wait.
-    pub(crate) fn take_range(&mut self) -> (usize, usize) {
-        let range = (self.first_waiting, self.waiting_end);
-        self.first_waiting = usize::MAX;
-        self.waiting_end = 0;
-        range
-    }
-
-    /// The point from which on none waits, of those that came to wait.
-    pub(crate) fn waiting_end(&self) -> usize {
-        self.waiting_end
+    /// The range of the points that wait. From then on that of those alone is told that come to wait.
+    pub(crate) fn take_range(&mut self) -> PointRange {
+        let waiting = self.waiting;
+        self.waiting = PointRange::NONE;
+        waiting
     }
 
     /// The bound of a point that waits, which waits no more.
@@ -223,8 +236,7 @@ impl Way {
     pub(crate) fn wake(&mut self, point: usize) {
         if let Some(spot) = self.spots.get_mut(point) {
             spot.waits = spot.bound.is_some();
-            self.first_waiting = self.first_waiting.min(point);
-            self.waiting_end = self.waiting_end.max(point.saturating_add(1));
+            self.waiting.hold(point);
         }
     }
 }
@@ -244,8 +256,7 @@ impl OutcomeTest for Way {
         if let Some(spot) = self.spots.get_mut(outcome.point) {
             spot.take(outcome, &self.constants);
             if spot.waits {
-                self.first_waiting = self.first_waiting.min(outcome.point);
-                self.waiting_end = self.waiting_end.max(outcome.point.saturating_add(1));
+                self.waiting.hold(outcome.point);
             }
         }
         true
