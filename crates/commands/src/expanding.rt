@@ -6,7 +6,7 @@ ghost use Rattle.commands.specs.Expanded.{Expands};
 
 use certificate::Cert;
 use certificate_text::write_cert;
-use checker::expand;
+use checker::{expand, is_expanded};
 use rights::{Out, Stop};
 use std::alloc::Global;
 use task::Task;
@@ -27,6 +27,9 @@ pub fn write_expansion<W: Out>(
     ensures memory { IsErrOf result Stop.Memory → W.taken out.new ≡ W.taken out.old }
     ensures not_spent { IsErrOf result Stop.Spent → ⊥ }
 {
+    if is_expanded(task, cert) {
+        return write_cert(cert, out);
+    }
     let expanded = expand(alloc, task, cert)?;
     write_cert(&expanded, out)
 }

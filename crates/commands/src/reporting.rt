@@ -19,7 +19,7 @@ ghost use Rattle.prog_asm.specs.Views.{code_of};
 use crate::judging::{status_of_verdict, text_of_verdict};
 use bitflags::{Flag, Flags};
 use certificate::{Bound, Cert, Slot, Target};
-use checker::{Verdict, ceiling_at, check, expand};
+use checker::{Verdict, ceiling_at, check, expand, is_expanded};
 use prog_asm::Instruction;
 use rights::{Out, Rights, Stop, write_all};
 use std::alloc::Global;
@@ -356,6 +356,9 @@ pub fn report<W: Out>(alloc: Global, task: &Task, cert: &Cert, out: &mut W) -> R
     ensures memory { IsErrOf result Stop.Memory → W.taken out.new ≡ W.taken out.old }
     ensures not_spent { IsErrOf result Stop.Spent → ⊥ }
 {
+    if is_expanded(task, cert) {
+        return write_report(task, cert, out);
+    }
     let expanded = expand(alloc, task, cert)?;
     write_report(task, &expanded, out)
 }
