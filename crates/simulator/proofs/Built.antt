@@ -8,7 +8,7 @@ use Rattle.std.proofs.lemmas.Bool.{ltb-true}
 use Rattle.std.proofs.lemmas.Option.{slice_get-get_or}
 use Rattle.std.proofs.lemmas.List.{append-nil, get_or-map, get_or-set_same, length-take-le, map-append, take-map, set-get_or, set-set}
 use Rattle.rights.proofs.Tests.{both_left, both_right}
-use Rattle.file_tree.specs.Places.{is_file_name, above, at_name}
+use Rattle.file_tree.specs.Places.{is_file_name, above, at_name, same_place}
 use Rattle.file_tree.specs.Nodes.{Kind, File, Dir, Link, Node, node, is_dir, node_at, stands_at, nowhere}
 use Rattle.rights.specs.Limits.{most_nodes}
 use Rattle.file_tree.specs.Changes.{filled, resized, written}
@@ -16,6 +16,7 @@ use Rattle.file_tree.specs.Refusals.{created, new_tree}
 use Rattle.file_tree.specs.WellFormed.{has_directory, is_directory_at}
 use Rattle.file_tree.proofs.KeptByCreate.{limits_of}
 use Rattle.file_tree.proofs.NodeLaws.{directory_from, stands_is}
+use Rattle.file_tree.proofs.PlaceLaws.{other_place}
 use Rattle.file_tree.proofs.TreeLaws.{filled_same}
 use Rattle.task.specs.Limits.{are_made, can_follow, is_root_node, is_tree}
 use Rattle.task.proofs.FirstTrees.{can, free_place, no_fault, root_is_new, same_node}
@@ -188,3 +189,7 @@ pub take_more : (nodes : List Node) (k : ℕ) (m : Node) → k < length nodes �
 take_more nodes k m low is =
     let next : k + 1 ≡ suc k = omega arith in
     ap (λ x. take k nodes ++ x ∷ []) (sym is) ∙ sym (take-suc nodes k nowhere low) ∙ ap (λ n. take n nodes) (sym next)
+
+-- places that differ in length differ
+pub other_length : (p q : List (List ℕ)) → (length p ≡ length q → ⊥) → same_place p q ≡ false
+other_length p q other = other_place p q (λ is. other (ap length is))

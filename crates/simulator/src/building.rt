@@ -24,11 +24,23 @@ pub(crate) struct Built<T: Tree> {
     pub numbers: Vec<NodeId>,
 }
 
+/// A node that was made, and which node of the task its directory is.
+#[derive(Clone, Copy)]
+struct Made {
+    number: NodeId,
+    directory: usize,
+}
+
 /// Whether the node is the directory at this place.
 fn is_directory(node: &TaskNode, place: &[Vec<u8>]) -> bool
     ensures { result ≡ is_directory_at (names_of place.now) (node_of node.now) }
 {
-    is_same_place(place, &node.place) && matches!(node.kind, Kind::Dir)
+    // Most places differ in length, so few names are compared.
+    let stands = node.place.as_slice();
+    if stands.len() != place.len() {
+        return false;
+    }
+    is_same_place(place, stands) && matches!(node.kind, Kind::Dir)
 }
 
 /// The number of the first directory at this place, which is among these nodes.
@@ -46,6 +58,33 @@ fn directory_at(nodes: &[TaskNode], place: &[Vec<u8>]) -> usize
             directory_at(rest, place) + 1
         }
     }
+}
+
+/// Whether the node of this number is among these, and is the directory at this place.
+fn is_directory_there(nodes: &[TaskNode], number: usize, place: &[Vec<u8>]) -> bool
+    ensures below { result ≡ true → number < length nodes.now }
+    ensures directory { result ≡ true → is_directory_at (names_of place.now) (node (nodes_of nodes.now) number) ≡ true }
+{
+    match nodes.get(number) {
+        None => false,
+        Some(node) => is_directory(node, place),
+    }
+}
+
+/// The number of a directory at this place, which is among these nodes: most often that of the node before, or that node itself.
+fn directory_near(nodes: &[TaskNode], place: &[Vec<u8>], before: usize) -> usize
+    requires { has_directory (nodes_of nodes.now) (names_of place.now) ≡ true }
+    ensures below { result < length nodes.now }
+    ensures directory { is_directory_at (names_of place.now) (node (nodes_of nodes.now) result) ≡ true }
+{
+    if is_directory_there(nodes, before, place) {
+        return before;
+    }
+    let last = nodes.len().saturating_sub(1);
+    if is_directory_there(nodes, last, place) {
+        return last;
+    }
+    directory_at(nodes, place)
 }
 
 /// What a change that the tree allows is refused for: want of memory alone.
@@ -119,20 +158,21 @@ fn build_node<T: Tree>(
     }
 }
 
-/// Makes the node of this number, where all before it are made.
+/// Makes the node of this number, where all before it are made, the last of them in the directory `before`.
 fn build_next<T: Tree>(
     tree: &mut T,
     numbers: &[NodeId],
     nodes: &[TaskNode],
     made: usize,
-) -> Result<NodeId, Memory>
+    before: usize,
+) -> Result<Made, Memory>
     requires valid { is_tree (nodes_of nodes.now) ≡ true }
     requires some { 1 ≤ made }
     requires within { made < length nodes.now }
     requires made { T.nodes tree.old ≡ take made (nodes_of nodes.now) }
     requires count { length numbers.now ≡ made }
     requires numbers { AreNumbers numbers.now }
-    ensures number { IfOk result (λ n. n ≡ made) }
+    ensures number { IfOk result (λ m. m.number ≡ made) }
     ensures nodes { OnOk result (T.nodes tree.new ≡ take (made + 1) (nodes_of nodes.now)) }
 {
     let node = &nodes[made];
@@ -140,8 +180,9 @@ fn build_next<T: Tree>(
         // The root alone has no name, and it is made first.
         unreachable!()
     };
-    let directory = numbers[directory_at(&nodes[..made], above)];
-    build_node(tree, directory, name, node)
+    let directory = directory_near(&nodes[..made], above, before);
+    let number = build_node(tree, numbers[directory], name, node)?;
+    Ok(Made { number, directory })
 }
 
 /// The tree that a task starts with: its nodes are made one after another, each in its directory.
@@ -157,9 +198,11 @@ pub(crate) fn build_tree<T: Tree>(alloc: Global, nodes: &[TaskNode]) -> Result<B
     };
     let mut numbers = Vec::new(alloc);
     numbers.push(tree.root())?;
+    let mut directory = 0;
     for made in 1..nodes.len() {
-        let number = build_next(&mut tree, &numbers, nodes, made)?;
-        numbers.push(number)?;
+        let next = build_next(&mut tree, &numbers, nodes, made, directory)?;
+        numbers.push(next.number)?;
+        directory = next.directory;
     }
     Ok(Built { tree, numbers })
 }

@@ -6,15 +6,14 @@ use Rattle.file_tree.specs.Places.{above, at_name}
 use Rattle.rights.specs.Limits.{most_nodes}
 use Rattle.file_tree.specs.Views.{names_of}
 use Rattle.file_tree.specs.WellFormed.{has_directory, is_directory_at}
-use Rattle.fd_table.proofs.QueueLaws.{on_ok_so}
 use Rattle.task.specs.Limits.{can_follow}
 use Rattle.task.specs.Views.{node_of, nodes_of}
 use Rattle.simulator.specs.Starts.{IsMadeIn}
 use Rattle.simulator.proofs.Built.{Parts, any_default, can_at, few_nodes, has_holder, has_name, made_in, no_names, nodes_more, parts, take_more}
 use Rattle.simulator.proofs.building.build_next.Goals as goal
 
-pub directory_at-requires : goal.directory_at-requires
-directory_at-requires g c =
+pub directory_near-directory-requires : goal.directory_near-directory-requires
+directory_near-directory-requires g c =
     let nodes : List Node = nodes_of c.args.nodes.now in
     let same : node nodes c.args.made ≡ node_of c.index-nodes-made.result = nodes_more node_of c.args.nodes.now c.args.made c.index-nodes-made.result c.requires.within c.index-nodes-made.is in
     let facts : Parts (λ name. name.items) c.as_slice.result.now c.name-item.result = parts (λ name. name.items) c.as_slice.result.now c.name-item.result c.in-len1-up.len_at_least c.name-item.is in
@@ -35,30 +34,31 @@ build_node-requires-clause-made g c =
     let test : can_follow (take c.args.made nodes) m ≡ true = subst (λ n. can_follow (take c.args.made nodes) n ≡ true) same (can_at nodes c.args.made c.requires.valid c.requires.some low) in
     let few : length nodes ≤ most_nodes = few_nodes nodes c.requires.valid in
     let made : length (take c.args.made nodes) ≡ c.args.made = length-take-le c.args.made nodes (omega arith) in
-    let there : is_directory_at (above m.place) (node (take c.args.made nodes) c.directory_at.result) ≡ true =
-    (λ i. is_directory_at (sym (facts.front ∙ ap above place) i) (node (take-map node_of c.args.made c.args.nodes.now i) c.directory_at.result)) ∙ c.directory_at.ensures.directory
+    let there : is_directory_at (above m.place) (node (take c.args.made nodes) c.directory_near-directory.result) ≡ true =
+    (λ i. is_directory_at (sym (facts.front ∙ ap above place) i) (node (take-map node_of c.args.made c.args.nodes.now i) c.directory_near-directory.result)) ∙ c.directory_near-directory.ensures.directory
     in
     let named : at_name (above m.place) c.deref.result.now ≡ m.place =
     (λ i. at_name (above (sym place i)) (c.deref.ensures.value i)) ∙ facts.whole ∙ place
     in
-    let number : c.directory_at.result < length c.args.numbers.now =
-    (let below : c.directory_at.result < length (take c.args.made c.args.nodes.now) = c.directory_at.ensures.below in let slice : length
+    let number : c.directory_near-directory.result < length c.args.numbers.now =
+    (let below : c.directory_near-directory.result < length (take c.args.made c.args.nodes.now) = c.directory_near-directory.ensures.below in let slice : length
     (take c.args.made c.args.nodes.now) ≡ c.args.made = length-take-le c.args.made c.args.nodes.now
     (let w : c.args.made < length c.args.nodes.now = c.requires.within in omega arith) in omega (arith, c.requires.count)) in
-    let directory : c.index-numbers-directory_at.result ≡ c.directory_at.result =
-    c.index-numbers-directory_at.is ∙ any_default c.args.numbers.now c.directory_at.result c.index-numbers-directory_at.result 0 number ∙ c.requires.numbers c.directory_at.result number
+    let directory : c.index-numbers-directory.result ≡ c.directory_near-directory.result =
+    c.index-numbers-directory.is ∙ any_default c.args.numbers.now c.directory_near-directory.result c.index-numbers-directory.result 0 number ∙ c.requires.numbers c.directory_near-directory.result number
     in
-    subst (λ t. IsMadeIn t c.index-numbers-directory_at.result c.deref.result.now m) (sym c.requires.made)
+    subst (λ t. IsMadeIn t c.index-numbers-directory.result c.deref.result.now m) (sym c.requires.made)
     (subst (λ d. IsMadeIn (take c.args.made nodes) d c.deref.result.now m) (sym directory)
-    (made_in (take c.args.made nodes) m c.directory_at.result c.deref.result.now (omega arith) test there named))
+    (made_in (take c.args.made nodes) m c.directory_near-directory.result c.deref.result.now (omega arith) test there named))
 
 pub returns-clause-nodes : goal.returns-clause-nodes
 returns-clause-nodes g c =
     let nodes : List Node = nodes_of c.args.nodes.now in
     let low : c.args.made < length nodes = subst (λ n. c.args.made < n) (sym (length-map c.args.nodes.now node_of)) c.requires.within in
     let same : node nodes c.args.made ≡ node_of c.index-nodes-made.result = nodes_more node_of c.args.nodes.now c.args.made c.index-nodes-made.result c.requires.within c.index-nodes-made.is in
-    on_ok_so c.build_node.result c.build_node.ensures.nodes
-    (λ is. is ∙ ap (λ t. t ++ node_of c.index-nodes-made.result ∷ []) c.requires.made ∙ take_more nodes c.args.made (node_of c.index-nodes-made.result) low same)
+    c.in_ok-number.ensures.nodes
+    ∙ ap (λ t. t ++ node_of c.index-nodes-made.result ∷ []) c.requires.made
+    ∙ take_more nodes c.args.made (node_of c.index-nodes-made.result) low same
 
 pub unreachable-requires : goal.unreachable-requires
 unreachable-requires g c =
@@ -73,12 +73,12 @@ build_node-requires-clause-there g c =
     let nodes : List Node = nodes_of c.args.nodes.now in
     let within : c.args.made < length c.args.nodes.now = c.requires.within in
     let low : c.args.made < length nodes = subst (λ n. c.args.made < n) (sym (length-map c.args.nodes.now node_of)) within in
-    let below : c.directory_at.result < length (take c.args.made c.args.nodes.now) = c.directory_at.ensures.below in
+    let below : c.directory_near-directory.result < length (take c.args.made c.args.nodes.now) = c.directory_near-directory.ensures.below in
     let slice : length (take c.args.made c.args.nodes.now) ≡ c.args.made = length-take-le c.args.made c.args.nodes.now (omega arith) in
     let made : length (take c.args.made nodes) ≡ c.args.made = length-take-le c.args.made nodes (omega arith) in
-    let number : c.directory_at.result < length c.args.numbers.now = omega (arith, c.requires.count) in
-    let directory : c.index-numbers-directory_at.result ≡ c.directory_at.result =
-    c.index-numbers-directory_at.is ∙ any_default c.args.numbers.now c.directory_at.result c.index-numbers-directory_at.result 0 number ∙ c.requires.numbers c.directory_at.result number
+    let number : c.directory_near-directory.result < length c.args.numbers.now = omega (arith, c.requires.count) in
+    let directory : c.index-numbers-directory.result ≡ c.directory_near-directory.result =
+    c.index-numbers-directory.is ∙ any_default c.args.numbers.now c.directory_near-directory.result c.index-numbers-directory.result 0 number ∙ c.requires.numbers c.directory_near-directory.result number
     in
-    subst (λ t. c.index-numbers-directory_at.result < length t) (sym c.requires.made)
+    subst (λ t. c.index-numbers-directory.result < length t) (sym c.requires.made)
     (subst (λ d. d < length (take c.args.made nodes)) (sym directory) (omega arith))
