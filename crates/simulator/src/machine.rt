@@ -17,7 +17,9 @@ ghost use Rattle.simulator.specs.Views.{line_of};
 use crate::lines::Line;
 use crate::starting::first_world;
 use crate::steps::{may_stand_at, step_world, step_world_as};
+use fd_table::Files;
 use file_tree::Tree;
+use process::Process;
 use prog_asm::Instruction;
 use rights::Stop;
 use rights::limits::REGISTERS;
@@ -66,6 +68,27 @@ impl<'a, T: Tree> Machine<'a, T> {
             world,
             spent: false,
         })
+    }
+
+    /// The processes, by number.
+    pub fn processes(&self) -> &[Process]
+        ensures { result.now ≡ self.now.processes }
+    {
+        &self.world.processes
+    }
+
+    /// What the processes have open.
+    pub fn files(&self) -> &Files
+        ensures { result.now ≡ self.now.files }
+    {
+        &self.world.files
+    }
+
+    /// The tree.
+    pub fn tree(&self) -> &T
+        ensures { T.nodes result.now ≡ self.now.tree }
+    {
+        &self.world.tree
     }
 
     /// One step, and its line. A refused growth is `Memory`, and from then on each step is `Spent`.

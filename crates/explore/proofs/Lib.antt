@@ -1,0 +1,4 @@
+pub mod Shown
+pub mod Refuting
+pub mod Watching
+pub mod Written

@@ -1,0 +1,117 @@
+-- A task some run of which breaks something is neither sandboxed nor confined.
+use Rattle.std.proofs.Common.{◌≡◌, Bool, true, false, List, [], ◌∷◌, map, refl, ap, ◌∙◌}
+use Rattle.std.specs.Prelude.{Option, Some, None, option_map, IfSome, if◌then◌else◌}
+use Rattle.std.specs.List.{list_any, slice_get}
+use Rattle.rights.specs.Errors.{Cause, CapMode, BadDescriptor, MissingRight, Kind, Escape, Path, Access, Full, Refused}
+use Rattle.process.specs.State.{ProcessState}
+use Rattle.kernel.specs.World.{World, Choice, IsFresh}
+use Rattle.kernel.specs.Answers.{Event, Effect, AreEvents}
+use Rattle.kernel.specs.Hostile.{Act, Own}
+use Rattle.kernel.specs.Steps.{LineResult, Done, Halted, Value, Failed, Waiting, Walks_on, Ended, Acted, Programs, step}
+use Rattle.kernel.specs.WellFormed.{ArePrograms, IsWellFormed}
+use Rattle.kernel.proofs.Keeping.{next_world}
+use Rattle.syscalls.specs.Shows.{shown}
+use Rattle.task.specs.Begins.{first_world}
+use Rattle.task.specs.Confined.{Confined, IsTrusted}
+use Rattle.task.specs.Limits.{is_plan}
+use Rattle.task.specs.Plans.{Grant, Plan, programs_of_plan}
+use Rattle.task.specs.Sandboxed.{AreAllowed, IsInMode, IsOtherCause, IsUnrefused, Sandboxed}
+use Rattle.task.proofs.Allowances.{allowed_is_tested}
+use Rattle.task.proofs.FirstWorlds.{first_well_formed}
+use Rattle.simulator.specs.Lines.{shown_step}
+use Rattle.explore.specs.Breaches.{Breach, Outside, allows_shown, broken, or_else, outside, refusal, refusal_for}
+use Rattle.explore.specs.Broken.{BreachesRefute, Breaks, EndsWith, IsRefuted, broken_at}
+use Rattle.explore.specs.BreachViews.{breach_of}
+use Rattle.explore.specs.declared.breaches.Breach.{Breach as BreachCode}
+use Rattle.explore.proofs.Shown.{allowed-shown}
+
+nothing-outside : (grants : List Grant) (effects : List Effect) → AreAllowed grants effects → outside grants (map shown effects) ≡ None
+nothing-outside grants [] allowed = refl
+nothing-outside grants (f ∷ effects) allowed =
+    let here : list_any (allows_shown (shown f)) grants ≡ true = allowed-shown grants f ((allowed_is_tested grants f.operation f.place).1 allowed.0) in
+    ap (λ b. if b then outside grants (map shown effects) else Some (Outside f.operation (shown f).place)) here ∙ nothing-outside grants effects allowed.1
+
+no-refusal-for : (cause : Cause) → IsOtherCause cause → refusal_for cause ≡ None
+no-refusal-for CapMode other = absurd other
+no-refusal-for MissingRight other = absurd other
+no-refusal-for BadDescriptor other = refl
+no-refusal-for Kind other = refl
+no-refusal-for Escape other = refl
+no-refusal-for Path other = refl
+no-refusal-for Access other = refl
+no-refusal-for Full other = refl
+no-refusal-for Refused other = refl
+
+no-refusal : (outcome : LineResult) → IsUnrefused outcome → refusal outcome ≡ None
+no-refusal Done unrefused = refl
+no-refusal Halted unrefused = refl
+no-refusal (Value n) unrefused = refl
+no-refusal (Failed errno cause) unrefused = no-refusal-for cause unrefused
+no-refusal Waiting unrefused = refl
+no-refusal Walks_on unrefused = refl
+no-refusal Ended unrefused = refl
+
+neither-breach : (one other : Option Breach) → one ≡ None → other ≡ None → or_else one other ≡ None
+neither-breach None other first second = second
+neither-breach (Some breach) other first second = absurd cc
+
+if-true : (b : Bool) (o : Option Breach) → (b ≡ true → o ≡ None) → (if b then o else None) ≡ None
+if-true true o is = is refl
+if-true false o is = refl
+
+if-false : (b : Bool) (o : Option Breach) → (b ≡ false → o ≡ None) → (if b then None else o) ≡ None
+if-false true o is = refl
+if-false false o is = is refl
+
+-- a step that keeps to what a run has to keep to breaks nothing
+nothing-broken : (grants : List Grant) (process : Option ProcessState) (acted : Option Acted) →
+    (IsInMode process → IfSome acted (λ (a : Acted). AreAllowed grants a.effects)) → (IsTrusted process → IfSome acted (λ (a : Acted). IsUnrefused a.outcome)) →
+    broken grants process (option_map shown_step acted) ≡ None
+nothing-broken grants None acted allowed unrefused = refl
+nothing-broken grants (Some s) None allowed unrefused = refl
+nothing-broken grants (Some s) (Some a) allowed unrefused =
+    neither-breach _ _ (if-true s.mode (outside grants (map shown a.effects)) (λ on. nothing-outside grants a.effects (allowed on)))
+    (if-false s.marked (refusal a.outcome) (λ off. no-refusal a.outcome (unrefused off)))
+
+abbrev own_acts : List Event → List (Event × Act)
+own_acts [] = []
+own_acts (e ∷ events) = (e, Own) ∷ own_acts events
+
+module _ (programs : Programs) (grants : List Grant) (valid : ArePrograms programs) (breach : Breach) where
+  not-sandboxed : (w : World) (before : Option Breach) (events : List Event) → IsWellFormed programs w → AreEvents events → before ≡ None →
+      EndsWith programs grants w before events (Some breach) → Sandboxed programs grants w events → ⊥
+  not-sandboxed w before [] good bytes none ends sandboxed = absurd cc
+  not-sandboxed w before (e ∷ events) good bytes none ends sandboxed =
+      let next = next_world programs w e valid good bytes.0 in
+      let choice : Choice = next.some.0 in
+      let fresh : IsFresh w.files choice = next.some.1 in
+      let here = sandboxed choice fresh in
+      not-sandboxed (step programs w e choice).world (broken_at grants w e (step programs w e choice).acted) events (next.each choice fresh) bytes.1
+      (nothing-broken grants (slice_get w.processes e.process) (step programs w e choice).acted here.0.allowed (λ trusted. here.0.unrefused))
+      (ends choice fresh) here.1
+
+  not-confined : (w : World) (before : Option Breach) (events : List Event) → IsWellFormed programs w → AreEvents events → before ≡ None →
+      EndsWith programs grants w before events (Some breach) → Confined programs grants w (own_acts events) → ⊥
+  not-confined w before [] good bytes none ends confined = absurd cc
+  not-confined w before (e ∷ events) good bytes none ends confined =
+      let next = next_world programs w e valid good bytes.0 in
+      let choice : Choice = next.some.0 in
+      let fresh : IsFresh w.files choice = next.some.1 in
+      let here = confined choice fresh bytes.0 tt in
+      not-confined (step programs w e choice).world (broken_at grants w e (step programs w e choice).acted) events (next.each choice fresh) bytes.1
+      (nothing-broken grants (slice_get w.processes e.process) (step programs w e choice).acted here.0.allowed here.0.unrefused)
+      (ends choice fresh) here.1
+
+pub breaches_refute : BreachesRefute
+breaches_refute plan events breach valid bytes breaks =
+    let formed = first_well_formed plan valid in
+    record {
+      sandbox = λ sandboxed. not-sandboxed (programs_of_plan plan) plan.grants formed.0 breach (first_world plan) None events formed.1 bytes refl breaks (sandboxed events bytes);
+      confinement = λ confined. not-confined (programs_of_plan plan) plan.grants formed.0 breach (first_world plan) None events formed.1 bytes refl breaks (confined (own_acts events));
+    }
+
+-- what a run breaks, if it breaks something, refutes the task
+pub refuted-if : (plan : Plan) (events : List Event) (found : Option BreachCode) → is_plan plan ≡ true → AreEvents events →
+    Breaks plan events (option_map breach_of found) → IfSome found (λ breach. IsRefuted plan)
+refuted-if plan events None valid bytes breaks = tt
+refuted-if plan events (Some breach) valid bytes breaks = breaches_refute plan events (breach_of breach) valid bytes breaks

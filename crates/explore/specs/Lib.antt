@@ -1,0 +1,4 @@
+pub mod Breaches
+pub mod Broken
+pub mod BreachViews
+pub mod Texts

@@ -1,0 +1,85 @@
+//! Runs whose last step breaks something.
+
+ghost use Rattle.std.specs.Prelude.{◌≡◌, ◌<◌, IfOk, IfSome, IsErrOf, OnErr, OnOk, Some, false, map, option_map};
+ghost use Rattle.std.specs.List.{slice_get};
+ghost use Rattle.kernel.specs.WellFormed.{IsWellFormed};
+ghost use Rattle.process.specs.State.{ProcessState};
+ghost use Rattle.syscalls.specs.Views.{event_of};
+ghost use Rattle.task.specs.Plans.{programs_of_plan};
+ghost use Rattle.simulator.specs.Machines.{machine_world};
+ghost use Rattle.simulator.specs.Steps.{StepsMachine};
+ghost use Rattle.simulator.specs.Views.{line_of};
+ghost use Rattle.explore.specs.Breaches.{broken as broken_in};
+ghost use Rattle.explore.specs.Broken.{Breaks, IsRefuted};
+ghost use Rattle.explore.specs.BreachViews.{breach_of, standing_of};
+
+use crate::breaches::{Breach, Standing, broken};
+use link_tree::LinkTree;
+use rights::Stop;
+use simulator::{Line, Machine};
+use std::alloc::Global;
+use syscalls::Event;
+use task::Task;
+
+/// A step's line, and what the step breaks.
+#[derive(Drop)]
+pub(crate) struct Watched {
+    pub line: Line,
+    pub breach: Option<Breach>,
+}
+
+/// What counts of the process of this number, if it was made.
+fn standing(machine: &Machine<'_, LinkTree>, process: u8) -> Option<Standing>
+    ensures { result ≡ option_map standing_of (slice_get machine.now.processes process) }
+{
+    match machine.processes().get(process as usize) {
+        None => None,
+        Some(process) => Some(Standing {
+            in_mode: process.mode(),
+            is_marked: process.is_marked(),
+        }),
+    }
+}
+
+/// One step of the task's machine, with what it breaks.
+pub(crate) fn watched_step(
+    alloc: Global,
+    task: &Task,
+    machine: &mut Machine<'_, LinkTree>,
+    event: Event,
+) -> Result<Watched, Stop>
+    requires { machine.old.spent ≡ false }
+    ensures step { IfOk result (λ watched. StepsMachine (programs_of_plan machine.old.plan) (machine_world machine.old) (event_of event)
+        (line_of watched.line) (machine_world machine.new)) }
+    ensures breach { IfOk result (λ watched. option_map breach_of watched.breach
+        ≡ broken_in task.now.grants (slice_get machine.old.processes event.process) (line_of watched.line).acted) }
+    ensures well_formed { OnOk result (IsWellFormed (programs_of_plan machine.new.plan) (machine_world machine.new)) }
+    ensures plan { machine.new.plan ≡ machine.old.plan }
+    ensures runs_on { OnOk result (machine.new.spent ≡ false) }
+    ensures byte { OnOk result (event.input < 256) }
+    ensures memory { OnErr result (IsErrOf result Stop.Memory) }
+{
+    let standing = standing(machine, event.process);
+    let line = machine.step(event)?;
+    let breach = broken(alloc, task.grants(), standing, line.acted.as_ref())?;
+    Ok(Watched { line, breach })
+}
+
+/// Runs the task over the events, and answers what the last step breaks, if it breaks something: an effect outside the policy of a
+/// process in capability mode, or the refusal of a call of a trusted program for a missing right or by capability mode. What the
+/// steps before break doesn't count. Want of memory is the only error.
+///
+/// Where something is broken, the task is neither sandboxed nor confined.
+pub fn breaks(alloc: Global, task: &Task, events: &[Event]) -> Result<Option<Breach>, Stop>
+    ensures breach { IfOk result (λ found. Breaks task.now (map event_of events.now) (option_map breach_of found)) }
+    ensures refuted { IfOk result (λ found. IfSome found (λ breach. IsRefuted task.now)) }
+    ensures memory { OnErr result (IsErrOf result Stop.Memory) }
+{
+    let mut machine: Machine<'_, LinkTree> = Machine::start(alloc, task)?;
+    let mut breach = None;
+    for event in events {
+        let watched = watched_step(alloc, task, &mut machine, *event)?;
+        breach = watched.breach;
+    }
+    Ok(breach)
+}
