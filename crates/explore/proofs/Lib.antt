@@ -2,3 +2,4 @@ pub mod Shown
 pub mod Refuting
 pub mod Watching
 pub mod Written
+pub mod Samples

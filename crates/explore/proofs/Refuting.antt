@@ -19,7 +19,7 @@ use Rattle.task.specs.Sandboxed.{AreAllowed, IsInMode, IsOtherCause, IsUnrefused
 use Rattle.task.proofs.Allowances.{allowed_is_tested}
 use Rattle.task.proofs.FirstWorlds.{first_well_formed}
 use Rattle.simulator.specs.Lines.{shown_step}
-use Rattle.explore.specs.Breaches.{Breach, Outside, allows_shown, broken, or_else, outside, refusal, refusal_for}
+use Rattle.explore.specs.Breaches.{Breach, Outside, allows_shown, breach_in, either_breach, outside, refusal, refusal_for}
 use Rattle.explore.specs.Broken.{BreachesRefute, Breaks, EndsWith, IsRefuted, broken_at}
 use Rattle.explore.specs.BreachViews.{breach_of}
 use Rattle.explore.specs.declared.breaches.Breach.{Breach as BreachCode}
@@ -51,7 +51,7 @@ no-refusal Waiting unrefused = refl
 no-refusal Walks_on unrefused = refl
 no-refusal Ended unrefused = refl
 
-neither-breach : (one other : Option Breach) → one ≡ None → other ≡ None → or_else one other ≡ None
+neither-breach : (one other : Option Breach) → one ≡ None → other ≡ None → either_breach one other ≡ None
 neither-breach None other first second = second
 neither-breach (Some breach) other first second = absurd cc
 
@@ -66,7 +66,7 @@ if-false false o is = is refl
 -- a step that keeps to what a run has to keep to breaks nothing
 nothing-broken : (grants : List Grant) (process : Option ProcessState) (acted : Option Acted) →
     (IsInMode process → IfSome acted (λ (a : Acted). AreAllowed grants a.effects)) → (IsTrusted process → IfSome acted (λ (a : Acted). IsUnrefused a.outcome)) →
-    broken grants process (option_map shown_step acted) ≡ None
+    breach_in grants process (option_map shown_step acted) ≡ None
 nothing-broken grants None acted allowed unrefused = refl
 nothing-broken grants (Some s) None allowed unrefused = refl
 nothing-broken grants (Some s) (Some a) allowed unrefused =

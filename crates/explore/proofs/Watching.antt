@@ -16,7 +16,7 @@ use Rattle.task.specs.Plans.{Plan, programs_of_plan}
 use Rattle.task.proofs.FirstWorlds.{first_well_formed}
 use Rattle.simulator.specs.Lines.{Line, line_at, shown_step}
 use Rattle.simulator.specs.Steps.{StepsMachine}
-use Rattle.explore.specs.Breaches.{Breach, broken}
+use Rattle.explore.specs.Breaches.{Breach, breach_in}
 use Rattle.explore.specs.Broken.{Breaks, EndsWith, broken_at}
 
 -- What ends so from each world that differs from this one in numbers alone ends so from the first world on.
@@ -32,15 +32,15 @@ leads-start plan events w valid differs last ends = ends (first_world plan) (fir
 -- what a step breaks is the same in worlds that differ in numbers alone
 same-broken : (plan : Plan) (w v : World) (e : Event) (line : Line) (j k : Choice) → DiffersInNumbers v w →
     (step (programs_of_plan plan) w e k).acted ≡ (step (programs_of_plan plan) v e j).acted → line ≡ line_at e (step (programs_of_plan plan) w e k).acted →
-    broken_at plan.grants v e (step (programs_of_plan plan) v e j).acted ≡ broken plan.grants (slice_get w.processes e.process) line.acted
+    broken_at plan.grants v e (step (programs_of_plan plan) v e j).acted ≡ breach_in plan.grants (slice_get w.processes e.process) line.acted
 same-broken plan w v e line j k differs same is =
-    ap (λ processes. broken plan.grants (slice_get processes e.process) (option_map shown_step (step (programs_of_plan plan) v e j).acted)) (sym differs.processes)
-    ∙ ap (λ acted. broken plan.grants (slice_get w.processes e.process) (option_map shown_step acted)) (sym same)
-    ∙ ap (λ (l : Line). broken plan.grants (slice_get w.processes e.process) l.acted) (sym is)
+    ap (λ processes. breach_in plan.grants (slice_get processes e.process) (option_map shown_step (step (programs_of_plan plan) v e j).acted)) (sym differs.processes)
+    ∙ ap (λ acted. breach_in plan.grants (slice_get w.processes e.process) (option_map shown_step acted)) (sym same)
+    ∙ ap (λ (l : Line). breach_in plan.grants (slice_get w.processes e.process) l.acted) (sym is)
 
 pub leads-step : (plan : Plan) (events : List Event) (w next : World) (before breach : Option Breach) (e : Event) (left : List Event) (line : Line) →
     is_plan plan ≡ true → IsWellFormed (programs_of_plan plan) w → IsEvent e → StepsMachine (programs_of_plan plan) w e line next →
-    breach ≡ broken plan.grants (slice_get w.processes e.process) line.acted → Leads plan events w before (e ∷ left) → Leads plan events next breach left
+    breach ≡ breach_in plan.grants (slice_get w.processes e.process) line.acted → Leads plan events w before (e ∷ left) → Leads plan events next breach left
 leads-step plan events w next before breach e left line valid good byte s is leads last ends = leads last go
   where
     programs : Programs

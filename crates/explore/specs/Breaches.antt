@@ -58,15 +58,15 @@ abbrev pub refusal : LineResult → Option Breach
 refusal (Failed errno cause) = refusal_for cause
 refusal _ = None
 
-abbrev pub or_else : Option Breach → Option Breach → Option Breach
-or_else None other = other
-or_else (Some breach) other = Some breach
+abbrev pub either_breach : Option Breach → Option Breach → Option Breach
+either_breach None other = other
+either_breach (Some breach) other = Some breach
 
 -- What the step of a process breaks, which stood so before it. An effect counts in capability mode alone, and a refusal counts of a
 -- trusted program alone.
-abbrev pub broken_by : List Grant → ProcessState → ShownStep → Option Breach
-broken_by grants s a = or_else (if s.mode then outside grants a.effects else None) (if s.marked then None else refusal a.outcome)
+abbrev pub breach_by : List Grant → ProcessState → ShownStep → Option Breach
+breach_by grants s a = either_breach (if s.mode then outside grants a.effects else None) (if s.marked then None else refusal a.outcome)
 
-abbrev pub broken : List Grant → Option ProcessState → Option ShownStep → Option Breach
-broken grants (Some s) (Some a) = broken_by grants s a
-broken grants _ _ = None
+abbrev pub breach_in : List Grant → Option ProcessState → Option ShownStep → Option Breach
+breach_in grants (Some s) (Some a) = breach_by grants s a
+breach_in grants _ _ = None

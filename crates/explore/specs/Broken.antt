@@ -11,11 +11,11 @@ use Rattle.task.specs.Confined.{IsConfined}
 use Rattle.task.specs.Limits.{is_plan}
 use Rattle.task.specs.Sandboxed.{IsSandboxed}
 use Rattle.simulator.specs.Lines.{shown_step}
-use Rattle.explore.specs.Breaches.{Breach, broken}
+use Rattle.explore.specs.Breaches.{Breach, breach_in}
 
 -- what a step from this world breaks
 abbrev pub broken_at : List Grant → World → Event → Option Acted → Option Breach
-broken_at grants w e acted = broken grants (slice_get w.processes e.process) (option_map shown_step acted)
+broken_at grants w e acted = breach_in grants (slice_get w.processes e.process) (option_map shown_step acted)
 
 -- In every run of these events from this world, whatever fresh numbers are chosen, the last step breaks this. Where no event is left,
 -- it is what the step before broke.

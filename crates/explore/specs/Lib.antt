@@ -2,3 +2,5 @@ pub mod Breaches
 pub mod Broken
 pub mod BreachViews
 pub mod Texts
+pub mod FoundViews
+pub mod Samples

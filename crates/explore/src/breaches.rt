@@ -5,7 +5,7 @@ ghost use Rattle.process.specs.State.{ProcessState};
 ghost use Rattle.syscalls.specs.Views.{effects_of};
 ghost use Rattle.task.specs.Views.{grants_of};
 ghost use Rattle.simulator.specs.Views.{acted_of, result_of};
-ghost use Rattle.explore.specs.Breaches.{broken, broken_by, outside, refusal};
+ghost use Rattle.explore.specs.Breaches.{breach_by, breach_in, outside, refusal};
 ghost use Rattle.explore.specs.BreachViews.{breach_of, standing_of};
 
 use crate::policies::is_allowed;
@@ -69,7 +69,7 @@ fn broken_by(
     acted: &Acted,
 ) -> Result<Option<Breach>, Memory>
     ensures { IfOk result (λ found. (s : ProcessState) → standing_of s ≡ standing
-        → option_map breach_of found ≡ broken_by (grants_of grants.now) s (acted_of acted.now)) }
+        → option_map breach_of found ≡ breach_by (grants_of grants.now) s (acted_of acted.now)) }
 {
     if standing.in_mode {
         let found = outside(alloc, grants, &acted.effects)?;
@@ -91,7 +91,7 @@ pub(crate) fn broken(
     acted: Option<&Acted>,
 ) -> Result<Option<Breach>, Memory>
     ensures { IfOk result (λ found. (process : Option ProcessState) → option_map standing_of process ≡ standing
-        → option_map breach_of found ≡ broken (grants_of grants.now) process (option_map (λ a. acted_of a.now) acted.entry)) }
+        → option_map breach_of found ≡ breach_in (grants_of grants.now) process (option_map (λ a. acted_of a.now) acted.entry)) }
 {
     let Some(standing) = standing else {
         return Ok(None);

@@ -9,7 +9,7 @@ ghost use Rattle.task.specs.Plans.{programs_of_plan};
 ghost use Rattle.simulator.specs.Machines.{machine_world};
 ghost use Rattle.simulator.specs.Steps.{StepsMachine};
 ghost use Rattle.simulator.specs.Views.{line_of};
-ghost use Rattle.explore.specs.Breaches.{broken as broken_in};
+ghost use Rattle.explore.specs.Breaches.{breach_in};
 ghost use Rattle.explore.specs.Broken.{Breaks, IsRefuted};
 ghost use Rattle.explore.specs.BreachViews.{breach_of, standing_of};
 
@@ -48,16 +48,15 @@ pub(crate) fn watched_step(
     machine: &mut Machine<'_, LinkTree>,
     event: Event,
 ) -> Result<Watched, Stop>
-    requires { machine.old.spent ≡ false }
     ensures step { IfOk result (λ watched. StepsMachine (programs_of_plan machine.old.plan) (machine_world machine.old) (event_of event)
         (line_of watched.line) (machine_world machine.new)) }
     ensures breach { IfOk result (λ watched. option_map breach_of watched.breach
-        ≡ broken_in task.now.grants (slice_get machine.old.processes event.process) (line_of watched.line).acted) }
+        ≡ breach_in task.now.grants (slice_get machine.old.processes event.process) (line_of watched.line).acted) }
     ensures well_formed { OnOk result (IsWellFormed (programs_of_plan machine.new.plan) (machine_world machine.new)) }
     ensures plan { machine.new.plan ≡ machine.old.plan }
     ensures runs_on { OnOk result (machine.new.spent ≡ false) }
     ensures byte { OnOk result (event.input < 256) }
-    ensures memory { OnErr result (IsErrOf result Stop.Memory) }
+    ensures memory { machine.old.spent ≡ false → OnErr result (IsErrOf result Stop.Memory) }
 {
     let standing = standing(machine, event.process);
     let line = machine.step(event)?;

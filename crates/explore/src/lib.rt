@@ -6,10 +6,20 @@
 
 pub mod breaches;
 pub mod breaking;
+mod digests;
+mod explorer;
+mod exploring;
 pub mod laws;
+mod messages;
+mod moves;
 mod policies;
+mod runners;
+mod shrinking;
+mod states;
+mod trees;
 pub mod writing;
 
 pub use breaches::Breach;
 pub use breaking::breaks;
+pub use exploring::{Explored, FoundRun, Watcher, explore};
 pub use writing::write_breach;

@@ -1,0 +1,266 @@
+//! The search for a run that breaks something, by breadth over the states of a task.
+
+use crate::digests::Digest;
+use crate::moves::{bytes_to_try, next_moves};
+use crate::runners::Runner;
+use crate::states::Met;
+use indexmap::IndexSet;
+use rights::Memory;
+use std::alloc::Global;
+use syscalls::Event;
+use task::Task;
+
+/// How many steps that are the only ones possible are run on before a state is kept.
+const MAX_FORCED: usize = 256;
+
+/// A state that was met: the state before it, the event that is tried there, and whether the steps behind it were too many to be followed.
+#[derive(Clone, Copy)]
+struct Visit {
+    parent: Option<usize>,
+    event: Event,
+    is_long: bool,
+}
+
+/// What became of a machine that was run on.
+#[derive(Clone, Copy, Debug, PartialEq, Eq)]
+enum Arrival {
+    /// The last step breaks something.
+    Breaks,
+    /// It stands at a state where there is a choice, or where nothing can move; or too many steps were run on.
+    At { is_long: bool },
+    /// The event changed nothing.
+    Stays,
+}
+
+/// What was come to.
+#[derive(Clone, Copy, Debug, PartialEq, Eq)]
+pub(crate) enum Progress {
+    /// A run breaks something.
+    Found,
+    /// There are states left.
+    Goes,
+    /// All states were visited.
+    Ended,
+    /// As many states were met as are allowed.
+    Bounded,
+}
+
+/// The search: the states that were met, in the order in which they were, and how many of them were gone on from.
+#[derive(Drop)]
+pub(crate) struct Explorer<'a> {
+    alloc: Global,
+    task: &'a Task,
+    bytes: Vec<u8>,
+    met: Met,
+    seen: IndexSet<Digest>,
+    visits: Vec<Visit>,
+    next: usize,
+    bound: usize,
+    /// The run that breaks something, once there is one.
+    pub found: Vec<Event>,
+}
+
+impl<'a> Explorer<'a> {
+    /// A search that has met nothing yet, of at most so many states.
+    pub(crate) fn new(alloc: Global, task: &'a Task, bound: usize) -> Result<Explorer<'a>, Memory> {
+        let bytes = bytes_to_try(alloc, task)?;
+        Ok(Explorer {
+            alloc,
+            task,
+            bytes,
+            met: Met::new(alloc),
+            seen: IndexSet::new(alloc),
+            visits: Vec::new(alloc),
+            next: 0,
+            bound,
+            found: Vec::new(alloc),
+        })
+    }
+
+    /// How many states were met.
+    pub(crate) fn count(&self) -> usize {
+        self.visits.len()
+    }
+
+    /// The events that lead to a state, the last one first.
+    fn choices(&self, place: usize) -> Result<Vec<Event>, Memory> {
+        let mut choices = Vec::new(self.alloc);
+        let mut at = place;
+        for _ in 0..self.visits.len() {
+            let Some(visit) = self.visits.get(at) else {
+                break;
+            };
+            let Some(parent) = visit.parent else {
+                break;
+            };
+            choices.push(visit.event)?;
+            at = parent;
+        }
+        Ok(choices)
+    }
+
+    /// Runs a machine on as long as one event alone can come.
+    fn run_on(&mut self, runner: &mut Runner<'a>) -> Result<Arrival, Memory> {
+        for _ in 0..MAX_FORCED {
+            let next = next_moves(self.alloc, self.task, runner, &self.bytes, false)?;
+            let [event] = next.events.as_slice() else {
+                return Ok(Arrival::At { is_long: false });
+            };
+            let advance = runner.step(*event)?;
+            if advance.breach.is_some() {
+                return Ok(Arrival::Breaks);
+            }
+            if advance.is_waiting {
+                return Ok(Arrival::At { is_long: false });
+            }
+        }
+        Ok(Arrival::At { is_long: true })
+    }
+
+    /// Runs a machine by one event, and on.
+    fn advance(&mut self, runner: &mut Runner<'a>, event: Event) -> Result<Arrival, Memory> {
+        let advance = runner.step(event)?;
+        if advance.breach.is_some() {
+            return Ok(Arrival::Breaks);
+        }
+        if advance.is_waiting {
+            return Ok(Arrival::Stays);
+        }
+        runner.walking = advance.walking;
+        self.run_on(runner)
+    }
+
+    /// A machine at a state that was met.
+    fn runner_at(&mut self, place: usize) -> Result<Runner<'a>, Memory> {
+        let mut choices = self.choices(place)?;
+        let mut runner = Runner::start(self.alloc, self.task)?;
+        self.run_on(&mut runner)?;
+        choices.reverse();
+        for event in &choices {
+            self.advance(&mut runner, *event)?;
+        }
+        Ok(runner)
+    }
+
+    /// Keeps a state, unless it was met before. Whether it is new is told.
+    fn keep(&mut self, runner: &Runner<'a>, visit: Visit) -> Result<bool, Memory> {
+        let digest = runner.digest(&mut self.met)?;
+        let (_, is_new) = self.seen.insert_full(digest)?;
+        if is_new {
+            self.visits.push(visit)?;
+        }
+        Ok(is_new)
+    }
+
+    /// Begins with the task's first state.
+    fn begin(&mut self) -> Result<Progress, Memory> {
+        let mut runner = Runner::start(self.alloc, self.task)?;
+        match self.run_on(&mut runner)? {
+            Arrival::Breaks => {
+                self.found = runner.events;
+                Ok(Progress::Found)
+            }
+            Arrival::Stays => Ok(Progress::Goes),
+            Arrival::At { is_long } => {
+                let visit = Visit {
+                    parent: None,
+                    event: Event {
+                        process: 0,
+                        input: 0,
+                        refuse: false,
+                    },
+                    is_long,
+                };
+                self.keep(&runner, visit)?;
+                Ok(Progress::Goes)
+            }
+        }
+    }
+
+    /// Tries some events from a state, at which a machine stands. Whether a new state was met is told, if nothing breaks.
+    fn try_events(
+        &mut self,
+        place: usize,
+        events: &[Event],
+        runner: Runner<'a>,
+    ) -> Result<Option<bool>, Memory> {
+        let mut any_new = false;
+        let mut standing = Some(runner);
+        let mut walking = None;
+        for event in events {
+            // While names of a path are left, the kernel refuses nothing.
+            if event.refuse && walking == Some(event.process) {
+                continue;
+            }
+            let mut runner = match standing.take() {
+                Some(runner) => runner,
+                None => self.runner_at(place)?,
+            };
+            match self.advance(&mut runner, *event)? {
+                Arrival::Breaks => {
+                    self.found = runner.events;
+                    return Ok(None);
+                }
+                Arrival::Stays => standing = Some(runner),
+                Arrival::At { is_long } => {
+                    walking = runner.walking;
+                    let visit = Visit {
+                        parent: Some(place),
+                        event: *event,
+                        is_long,
+                    };
+                    any_new = self.keep(&runner, visit)? || any_new;
+                }
+            }
+        }
+        Ok(Some(any_new))
+    }
+
+    /// Goes on from the next state that was met.
+    fn expand(&mut self, place: usize) -> Result<Progress, Memory> {
+        let Some(visit) = self.visits.get(place).copied() else {
+            return Ok(Progress::Ended);
+        };
+        let runner = self.runner_at(place)?;
+        let some = next_moves(self.alloc, self.task, &runner, &self.bytes, visit.is_long)?;
+        match self.try_events(place, &some.events, runner)? {
+            None => return Ok(Progress::Found),
+            Some(any_new) => {
+                if any_new || !some.is_alone {
+                    return Ok(Progress::Goes);
+                }
+            }
+        }
+        let runner = self.runner_at(place)?;
+        let all = next_moves(self.alloc, self.task, &runner, &self.bytes, true)?;
+        match self.try_events(place, &all.events, runner)? {
+            None => Ok(Progress::Found),
+            Some(_) => Ok(Progress::Goes),
+        }
+    }
+
+    /// Goes on from so many states.
+    pub(crate) fn go_on(&mut self, states: usize) -> Result<Progress, Memory> {
+        if self.visits.is_empty() {
+            let progress = self.begin()?;
+            if progress == Progress::Found {
+                return Ok(progress);
+            }
+        }
+        for _ in 0..states {
+            if self.visits.len() >= self.bound {
+                return Ok(Progress::Bounded);
+            }
+            if self.next >= self.visits.len() {
+                return Ok(Progress::Ended);
+            }
+            let place = self.next;
+            self.next = place + 1;
+            let progress = self.expand(place)?;
+            if progress != Progress::Goes {
+                return Ok(progress);
+            }
+        }
+        Ok(Progress::Goes)
+    }
+}

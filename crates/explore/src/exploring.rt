@@ -1,0 +1,82 @@
+//! The search for a run that breaks something, and what it comes to.
+
+ghost use Rattle.std.specs.Prelude.{IfOk};
+ghost use Rattle.explore.specs.FoundViews.{IsExplored};
+
+use crate::breaches::Breach;
+use crate::breaking::breaks;
+use crate::explorer::{Explorer, Progress};
+use crate::shrinking::shrink;
+use rights::Memory;
+use std::alloc::Global;
+use syscalls::Event;
+use task::Task;
+
+/// How many states are gone on from before the watcher is told.
+const SLICE: usize = 1000;
+
+/// Who is told how far a search has come.
+pub trait Watcher {
+    /// So many states were met.
+    fn tell(&mut self, states: usize);
+}
+
+/// A run that breaks something at its last step.
+#[derive(Drop)]
+pub struct FoundRun {
+    pub events: Vec<Event>,
+    pub breach: Breach,
+}
+
+/// What a search came to.
+#[derive(Drop)]
+pub enum Explored {
+    /// A run breaks something.
+    Breaks(FoundRun),
+    /// All states that the tried bytes lead to were visited, so many. That claims nothing.
+    Ended(usize),
+    /// So many states were met, and the search stopped. That claims nothing.
+    Bounded(usize),
+}
+
+/// Checks a run that was found, and shortens it.
+fn check_found(
+    alloc: Global,
+    task: &Task,
+    events: Vec<Event>,
+    states: usize,
+) -> Result<Explored, Memory>
+    ensures { IfOk result (IsExplored task.now) }
+{
+    let events = shrink(alloc, task, events)?;
+    match breaks(alloc, task, &events) {
+        Err(_) => Err(Memory),
+        Ok(None) => Ok(Explored::Bounded(states)),
+        Ok(Some(breach)) => Ok(Explored::Breaks(FoundRun { events, breach })),
+    }
+}
+
+/// Searches a run that breaks something, over at most so many states, and tells the watcher now and then how many were met. What is found
+/// is checked by `breaks` before it is given, and no event of it can be left out. Where nothing is found, nothing is claimed.
+pub fn explore<W: Watcher>(
+    alloc: Global,
+    task: &Task,
+    bound: usize,
+    watcher: &mut W,
+) -> Result<Explored, Memory>
+    ensures { IfOk result (IsExplored task.now) }
+{
+    let mut explorer = Explorer::new(alloc, task, bound)?;
+    for _ in 0..=bound / SLICE {
+        match explorer.go_on(SLICE)? {
+            Progress::Found => {
+                let states = explorer.count();
+                return check_found(alloc, task, explorer.found, states);
+            }
+            Progress::Ended => return Ok(Explored::Ended(explorer.count())),
+            Progress::Bounded => return Ok(Explored::Bounded(explorer.count())),
+            Progress::Goes => watcher.tell(explorer.count()),
+        }
+    }
+    Ok(Explored::Bounded(explorer.count()))
+}

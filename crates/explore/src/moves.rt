@@ -1,0 +1,161 @@
+//! The events that may come next.
+
+use crate::runners::{Runner, instruction_of};
+use fd_table::Object;
+use prog_asm::{Instruction, Operand, Syscall};
+use rights::Memory;
+use rights::limits::{MAX_DESCRIPTORS, MAX_PROCESSES};
+use std::alloc::Global;
+use syscalls::Event;
+use task::Task;
+
+/// The events that are tried from a state.
+#[derive(Drop)]
+pub(crate) struct Moves {
+    pub events: Vec<Event>,
+    /// They are of one process alone, whose next step no other process sees, so that those of others can come later.
+    pub is_alone: bool,
+}
+
+/// Whether a byte is the value or beside it.
+fn is_beside(byte: u8, value: u32) -> bool {
+    let byte = u64::from(byte);
+    let value = u64::from(value);
+    byte <= value + 1 && value <= byte + 1
+}
+
+/// Whether some comparison of a program is with a value that this byte is or is beside.
+fn is_compared(code: &[Instruction], byte: u8) -> bool {
+    code.iter().any(|instruction| match instruction {
+        Instruction::Jeq { value, .. } | Instruction::Jlt { value, .. } => is_beside(byte, *value),
+        _ => false,
+    })
+}
+
+/// The bytes that are tried for `in`: 0, and those that some program compares with, and their neighbours.
+pub(crate) fn bytes_to_try(alloc: Global, task: &Task) -> Result<Vec<u8>, Memory> {
+    let mut bytes = Vec::new(alloc);
+    for byte in 0..=255 {
+        if byte == 0
+            || task
+                .programs()
+                .iter()
+                .any(|named| is_compared(named.program.code(), byte))
+        {
+            bytes.push(byte)?;
+        }
+    }
+    Ok(bytes)
+}
+
+/// Whether the kernel may refuse a call.
+fn may_be_refused(call: &Syscall) -> bool {
+    matches!(
+        call,
+        Syscall::Open { .. }
+            | Syscall::Openat { .. }
+            | Syscall::Write { .. }
+            | Syscall::Mkdirat { .. }
+            | Syscall::Mkdir { .. }
+            | Syscall::Socketpair
+            | Syscall::Fork
+    )
+}
+
+/// Whether the descriptor that the operand names is an end of a socket pair.
+fn is_end(runner: &Runner<'_>, process: u8, operand: Operand) -> bool {
+    match runner.descriptor(process, operand) {
+        None => false,
+        Some((_, description)) => matches!(description.object, Object::End { .. }),
+    }
+}
+
+/// Whether a process has an end of a socket pair open.
+fn has_end(runner: &Runner<'_>, process: u8) -> bool {
+    (0..MAX_DESCRIPTORS as u32).any(|number| is_end(runner, process, Operand::Number(number)))
+}
+
+/// Whether an instruction of a process changes nothing that another process sees, and sees nothing that another changes.
+fn is_own(runner: &Runner<'_>, process: u8, instruction: &Instruction) -> bool {
+    match instruction {
+        Instruction::Halt => !has_end(runner, process),
+        Instruction::Invoke { call, .. } => match call {
+            Syscall::CapEnter
+            | Syscall::CapGetmode
+            | Syscall::CapRightsLimit { .. }
+            | Syscall::CapFcntlsLimit { .. }
+            | Syscall::Dup { .. } => true,
+            Syscall::Close { descriptor } => !is_end(runner, process, *descriptor),
+            _ => false,
+        },
+        _ => true,
+    }
+}
+
+/// Adds the events of a process that stands at an instruction.
+fn add_events(
+    events: &mut Vec<Event>,
+    bytes: &[u8],
+    process: u8,
+    instruction: &Instruction,
+) -> Result<(), Memory> {
+    match instruction {
+        Instruction::In { .. } => {
+            for input in bytes {
+                events.push(Event {
+                    process,
+                    input: *input,
+                    refuse: false,
+                })?;
+            }
+        }
+        _ => events.push(Event {
+            process,
+            input: 0,
+            refuse: false,
+        })?,
+    }
+    if let Instruction::Invoke { call, .. } = instruction {
+        if may_be_refused(call) {
+            events.push(Event {
+                process,
+                input: 0,
+                refuse: true,
+            })?;
+        }
+    }
+    Ok(())
+}
+
+/// The events that are tried from a state. Where a process stands at a step that touches nothing shared, it goes first, unless all are
+/// asked for.
+pub(crate) fn next_moves(
+    alloc: Global,
+    task: &Task,
+    runner: &Runner<'_>,
+    bytes: &[u8],
+    asks_all: bool,
+) -> Result<Moves, Memory> {
+    let mut events = Vec::new(alloc);
+    for (number, process) in runner.machine.processes().iter().enumerate() {
+        if number >= MAX_PROCESSES {
+            break;
+        }
+        let number = number as u8;
+        if let Some(instruction) = instruction_of(task, process) {
+            if !asks_all && is_own(runner, number, instruction) {
+                events.clear();
+                add_events(&mut events, bytes, number, instruction)?;
+                return Ok(Moves {
+                    events,
+                    is_alone: true,
+                });
+            }
+            add_events(&mut events, bytes, number, instruction)?;
+        }
+    }
+    Ok(Moves {
+        events,
+        is_alone: false,
+    })
+}

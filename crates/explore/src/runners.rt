@@ -1,0 +1,302 @@
+//! A machine on its way, with what it doesn't show.
+
+use crate::breaches::Breach;
+use crate::breaking::watched_step;
+use crate::digests::Digest;
+use crate::messages::{Message, Messages};
+use crate::states::{Met, digest_of_state, open_at};
+use crate::trees::{TreeDigest, digest_of_tree};
+use fd_table::{Description, Descriptor, End, Object};
+use link_tree::LinkTree;
+use process::Process;
+use prog_asm::{Instruction, Operand, Syscall};
+use rights::limits::MAX_PROCESSES;
+use rights::{Memory, Op, Stop};
+use simulator::{Acted, LineResult, Machine};
+use std::alloc::Global;
+use syscalls::{Effect, Event};
+use task::Task;
+
+/// A machine that has run so far, the events that it ran, and what of its state it doesn't show.
+#[derive(Drop)]
+pub(crate) struct Runner<'a> {
+    alloc: Global,
+    task: &'a Task,
+    pub machine: Machine<'a, LinkTree>,
+    pub events: Vec<Event>,
+    /// The process of the last choice, where that left names of a path.
+    pub walking: Option<u8>,
+    messages: Messages,
+    tree: TreeDigest,
+    /// What the call of each process looked up so far, where it is under way.
+    looked: Vec<Digest>,
+}
+
+/// What a step came to, for the exploration.
+#[derive(Drop)]
+pub(crate) struct Advance {
+    pub breach: Option<Breach>,
+    /// The call couldn't go on, and nothing changed.
+    pub is_waiting: bool,
+    /// The process whose call has names of its path left.
+    pub walking: Option<u8>,
+}
+
+/// What a call sends or takes through a socket, if it succeeds.
+#[derive(Clone, Copy)]
+enum Transfer {
+    None,
+    Sends(Message),
+    Takes(End),
+    /// It makes a pair.
+    Pairs,
+}
+
+/// The value of an operand.
+fn value_of(process: &Process, operand: Operand) -> u32 {
+    match operand {
+        Operand::Number(number) => number,
+        Operand::Register(register) => process.registers[register.number() as usize],
+    }
+}
+
+/// The first descriptor of a call whose description's state it may change.
+fn first_operand(call: &Syscall) -> Option<Operand> {
+    match call {
+        Syscall::Read { descriptor }
+        | Syscall::Write { descriptor, .. }
+        | Syscall::Lseek { descriptor, .. }
+        | Syscall::FcntlSetfl { descriptor, .. } => Some(*descriptor),
+        _ => None,
+    }
+}
+
+/// Whether an effect changes the tree.
+fn changes_tree(effects: &[Effect]) -> bool {
+    effects.iter().any(|effect| matches!(effect.op, Op::Write | Op::Create | Op::Remove))
+}
+
+/// The instruction at which a process stands, if it lives and there is one.
+pub(crate) fn instruction_of<'t>(task: &'t Task, process: &Process) -> Option<&'t Instruction> {
+    if !process.alive {
+        return None;
+    }
+    let named = task.programs().get(process.program as usize)?;
+    named.program.code().get(process.point as usize)
+}
+
+impl<'a> Runner<'a> {
+    /// The machine at the start of the task.
+    pub(crate) fn start(alloc: Global, task: &'a Task) -> Result<Runner<'a>, Memory> {
+        let started: Result<Machine<'a, LinkTree>, Stop> = Machine::start(alloc, task);
+        let Ok(machine) = started else {
+            return Err(Memory);
+        };
+        let tree = digest_of_tree(alloc, machine.tree())?;
+        let mut looked = Vec::with_capacity(alloc, MAX_PROCESSES)?;
+        for _ in 0..MAX_PROCESSES {
+            looked.push(Digest::new())?;
+        }
+        Ok(Runner {
+            alloc,
+            task,
+            machine,
+            events: Vec::new(alloc),
+            walking: None,
+            messages: Messages::new(alloc),
+            tree,
+            looked,
+        })
+    }
+
+    /// The descriptor that an operand of a process names, and what it is of.
+    pub(crate) fn descriptor(
+        &self,
+        process: u8,
+        operand: Operand,
+    ) -> Option<(Descriptor, Description)> {
+        let state = self.machine.processes().get(process as usize)?;
+        let number = u8::try_from(value_of(state, operand)).ok()?;
+        open_at(self.machine.files(), process, number)
+    }
+
+    /// The end that an operand of a process names.
+    fn end(&self, process: u8, operand: Operand) -> Option<End> {
+        let (_, description) = self.descriptor(process, operand)?;
+        match description.object {
+            Object::Node { .. } => None,
+            Object::End { end, .. } => Some(end),
+        }
+    }
+
+    /// What a call would take through a socket.
+    fn taken(&self, process: u8, operand: Operand) -> Transfer {
+        let Some(end) = self.end(process, operand) else {
+            return Transfer::None;
+        };
+        let asked = end;
+        if self.machine.files().front(asked).is_none() {
+            return Transfer::None;
+        }
+        Transfer::Takes(end)
+    }
+
+    /// What a call would send through a socket, without a descriptor.
+    fn sent_byte(
+        &self,
+        process: u8,
+        state: &Process,
+        operand: Operand,
+        value: Operand,
+    ) -> Transfer {
+        let Some(from) = self.end(process, operand) else {
+            return Transfer::None;
+        };
+        let byte = (value_of(state, value) % 256) as u8;
+        Transfer::Sends(Message::of_byte(from, byte))
+    }
+
+    /// What a call would send through a socket, with the descriptor `sent`.
+    fn sent_descriptor(
+        &self,
+        process: u8,
+        state: &Process,
+        operand: Operand,
+        sent: Operand,
+        value: Operand,
+    ) -> Transfer {
+        let Some(from) = self.end(process, operand) else {
+            return Transfer::None;
+        };
+        let Some((passed, what)) = self.descriptor(process, sent) else {
+            return Transfer::None;
+        };
+        let byte = (value_of(state, value) % 256) as u8;
+        Transfer::Sends(Message::of_descriptor(from, byte, passed, what))
+    }
+
+    /// What a call would send or take through a socket.
+    fn transfer(&self, process: u8, state: &Process, call: &Syscall) -> Transfer {
+        match call {
+            Syscall::Read { descriptor } => self.taken(process, *descriptor),
+            Syscall::Recvfd { descriptor } => self.taken(process, *descriptor),
+            Syscall::Write { descriptor, value } => {
+                self.sent_byte(process, state, *descriptor, *value)
+            }
+            Syscall::Sendfd {
+                descriptor,
+                sent,
+                value,
+            } => self.sent_descriptor(process, state, *descriptor, *sent, *value),
+            Syscall::Socketpair => Transfer::Pairs,
+            _ => Transfer::None,
+        }
+    }
+
+    /// What the next step of a process would send or take through a socket.
+    fn next_transfer(&self, process: u8) -> Transfer {
+        let Some(state) = self.machine.processes().get(process as usize) else {
+            return Transfer::None;
+        };
+        match instruction_of(self.task, state) {
+            Some(Instruction::Invoke { call, .. }) => self.transfer(process, state, call),
+            _ => Transfer::None,
+        }
+    }
+
+    /// The number that the next step of a process has for its first descriptor, if it calls with one.
+    fn next_number(&self, process: u8) -> Option<u8> {
+        let state = self.machine.processes().get(process as usize)?;
+        let Some(Instruction::Invoke { call, .. }) = instruction_of(self.task, state) else {
+            return None;
+        };
+        u8::try_from(value_of(state, first_operand(call)?)).ok()
+    }
+
+    /// Notes what the descriptor of a process is of now, for the messages that carry one of the same description.
+    fn note_description(&mut self, process: u8, number: u8) {
+        if let Some((descriptor, what)) = open_at(self.machine.files(), process, number) {
+            self.messages.note(descriptor.description, what);
+        }
+    }
+
+    /// Forgets the messages of a pair that had the number of one that was made just now.
+    fn forget_pair(&mut self, process: u8, number: u32) {
+        if let Some(end) = self.end(process, Operand::Number(number)) {
+            self.messages.forget(end.pair);
+        }
+    }
+
+    /// Notes what a call that gave a value has sent or taken through a socket.
+    fn note_transfer(
+        &mut self,
+        process: u8,
+        value: u32,
+        transfer: &Transfer,
+    ) -> Result<(), Memory> {
+        match transfer {
+            Transfer::None => {}
+            Transfer::Sends(message) => self.messages.send(message)?,
+            Transfer::Takes(end) => self.messages.receive(*end),
+            Transfer::Pairs => self.forget_pair(process, value),
+        }
+        Ok(())
+    }
+
+    /// Notes what a step has changed of what the machine doesn't show.
+    fn note(&mut self, process: u8, transfer: &Transfer, acted: &Acted) -> Result<(), Memory> {
+        if changes_tree(&acted.effects) {
+            self.tree = digest_of_tree(self.alloc, self.machine.tree())?;
+        }
+        if let Some(looked) = self.looked.get_mut(process as usize) {
+            if matches!(acted.outcome, LineResult::Walking) {
+                looked.add_digest(self.tree.whole);
+            } else {
+                *looked = Digest::new();
+            }
+        }
+        match acted.outcome {
+            LineResult::Value(value) => self.note_transfer(process, value, transfer),
+            _ => Ok(()),
+        }
+    }
+
+    /// One step. What breaks is told.
+    pub(crate) fn step(&mut self, event: Event) -> Result<Advance, Memory> {
+        let transfer = self.next_transfer(event.process);
+        let number = self.next_number(event.process);
+        let Ok(watched) = watched_step(self.alloc, self.task, &mut self.machine, event) else {
+            return Err(Memory);
+        };
+        self.events.push(event)?;
+        let mut is_waiting = true;
+        let mut walking = None;
+        if let Some(acted) = &watched.line.acted {
+            if matches!(acted.outcome, LineResult::Walking) {
+                walking = Some(event.process);
+            }
+            is_waiting = matches!(acted.outcome, LineResult::Waiting | LineResult::Ended);
+            self.note(event.process, &transfer, acted)?;
+        }
+        if let Some(number) = number {
+            self.note_description(event.process, number);
+        }
+        Ok(Advance {
+            breach: watched.breach,
+            is_waiting,
+            walking,
+        })
+    }
+
+    /// The digest of the state.
+    pub(crate) fn digest(&self, met: &mut Met) -> Result<Digest, Memory> {
+        digest_of_state(
+            met,
+            self.machine.processes(),
+            self.machine.files(),
+            &self.tree,
+            &self.messages,
+            &self.looked,
+        )
+    }
+}

@@ -1,0 +1,69 @@
+//! Digests of a tree.
+
+ghost use Rattle.std.specs.Prelude.{◌<◌, length};
+
+use crate::digests::Digest;
+use file_tree::{Kind, NodeId, Tree};
+use rights::Memory;
+use rights::limits::MAX_NODES;
+use std::alloc::Global;
+
+/// The digest of a tree, and of where each of its nodes stands, by number.
+#[derive(Drop)]
+pub(crate) struct TreeDigest {
+    pub whole: Digest,
+    pub nodes: Vec<Digest>,
+}
+
+/// The number of a kind.
+fn kind_number(kind: Kind) -> u64 {
+    match kind {
+        Kind::File => 1,
+        Kind::Dir => 2,
+        Kind::Link => 3,
+    }
+}
+
+/// Adds what a node is, with its content.
+fn add_content<T: Tree>(digest: &mut Digest, tree: &T, node: NodeId)
+    requires { node < length (T.nodes tree.now) }
+{
+    digest.add(kind_number(tree.kind(node)));
+    for at in 0..tree.len(node) {
+        if let Some(byte) = tree.byte_at(node, at) {
+            digest.add(u64::from(byte));
+        }
+    }
+}
+
+/// The digest of a tree. The order in which its nodes were made doesn't count, and neither do removed ones.
+pub(crate) fn digest_of_tree<T: Tree>(alloc: Global, tree: &T) -> Result<TreeDigest, Memory> {
+    let mut nodes = Vec::new(alloc);
+    let mut whole = Digest::new();
+    let mut text = Vec::new(alloc);
+    let made = tree.made();
+    for number in 0..made {
+        if number >= MAX_NODES {
+            break;
+        }
+        let node = NodeId::at(number);
+        let mut place = Digest::new();
+        text.clear();
+        if tree.is_linked(node) {
+            if tree.place_text(node, &mut text).is_err() {
+                return Err(Memory);
+            }
+            place.add_text(&text);
+        } else {
+            place.add(number as u64);
+            add_content(&mut place, tree, node);
+        }
+        nodes.push(place)?;
+        if tree.is_linked(node) {
+            let mut all = place;
+            add_content(&mut all, tree, node);
+            whole = whole.beside(all);
+        }
+    }
+    Ok(TreeDigest { whole, nodes })
+}
