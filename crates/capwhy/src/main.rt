@@ -6,8 +6,9 @@ ghost use Rattle.std.specs.Prelude.{None};
 use commands::statuses::{REFUSED, STOPPED};
 use commands::{Console, Source, Unread, fetched};
 use explain::serve;
+use explore::Watcher;
 use rights::write_all;
-use std::io::{BufWriter, ErrorKind};
+use std::io::{BufWriter, ErrorKind, IsTerminal, Write};
 use std::process::ExitCode;
 use std::{env, fs};
 
@@ -22,6 +23,22 @@ impl<'a> Source for Disk<'a> {
 
     fn fetch(&mut self, name: &str) -> Result<Vec<u8>, Unread> {
         fetched(fs::read(self.rt, name))
+    }
+}
+
+/// A terminal, where there is one, to which it is told how far a search has come.
+#[derive(Drop)]
+struct Progress<'a> {
+    rt: &'a HostRuntime,
+    is_told: bool,
+}
+
+impl<'a> Watcher for Progress<'a> {
+    fn tell(&mut self, states: usize) {
+        let mut stream = self.rt.stderr();
+        if stream.is_terminal() {
+            self.is_told = write!(stream, "\r{states} states").is_ok();
+        }
     }
 }
 
@@ -61,7 +78,18 @@ fn run(rt: &HostRuntime) -> u8 {
     };
     let mut out = Console::new(stream);
     let mut disk = Disk { rt };
-    let status = serve(rt.alloc(), &words, &mut disk, &mut out, &mut err);
+    let mut progress = Progress { rt, is_told: false };
+    let status = serve(
+        rt.alloc(),
+        &words,
+        &mut disk,
+        &mut out,
+        &mut err,
+        &mut progress,
+    );
+    if progress.is_told {
+        let _ = write_all(&mut Console::new(rt.stderr()), b"\n");
+    }
     if out.flush() {
         return status;
     }

@@ -7,6 +7,7 @@ ghost use Rattle.std.specs.Prelude.{◌≡◌, None};
 use anyhow::{Context, Result, bail};
 use commands::statuses::{DONE, STOPPED};
 use commands::{Source, Unread, fetched, serve};
+use explore::Watcher;
 use rights::{Out, OutFault};
 use serde::Deserialize;
 use std::alloc::Global;
@@ -99,6 +100,13 @@ fn empty_sink(alloc: Global) -> Sink
     }
 }
 
+/// Nobody is told how far a search has come.
+struct Nobody;
+
+impl Watcher for Nobody {
+    fn tell(&mut self, _states: usize) {}
+}
+
 /// What the program makes of some words.
 #[derive(Drop)]
 struct Said {
@@ -113,7 +121,14 @@ fn asked(rt: &HostRuntime, why: bool, words: &[String], found: Option<&[u8]>) ->
     let mut out = empty_sink(rt.alloc());
     let mut err = empty_sink(rt.alloc());
     let status = if why {
-        explain::serve(rt.alloc(), words, &mut files, &mut out, &mut err)
+        explain::serve(
+            rt.alloc(),
+            words,
+            &mut files,
+            &mut out,
+            &mut err,
+            &mut Nobody,
+        )
     } else {
         serve(rt.alloc(), words, &mut files, &mut out, &mut err)
     };

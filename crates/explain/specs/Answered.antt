@@ -1,13 +1,19 @@
--- What the status says of what was asked. (own)
-use Rattle.std.specs.Prelude.{◌≡◌, ◌⊎◌, ℕ, true, List, Option, Some, Ok}
+-- What is answered to what was asked: what the status says of it, and what is written. (own)
+use Rattle.std.specs.Prelude.{◌≡◌, ◌⊎◌, ℕ, true, List, codes, Option, Some, Ok}
+use Rattle.rights.specs.Output.{Took}
 use Rattle.certificate.specs.Bounds.{Certificate}
 use Rattle.certificate_text.specs.Readings.{certificate_of_text}
+use Rattle.certificate_text.specs.Texts.{certificate_text}
 use Rattle.checker.specs.Verdicts.{IsAccepted}
 use Rattle.commands.specs.Files.{Files, IsFile}
 use Rattle.commands.specs.Served.{is_done_status}
+use Rattle.kernel.specs.Answers.{Event}
 use Rattle.task.specs.Plans.{Plan}
 use Rattle.task_reader.specs.Reading.{task_of}
-use Rattle.explain.specs.Questions.{Question, Usage, Listing, Broken, Unfound, Faulty, question_in}
+use Rattle.explore.specs.Breaches as explore
+use Rattle.explore.specs.Broken.{Breaks, IsRefuted}
+use Rattle.explore.specs.Texts.{WritesRun}
+use Rattle.explain.specs.Questions.{Question, Usage, Listing, Broken, Unfound, Breach, Proposed, Faulty, question_in}
 
 -- It is 0 where this holds, and 1 where it doesn't.
 abbrev pub SaysWhether : ℕ → Type 0 → Type 0
@@ -51,15 +57,52 @@ pub record SaysOfFiles (files : Files) (task certificate : List ℕ) (status : �
   pub is_bounds : IsFile files certificate bounds_text
   pub says : SaysBroken status text bounds_text
 
-abbrev pub Answers : Files → Question → ℕ → Type 0
-Answers files Usage status = status ≡ 0
-Answers files (Listing task certificate) status = status ≡ 0
-Answers files (Broken task certificate) status = SaysOfFiles files task certificate status
-Answers files (Unfound task) status = SaysOfSearch files task status
-Answers files (Faulty task) status = SaysOfFile files task status
+-- A certificate is written that is accepted, with status 0, or none, with status 1.
+pub record Offers (plan : Plan) (before after : Option (List ℕ)) : Type 0 where
+  pub bounds : Certificate
+  pub accepted : IsAccepted plan bounds
+  pub writes : Took before after (certificate_text bounds)
+
+abbrev pub SaysOffered : Plan → ℕ → Option (List ℕ) → Option (List ℕ) → Type 0
+SaysOffered plan status before after = ((status ≡ 0) × Offers plan before after) ⊎ ((status ≡ 1) × Took before after (codes "none\n"))
+
+-- A run is written whose last step breaks something, with status 1, and the task is neither sandboxed nor confined; 0 claims nothing.
+pub record Refutes (plan : Plan) (before after : Option (List ℕ)) : Type 0 where
+  pub events : List Event
+  pub breach : explore.Breach
+  pub breaks : Breaks plan events (Some breach)
+  pub refuted : IsRefuted plan
+  pub writes : WritesRun plan events breach before after
+
+abbrev pub SaysRefuted : Plan → ℕ → Option (List ℕ) → Option (List ℕ) → Type 0
+SaysRefuted plan status before after = (status ≡ 0) ⊎ ((status ≡ 1) × Refutes plan before after)
+
+pub record SaysOfRuns (files : Files) (name : List ℕ) (status : ℕ) (before after : Option (List ℕ)) : Type 0 where
+  pub text : List ℕ
+  pub is_file : IsFile files name text
+  pub plan : Plan
+  pub is_task : task_of text ≡ Ok plan
+  pub says : SaysRefuted plan status before after
+
+pub record SaysOfTask (files : Files) (name : List ℕ) (status : ℕ) (before after : Option (List ℕ)) : Type 0 where
+  pub text : List ℕ
+  pub is_file : IsFile files name text
+  pub plan : Plan
+  pub is_task : task_of text ≡ Ok plan
+  pub says : SaysOffered plan status before after
+
+-- what is taken of the output before and after is told of proposals and of runs
+abbrev pub Answers : Files → Question → ℕ → Option (List ℕ) → Option (List ℕ) → Type 0
+Answers files Usage status before after = status ≡ 0
+Answers files (Listing task certificate) status before after = status ≡ 0
+Answers files (Broken task certificate) status before after = SaysOfFiles files task certificate status
+Answers files (Unfound task) status before after = SaysOfSearch files task status
+Answers files (Breach task states) status before after = SaysOfRuns files task status before after
+Answers files (Proposed task) status before after = SaysOfTask files task status before after
+Answers files (Faulty task) status before after = SaysOfFile files task status
 
 -- The words ask something, and it is answered.
-pub record AnswersWords (files : Files) (words : List (List ℕ)) (status : ℕ) : Type 0 where
+pub record AnswersWords (files : Files) (words : List (List ℕ)) (status : ℕ) (before after : Option (List ℕ)) : Type 0 where
   pub question : Question
   pub asked : question_in words ≡ Some question
-  pub answered : Answers files question status
+  pub answered : Answers files question status before after

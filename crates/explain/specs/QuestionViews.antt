@@ -1,6 +1,6 @@
 -- What a question of the code stands for.
 use Rattle.std.specs.Prelude.{option_map}
-use Rattle.explain.specs.Questions.{Question, Usage, Listing, Broken, Unfound, Faulty}
+use Rattle.explain.specs.Questions.{Question, Usage, Listing, Broken, Unfound, Breach, Proposed, Faulty}
 use Rattle.explain.specs.declared.questions.Question.{Question as QuestionCode}
 use Rattle.explain.specs.declared.questions.Question.TheVariants as question
 
@@ -9,4 +9,6 @@ question_of question.Usage = Usage
 question_of (question.Listing task cert) = Listing task.now (option_map (λ name. name.now) cert)
 question_of (question.Broken task cert) = Broken task.now cert.now
 question_of (question.Unfound task) = Unfound task.now
+question_of (question.Breach task states) = Breach task.now states
+question_of (question.Proposed task) = Proposed task.now
 question_of (question.Faulty task) = Faulty task.now

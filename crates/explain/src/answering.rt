@@ -1,14 +1,17 @@
 //! What is answered to a question, and how.
 
-ghost use Rattle.std.specs.Prelude.{◌≡◌, ◌<◌, ◌-◌, ◌^◌, IfOk, IsTrue, false, map, string_bytes, true};
+ghost use Rattle.std.specs.Prelude.{◌≡◌, ◌<◌, ◌-◌, ◌^◌, IfOk, IsTrue, Ok, false, map, string_bytes, true};
 ghost use Rattle.checker.specs.FindingViews.{broken_rule_of};
 ghost use Rattle.checker.specs.Findings.{findings};
 ghost use Rattle.checker.specs.Verdicts.{IsAccepted};
 ghost use Rattle.commands.specs.Served.{is_done_status, is_status};
 ghost use Rattle.rules.specs.Expansions.{expansion};
-ghost use Rattle.explain.specs.Answered.{Answers, IsTaskText, SaysBroken, SaysFound, SaysWhether, AnswersWords};
+ghost use Rattle.task.specs.Plans.{Plan};
+ghost use Rattle.task_reader.specs.Reading.{task_of};
+ghost use Rattle.explain.specs.Answered.{Answers, IsTaskText, SaysBroken, SaysFound, SaysOffered, SaysWhether, AnswersWords};
 ghost use Rattle.explain.specs.QuestionViews.{question_of};
 
+use crate::breaching::answer_breach;
 use crate::failing::add_unfound;
 use crate::listing::add_listing;
 use crate::older::add_older;
@@ -20,11 +23,14 @@ use crate::scenes::Scene;
 use crate::task_faults::add_task_faults;
 use crate::usage::USAGE;
 use certificate::{Cert, Version};
+use certificate_text::write_cert;
 use checker::{BrokenRule, all_findings, expand};
 use commands::faults::{Fault, status_of, words_of};
 use commands::statuses::{BROKEN, DONE, STOPPED};
 use commands::{Source, fetch};
+use explore::Watcher;
 use rights::{Memory, Out, write_all};
+use searcher::propose;
 use std::alloc::{AllocError, Global};
 use task::Task;
 use task_reader::read_task;
@@ -142,6 +148,28 @@ fn unfound<'a>(alloc: Global, file: &[u8]) -> Result<Answer, Fault<'a>>
     Ok(Answer { page, status })
 }
 
+/// Writes a certificate of a task that is proposed, or `none`, and gives the status.
+fn offer<'a, W: Out>(alloc: Global, file: &[u8], out: &mut W) -> Result<u8, Fault<'a>>
+    requires { W.faults out.old < 2 ^ 64 - 1 }
+    ensures task { IfOk result (λ status. (plan : Plan) × (task_of file.now ≡ Ok plan) × SaysOffered plan status (W.taken out.old) (W.taken out.new)) }
+    ensures done { IfOk result (λ status. is_done_status status ≡ true) }
+{
+    let task = read_task(alloc, file)?;
+    let Ok(proposed) = propose(alloc, &task) else {
+        return Err(Fault::Memory);
+    };
+    match proposed {
+        Some(cert) => {
+            write_cert(&cert, out)?;
+            Ok(DONE)
+        }
+        None => {
+            write_all(out, b"none\n")?;
+            Ok(BROKEN)
+        }
+    }
+}
+
 /// The status of an answer that says whether a text is a task's.
 fn status_of_text(file: &[u8], is_good: bool) -> u8
     requires good { is_good ≡ true → IsTaskText file.now }
@@ -165,23 +193,43 @@ fn faulty<'a>(alloc: Global, file: &[u8]) -> Result<Answer, Fault<'a>>
     Ok(Answer { page, status })
 }
 
-/// The answer to a question.
-fn reply<'a, S: Source>(
+/// Writes an answer, and gives its status.
+fn written<'a, W: Out>(answer: Answer, out: &mut W) -> Result<u8, Fault<'a>>
+    requires { W.faults out.old < 2 ^ 64 - 1 }
+    ensures { IfOk result (λ status. status ≡ answer.status) }
+{
+    match write_all(out, answer.page.as_bytes()) {
+        Ok(()) => Ok(answer.status),
+        Err(_) => Err(Fault::Output),
+    }
+}
+
+/// What there is to ask.
+fn usage<'a>(alloc: Global) -> Result<Answer, Fault<'a>>
+    ensures { IfOk result (λ answer. answer.status ≡ 0) }
+{
+    let mut page = Page::new(alloc);
+    page.text(USAGE)?;
+    Ok(Answer { page, status: DONE })
+}
+
+/// Answers a question, and gives the status.
+fn reply<'a, S: Source, W: Out, P: Watcher>(
     alloc: Global,
     question: Question<'a>,
     files: &mut S,
-) -> Result<Answer, Fault<'a>>
-    ensures { IfOk result (λ answer. Answers (S.files files.old) (question_of question.entry) answer.status) }
+    out: &mut W,
+    watcher: &mut P,
+) -> Result<u8, Fault<'a>>
+    requires { W.faults out.old < 2 ^ 64 - 1 }
+    ensures answers { IfOk result (λ status. Answers (S.files files.old) (question_of question.entry) status (W.taken out.old) (W.taken out.new)) }
+    ensures done { IfOk result (λ status. is_done_status status ≡ true) }
 {
     match question {
-        Question::Usage => {
-            let mut page = Page::new(alloc);
-            page.text(USAGE)?;
-            Ok(Answer { page, status: DONE })
-        }
+        Question::Usage => written(usage(alloc)?, out),
         Question::Listing { task, cert: None } => {
             let task_text = fetch(files, task)?;
-            listing_alone(alloc, &task_text)
+            written(listing_alone(alloc, &task_text)?, out)
         }
         Question::Listing {
             task,
@@ -189,20 +237,28 @@ fn reply<'a, S: Source>(
         } => {
             let task_text = fetch(files, task)?;
             let cert_text = fetch(files, cert)?;
-            listing_with(alloc, &task_text, &cert_text)
+            written(listing_with(alloc, &task_text, &cert_text)?, out)
         }
         Question::Broken { task, cert } => {
             let task_text = fetch(files, task)?;
             let cert_text = fetch(files, cert)?;
-            broken(alloc, &task_text, &cert_text)
+            written(broken(alloc, &task_text, &cert_text)?, out)
         }
         Question::Unfound { task } => {
             let task_text = fetch(files, task)?;
-            unfound(alloc, &task_text)
+            written(unfound(alloc, &task_text)?, out)
+        }
+        Question::Breach { task, states } => {
+            let task_text = fetch(files, task)?;
+            answer_breach(alloc, &task_text, states, out, watcher)
+        }
+        Question::Proposed { task } => {
+            let task_text = fetch(files, task)?;
+            offer(alloc, &task_text, out)
         }
         Question::Faulty { task } => {
             let task_text = fetch(files, task)?;
-            faulty(alloc, &task_text)
+            written(faulty(alloc, &task_text)?, out)
         }
     }
 }
@@ -236,27 +292,26 @@ fn tell<V: Out>(alloc: Global, fault: &Fault<'_>, err: &mut V) -> u8
 
 /// The program: answers what its words ask, or tells the fault on the error stream, and gives the status: 0; or 1 where rules are
 /// broken, so that the certificate isn't accepted, no certificate is found or the text is no task's; or 2 for a fault in words or files, or 3 for want of memory or a
-/// failed output. Faults are told as `capcheck` tells them. (own)
-pub fn serve<S: Source, W: Out, V: Out>(
+/// failed output. Faults are told as `capcheck` tells them. The watcher is told how many states a search for a run has met. (own)
+pub fn serve<S: Source, W: Out, V: Out, P: Watcher>(
     alloc: Global,
     words: &[String],
     files: &mut S,
     out: &mut W,
     err: &mut V,
+    watcher: &mut P,
 ) -> u8
     requires out { W.faults out.old < 2 ^ 64 - 1 }
     requires err { V.faults err.old < 2 ^ 64 - 1 }
-    ensures done { IsTrue (is_done_status result) → AnswersWords (S.files files.old) (map string_bytes words.now) result }
+    ensures done { IsTrue (is_done_status result) → AnswersWords (S.files files.old) (map string_bytes words.now) result
+        (W.taken out.old) (W.taken out.new) }
     ensures known { IsTrue (is_status result) }
 {
     let Some(question) = read_question(words) else {
         return tell(alloc, &Fault::Words, err);
     };
-    match reply(alloc, question, files) {
-        Ok(answer) => match write_all(out, answer.page.as_bytes()) {
-            Ok(()) => answer.status,
-            Err(_) => tell(alloc, &Fault::Output, err),
-        },
+    match reply(alloc, question, files, out, watcher) {
+        Ok(status) => status,
         Err(fault) => tell(alloc, &fault, err),
     }
 }

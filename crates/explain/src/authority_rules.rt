@@ -5,9 +5,7 @@ use crate::pages::Page;
 use crate::pages::Piece::{Bytes, Number, Text};
 use crate::scenes::{Scene, short};
 use crate::starting::add_object;
-use certificate::{
-    Bound, Ceiling, Channel, Class, Domain, End, Held, Name, Side, Slot, Target,
-};
+use certificate::{Bound, Ceiling, Channel, Class, Domain, End, Held, Name, Side, Slot, Target};
 use checker::ceiling_at;
 use file_tree::is_front;
 use prog_asm::{Instruction, Syscall};
@@ -18,14 +16,14 @@ use transfer::{channel_at, other, unknown_held};
 
 /// The ceilings and the ends of a program's authority; none where the certificate has no authority of it.
 #[derive(Clone, Copy)]
-struct Allowed<'a> {
-    program: &'a [u8],
+struct Allowed<'a, 'n> {
+    program: &'n [u8],
     ceilings: &'a [Ceiling],
     ends: &'a [End],
 }
 
 /// What a program may hold by the certificate.
-fn allowed_to<'a>(scene: &Scene<'a>, name: &'a Name) -> Allowed<'a> {
+fn allowed_to<'a, 'n>(scene: &Scene<'a>, name: &'n Name) -> Allowed<'a, 'n> {
     let program = name.as_bytes();
     for authority in scene.cert.authorities() {
         if authority.program().as_bytes() == program {
@@ -44,7 +42,7 @@ fn allowed_to<'a>(scene: &Scene<'a>, name: &'a Name) -> Allowed<'a> {
 }
 
 /// Whether a descriptor of this, with at most these rights, is within.
-fn may_hold(scene: &Scene<'_>, allowed: &Allowed<'_>, target: &Target, rights: Rights) -> bool {
+fn may_hold(scene: &Scene<'_>, allowed: &Allowed<'_, '_>, target: &Target, rights: Rights) -> bool {
     match target {
         Target::InGrant(name) => {
             ceiling_at(scene.cert, allowed.program, name.as_bytes()).contains(rights)
@@ -61,7 +59,7 @@ fn may_hold(scene: &Scene<'_>, allowed: &Allowed<'_>, target: &Target, rights: R
 fn add_ceiling(
     page: &mut Page,
     scene: &Scene<'_>,
-    allowed: &Allowed<'_>,
+    allowed: &Allowed<'_, '_>,
     target: &Target,
 ) -> Result<(), AllocError> {
     match target {
@@ -85,7 +83,7 @@ fn add_ceiling(
 fn add_taken(
     page: &mut Page,
     scene: &Scene<'_>,
-    allowed: &Allowed<'_>,
+    allowed: &Allowed<'_, '_>,
     bound: &Bound,
 ) -> Result<(), AllocError> {
     for (number, slot) in bound.slots().iter().enumerate() {
@@ -101,7 +99,7 @@ fn add_taken(
 }
 
 /// Whether a first descriptor is within.
-fn may_start_with(scene: &Scene<'_>, allowed: &Allowed<'_>, first: FirstDescriptor) -> bool {
+fn may_start_with(scene: &Scene<'_>, allowed: &Allowed<'_, '_>, first: FirstDescriptor) -> bool {
     match first.object {
         FirstObject::Node { node, .. } => {
             let Some(node) = scene.task.nodes().get(node as usize) else {
@@ -136,7 +134,7 @@ fn is_end(end: &End, pair: u8, side: fd_table::Side) -> bool {
 fn add_first(
     page: &mut Page,
     scene: &Scene<'_>,
-    allowed: &Allowed<'_>,
+    allowed: &Allowed<'_, '_>,
     process: usize,
     start: &Start,
 ) -> Result<(), AllocError> {
@@ -194,7 +192,7 @@ pub(crate) fn add_beyond(
 fn add_ceilings(
     page: &mut Page,
     scene: &Scene<'_>,
-    allowed: &Allowed<'_>,
+    allowed: &Allowed<'_, '_>,
 ) -> Result<(), AllocError> {
     for ceiling in allowed.ceilings {
         let name = ceiling.grant().as_bytes();
@@ -219,7 +217,7 @@ fn add_ceilings(
 }
 
 /// Adds which ceilings let a name be moved.
-fn add_moves(page: &mut Page, allowed: &Allowed<'_>) -> Result<(), AllocError> {
+fn add_moves(page: &mut Page, allowed: &Allowed<'_, '_>) -> Result<(), AllocError> {
     for source in allowed.ceilings {
         for target in allowed.ceilings {
             let is_same = source.grant().as_bytes() == target.grant().as_bytes();
@@ -264,7 +262,7 @@ fn add_line(
 fn add_received(
     page: &mut Page,
     scene: &Scene<'_>,
-    allowed: &Allowed<'_>,
+    allowed: &Allowed<'_, '_>,
 ) -> Result<(), AllocError> {
     for end in allowed.ends {
         let (class, side) = (end.class(), other(end.side()));
@@ -300,7 +298,11 @@ fn lets_all(channel: Option<&Channel>) -> bool {
 }
 
 /// Adds which channels of the listed ends don't let everything through.
-fn add_sent(page: &mut Page, scene: &Scene<'_>, allowed: &Allowed<'_>) -> Result<(), AllocError> {
+fn add_sent(
+    page: &mut Page,
+    scene: &Scene<'_>,
+    allowed: &Allowed<'_, '_>,
+) -> Result<(), AllocError> {
     for end in allowed.ends {
         let (class, side) = (end.class(), end.side());
         let channel = channel_at(scene.cert, &class, side);

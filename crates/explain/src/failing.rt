@@ -120,7 +120,7 @@ pub(crate) fn add_unfound(
 ) -> Result<bool, Memory>
     ensures { IfOk result (λ is_found. is_found ≡ true → (found : Certificate) × IsAccepted task.now found) }
 {
-    if search(alloc, task)?.is_some() {
+    if let Some(_found) = search(alloc, task)? {
         page.text("a certificate is found: `capcheck search` prints it\n")?;
         return Ok(true);
     }

@@ -6,6 +6,7 @@
 pub mod answering;
 mod arriving;
 mod authority_rules;
+mod breaching;
 mod call_rules;
 mod code_faults;
 mod code_forms;

@@ -2,8 +2,11 @@
 
 ghost use Rattle.std.specs.Prelude.{◌≡◌, map, option_map, string_bytes};
 ghost use Rattle.command_line.specs.Orders.{is_dashed};
-ghost use Rattle.explain.specs.Questions.{of_pair, of_task, question_in};
+ghost use Rattle.explain.specs.Questions.{among, most_states, of_pair, of_task, question_in};
 ghost use Rattle.explain.specs.QuestionViews.{question_of};
+ghost use Rattle.texts.specs.Numbers.{at_most, number_of};
+
+use texts::number_up_to;
 
 /// What is asked. It borrows the names of files from the words.
 #[derive(Clone, Copy, PartialEq, Eq)]
@@ -22,6 +25,15 @@ pub enum Question<'a> {
     },
     /// `none TASK`: what the search comes to.
     Unfound {
+        task: &'a str,
+    },
+    /// `breach TASK` or `breach TASK STATES`: a run that breaks the sandbox, among so many states at most.
+    Breach {
+        task: &'a str,
+        states: Option<u32>,
+    },
+    /// `propose TASK`: a certificate of a task, untrusted programs or not.
+    Proposed {
         task: &'a str,
     },
     /// `text TASK`: the faults of a task's text.
@@ -50,10 +62,29 @@ fn of_task<'a>(command: &str, task: &'a str) -> Option<Question<'a>>
     if command == "none" {
         return Some(Question::Unfound { task });
     }
+    if command == "breach" {
+        return Some(Question::Breach { task, states: None });
+    }
+    if command == "propose" {
+        return Some(Question::Proposed { task });
+    }
     if command == "text" {
         return Some(Question::Faulty { task });
     }
     None
+}
+
+/// The search for a run that breaks a task's sandbox, among as many states as a word says.
+fn among<'a>(task: &'a str, states: &str) -> Option<Question<'a>>
+    ensures { option_map question_of result ≡ among task.now (at_most most_states (number_of states.now)) }
+{
+    match number_up_to(states.as_bytes(), u32::MAX) {
+        Ok(states) => Some(Question::Breach {
+            task,
+            states: Some(states),
+        }),
+        Err(_) => None,
+    }
 }
 
 /// What it asks of two.
@@ -68,6 +99,9 @@ fn of_pair<'a>(command: &str, task: &'a str, cert: &'a str) -> Option<Question<'
             task,
             cert: Some(cert),
         });
+    }
+    if command == "breach" {
+        return among(task, cert);
     }
     if command == "no" {
         return Some(Question::Broken { task, cert });

@@ -2,9 +2,11 @@
 
 /// What `capwhy` prints without words.
 pub(crate) const USAGE: &str =
-    "capwhy list TASK [CERT]  the programs of a task by point and line, with bounds and remarks
-capwhy no TASK CERT      all rules that a certificate breaks, with where and why
-capwhy none TASK         what the search for a certificate came to
-capwhy text TASK         where the faults of a task's text are
-capwhy --help            this text
+    "capwhy list TASK [CERT]      the programs of a task by point and line, with bounds and remarks
+capwhy no TASK CERT          all rules that a certificate breaks, with where and why
+capwhy none TASK             what the search for a certificate came to
+capwhy breach TASK [STATES]  a run that breaks the sandbox, if one is found
+capwhy propose TASK          a certificate that is accepted, of untrusted programs too
+capwhy text TASK             where the faults of a task's text are
+capwhy --help                this text
 ";

@@ -5,5 +5,6 @@ pub mod Taken
 pub mod FlatGrows
 pub mod KnownLimits
 pub mod Versions
+pub mod Authorities
 pub mod Shortened
 pub mod Widened

@@ -9,7 +9,7 @@ use certificate::{
 use prog_asm::{Instruction, Operand, Syscall};
 use std::alloc::{AllocError, Global};
 use std::cmp::Ordering;
-use transfer::operand_interval;
+use transfer::{operand_interval, unknown_held};
 
 /// Channels in their order, and the certificate that has them alone, by which instructions are looked at.
 #[derive(Drop)]
@@ -21,9 +21,9 @@ pub(crate) struct Channels {
 
 /// One side of the socket pairs of a class.
 #[derive(Clone, Copy)]
-struct End {
-    class: Class,
-    side: Side,
+pub(crate) struct End {
+    pub class: Class,
+    pub side: Side,
 }
 
 /// The number of a side, by which channels stand.
@@ -47,10 +47,18 @@ fn compare_classes(class: &Class, other: &Class) -> Ordering {
 }
 
 impl End {
+    /// How it stands to another.
+    pub(crate) fn order(&self, other: &End) -> Ordering {
+        let sides = side_number(self.side).cmp(&side_number(other.side));
+        compare_classes(&self.class, &other.class).then(sides)
+    }
+
     /// How the channel of what it sends stands to another.
     fn compare(&self, channel: &Channel) -> Ordering {
-        let sides = side_number(self.side).cmp(&side_number(channel.side()));
-        compare_classes(&self.class, &channel.class()).then(sides)
+        self.order(&End {
+            class: channel.class(),
+            side: channel.side(),
+        })
     }
 
     /// The other end.
@@ -107,6 +115,37 @@ impl Channels {
     /// The channels in their order.
     pub(crate) fn lines(&self) -> &[Channel] {
         &self.lines
+    }
+
+    /// What comes by an end, if anything may come.
+    pub(crate) fn received(&self, end: &End) -> Option<Held> {
+        let other = end.other();
+        match self.lines.get(place_of(&self.lines, &other)) {
+            Some(line) if other.compare(line).is_eq() => line.sends(),
+            _ => None,
+        }
+    }
+
+    /// Lets anything be sent from an end, and has the other side's channel too.
+    pub(crate) fn open_end(&mut self, alloc: Global, end: End) -> Result<(), Refusal> {
+        let before = self.changed;
+        self.changed = false;
+        if self.add(end, Some(unknown_held())).is_err() || self.add(end.other(), None).is_err() {
+            return Err(Refusal::Memory);
+        }
+        self.keep_lines(alloc)?;
+        self.changed = self.changed || before;
+        Ok(())
+    }
+
+    /// Makes the certificate of the channels again, where one changed.
+    fn keep_lines(&mut self, alloc: Global) -> Result<(), Refusal> {
+        if self.changed {
+            let mut cert = Cert::new(alloc, Version::Two);
+            push_channels(&mut cert, &self.lines)?;
+            self.cert = cert;
+        }
+        Ok(())
     }
 
     /// Lets what is sent from an end be this too.
@@ -194,11 +233,7 @@ impl Channels {
         if self.learn_call(bound, call).is_err() {
             return Err(Refusal::Memory);
         }
-        if self.changed {
-            let mut cert = Cert::new(alloc, Version::Two);
-            push_channels(&mut cert, &self.lines)?;
-            self.cert = cert;
-        }
+        self.keep_lines(alloc)?;
         self.changed = self.changed || before;
         Ok(())
     }

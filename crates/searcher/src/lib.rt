@@ -1,12 +1,15 @@
 //! The searcher: it proposes a certificate for a task. What it gives the checker accepts.
 #![tactic(auto)]
 
+mod authority;
 mod channels;
 mod drawing;
 mod flat;
+mod proposing;
 mod rounds;
 mod searching;
 mod shortening;
 mod spots;
 
+pub use proposing::propose;
 pub use searching::{reached, search};

@@ -21,7 +21,7 @@ use transfer::{Change, Outcome, OutcomeTest, Site, failure, successes_pass};
 const MOST_ROUNDS: usize = 16_384;
 
 /// The bound of a first process: registers at 0, and its descriptors.
-fn first_bound(task: &Task, start: &Start) -> Bound
+pub(crate) fn first_bound(task: &Task, start: &Start) -> Bound
     requires { is_start task.now.nodes (length task.now.programs) (start_of start.now) ≡ true }
 {
     let mode = if start.mode {
@@ -34,6 +34,14 @@ fn first_bound(task: &Task, start: &Start) -> Bound
     with_first(task, bound, &start.descriptors)
 }
 
+/// Whether a first process is bounded by the points of its program: one of a marked program that starts in the mode isn't.
+fn is_bounded(task: &Task, start: &Start) -> bool {
+    match task.programs().get(start.program as usize) {
+        Some(program) => !(program.untrusted && start.mode),
+        None => false,
+    }
+}
+
 /// Has the first processes at their points.
 fn begin(task: &Task, ways: &mut Vec<Way>, starts: &[Start])
     requires { list_all (is_start task.now.nodes (length task.now.programs)) (starts_of starts.now) ≡ true }
@@ -43,11 +51,13 @@ fn begin(task: &Task, ways: &mut Vec<Way>, starts: &[Start])
         [first, rest @ ..] => {
             let bound = &first_bound(task, first);
             if let Some(way) = ways.get_mut(first.program as usize) {
-                way.asks(&Outcome {
-                    point: 0,
-                    bound,
-                    change: Change::Nothing,
-                });
+                if is_bounded(task, first) {
+                    way.asks(&Outcome {
+                        point: 0,
+                        bound,
+                        change: Change::Nothing,
+                    });
+                }
             }
             begin(task, ways, rest);
         }
@@ -131,7 +141,7 @@ fn take_waiting(
 }
 
 /// Has each point wait again that receives.
-fn wake_receivers(task: &Task, ways: &mut Vec<Way>) {
+pub(crate) fn wake_receivers(task: &Task, ways: &mut Vec<Way>) {
     for (number, program) in task.programs().iter().enumerate() {
         if let Some(way) = ways.get_mut(number) {
             for (point, instruction) in program.program.code().iter().enumerate() {

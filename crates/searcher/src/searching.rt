@@ -13,14 +13,14 @@ use crate::flat::flat;
 use crate::rounds::{all_ways, settle};
 use crate::shortening::shortened;
 use crate::spots::Way;
-use certificate::{Cert, Refusal};
+use certificate::{Cert, Refusal, Version};
 use checker::{Verdict, check};
 use rights::Memory;
 use std::alloc::Global;
 use task::{Task, none_marked};
 
 /// Whether the checker accepts a certificate.
-fn is_accepted(task: &Task, cert: &Cert) -> bool
+pub(crate) fn is_accepted(task: &Task, cert: &Cert) -> bool
     ensures yes { result ≡ true → IsAccepted task.now cert.now }
     ensures no { result ≡ false → IsAccepted task.now cert.now → ⊥ }
 {
@@ -35,7 +35,7 @@ fn settled(alloc: Global, task: &Task, mut ways: Vec<Way>) -> Result<Option<Cert
     if !settle(alloc, task, &mut channels, &mut ways)? {
         return Ok(None);
     }
-    let cert = draw(alloc, ways, &channels)?;
+    let cert = draw(Cert::new(alloc, Version::Two), ways, &channels)?;
     Ok(Some(cert))
 }
 

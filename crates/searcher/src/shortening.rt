@@ -27,7 +27,7 @@ fn push_if_named(short: &mut Cert, task: &Task, point: &Point) -> Result<(), Ref
 }
 
 /// Adds those of some points that are named.
-fn push_named(short: &mut Cert, task: &Task, points: &[Point]) -> Result<(), Refusal>
+pub(crate) fn push_named(short: &mut Cert, task: &Task, points: &[Point]) -> Result<(), Refusal>
     ensures { Grows result short.new (grown_by (filter (is_at_named task.now) (points_of points.now)) short.old) }
 {
     for point in points {

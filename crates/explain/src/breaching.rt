@@ -1,0 +1,79 @@
+//! The run that breaks a task's sandbox.
+
+ghost use Rattle.std.specs.Prelude.{◌≡◌, ◌<◌, ◌-◌, ◌^◌, IfOk, Ok, true};
+ghost use Rattle.commands.specs.Served.{is_done_status};
+ghost use Rattle.task.specs.Plans.{Plan};
+ghost use Rattle.task_reader.specs.Reading.{task_of};
+ghost use Rattle.explain.specs.Answered.{SaysRefuted};
+
+use crate::pages::Page;
+use crate::pages::Piece::{Number, Text};
+use crate::scenes::short;
+use commands::faults::Fault;
+use commands::statuses::{BROKEN, DONE};
+use explore::{Explored, Watcher, explore, write_breach};
+use rights::{Out, write_all};
+use std::alloc::Global;
+use task_reader::read_task;
+
+/// How many states are met at most, where the words don't say.
+const MOST_STATES: u32 = 200_000;
+
+/// Writes that no run was found, and how far the search came. That claims nothing.
+fn write_unbroken<'a, W: Out>(
+    alloc: Global,
+    states: usize,
+    how_far: &str,
+    out: &mut W,
+) -> Result<u8, Fault<'a>>
+    requires { W.faults out.old < 2 ^ 64 - 1 }
+    ensures { IfOk result (λ status. status ≡ 0) }
+{
+    let mut page = Page::new(alloc);
+    page.pieces(&[
+        Text("no run was found that breaks anything; states met: "),
+        Number(short(states)),
+        Text(how_far),
+    ])?;
+    match write_all(out, page.as_bytes()) {
+        Ok(()) => Ok(DONE),
+        Err(_) => Err(Fault::Output),
+    }
+}
+
+/// Writes the run of a task that is found to break something, or that none is, and gives the status.
+pub(crate) fn answer_breach<'a, W: Out, P: Watcher>(
+    alloc: Global,
+    file: &[u8],
+    states: Option<u32>,
+    out: &mut W,
+    watcher: &mut P,
+) -> Result<u8, Fault<'a>>
+    requires { W.faults out.old < 2 ^ 64 - 1 }
+    ensures task { IfOk result (λ status. (plan : Plan) × (task_of file.now ≡ Ok plan) × SaysRefuted plan status (W.taken out.old) (W.taken out.new)) }
+    ensures done { IfOk result (λ status. is_done_status status ≡ true) }
+{
+    let task = read_task(alloc, file)?;
+    let bound = states.unwrap_or(MOST_STATES) as usize;
+    let Ok(explored) = explore(alloc, &task, bound, watcher) else {
+        return Err(Fault::Memory);
+    };
+    match explored {
+        Explored::Breaks(found) => {
+            write_breach(alloc, &task, &found.events, &found.breach, out)?;
+            Ok(BROKEN)
+        }
+        Explored::Ended(states) => write_unbroken(
+            alloc,
+            states,
+            ", all to which the bytes lead that were tried\n",
+            out,
+        ),
+        Explored::Bounded(states) => write_unbroken(
+            alloc,
+            states,
+            ", and there are more: a greater number may be given\n",
+            out,
+        ),
+    }
+}

@@ -1,0 +1,147 @@
+//! The search for a certificate of a task with untrusted programs.
+
+ghost use Rattle.std.specs.Prelude.{◌≡◌, true, false, IfOk, IfSome};
+ghost use Rattle.certificate.specs.Bounds.{Certificate, Two, Three};
+ghost use Rattle.checker.specs.Verdicts.{IsAccepted};
+ghost use Rattle.searcher.specs.Flat.{flat};
+ghost use Rattle.searcher.specs.Shortening.{short_form};
+ghost use Rattle.task.specs.Plans.{none_marked};
+
+use crate::authority::{Need, all_needs, learn_needs, push_needs};
+use crate::channels::Channels;
+use crate::drawing::draw;
+use crate::rounds::{all_ways, settle, wake_receivers};
+use crate::searching::{is_accepted, search};
+use crate::shortening::push_named;
+use crate::spots::Way;
+use certificate::{Cert, Refusal, Version, push_authorities, push_channels};
+use rights::Memory;
+use std::alloc::Global;
+use task::{Task, none_marked};
+
+/// How often the points settle at most, each time with more authority.
+const MOST_TURNS: usize = 1_024;
+
+/// Goes through all points until none waits and nothing more is needed. Whether that came.
+fn settle_needs(
+    alloc: Global,
+    task: &Task,
+    channels: &mut Channels,
+    ways: &mut Vec<Way>,
+    needs: &mut Vec<Option<Need>>,
+) -> Result<bool, Refusal> {
+    for _ in 0..MOST_TURNS {
+        if !settle(alloc, task, channels, ways)? {
+            return Ok(false);
+        }
+        if !learn_needs(alloc, task, channels, ways, needs)? {
+            return Ok(true);
+        }
+        if channels.changed {
+            channels.changed = false;
+            wake_receivers(task, ways);
+        }
+    }
+    Ok(false)
+}
+
+/// The certificate with what is found of a task's points, and what its untrusted programs need.
+fn drawn(
+    alloc: Global,
+    task: &Task,
+    mut ways: Vec<Way>,
+    mut needs: Vec<Option<Need>>,
+) -> Result<Option<Cert>, Refusal>
+    ensures { IfOk result (λ found. IfSome found (λ cert. cert.version ≡ Three)) }
+{
+    let mut channels = Channels::new(alloc);
+    if !settle_needs(alloc, task, &mut channels, &mut ways, &mut needs)? {
+        return Ok(None);
+    }
+    let mut cert = draw(Cert::new(alloc, Version::Three), ways, &channels)?;
+    push_needs(&mut cert, needs)?;
+    Ok(Some(cert))
+}
+
+/// The same where it isn't refused for its length.
+fn proposed(alloc: Global, task: &Task) -> Result<Option<Cert>, Memory>
+    ensures { IfOk result (λ found. IfSome found (λ cert. cert.version ≡ Three)) }
+{
+    let Some(ways) = all_ways(alloc, task)? else {
+        return Ok(None);
+    };
+    let needs = all_needs(alloc, task)?;
+    match drawn(alloc, task, ways, needs) {
+        Ok(cert) => Ok(cert),
+        Err(Refusal::Memory) => Err(Memory),
+        Err(Refusal::Limit | Refusal::Order) => Ok(None),
+    }
+}
+
+/// The same certificate with bounds at named points alone, in version 3.
+#[tactic(auto, using(certificate::proofs::Growths::grown_keeps, certificate::proofs::Growths::by_keeps, crate::proofs::Authorities::with_keeps))]
+fn short_lines(alloc: Global, task: &Task, cert: &Cert) -> Result<Cert, Refusal>
+    ensures { IfOk result (λ short. short.version ≡ Three) }
+{
+    let mut short = Cert::new(alloc, Version::Three);
+    push_named(&mut short, task, cert.points())?;
+    push_channels(&mut short, cert.channels())?;
+    push_authorities(&mut short, cert.authorities())?;
+    Ok(short)
+}
+
+/// The same, if it isn't refused.
+fn shortened(alloc: Global, task: &Task, cert: &Cert) -> Result<Option<Cert>, Memory>
+    ensures { IfOk result (λ found. IfSome found (λ short. short.version ≡ Three)) }
+{
+    match short_lines(alloc, task, cert) {
+        Ok(short) => Ok(Some(short)),
+        Err(Refusal::Memory) => Err(Memory),
+        Err(Refusal::Limit | Refusal::Order) => Ok(None),
+    }
+}
+
+/// A certificate that was proposed, if the checker accepts it.
+fn accepted(task: &Task, proposed: Option<Cert>) -> Option<Cert>
+    ensures accepted { IfSome result (λ cert. IsAccepted task.now cert) }
+    ensures same { IfSome result (λ cert. proposed ≡ Some cert) }
+{
+    let cert = proposed?;
+    if is_accepted(task, &cert) {
+        return Some(cert);
+    }
+    None
+}
+
+/// What is found for a task with an untrusted program.
+fn found(alloc: Global, task: &Task) -> Result<Option<Cert>, Memory>
+    ensures accepted { IfOk result (λ found. IfSome found (λ cert. IsAccepted task.now cert)) }
+    ensures version { IfOk result (λ found. IfSome found (λ cert. cert.version ≡ Three)) }
+{
+    let Some(cert) = proposed(alloc, task)? else {
+        return Ok(None);
+    };
+    if let Some(short) = accepted(task, shortened(alloc, task, &cert)?) {
+        return Ok(Some(short));
+    }
+    Ok(accepted(task, Some(cert)))
+}
+
+/// A certificate of a task that the checker accepts, if one is found. For a task with an untrusted program it is of version 3: what
+/// each such program takes into the mode, and what may come to it there, is its authority, and of the other points there are bounds
+/// as `search` finds them. Of other tasks it gives what `search` gives. `Memory` may come in place of any other answer. It always
+/// ends. (own)
+pub fn propose(alloc: Global, task: &Task) -> Result<Option<Cert>, Memory>
+    ensures accepted { IfOk result (λ found. IfSome found (λ cert. IsAccepted task.now cert)) }
+    ensures marked { none_marked task.now ≡ false → IfOk result (λ found. IfSome found (λ cert. cert.version ≡ Three)) }
+    ensures version { none_marked task.now ≡ true → IfOk result (λ found. IfSome found (λ cert. cert.version ≡ Two)) }
+    ensures short { none_marked task.now ≡ true → IfOk result (λ found. IfSome found (λ cert.
+        IsAccepted task.now (short_form task.now cert) → cert ≡ short_form task.now cert)) }
+    ensures flat { none_marked task.now ≡ true → result ≡ Ok None →
+        (certificate : Certificate) → flat task.now ≡ Some certificate → IsAccepted task.now certificate → ⊥ }
+{
+    if none_marked(task.programs()) {
+        return search(alloc, task);
+    }
+    found(alloc, task)
+}
