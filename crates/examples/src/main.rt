@@ -101,6 +101,7 @@ fn empty_sink(alloc: Global) -> Sink
 }
 
 /// Nobody is told how far a search has come.
+#[derive(Drop)]
 struct Nobody;
 
 impl Watcher for Nobody {
