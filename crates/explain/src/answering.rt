@@ -15,8 +15,6 @@ use crate::breaching::answer_breach;
 use crate::failing::add_unfound;
 use crate::listing::add_listing;
 use crate::older::add_older;
-use crate::pages::Page;
-use crate::program_texts::texts_of_file;
 use crate::questions::{Question, read_question};
 use crate::refusing::add_findings;
 use crate::scenes::Scene;
@@ -34,6 +32,7 @@ use searcher::propose;
 use std::alloc::{AllocError, Global};
 use task::Task;
 use task_reader::read_task;
+use task_text::{Page, texts_of_file};
 use text_checker::read_texts;
 
 /// An answer: its text, and the status that the program ends with.
@@ -65,7 +64,7 @@ fn listing_alone<'a>(alloc: Global, file: &[u8]) -> Result<Answer, Fault<'a>>
         task: &task,
         cert: &Cert::new(alloc, Version::One),
     };
-    add_listing(alloc, &mut page, &scene, false)?;
+    add_listing(alloc, &mut page, &scene, false);
     Ok(Answer { page, status: DONE })
 }
 
@@ -83,7 +82,7 @@ fn listing_with<'a>(alloc: Global, file: &[u8], cert: &[u8]) -> Result<Answer, F
         task: &claim.task,
         cert: &expanded,
     };
-    add_listing(alloc, &mut page, &scene, true)?;
+    add_listing(alloc, &mut page, &scene, true);
     Ok(Answer { page, status: DONE })
 }
 
@@ -106,11 +105,11 @@ fn add_broken(
     scene: &Scene<'_>,
     cert: &Cert,
     found: &[BrokenRule],
-) -> Result<(), AllocError> {
+) {
     if found.is_empty() {
         return page.text("no rule is broken: the certificate is accepted\n");
     }
-    add_older(alloc, page, scene.task, cert)?;
+    add_older(alloc, page, scene.task, cert);
     add_findings(alloc, page, scene, found)
 }
 
@@ -130,7 +129,7 @@ fn broken<'a>(alloc: Global, file: &[u8], cert: &[u8]) -> Result<Answer, Fault<'
         task: &claim.task,
         cert: &expanded,
     };
-    add_broken(alloc, &mut page, &scene, &claim.cert, &found)?;
+    add_broken(alloc, &mut page, &scene, &claim.cert, &found);
     Ok(Answer { page, status })
 }
 
@@ -198,7 +197,7 @@ fn written<'a, W: Out>(answer: Answer, out: &mut W) -> Result<u8, Fault<'a>>
     requires { W.faults out.old < 2 ^ 64 - 1 }
     ensures { IfOk result (λ status. status ≡ answer.status) }
 {
-    match write_all(out, answer.page.as_bytes()) {
+    match write_all(out, answer.page.finish()?) {
         Ok(()) => Ok(answer.status),
         Err(_) => Err(Fault::Output),
     }
@@ -209,7 +208,7 @@ fn usage<'a>(alloc: Global) -> Result<Answer, Fault<'a>>
     ensures { IfOk result (λ answer. answer.status ≡ 0) }
 {
     let mut page = Page::new(alloc);
-    page.text(USAGE)?;
+    page.text(USAGE);
     Ok(Answer { page, status: DONE })
 }
 

@@ -3,13 +3,13 @@
 ghost use Rattle.std.specs.Prelude.{None, true};
 
 use crate::naming::{add_interval, add_slot, mode_name};
-use crate::pages::Page;
-use crate::pages::Piece::{Number, Text};
 use crate::scenes::{Scene, Spot, short};
 use certificate::{Bound, Domain};
 use checker::instruction_at;
 use rights::limits::REGISTERS;
 use std::alloc::{AllocError, Global};
+use task_text::Piece::{Number, Text};
+use task_text::Page;
 use transfer::{Outcome, OutcomeTest, Site, failure, successes_pass};
 
 /// An outcome of an instruction: the point that it goes to, and the bound that it has there.
@@ -92,19 +92,29 @@ pub(crate) fn failures(alloc: Global, spot: &Spot<'_>) -> Result<Vec<Arrival>, A
     Ok(list)
 }
 
+/// The outcomes of the successes, and that of the error.
+pub(crate) fn outcomes(
+    alloc: Global,
+    scene: &Scene<'_>,
+    spot: &Spot<'_>,
+    program: u8,
+) -> Result<Vec<Arrival>, AllocError> {
+    let mut arrivals = successes(alloc, scene, spot, program)?;
+    for failure in &failures(alloc, spot)? {
+        arrivals.push(*failure)?;
+    }
+    Ok(arrivals)
+}
+
 /// Adds in which parts a bound is too narrow for one that arrives.
-pub(crate) fn add_parts(
-    page: &mut Page,
-    arriving: &Bound,
-    there: &Bound,
-) -> Result<(), AllocError> {
+pub(crate) fn add_parts(page: &mut Page, arriving: &Bound, there: &Bound) {
     if !arriving.mode().within(&there.mode()) {
         page.pieces(&[
             Text("; the mode arrives as "),
             Text(mode_name(arriving.mode())),
             Text(", the bound has "),
             Text(mode_name(there.mode())),
-        ])?;
+        ]);
     }
     for register in 0..REGISTERS {
         let register = register as u8;
@@ -114,10 +124,10 @@ pub(crate) fn add_parts(
                 Text("; r"),
                 Number(u32::from(register)),
                 Text(" arrives as "),
-            ])?;
-            add_interval(page, arrives)?;
-            page.text(", the bound has ")?;
-            add_interval(page, bound)?;
+            ]);
+            add_interval(page, arrives);
+            page.text(", the bound has ");
+            add_interval(page, bound);
         }
     }
     for (number, slot) in arriving.slots().iter().enumerate() {
@@ -127,11 +137,10 @@ pub(crate) fn add_parts(
                 Text("; descriptor "),
                 Number(short(number)),
                 Text(" arrives as "),
-            ])?;
-            add_slot(page, slot)?;
-            page.text(", the bound has ")?;
-            add_slot(page, &bound)?;
+            ]);
+            add_slot(page, slot);
+            page.text(", the bound has ");
+            add_slot(page, &bound);
         }
     }
-    Ok(())
 }

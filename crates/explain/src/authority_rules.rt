@@ -1,8 +1,6 @@
 //! What the rules K17 to K22 compare of an untrusted program and its authority.
 
 use crate::naming::{add_end, add_held, add_rights, add_slot, mode_name};
-use crate::pages::Page;
-use crate::pages::Piece::{Bytes, Number, Text};
 use crate::scenes::{Scene, short};
 use crate::starting::add_object;
 use certificate::{Bound, Ceiling, Channel, Class, Domain, End, Held, Name, Side, Slot, Target};
@@ -10,8 +8,9 @@ use checker::ceiling_at;
 use file_tree::is_front;
 use prog_asm::{Instruction, Syscall};
 use rights::Rights;
-use std::alloc::AllocError;
-use task::{FirstDescriptor, FirstObject, Start};
+use task::{FirstDescriptor, FirstObject, Grant, Start};
+use task_text::Piece::{Bytes, Number, Text};
+use task_text::Page;
 use transfer::{channel_at, other, unknown_held};
 
 /// The ceilings and the ends of a program's authority; none where the certificate has no authority of it.
@@ -61,14 +60,14 @@ fn add_ceiling(
     scene: &Scene<'_>,
     allowed: &Allowed<'_, '_>,
     target: &Target,
-) -> Result<(), AllocError> {
+) {
     match target {
         Target::InGrant(name) => {
             page.pieces(&[
                 Text(", the ceiling on "),
                 Bytes(name.as_bytes()),
                 Text(" has "),
-            ])?;
+            ]);
             add_rights(
                 page,
                 ceiling_at(scene.cert, allowed.program, name.as_bytes()),
@@ -85,17 +84,16 @@ fn add_taken(
     scene: &Scene<'_>,
     allowed: &Allowed<'_, '_>,
     bound: &Bound,
-) -> Result<(), AllocError> {
+) {
     for (number, slot) in bound.slots().iter().enumerate() {
         if let Some(held) = slot.held() {
             if !may_hold(scene, allowed, &held.target(), held.rights().greatest()) {
-                page.pieces(&[Text("; descriptor "), Number(short(number)), Text(" is ")])?;
-                add_slot(page, slot)?;
-                add_ceiling(page, scene, allowed, &held.target())?;
+                page.pieces(&[Text("; descriptor "), Number(short(number)), Text(" is ")]);
+                add_slot(page, slot);
+                add_ceiling(page, scene, allowed, &held.target());
             }
         }
     }
-    Ok(())
 }
 
 /// Whether a first descriptor is within.
@@ -137,7 +135,7 @@ fn add_first(
     allowed: &Allowed<'_, '_>,
     process: usize,
     start: &Start,
-) -> Result<(), AllocError> {
+) {
     for first in &start.descriptors {
         if !may_start_with(scene, allowed, *first) {
             page.pieces(&[
@@ -146,13 +144,12 @@ fn add_first(
                 Text(" starts in the mode with descriptor "),
                 Number(u32::from(first.number)),
                 Text(" of "),
-            ])?;
-            add_object(page, scene, first.object)?;
-            page.text(" with ")?;
-            add_rights(page, first.rights)?;
+            ]);
+            add_object(page, scene, first.object);
+            page.text(" with ");
+            add_rights(page, first.rights);
         }
     }
-    Ok(())
 }
 
 /// Adds what a program may hold in the mode at a point that its authority hasn't: where a process enters the mode, or starts in it.
@@ -163,7 +160,7 @@ pub(crate) fn add_beyond(
     program: u8,
     point: u8,
     at: Option<(&Instruction, &Bound)>,
-) -> Result<(), AllocError> {
+) {
     let allowed = allowed_to(scene, name);
     if let Some(
         (
@@ -175,49 +172,43 @@ pub(crate) fn add_beyond(
         ),
     ) = at
     {
-        add_taken(page, scene, &allowed, bound)?;
+        add_taken(page, scene, &allowed, bound);
     }
     if point != 0 {
-        return Ok(());
+        return;
     }
     for (process, start) in scene.task.starts().iter().enumerate() {
         if start.mode && start.program == program {
-            add_first(page, scene, &allowed, process, start)?;
+            add_first(page, scene, &allowed, process, start);
         }
     }
-    Ok(())
+}
+
+/// Adds what a grant lists.
+fn add_operations(page: &mut Page, grant: &Grant) {
+    let mut separator = ", and the grant lists ";
+    for operation in &grant.operations {
+        page.pieces(&[Text(separator), Text(operation.name())]);
+        separator = ",";
+    }
 }
 
 /// Adds what the ceilings have, and what their grants list.
-fn add_ceilings(
-    page: &mut Page,
-    scene: &Scene<'_>,
-    allowed: &Allowed<'_, '_>,
-) -> Result<(), AllocError> {
+fn add_ceilings(page: &mut Page, scene: &Scene<'_>, allowed: &Allowed<'_, '_>) {
     for ceiling in allowed.ceilings {
         let name = ceiling.grant().as_bytes();
-        page.pieces(&[Text("; the ceiling on "), Bytes(name), Text(" has ")])?;
-        add_rights(page, ceiling.rights())?;
-        let mut is_there = false;
-        for grant in scene.task.grants() {
-            if grant.name.as_bytes() == name {
-                is_there = true;
-                let mut separator = ", and the grant lists ";
-                for operation in &grant.operations {
-                    page.pieces(&[Text(separator), Text(operation.name())])?;
-                    separator = ",";
-                }
-            }
-        }
-        if !is_there {
-            page.text(", and the task has no such grant")?;
+        page.pieces(&[Text("; the ceiling on "), Bytes(name), Text(" has ")]);
+        add_rights(page, ceiling.rights());
+        let grants = scene.task.grants();
+        match grants.iter().find(|grant| grant.name.as_bytes() == name) {
+            Some(grant) => add_operations(page, grant),
+            None => page.text(", and the task has no such grant"),
         }
     }
-    Ok(())
 }
 
 /// Adds which ceilings let a name be moved.
-fn add_moves(page: &mut Page, allowed: &Allowed<'_, '_>) -> Result<(), AllocError> {
+fn add_moves(page: &mut Page, allowed: &Allowed<'_, '_>) {
     for source in allowed.ceilings {
         for target in allowed.ceilings {
             let is_same = source.grant().as_bytes() == target.grant().as_bytes();
@@ -230,11 +221,10 @@ fn add_moves(page: &mut Page, allowed: &Allowed<'_, '_>) -> Result<(), AllocErro
                     Text(" has RENAMEAT_SOURCE, the one on "),
                     Bytes(target.grant().as_bytes()),
                     Text(" has RENAMEAT_TARGET"),
-                ])?;
+                ]);
             }
         }
     }
-    Ok(())
 }
 
 /// Adds the line of a side's channel: what it lets through, or that it is missing.
@@ -243,15 +233,15 @@ fn add_line(
     channel: Option<&Channel>,
     class: &Class,
     side: Side,
-) -> Result<(), AllocError> {
-    page.text("; the channel ")?;
-    add_end(page, class, side)?;
+) {
+    page.text("; the channel ");
+    add_end(page, class, side);
     match channel {
         None => page.text(" has no line"),
         Some(channel) => match channel.sends() {
             None => page.text(" has the line none"),
             Some(held) => {
-                page.text(" has ")?;
+                page.text(" has ");
                 add_held(page, &held)
             }
         },
@@ -263,7 +253,7 @@ fn add_received(
     page: &mut Page,
     scene: &Scene<'_>,
     allowed: &Allowed<'_, '_>,
-) -> Result<(), AllocError> {
+) {
     for end in allowed.ends {
         let (class, side) = (end.class(), other(end.side()));
         let channel = channel_at(scene.cert, &class, side);
@@ -276,13 +266,12 @@ fn add_received(
             Some(held) => may_hold(scene, allowed, &held.target(), held.rights().greatest()),
         };
         if !may_come {
-            add_line(page, channel, &class, side)?;
+            add_line(page, channel, &class, side);
             if let Some(held) = &comes {
-                add_ceiling(page, scene, allowed, &held.target())?;
+                add_ceiling(page, scene, allowed, &held.target());
             }
         }
     }
-    Ok(())
 }
 
 /// Whether a channel lets anything through.
@@ -302,20 +291,19 @@ fn add_sent(
     page: &mut Page,
     scene: &Scene<'_>,
     allowed: &Allowed<'_, '_>,
-) -> Result<(), AllocError> {
+) {
     for end in allowed.ends {
         let (class, side) = (end.class(), end.side());
         let channel = channel_at(scene.cert, &class, side);
         if !lets_all(channel) {
-            add_line(page, channel, &class, side)?;
-            page.text(", and has to have unknown 0000 3fff 0 3")?;
+            add_line(page, channel, &class, side);
+            page.text(", and has to have unknown 0000 3fff 0 3");
         }
     }
-    Ok(())
 }
 
 /// Adds that a point is bounded in the mode.
-pub(crate) fn add_bounded(page: &mut Page, bound: &Bound) -> Result<(), AllocError> {
+pub(crate) fn add_bounded(page: &mut Page, bound: &Bound) {
     page.pieces(&[
         Text("; the bound has the mode "),
         Text(mode_name(bound.mode())),
@@ -328,13 +316,13 @@ pub(crate) fn add_authority(
     scene: &Scene<'_>,
     name: &Name,
     rule: u8,
-) -> Result<(), AllocError> {
+) {
     let allowed = allowed_to(scene, name);
     match rule {
         19 => add_ceilings(page, scene, &allowed),
         20 => add_moves(page, &allowed),
         21 => add_received(page, scene, &allowed),
         22 => add_sent(page, scene, &allowed),
-        _ => Ok(()),
+        _ => {}
     }
 }

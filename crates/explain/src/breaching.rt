@@ -6,8 +6,6 @@ ghost use Rattle.task.specs.Plans.{Plan};
 ghost use Rattle.task_reader.specs.Reading.{task_of};
 ghost use Rattle.explain.specs.Answered.{SaysRefuted};
 
-use crate::pages::Page;
-use crate::pages::Piece::{Number, Text};
 use crate::scenes::short;
 use commands::faults::Fault;
 use commands::statuses::{BROKEN, DONE};
@@ -15,6 +13,8 @@ use explore::{Explored, Watcher, explore, write_breach};
 use rights::{Out, write_all};
 use std::alloc::Global;
 use task_reader::read_task;
+use task_text::Piece::{Number, Text};
+use task_text::Page;
 
 /// How many states are met at most, where the words don't say.
 const MOST_STATES: u32 = 200_000;
@@ -34,8 +34,8 @@ fn write_unbroken<'a, W: Out>(
         Text("no run was found that breaks anything; states met: "),
         Number(short(states)),
         Text(how_far),
-    ])?;
-    match write_all(out, page.as_bytes()) {
+    ]);
+    match write_all(out, page.finish()?) {
         Ok(()) => Ok(DONE),
         Err(_) => Err(Fault::Output),
     }

@@ -3,15 +3,15 @@
 use crate::naming::{
     add_commands, add_end, add_held, add_interval, add_rights, add_target, mode_name,
 };
-use crate::pages::Page;
-use crate::pages::Piece::{Bytes, Number, Text};
 use crate::scenes::{Scene, short};
-use crate::uses::{OpenSlot, Use, slots_of};
-use certificate::{Bound, Domain, Slot, Target};
+use crate::uses::{OpenSlot, Use, open_slot};
+use certificate::{Bound, Domain, Held, Name, Slot, Target};
 use prog_asm::{Operand, Syscall};
 use rights::Op;
-use std::alloc::{AllocError, Global};
+use rights::limits::MAX_DESCRIPTORS;
 use task::grant_lists;
+use task_text::Piece::{Bytes, Number, Text};
+use task_text::Page;
 use transfer::{
     Need, Passed, Through, channel_at, demanded, is_single, needed, operand_interval, other,
 };
@@ -19,23 +19,22 @@ use transfer::{
 /// A call at a point with a bound.
 #[derive(Clone, Copy)]
 pub(crate) struct Told<'a> {
-    pub alloc: Global,
     pub scene: &'a Scene<'a>,
     pub bound: &'a Bound,
     pub call: &'a Syscall,
 }
 
 /// Adds a separator where something stands before it.
-fn separate(page: &mut Page, is_first: &mut bool) -> Result<(), AllocError> {
+fn separate(page: &mut Page, is_first: &mut bool) {
     if *is_first {
         *is_first = false;
-        return Ok(());
+        return;
     }
     page.text("; ")
 }
 
 /// Adds `descriptor 2`.
-fn add_number(page: &mut Page, slot: &OpenSlot) -> Result<(), AllocError> {
+fn add_number(page: &mut Page, slot: &OpenSlot) {
     page.pieces(&[Text("descriptor "), Number(short(slot.number))])
 }
 
@@ -48,21 +47,21 @@ fn is_known(target: &Target) -> bool {
 }
 
 /// Adds which operand may be several numbers.
-fn add_several(page: &mut Page, bound: &Bound, operand: Option<Operand>) -> Result<(), AllocError> {
+fn add_several(page: &mut Page, bound: &Bound, operand: Option<Operand>) {
     let Some(operand) = operand else {
-        return Ok(());
+        return;
     };
     let interval = operand_interval(bound, operand);
     if is_single(interval) {
-        return Ok(());
+        return;
     }
-    page.text("the call changes the slot of its number, which may be ")?;
-    add_interval(page, interval)?;
+    page.text("the call changes the slot of its number, which may be ");
+    add_interval(page, interval);
     page.text(": it has to be one")
 }
 
 /// Adds which slot leaves it open what the lowest free number is.
-fn add_undetermined(page: &mut Page, bound: &Bound) -> Result<(), AllocError> {
+fn add_undetermined(page: &mut Page, bound: &Bound) {
     for (number, slot) in bound.slots().iter().enumerate() {
         if let Slot::Maybe(_) = slot {
             return page.pieces(&[
@@ -72,38 +71,37 @@ fn add_undetermined(page: &mut Page, bound: &Bound) -> Result<(), AllocError> {
             ]);
         }
     }
-    Ok(())
 }
 
 /// Adds which rights are missing of a slot.
-fn add_missing_rights(page: &mut Page, call: &Syscall, one: &Use) -> Result<(), AllocError> {
-    add_number(page, &one.slot)?;
-    page.text(" has ")?;
-    add_rights(page, one.slot.held.rights().least())?;
+fn add_missing_rights(page: &mut Page, call: &Syscall, one: &Use) {
+    add_number(page, &one.slot);
+    page.text(" has ");
+    add_rights(page, one.slot.held.rights().least());
     page.pieces(&[
         Text(" at least; "),
         Text(call.call().name()),
         Text(" needs "),
-    ])?;
+    ]);
     add_rights(page, one.need.rights)
 }
 
 /// Adds which commands are.
-fn add_missing_commands(page: &mut Page, call: &Syscall, one: &Use) -> Result<(), AllocError> {
-    add_number(page, &one.slot)?;
-    page.text(" has the commands ")?;
-    add_commands(page, one.slot.held.fcntls().least())?;
+fn add_missing_commands(page: &mut Page, call: &Syscall, one: &Use) {
+    add_number(page, &one.slot);
+    page.text(" has the commands ");
+    add_commands(page, one.slot.held.fcntls().least());
     page.pieces(&[
         Text(" at least; "),
         Text(call.call().name()),
         Text(" needs "),
-    ])?;
+    ]);
     add_commands(page, one.need.commands)
 }
 
 /// Adds what a limit keeps that may not be there.
-fn add_grown_limit(page: &mut Page, one: &Use) -> Result<(), AllocError> {
-    add_number(page, &one.slot)?;
+fn add_grown_limit(page: &mut Page, one: &Use) {
+    add_number(page, &one.slot);
     if !one
         .slot
         .held
@@ -111,22 +109,22 @@ fn add_grown_limit(page: &mut Page, one: &Use) -> Result<(), AllocError> {
         .least()
         .contains(one.need.kept_rights)
     {
-        page.text(" has ")?;
-        add_rights(page, one.slot.held.rights().least())?;
-        page.text(" at least; the limit keeps ")?;
+        page.text(" has ");
+        add_rights(page, one.slot.held.rights().least());
+        page.text(" at least; the limit keeps ");
         return add_rights(page, one.need.kept_rights);
     }
-    page.text(" has the commands ")?;
-    add_commands(page, one.slot.held.fcntls().least())?;
-    page.text(" at least; the limit keeps ")?;
+    page.text(" has the commands ");
+    add_commands(page, one.slot.held.fcntls().least());
+    page.text(" at least; the limit keeps ");
     add_commands(page, one.need.kept_commands)
 }
 
 /// Adds that what a call works on, or beneath, lies in no grant.
-fn add_stray(page: &mut Page, one: &Use) -> Result<(), AllocError> {
-    add_number(page, &one.slot)?;
-    page.text(" may hold what lies in no grant (")?;
-    add_target(page, &one.slot.held.target())?;
+fn add_stray(page: &mut Page, one: &Use) {
+    add_number(page, &one.slot);
+    page.text(" may hold what lies in no grant (");
+    add_target(page, &one.slot.held.target());
     page.text(")")
 }
 
@@ -146,15 +144,15 @@ fn add_unlisted(
     scene: &Scene<'_>,
     call: &Syscall,
     one: &Use,
-) -> Result<(), AllocError> {
-    add_number(page, &one.slot)?;
-    page.text(" is in ")?;
-    add_target(page, &one.slot.held.target())?;
+) {
+    add_number(page, &one.slot);
+    page.text(" is in ");
+    add_target(page, &one.slot.held.target());
     let mut separator = ", which doesn't list ";
     for operation in [one.need.operation, one.need.other_operation].iter() {
         if let Some(name) = operation {
             if !is_listed(scene, one, *operation) {
-                page.pieces(&[Text(separator), Text(name.name())])?;
+                page.pieces(&[Text(separator), Text(name.name())]);
                 separator = " and ";
             }
         }
@@ -166,58 +164,90 @@ fn add_unlisted(
     ])
 }
 
-/// Adds what is moved from one grant into another.
-fn add_moves(page: &mut Page, told: &Told<'_>, one: &Use) -> Result<(), AllocError> {
-    let (Some(targets), Target::InGrant(source)) = (one.need.targets, one.slot.held.target()) else {
-        return Ok(());
-    };
-    for slot in &slots_of(told.alloc, told.bound, targets)? {
-        if let Target::InGrant(target) = slot.held.target() {
-            if source.as_bytes() != target.as_bytes() {
-                add_number(page, &one.slot)?;
-                page.pieces(&[Text(" is in grant "), Bytes(source.as_bytes()), Text(", ")])?;
-                add_number(page, slot)?;
-                return page.pieces(&[Text(" in grant "), Bytes(target.as_bytes())]);
+/// Whether a slot is in this grant, or in none.
+fn is_same_grant(grant: &Name, slot: &OpenSlot) -> bool {
+    match slot.held.target() {
+        Target::InGrant(other) => grant.as_bytes() == other.as_bytes(),
+        _ => true,
+    }
+}
+
+/// The first slot that an operand may name and that is in another grant than this.
+fn other_grant(bound: &Bound, operand: &Operand, grant: &Name) -> Option<OpenSlot> {
+    for number in 0..MAX_DESCRIPTORS {
+        if let Some(slot) = open_slot(bound, operand, number) {
+            if !is_same_grant(grant, &slot) {
+                return Some(slot);
             }
         }
     }
-    Ok(())
+    None
+}
+
+/// Adds what is moved from one grant into another.
+fn add_moves(page: &mut Page, told: &Told<'_>, one: &Use) {
+    let (Some(targets), Target::InGrant(source)) = (one.need.targets, one.slot.held.target()) else {
+        return;
+    };
+    let Some(slot) = other_grant(told.bound, &targets, &source) else {
+        return;
+    };
+    add_number(page, &one.slot);
+    page.pieces(&[Text(" is in grant "), Bytes(source.as_bytes()), Text(", ")]);
+    add_number(page, &slot);
+    page.text(" in ");
+    add_target(page, &slot.held.target());
+}
+
+/// Whether a channel's line lets a slot through.
+fn lets_through(line: &Option<Held>, slot: &OpenSlot) -> bool {
+    match line {
+        Some(most) => slot.held.within(most),
+        None => false,
+    }
+}
+
+/// Adds a slot that is sent, if its channel's line doesn't let it through.
+fn add_sent_slot(page: &mut Page, line: &Option<Held>, slot: &OpenSlot) {
+    if !lets_through(line, slot) {
+        page.text("; sent is ");
+        add_number(page, slot);
+        page.text(", ");
+        add_held(page, &slot.held);
+    }
+}
+
+/// Adds what a channel's line lets through, if anything.
+fn add_channel_line(page: &mut Page, line: &Option<Held>) {
+    match line {
+        Some(most) => {
+            page.text(" has ");
+            add_held(page, most);
+        }
+        None => page.text(" has none"),
+    }
 }
 
 /// Adds what is sent into a channel that its line doesn't let through.
-fn add_sent(page: &mut Page, told: &Told<'_>, one: &Use) -> Result<(), AllocError> {
+fn add_sent(page: &mut Page, told: &Told<'_>, one: &Use) {
     let (Passed::Sent(sent), Target::Socket(class, side)) = (
         one.need.passed,
         one.slot.held.target(),
     ) else {
-        return Ok(());
+        return;
     };
-    let line = match channel_at(told.scene.cert, &class, side) {
-        Some(channel) => channel.sends(),
-        None => return Ok(()),
+    let Some(channel) = channel_at(told.scene.cert, &class, side) else {
+        return;
     };
-    page.text("the channel ")?;
-    add_end(page, &class, side)?;
-    match &line {
-        Some(most) => {
-            page.text(" has ")?;
-            add_held(page, most)?;
-        }
-        None => page.text(" has none")?,
-    }
-    for slot in &slots_of(told.alloc, told.bound, sent)? {
-        let is_let = match &line {
-            Some(most) => slot.held.within(most),
-            None => false,
-        };
-        if !is_let {
-            page.text("; sent is ")?;
-            add_number(page, slot)?;
-            page.text(", ")?;
-            add_held(page, &slot.held)?;
+    let line = channel.sends();
+    page.text("the channel ");
+    add_end(page, &class, side);
+    add_channel_line(page, &line);
+    for number in 0..MAX_DESCRIPTORS {
+        if let Some(slot) = open_slot(told.bound, &sent, number) {
+            add_sent_slot(page, &line, &slot);
         }
     }
-    Ok(())
 }
 
 /// Whether the channel that a call uses by a slot has a line.
@@ -235,84 +265,84 @@ fn has_channel(told: &Told<'_>, one: &Use) -> bool {
 }
 
 /// Whether each slot of what a call sends lies within its channel.
-fn sends_within(told: &Told<'_>, one: &Use) -> Result<bool, AllocError> {
+fn sends_within(told: &Told<'_>, one: &Use) -> bool {
     let (Passed::Sent(sent), Target::Socket(class, side)) = (
         one.need.passed,
         one.slot.held.target(),
     ) else {
-        return Ok(true);
+        return true;
     };
     let Some(channel) = channel_at(told.scene.cert, &class, side) else {
-        return Ok(true);
+        return true;
     };
-    let Some(most) = channel.sends() else {
-        return Ok(false);
-    };
-    let slots = slots_of(told.alloc, told.bound, sent)?;
-    Ok(slots.iter().all(|slot| slot.held.within(&most)))
+    let line = channel.sends();
+    for number in 0..MAX_DESCRIPTORS {
+        if let Some(slot) = open_slot(told.bound, &sent, number) {
+            if !lets_through(&line, &slot) {
+                return false;
+            }
+        }
+    }
+    line.is_some()
 }
 
 /// Adds which channel has no line.
-fn add_no_channel(page: &mut Page, one: &Use) -> Result<(), AllocError> {
+fn add_no_channel(page: &mut Page, one: &Use) {
     match (one.need.passed, one.slot.held.target()) {
         (Passed::Received, Target::Socket(class, side)) => {
-            page.text("what comes by ")?;
-            add_number(page, &one.slot)?;
-            page.text(" has no line: the certificate has none of the channel ")?;
+            page.text("what comes by ");
+            add_number(page, &one.slot);
+            page.text(" has no line: the certificate has none of the channel ");
             add_end(page, &class, other(side))
         }
         (_, Target::Socket(class, side)) => {
-            page.text("what is sent by ")?;
-            add_number(page, &one.slot)?;
-            page.text(" has no line: the certificate has none of the channel ")?;
+            page.text("what is sent by ");
+            add_number(page, &one.slot);
+            page.text(" has no line: the certificate has none of the channel ");
             add_end(page, &class, side)
         }
         _ => {
-            add_number(page, &one.slot)?;
+            add_number(page, &one.slot);
             page.text(" may be the end of any pair, so no line says what may be sent by it")
         }
     }
 }
 
-/// Whether a slot moves names between grants.
-fn moves_within(told: &Told<'_>, one: &Use) -> Result<bool, AllocError> {
-    let (Some(targets), Target::InGrant(source)) = (one.need.targets, one.slot.held.target()) else {
-        return Ok(true);
-    };
-    let slots = slots_of(told.alloc, told.bound, targets)?;
-    Ok(
-        slots.iter().all(|slot| match slot.held.target() {
-            Target::InGrant(target) => source.as_bytes() == target.as_bytes(),
-            _ => true,
-        }),
-    )
+/// Whether a slot moves no names between grants.
+fn moves_within(told: &Told<'_>, one: &Use) -> bool {
+    match (one.need.targets, one.slot.held.target()) {
+        (Some(targets), Target::InGrant(source)) => {
+            other_grant(told.bound, &targets, &source).is_none()
+        }
+        _ => true,
+    }
 }
 
 /// Whether a slot keeps a rule that is asked of each slot.
-fn is_kept(told: &Told<'_>, one: &Use, rule: u8) -> Result<bool, AllocError> {
+fn is_kept(told: &Told<'_>, one: &Use, rule: u8) -> bool {
     let (held, need) = (&one.slot.held, &one.need);
     match rule {
-        7 => Ok(held.rights().least().contains(need.rights)),
-        8 => Ok(held.fcntls().least().contains(need.commands)),
-        9 => Ok(
+        7 => held.rights().least().contains(need.rights),
+        8 => held.fcntls().least().contains(need.commands),
+        9 => {
             held.rights().least().contains(need.kept_rights)
-                && held.fcntls().least().contains(need.kept_commands),
-        ),
-        10 => Ok(!need.works || is_known(&held.target())),
-        11 => Ok(
+                && held.fcntls().least().contains(need.kept_commands)
+        }
+        10 => !need.works || is_known(&held.target()),
+        11 => {
             is_listed(told.scene, one, need.operation)
-                && is_listed(told.scene, one, need.other_operation),
-        ),
-        12 => Ok(!need.changes_names || is_known(&held.target())),
+                && is_listed(told.scene, one, need.other_operation)
+        }
+        12 => !need.changes_names || is_known(&held.target()),
         13 => moves_within(told, one),
         14 => sends_within(told, one),
-        15 => Ok(has_channel(told, one)),
-        _ => Ok(true),
+        15 => has_channel(told, one),
+        _ => true,
     }
 }
 
 /// Adds what a rule compares at a slot that breaks it.
-fn add_use(page: &mut Page, told: &Told<'_>, one: &Use, rule: u8) -> Result<(), AllocError> {
+fn add_use(page: &mut Page, told: &Told<'_>, one: &Use, rule: u8) {
     match rule {
         7 => add_missing_rights(page, told.call, one),
         8 => add_missing_commands(page, told.call, one),
@@ -322,7 +352,7 @@ fn add_use(page: &mut Page, told: &Told<'_>, one: &Use, rule: u8) -> Result<(), 
         13 => add_moves(page, told, one),
         14 => add_sent(page, told, one),
         15 => add_no_channel(page, one),
-        _ => Ok(()),
+        _ => {}
     }
 }
 
@@ -330,55 +360,38 @@ fn add_use(page: &mut Page, told: &Told<'_>, one: &Use, rule: u8) -> Result<(), 
 fn add_if_broken(
     page: &mut Page,
     told: &Told<'_>,
-    one: &Use,
-    rule: u8,
-    is_first: &mut bool,
-) -> Result<(), AllocError> {
-    if is_kept(told, one, rule)? {
-        return Ok(());
-    }
-    separate(page, is_first)?;
-    add_use(page, told, one, rule)
-}
-
-/// Adds what it compares at the slots of which the call needs this.
-fn add_slots(
-    page: &mut Page,
-    told: &Told<'_>,
-    slots: &[OpenSlot],
+    slot: OpenSlot,
     need: &Need,
     rule: u8,
     is_first: &mut bool,
-) -> Result<(), AllocError> {
-    for slot in slots {
-        let one = Use {
-            slot: *slot,
-            need: *need,
-        };
-        add_if_broken(page, told, &one, rule, is_first)?;
+) {
+    let one = Use { slot, need: *need };
+    if !is_kept(told, &one, rule) {
+        separate(page, is_first);
+        add_use(page, told, &one, rule);
     }
-    Ok(())
 }
 
-/// Adds what it compares at those that one of the call's operands may name.
+/// Adds what it compares at the slots that one of the call's operands may name.
 fn add_through(
     page: &mut Page,
     told: &Told<'_>,
     through: Option<Through>,
     rule: u8,
     is_first: &mut bool,
-) -> Result<(), AllocError> {
-    match through {
-        Some(through) => {
-            let slots = slots_of(told.alloc, told.bound, through.operand)?;
-            add_slots(page, told, &slots, &through.need, rule, is_first)
+) {
+    let Some(through) = through else {
+        return;
+    };
+    for number in 0..MAX_DESCRIPTORS {
+        if let Some(slot) = open_slot(told.bound, &through.operand, number) {
+            add_if_broken(page, told, slot, &through.need, rule, is_first);
         }
-        None => Ok(()),
     }
 }
 
 /// Adds what one of the rules 4 to 15 compares at a call that breaks it.
-pub(crate) fn add_call_rule(page: &mut Page, told: &Told<'_>, rule: u8) -> Result<(), AllocError> {
+pub(crate) fn add_call_rule(page: &mut Page, told: &Told<'_>, rule: u8) {
     let name = told.call.call().name();
     match rule {
         4 => return add_several(page, told.bound, demanded(told.call).single),
@@ -394,13 +407,13 @@ pub(crate) fn add_call_rule(page: &mut Page, told: &Told<'_>, rule: u8) -> Resul
     }
     let mut is_first = true;
     if rule == 12 && demanded(told.call).changes_global_names {
-        separate(page, &mut is_first)?;
+        separate(page, &mut is_first);
         page.pieces(&[
             Text(name),
             Text(" makes or removes a name by a global path"),
-        ])?;
+        ]);
     }
     let needs = needed(told.call);
-    add_through(page, told, needs.first, rule, &mut is_first)?;
+    add_through(page, told, needs.first, rule, &mut is_first);
     add_through(page, told, needs.second, rule, &mut is_first)
 }

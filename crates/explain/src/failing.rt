@@ -5,9 +5,6 @@ ghost use Rattle.certificate.specs.Bounds.{Certificate};
 ghost use Rattle.checker.specs.Verdicts.{IsAccepted};
 
 use crate::listing::add_listing;
-use crate::pages::Page;
-use crate::pages::Piece::{Bytes, Number, Text};
-use crate::program_texts::ProgramText;
 use crate::refusing::add_findings;
 use crate::scenes::{Scene, short};
 use crate::starting::add_object;
@@ -15,8 +12,10 @@ use checker::{BrokenRule, all_findings, expand};
 use prog_asm::{Instruction, Syscall};
 use rights::Memory;
 use searcher::{reached, search};
-use std::alloc::{AllocError, Global};
+use std::alloc::Global;
 use task::{FirstObject, Task, TaskNode};
+use task_text::Piece::{Bytes, Number, Text};
+use task_text::{Page, ProgramText};
 
 /// Whether a path is that of a grant, byte for byte.
 fn is_granted(task: &Task, path: &[u8]) -> bool {
@@ -54,7 +53,7 @@ fn lies_in_grant(task: &Task, node: &TaskNode) -> bool {
 }
 
 /// Adds each path that is opened and is no grant's: what comes of it lies in no grant.
-fn add_opens(page: &mut Page, scene: &Scene<'_>) -> Result<(), AllocError> {
+fn add_opens(page: &mut Page, scene: &Scene<'_>) {
     for (program, named) in scene.task.programs().iter().enumerate() {
         for (point, instruction) in named.program.code().iter().enumerate() {
             if let Instruction::Invoke {
@@ -63,22 +62,21 @@ fn add_opens(page: &mut Page, scene: &Scene<'_>) -> Result<(), AllocError> {
             } = instruction
             {
                 if !is_granted(scene.task, path.bytes()) {
-                    page.text("a grant of ")?;
+                    page.text("a grant of ");
                     page.pieces(&[
                         Bytes(path.bytes()),
                         Text(" would be needed, if it is a directory: "),
-                    ])?;
-                    scene.add_point(page, program, point)?;
-                    page.text(" opens it by its path\n")?;
+                    ]);
+                    scene.add_point(page, program, point);
+                    page.text(" opens it by its path\n");
                 }
             }
         }
     }
-    Ok(())
 }
 
 /// Adds each first descriptor of a node that lies in no grant.
-fn add_first(page: &mut Page, scene: &Scene<'_>) -> Result<(), AllocError> {
+fn add_first(page: &mut Page, scene: &Scene<'_>) {
     for (number, start) in scene.task.starts().iter().enumerate() {
         for descriptor in &start.descriptors {
             if let FirstObject::Node { node, .. } = descriptor.object {
@@ -87,20 +85,19 @@ fn add_first(page: &mut Page, scene: &Scene<'_>) -> Result<(), AllocError> {
                     None => true,
                 };
                 if !lies {
-                    page.text("a grant over ")?;
-                    add_object(page, scene, descriptor.object)?;
+                    page.text("a grant over ");
+                    add_object(page, scene, descriptor.object);
                     page.pieces(&[
                         Text(" would be needed: process "),
                         Number(short(number)),
                         Text(" starts with descriptor "),
                         Number(u32::from(descriptor.number)),
                         Text(" of it\n"),
-                    ])?;
+                    ]);
                 }
             }
         }
     }
-    Ok(())
 }
 
 /// Whether a rule is broken by what lies in no grant.
@@ -121,13 +118,13 @@ pub(crate) fn add_unfound(
     ensures { IfOk result (λ is_found. is_found ≡ true → (found : Certificate) × IsAccepted task.now found) }
 {
     if let Some(_found) = search(alloc, task)? {
-        page.text("a certificate is found: `capcheck search` prints it\n")?;
+        page.text("a certificate is found: `capcheck search` prints it\n");
         return Ok(true);
     }
     let Some(cert) = reached(alloc, task)? else {
         page.text(
             "the search gave up: the task has an untrusted program, or its bounds don't settle or are too many\n",
-        )?;
+        );
         return Ok(false);
     };
     let expanded = expand(alloc, task, &cert)?;
@@ -138,12 +135,12 @@ pub(crate) fn add_unfound(
         cert: &expanded,
     };
     let found = all_findings(alloc, task, &cert)?;
-    add_findings(alloc, page, &scene, &found)?;
+    add_findings(alloc, page, &scene, &found);
     if wants_grant(&found) {
-        add_opens(page, &scene)?;
-        add_first(page, &scene)?;
+        add_opens(page, &scene);
+        add_first(page, &scene);
     }
-    page.text("\nThe bounds that the search reached:\n")?;
-    add_listing(alloc, page, &scene, true)?;
+    page.text("\nThe bounds that the search reached:\n");
+    add_listing(alloc, page, &scene, true);
     Ok(false)
 }

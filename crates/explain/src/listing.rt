@@ -1,24 +1,24 @@
 //! The listing of a task's programs: each point with its line, its instruction and its bound.
 
 use crate::naming::{add_rights, add_target, mode_name};
-use crate::pages::Page;
-use crate::pages::Piece::{Bytes, Number, Text};
 use crate::remarks::add_remarks;
 use crate::scenes::{Scene, short};
 use certificate::{Bound, Held, Slot, slots_within};
 use rights::Rights;
-use std::alloc::{AllocError, Global};
+use std::alloc::Global;
+use task_text::Piece::{Bytes, Number, Text};
+use task_text::Page;
 
 /// Adds a number that may be open: what it is of, and its greatest rights.
-fn add_open(page: &mut Page, number: usize, held: &Held, state: &str) -> Result<(), AllocError> {
-    page.pieces(&[Text("    "), Number(short(number)), Text(state)])?;
-    add_target(page, &held.target())?;
-    page.text(" ")?;
+fn add_open(page: &mut Page, number: usize, held: &Held, state: &str) {
+    page.pieces(&[Text("    "), Number(short(number)), Text(state)]);
+    add_target(page, &held.target());
+    page.text(" ");
     let greatest = held.rights().greatest();
     if greatest == Rights::all() {
-        page.text("all rights")?;
+        page.text("all rights");
     } else {
-        add_rights(page, greatest)?;
+        add_rights(page, greatest);
     }
     page.text("\n")
 }
@@ -29,15 +29,14 @@ fn has_same_slots(bound: &Bound, other: &Bound) -> bool {
 }
 
 /// Adds the numbers that may be open under a bound.
-fn add_slots(page: &mut Page, bound: &Bound) -> Result<(), AllocError> {
+fn add_slots(page: &mut Page, bound: &Bound) {
     for (number, slot) in bound.slots().iter().enumerate() {
         match slot {
             Slot::Closed => {}
-            Slot::Open(held) => add_open(page, number, held, " ")?,
-            Slot::Maybe(held) => add_open(page, number, held, " maybe ")?,
+            Slot::Open(held) => add_open(page, number, held, " "),
+            Slot::Maybe(held) => add_open(page, number, held, " maybe "),
         }
     }
-    Ok(())
 }
 
 /// What is told of a point without a bound.
@@ -57,17 +56,17 @@ fn add_point(
     point: usize,
     bound: Option<&Bound>,
     absent: &str,
-) -> Result<(), AllocError> {
+) {
     let written = scene.written(program, point);
     page.pieces(&[
         Text("  "),
         Number(short(point)),
         Text(" line "),
         Number(written.line),
-    ])?;
+    ]);
     match bound {
-        Some(bound) => page.pieces(&[Text(" mode "), Text(mode_name(bound.mode()))])?,
-        None => page.text(absent)?,
+        Some(bound) => page.pieces(&[Text(" mode "), Text(mode_name(bound.mode()))]),
+        None => page.text(absent),
     }
     page.pieces(&[Text(": "), Bytes(written.text), Text("\n")])
 }
@@ -79,27 +78,26 @@ pub(crate) fn add_listing(
     page: &mut Page,
     scene: &Scene<'_>,
     has_cert: bool,
-) -> Result<(), AllocError> {
+) {
     for (number, program) in scene.task.programs().iter().enumerate() {
         let name = program.name.as_bytes();
-        page.pieces(&[Bytes(name), Text("\n")])?;
+        page.pieces(&[Bytes(name), Text("\n")]);
         let absent = without_bound(program.untrusted, has_cert);
         let mut before: Option<Bound> = None;
         for (point, _instruction) in program.program.code().iter().enumerate() {
             let bound = scene.cert.bound_at(name, point);
-            add_point(page, scene, number, point, bound.as_ref(), absent)?;
+            add_point(page, scene, number, point, bound.as_ref(), absent);
             if let Some(bound) = bound {
                 let is_same = match &before {
                     Some(before) => has_same_slots(before, &bound),
                     None => false,
                 };
                 if !is_same {
-                    add_slots(page, &bound)?;
+                    add_slots(page, &bound);
                 }
                 before = Some(bound);
             }
         }
-        add_remarks(alloc, page, scene, number, has_cert)?;
+        add_remarks(alloc, page, scene, number, has_cert);
     }
-    Ok(())
 }

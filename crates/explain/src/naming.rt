@@ -1,45 +1,42 @@
 //! How rights, commands, descriptors and modes are written.
 
-use crate::pages::Page;
-use crate::pages::Piece::{Bytes, Number, Text};
 use bitflags::Flags;
 use certificate::{Class, FcntlsRange, Held, Interval, ModeBound, RightsRange, Side, Slot, Target};
 use rights::{Fcntls, Rights};
-use std::alloc::AllocError;
+use task_text::Piece::{Bytes, Number, Text};
+use task_text::Page;
 
 /// Adds the names of the rights of a set; `none` of an empty one. The aliases for sockets aren't used.
-pub(crate) fn add_rights(page: &mut Page, set: Rights) -> Result<(), AllocError> {
+pub(crate) fn add_rights(page: &mut Page, set: Rights) {
     let mut separator = "";
     for row in Rights::flags() {
         let is_alias = row.name == "RECV" || row.name == "SEND";
         if set.contains(row.value) && !is_alias {
-            page.pieces(&[Text(separator), Text(row.name)])?;
+            page.pieces(&[Text(separator), Text(row.name)]);
             separator = ",";
         }
     }
     if set.bits() == 0 {
         return page.text("none");
     }
-    Ok(())
 }
 
 /// Adds the names of the commands of a set.
-pub(crate) fn add_commands(page: &mut Page, set: Fcntls) -> Result<(), AllocError> {
+pub(crate) fn add_commands(page: &mut Page, set: Fcntls) {
     let mut separator = "";
     for row in Fcntls::flags() {
         if set.contains(row.value) {
-            page.pieces(&[Text(separator), Text(row.name)])?;
+            page.pieces(&[Text(separator), Text(row.name)]);
             separator = ",";
         }
     }
     if set.bits() == 0 {
         return page.text("none");
     }
-    Ok(())
 }
 
 /// Adds what a range of rights goes from and to, or that it is all of them.
-fn add_rights_range(page: &mut Page, range: RightsRange) -> Result<(), AllocError> {
+fn add_rights_range(page: &mut Page, range: RightsRange) {
     let (least, greatest) = (range.least(), range.greatest());
     if least == greatest {
         if least == Rights::all() {
@@ -47,9 +44,9 @@ fn add_rights_range(page: &mut Page, range: RightsRange) -> Result<(), AllocErro
         }
         return add_rights(page, least);
     }
-    page.text("at least ")?;
-    add_rights(page, least)?;
-    page.text(" and at most ")?;
+    page.text("at least ");
+    add_rights(page, least);
+    page.text(" and at most ");
     if greatest == Rights::all() {
         return page.text("all rights");
     }
@@ -57,23 +54,23 @@ fn add_rights_range(page: &mut Page, range: RightsRange) -> Result<(), AllocErro
 }
 
 /// Adds what a range of commands goes from and to, unless it is all of them.
-fn add_commands_range(page: &mut Page, range: FcntlsRange) -> Result<(), AllocError> {
+fn add_commands_range(page: &mut Page, range: FcntlsRange) {
     let (least, greatest) = (range.least(), range.greatest());
     if least == Fcntls::all() {
-        return Ok(());
+        return;
     }
-    page.text(", commands ")?;
+    page.text(", commands ");
     if least == greatest {
         return add_commands(page, least);
     }
-    page.text("at least ")?;
-    add_commands(page, least)?;
-    page.text(" and at most ")?;
+    page.text("at least ");
+    add_commands(page, least);
+    page.text(" and at most ");
     add_commands(page, greatest)
 }
 
 /// Adds a class and a side, as a certificate writes them.
-pub(crate) fn add_end(page: &mut Page, class: &Class, side: Side) -> Result<(), AllocError> {
+pub(crate) fn add_end(page: &mut Page, class: &Class, side: Side) {
     let side = match side {
         Side::A => " a",
         Side::B => " b",
@@ -92,12 +89,12 @@ pub(crate) fn add_end(page: &mut Page, class: &Class, side: Side) -> Result<(), 
 }
 
 /// Adds what a descriptor is of.
-pub(crate) fn add_target(page: &mut Page, target: &Target) -> Result<(), AllocError> {
+pub(crate) fn add_target(page: &mut Page, target: &Target) {
     match target {
         Target::InGrant(name) => page.pieces(&[Text("grant "), Bytes(name.as_bytes())]),
         Target::AnyNode => page.text("any"),
         Target::Socket(class, side) => {
-            page.text("sock ")?;
+            page.text("sock ");
             add_end(page, class, *side)
         }
         Target::Unknown => page.text("unknown"),
@@ -105,30 +102,30 @@ pub(crate) fn add_target(page: &mut Page, target: &Target) -> Result<(), AllocEr
 }
 
 /// Adds what a descriptor is of, and its rights and commands.
-pub(crate) fn add_held(page: &mut Page, held: &Held) -> Result<(), AllocError> {
-    add_target(page, &held.target())?;
-    page.text(" with ")?;
-    add_rights_range(page, held.rights())?;
+pub(crate) fn add_held(page: &mut Page, held: &Held) {
+    add_target(page, &held.target());
+    page.text(" with ");
+    add_rights_range(page, held.rights());
     add_commands_range(page, held.fcntls())
 }
 
 /// Adds what a number of a table may be.
-pub(crate) fn add_slot(page: &mut Page, slot: &Slot) -> Result<(), AllocError> {
+pub(crate) fn add_slot(page: &mut Page, slot: &Slot) {
     match slot {
         Slot::Closed => page.text("closed"),
         Slot::Open(held) => {
-            page.text("open, ")?;
+            page.text("open, ");
             add_held(page, held)
         }
         Slot::Maybe(held) => {
-            page.text("maybe open, ")?;
+            page.text("maybe open, ");
             add_held(page, held)
         }
     }
 }
 
 /// Adds an interval.
-pub(crate) fn add_interval(page: &mut Page, interval: Interval) -> Result<(), AllocError> {
+pub(crate) fn add_interval(page: &mut Page, interval: Interval) {
     if interval.is_full() {
         return page.text("any number");
     }

@@ -1,12 +1,13 @@
 //! Whether a certificate seems to be of an older text of a program, whose points were others.
 
-use crate::pages::Page;
-use crate::pages::Piece::{Bytes, Number, Text};
 use crate::scenes::short;
 use certificate::{Cert, Version};
 use checker::is_named;
+use prog_asm::Instruction;
 use std::alloc::{AllocError, Global};
 use task::Task;
+use task_text::Piece::{Bytes, Number, Text};
+use task_text::Page;
 
 /// How far points may have moved.
 const FURTHEST: usize = 16;
@@ -20,6 +21,15 @@ fn points_of(alloc: Global, cert: &Cert, program: &[u8]) -> Result<Vec<usize>, A
         }
     }
     Ok(points)
+}
+
+/// For each point of a program whether something names it.
+fn named_points(alloc: Global, code: &[Instruction]) -> Result<Vec<bool>, AllocError> {
+    let mut flags = Vec::with_capacity(alloc, code.len())?;
+    for point in 0..code.len() {
+        flags.push(is_named(code, point))?;
+    }
+    Ok(flags)
 }
 
 /// How points have moved: those from one on, so far on or back.
@@ -71,7 +81,7 @@ fn shortest_move(points: &[usize], flags: &[bool]) -> Option<Move> {
 }
 
 /// Adds that a program's bounds seem to be of an older text.
-fn add_move(page: &mut Page, program: &[u8], moved: Move) -> Result<(), AllocError> {
+fn add_move(page: &mut Page, program: &[u8], moved: Move) {
     let way = if moved.is_on {
         " further on"
     } else {
@@ -86,28 +96,22 @@ fn add_move(page: &mut Page, program: &[u8], moved: Move) -> Result<(), AllocErr
         Number(short(moved.far)),
         Text(way),
         Text("\n"),
-    ])
+    ]);
 }
 
 /// Adds, for each program whose bounds in version 2 or 3 stand at points that nothing names, and would all stand at named ones if
 /// some of them had moved, that they have.
-pub(crate) fn add_older(
-    alloc: Global,
-    page: &mut Page,
-    task: &Task,
-    cert: &Cert,
-) -> Result<(), AllocError> {
+pub(crate) fn add_older(alloc: Global, page: &mut Page, task: &Task, cert: &Cert) {
     if cert.version() == Version::One {
-        return Ok(());
+        return;
     }
     for program in task.programs() {
         let name = program.name.as_bytes();
         let code = program.program.code();
-        let points = points_of(alloc, cert, name)?;
-        let mut flags = Vec::new(alloc);
-        for point in 0..code.len() {
-            flags.push(is_named(code, point))?;
-        }
+        let (Ok(points), Ok(flags)) = (points_of(alloc, cert, name), named_points(alloc, code)) else {
+            page.fail();
+            return;
+        };
         let stays = Move {
             from: 0,
             far: 0,
@@ -115,9 +119,8 @@ pub(crate) fn add_older(
         };
         if !stays.fits(&points, &flags) {
             if let Some(moved) = shortest_move(&points, &flags) {
-                add_move(page, name, moved)?;
+                add_move(page, name, moved);
             }
         }
     }
-    Ok(())
 }

@@ -9,7 +9,7 @@ ghost use Rattle.texts.specs.Numbers.{at_most, number_of};
 use texts::number_up_to;
 
 /// What is asked. It borrows the names of files from the words.
-#[derive(Clone, Copy, PartialEq, Eq)]
+#[derive(Clone, Copy)]
 pub enum Question<'a> {
     /// What there is to ask: no words, or `--help`.
     Usage,

@@ -1,16 +1,16 @@
 //! All rules that a certificate breaks, with where and why.
 
-use crate::pages::Page;
-use crate::pages::Piece::{Bytes, Text};
 use crate::scenes::Scene;
 use crate::sentences::add_rule;
 use checker::BrokenRule;
-use std::alloc::{AllocError, Global};
+use std::alloc::Global;
+use task_text::Piece::{Bytes, Text};
+use task_text::Page;
 
 /// Adds the line of a point: its instruction as it is written.
-fn add_head(page: &mut Page, scene: &Scene<'_>, found: BrokenRule) -> Result<(), AllocError> {
+fn add_head(page: &mut Page, scene: &Scene<'_>, found: BrokenRule) {
     let (program, point) = (usize::from(found.program), usize::from(found.point));
-    scene.add_point(page, program, point)?;
+    scene.add_point(page, program, point);
     page.pieces(&[
         Text(": "),
         Bytes(scene.written(program, point).text),
@@ -24,15 +24,14 @@ pub(crate) fn add_findings(
     page: &mut Page,
     scene: &Scene<'_>,
     found: &[BrokenRule],
-) -> Result<(), AllocError> {
+) {
     let mut last = None;
     for finding in found {
         let here = (finding.program, finding.point);
         if last != Some(here) {
             last = Some(here);
-            add_head(page, scene, *finding)?;
+            add_head(page, scene, *finding);
         }
-        add_rule(alloc, page, scene, *finding)?;
+        add_rule(alloc, page, scene, *finding);
     }
-    Ok(())
 }

@@ -1,16 +1,16 @@
 //! Remarks on a program: what a yes doesn't say of it, and what could be narrower.
 
 use crate::naming::add_rights;
-use crate::pages::Page;
-use crate::pages::Piece::{Bytes, Number, Text};
 use crate::reaching::{points_reached, rights_used};
 use crate::scenes::{Scene, short};
-use crate::uses::slots_of;
+use crate::uses::open_slot;
 use certificate::{Bound, Domain, Target};
 use prog_asm::{Instruction, Operand, Syscall};
 use rights::Rights;
 use rights::limits::MAX_DESCRIPTORS;
 use std::alloc::{AllocError, Global};
+use task_text::Piece::{Bytes, Number, Text};
+use task_text::Page;
 use transfer::{Through, may_be_on, needed};
 
 /// A program, and the bounds of its points.
@@ -23,7 +23,7 @@ struct Bounded<'a> {
 }
 
 /// Adds the points whose flag is set, as ranges: `3, 5 to 9`.
-fn add_points(page: &mut Page, flags: &[bool]) -> Result<(), AllocError> {
+fn add_points(page: &mut Page, flags: &[bool]) {
     let mut separator = "";
     let mut first = None;
     for point in 0..flags.len().saturating_add(1) {
@@ -32,34 +32,28 @@ fn add_points(page: &mut Page, flags: &[bool]) -> Result<(), AllocError> {
             None if is_set => first = Some(point),
             Some(start) if !is_set => {
                 first = None;
-                page.pieces(&[Text(separator), Number(short(start))])?;
+                page.pieces(&[Text(separator), Number(short(start))]);
                 separator = ", ";
                 if start.saturating_add(1) < point {
-                    page.pieces(&[Text(" to "), Number(short(point.saturating_sub(1)))])?;
+                    page.pieces(&[Text(" to "), Number(short(point.saturating_sub(1)))]);
                 }
             }
             _ => {}
         }
     }
-    Ok(())
 }
 
 /// Adds a remark at the points whose flag is set, if there is one.
-fn add_remark(
-    page: &mut Page,
-    subject: &[u8],
-    text: &str,
-    flags: &[bool],
-) -> Result<(), AllocError> {
+fn add_remark(page: &mut Page, subject: &[u8], text: &str, flags: &[bool]) {
     if !flags.iter().any(|&flag| flag) {
-        return Ok(());
+        return;
     }
-    page.text("  remark: ")?;
-    page.bytes(subject)?;
-    page.text(text)?;
-    page.text(" at ")?;
-    add_points(page, flags)?;
-    page.text("\n")
+    page.text("  remark: ");
+    page.bytes(subject);
+    page.text(text);
+    page.text(" at ");
+    add_points(page, flags);
+    page.text("\n");
 }
 
 impl<'a> Bounded<'a> {
@@ -145,7 +139,7 @@ fn add_outside(
     program: usize,
     bounded: &Bounded<'_>,
     has_cert: bool,
-) -> Result<(), AllocError> {
+) {
     let mut starts_free = false;
     for start in scene.task.starts() {
         if usize::from(start.program) == program && !start.mode {
@@ -160,17 +154,20 @@ fn add_outside(
         }
     }
     if !starts_free || is_entered {
-        return Ok(());
+        return;
     }
-    let flags = flags_of(alloc, bounded.code, true)?;
+    let Ok(flags) = flags_of(alloc, bounded.code, true) else {
+        page.fail();
+        return;
+    };
     let text = " never enters the mode, and a yes says nothing of what a process does outside it,";
     add_remark(page, bounded.name, text, &flags)
 }
 
 /// Remarks that a process of the program may do anything in the mode.
-fn add_untrusted(page: &mut Page, bounded: &Bounded<'_>) -> Result<(), AllocError> {
+fn add_untrusted(page: &mut Page, bounded: &Bounded<'_>) {
     if !bounded.untrusted {
-        return Ok(());
+        return;
     }
     page.pieces(&[
         Text("  remark: in the mode "),
@@ -182,13 +179,11 @@ fn add_untrusted(page: &mut Page, bounded: &Bounded<'_>) -> Result<(), AllocErro
 }
 
 /// Remarks where no point leads.
-fn add_unreached(
-    alloc: Global,
-    page: &mut Page,
-    bounded: &Bounded<'_>,
-    has_cert: bool,
-) -> Result<(), AllocError> {
-    let mut flags = points_reached(alloc, bounded.code)?;
+fn add_unreached(alloc: Global, page: &mut Page, bounded: &Bounded<'_>, has_cert: bool) {
+    let Ok(mut flags) = points_reached(alloc, bounded.code) else {
+        page.fail();
+        return;
+    };
     for (point, flag) in flags.iter_mut().enumerate() {
         let is_bound = matches!(bounded.bounds.get(point), Some(Some(_)));
         *flag = if has_cert { !is_bound } else { !*flag };
@@ -202,13 +197,11 @@ fn add_unreached(
 }
 
 /// Remarks where, in the mode, a number may hold what lies in no grant.
-fn add_strays(
-    alloc: Global,
-    page: &mut Page,
-    bounded: &Bounded<'_>,
-    number: u32,
-) -> Result<(), AllocError> {
-    let mut flags = flags_of(alloc, bounded.code, false)?;
+fn add_strays(alloc: Global, page: &mut Page, bounded: &Bounded<'_>, number: u32) {
+    let Ok(mut flags) = flags_of(alloc, bounded.code, false) else {
+        page.fail();
+        return;
+    };
     for (point, flag) in flags.iter_mut().enumerate() {
         if let Some(Some(bound)) = bounded.bounds.get(point) {
             if let Some(held) = bound.slot(number).held() {
@@ -219,7 +212,7 @@ fn add_strays(
         }
     }
     let mut subject = Page::new(alloc);
-    subject.pieces(&[Text("descriptor "), Number(number)])?;
+    subject.pieces(&[Text("descriptor "), Number(number)]);
     let text = " may hold what lies in no grant, and the report has no line of it, in the mode";
     add_remark(page, subject.as_bytes(), text, &flags)
 }
@@ -251,68 +244,66 @@ fn limit_at(
     }
 }
 
+/// Remarks to what a number could be limited at a point.
+fn add_limit(page: &mut Page, number: u32, point: usize, most: Rights) {
+    page.pieces(&[
+        Text("  remark: descriptor "),
+        Number(number),
+        Text(" could be limited to "),
+    ]);
+    add_rights(page, most);
+    page.pieces(&[
+        Text(", since no call from there on can use its other rights, in the mode at "),
+        Number(short(point)),
+        Text("\n"),
+    ]);
+}
+
 /// Remarks to what a number could be limited.
-fn add_limits(
-    alloc: Global,
-    page: &mut Page,
-    bounded: &Bounded<'_>,
-    number: u32,
-) -> Result<(), AllocError> {
+fn add_limits(alloc: Global, page: &mut Page, bounded: &Bounded<'_>, number: u32) {
     for (point, _instruction) in bounded.code.iter().enumerate() {
-        if let Some(most) = limit_at(alloc, bounded, number, point)? {
-            page.pieces(&[
-                Text("  remark: descriptor "),
-                Number(number),
-                Text(" could be limited to "),
-            ])?;
-            add_rights(page, most)?;
-            page.pieces(&[
-                Text(", since no call from there on can use its other rights, in the mode at "),
-                Number(short(point)),
-                Text("\n"),
-            ])?;
+        match limit_at(alloc, bounded, number, point) {
+            Ok(None) => {}
+            Ok(Some(most)) => add_limit(page, number, point, most),
+            Err(AllocError) => page.fail(),
         }
     }
-    Ok(())
 }
 
 /// Remarks that the number of an operand is never open where an instruction names it.
 fn add_closed(
-    alloc: Global,
     page: &mut Page,
     bounded: &Bounded<'_>,
     point: usize,
     through: Option<Through>,
-) -> Result<(), AllocError> {
+) {
     let Some(through) = through else {
-        return Ok(());
+        return;
     };
     let operand = through.operand;
     let (Some(Some(bound)), Operand::Number(number)) = (bounded.bounds.get(point), operand) else {
-        return Ok(());
+        return;
     };
-    if !slots_of(alloc, bound, operand)?.is_empty() {
-        return Ok(());
+    if open_slot(bound, &operand, number as usize).is_none() {
+        page.pieces(&[
+            Text("  remark: descriptor "),
+            Number(number),
+            Text(" is never open where the instruction names it, at "),
+            Number(short(point)),
+            Text("\n"),
+        ]);
     }
-    page.pieces(&[
-        Text("  remark: descriptor "),
-        Number(number),
-        Text(" is never open where the instruction names it, at "),
-        Number(short(point)),
-        Text("\n"),
-    ])
 }
 
 /// Remarks which numbers are never open where a call names them.
-fn add_all_closed(alloc: Global, page: &mut Page, bounded: &Bounded<'_>) -> Result<(), AllocError> {
+fn add_all_closed(page: &mut Page, bounded: &Bounded<'_>) {
     for (point, instruction) in bounded.code.iter().enumerate() {
         if let Instruction::Invoke { call, .. } = instruction {
             let needs = needed(call);
-            add_closed(alloc, page, bounded, point, needs.first)?;
-            add_closed(alloc, page, bounded, point, needs.second)?;
+            add_closed(page, bounded, point, needs.first);
+            add_closed(page, bounded, point, needs.second);
         }
     }
-    Ok(())
 }
 
 /// Adds the remarks on a program.
@@ -322,17 +313,20 @@ pub(crate) fn add_remarks(
     scene: &Scene<'_>,
     program: usize,
     has_cert: bool,
-) -> Result<(), AllocError> {
-    let bounded = with_bounds(alloc, scene, program)?;
-    add_outside(alloc, page, scene, program, &bounded, has_cert)?;
-    add_untrusted(page, &bounded)?;
-    add_unreached(alloc, page, &bounded, has_cert)?;
+) {
+    let Ok(bounded) = with_bounds(alloc, scene, program) else {
+        page.fail();
+        return;
+    };
+    add_outside(alloc, page, scene, program, &bounded, has_cert);
+    add_untrusted(page, &bounded);
+    add_unreached(alloc, page, &bounded, has_cert);
     if !has_cert {
-        return Ok(());
+        return;
     }
     for number in 0..MAX_DESCRIPTORS {
-        add_strays(alloc, page, &bounded, short(number))?;
-        add_limits(alloc, page, &bounded, short(number))?;
+        add_strays(alloc, page, &bounded, short(number));
+        add_limits(alloc, page, &bounded, short(number));
     }
-    add_all_closed(alloc, page, &bounded)
+    add_all_closed(page, &bounded);
 }

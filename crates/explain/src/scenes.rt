@@ -1,13 +1,11 @@
 //! What is explained: a task with its file, and a certificate in which all bounds are written.
 
-use crate::pages::Page;
-use crate::pages::Piece::{Bytes, Number, Text};
-use crate::program_texts::{ProgramText, Written};
 use certificate::{Bound, Cert, Name};
 use checker::instruction_at;
 use prog_asm::Instruction;
-use std::alloc::AllocError;
 use task::Task;
+use task_text::Piece::{Bytes, Number, Text};
+use task_text::{Page, ProgramText, Written};
 
 /// A task with its file, and a certificate in which all bounds are written.
 #[derive(Clone, Copy)]
@@ -58,7 +56,7 @@ impl<'a> Scene<'a> {
         page: &mut Page,
         program: usize,
         point: usize,
-    ) -> Result<(), AllocError> {
+    ) {
         let name = match self.task.programs().get(program) {
             Some(program) => program.name.as_bytes(),
             None => &[],

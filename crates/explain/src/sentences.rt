@@ -1,16 +1,16 @@
 //! The rules, each in a sentence with what it compares at a point that breaks it.
 
-use crate::arriving::{Arrival, add_parts, failures, successes};
+use crate::arriving::{Arrival, add_parts, failures, outcomes, successes};
 use crate::authority_rules::{add_authority, add_beyond, add_bounded};
 use crate::call_rules::{Told, add_call_rule};
-use crate::pages::Page;
-use crate::pages::Piece::{Bytes, Number, Text};
 use crate::scenes::{Scene, Spot};
 use crate::starting::add_start;
 use certificate::Domain;
 use checker::BrokenRule;
 use prog_asm::Instruction;
 use std::alloc::{AllocError, Global};
+use task_text::Piece::{Bytes, Number, Text};
+use task_text::Page;
 
 /// How many arrivals of one rule are told.
 const MOST_TOLD: u32 = 3;
@@ -51,20 +51,19 @@ fn add_narrow(
     spot: &Spot<'_>,
     program: usize,
     arrivals: &[Arrival],
-) -> Result<(), AllocError> {
+) {
     let mut told = 0u32;
     for arrival in arrivals {
         let there = scene.cert.bound_at(spot.name.as_bytes(), arrival.point);
         if let Some(there) = there {
             if !arrival.bound.within(&there) && told < MOST_TOLD {
                 told = told.saturating_add(1);
-                page.text("; it leads to ")?;
-                scene.add_point(page, program, arrival.point)?;
-                add_parts(page, &arrival.bound, &there)?;
+                page.text("; it leads to ");
+                scene.add_point(page, program, arrival.point);
+                add_parts(page, &arrival.bound, &there);
             }
         }
     }
-    Ok(())
 }
 
 /// Whether an arrival goes where one before it goes.
@@ -84,16 +83,15 @@ fn add_unbound(
     spot: &Spot<'_>,
     program: usize,
     arrivals: &[Arrival],
-) -> Result<(), AllocError> {
+) {
     for (number, arrival) in arrivals.iter().enumerate() {
         let there = scene.cert.bound_at(spot.name.as_bytes(), arrival.point);
         if there.is_none() && !goes_before(arrivals, number, arrival.point) {
-            page.text("; it leads to ")?;
-            scene.add_point(page, program, arrival.point)?;
-            page.text(", which has none")?;
+            page.text("; it leads to ");
+            scene.add_point(page, program, arrival.point);
+            page.text(", which has none");
         }
     }
-    Ok(())
 }
 
 /// Adds which processes start otherwise than the bound of point 0 says.
@@ -102,13 +100,33 @@ fn add_starts(
     scene: &Scene<'_>,
     spot: &Spot<'_>,
     program: usize,
-) -> Result<(), AllocError> {
+) {
     for start in scene.task.starts() {
         if usize::from(start.program) == program {
-            add_start(page, scene, spot.bound, start)?;
+            add_start(page, scene, spot.bound, start);
         }
     }
-    Ok(())
+}
+
+/// Adds where a point's instruction leads, if its bound there is too narrow or missing, as a rule asks.
+fn add_arrivals(
+    alloc: Global,
+    page: &mut Page,
+    scene: &Scene<'_>,
+    spot: &Spot<'_>,
+    found: BrokenRule,
+) {
+    let arrivals = match found.rule {
+        2 => successes(alloc, scene, spot, found.program),
+        3 => failures(alloc, spot),
+        _ => outcomes(alloc, scene, spot, found.program),
+    };
+    let program = usize::from(found.program);
+    match arrivals {
+        Ok(arrivals) if found.rule == 16 => add_unbound(page, scene, spot, program, &arrivals),
+        Ok(arrivals) => add_narrow(page, scene, spot, program, &arrivals),
+        Err(AllocError) => page.fail(),
+    }
 }
 
 /// Adds what a rule compares at a point with a bound.
@@ -118,40 +136,24 @@ fn add_compared(
     scene: &Scene<'_>,
     spot: &Spot<'_>,
     found: BrokenRule,
-) -> Result<(), AllocError> {
+) {
     let program = usize::from(found.program);
     match found.rule {
         1 => add_starts(page, scene, spot, program),
-        2 => add_narrow(
-            page,
-            scene,
-            spot,
-            program,
-            &successes(alloc, scene, spot, found.program)?,
-        ),
-        3 => add_narrow(page, scene, spot, program, &failures(alloc, spot)?),
-        16 => {
-            let mut arrivals = successes(alloc, scene, spot, found.program)?;
-            for failure in &failures(alloc, spot)? {
-                arrivals.push(*failure)?;
-            }
-            add_unbound(page, scene, spot, program, &arrivals)
-        }
+        2 | 3 | 16 => add_arrivals(alloc, page, scene, spot, found),
         4..=15 => {
-            let Instruction::Invoke { call, .. } = spot.instruction else {
-                return Ok(());
-            };
-            let told = Told {
-                alloc,
-                scene,
-                bound: spot.bound,
-                call,
-            };
-            page.text("; ")?;
-            add_call_rule(page, &told, found.rule)
+            if let Instruction::Invoke { call, .. } = spot.instruction {
+                let told = Told {
+                    scene,
+                    bound: spot.bound,
+                    call,
+                };
+                page.text("; ");
+                add_call_rule(page, &told, found.rule);
+            }
         }
         17 => add_bounded(page, spot.bound),
-        _ => Ok(()),
+        _ => {}
     }
 }
 
@@ -161,11 +163,11 @@ fn add_detail(
     page: &mut Page,
     scene: &Scene<'_>,
     found: BrokenRule,
-) -> Result<(), AllocError> {
+) {
     let (program, point) = (usize::from(found.program), usize::from(found.point));
     let (Some(name), Some(instruction)) = (scene.name(program), scene.instruction(program, point))
     else {
-        return Ok(());
+        return;
     };
     let bound = scene.cert.bound_at(name.as_bytes(), point);
     if found.rule == 18 {
@@ -195,17 +197,17 @@ pub(crate) fn add_rule(
     page: &mut Page,
     scene: &Scene<'_>,
     found: BrokenRule,
-) -> Result<(), AllocError> {
+) {
     page.pieces(&[
         Text("  K"),
         Number(u32::from(found.rule)),
         Text(" "),
         Text(general(found.rule)),
-    ])?;
+    ]);
     let mut detail = Page::new(alloc);
-    add_detail(alloc, &mut detail, scene, found)?;
+    add_detail(alloc, &mut detail, scene, found);
     if let Some(rest) = detail.as_bytes().strip_prefix(b"; ".as_slice()) {
-        page.pieces(&[Text(": "), Bytes(rest)])?;
+        page.pieces(&[Text(": "), Bytes(rest)]);
     }
-    page.text("\n")
+    page.text("\n");
 }

@@ -1,20 +1,19 @@
 //! In which part the bound of point 0 is too narrow for the first state of a process.
 
 use crate::naming::{add_interval, add_rights, add_slot, mode_name};
-use crate::pages::Page;
-use crate::pages::Piece::{Number, Text};
 use crate::scenes::{Scene, short};
 use certificate::{Bound, Class, Held, ModeBound, Side, Slot, Target};
 use rights::limits::REGISTERS;
-use std::alloc::AllocError;
 use task::{FirstDescriptor, FirstObject, Start, grant_holds};
+use task_text::Piece::{Bytes, Number, Text};
+use task_text::Page;
 
 /// Adds where a first descriptor stands in the tree, or which side of which pair it is.
 pub(crate) fn add_object(
     page: &mut Page,
     scene: &Scene<'_>,
     object: FirstObject,
-) -> Result<(), AllocError> {
+) {
     match object {
         FirstObject::Node { node, .. } => {
             let Some(node) = scene.task.nodes().get(node as usize) else {
@@ -24,10 +23,9 @@ pub(crate) fn add_object(
                 return page.text("/");
             }
             for name in &node.place {
-                page.text("/")?;
-                page.piece(crate::pages::Piece::Bytes(name))?;
+                page.text("/");
+                page.piece(Bytes(name));
             }
-            Ok(())
         }
         FirstObject::End { pair, side } => {
             let side = match side {
@@ -101,22 +99,22 @@ fn add_first(
     number: usize,
     slot: &Slot,
     first: Option<FirstDescriptor>,
-) -> Result<(), AllocError> {
+) {
     page.pieces(&[
         Text("; descriptor "),
         Number(short(number)),
         Text(" starts "),
-    ])?;
+    ]);
     match first {
-        None => page.text("closed")?,
+        None => page.text("closed"),
         Some(first) => {
-            page.text("as ")?;
-            add_object(page, scene, first.object)?;
-            page.text(" with ")?;
-            add_rights(page, first.rights)?;
+            page.text("as ");
+            add_object(page, scene, first.object);
+            page.text(" with ");
+            add_rights(page, first.rights);
         }
     }
-    page.text(", the bound has ")?;
+    page.text(", the bound has ");
     add_slot(page, slot)
 }
 
@@ -126,7 +124,7 @@ pub(crate) fn add_start(
     scene: &Scene<'_>,
     bound: &Bound,
     start: &Start,
-) -> Result<(), AllocError> {
+) {
     let is_mode = match bound.mode() {
         ModeBound::Off => !start.mode,
         ModeBound::On => start.mode,
@@ -134,23 +132,22 @@ pub(crate) fn add_start(
     };
     if !is_mode {
         let mode = if start.mode { "on" } else { "off" };
-        page.pieces(&[Text("; the mode starts "), Text(mode)])?;
-        page.pieces(&[Text(", the bound has "), Text(mode_name(bound.mode()))])?;
+        page.pieces(&[Text("; the mode starts "), Text(mode)]);
+        page.pieces(&[Text(", the bound has "), Text(mode_name(bound.mode()))]);
     }
     for register in 0..REGISTERS {
         let register = register as u8;
         let interval = bound.interval(register);
         if interval.low() > 0 {
-            page.pieces(&[Text("; r"), Number(u32::from(register))])?;
-            page.text(" starts as 0, the bound has ")?;
-            add_interval(page, interval)?;
+            page.pieces(&[Text("; r"), Number(u32::from(register))]);
+            page.text(" starts as 0, the bound has ");
+            add_interval(page, interval);
         }
     }
     for (number, slot) in bound.slots().iter().enumerate() {
         let first = first_of(start, number);
         if !slot_describes(scene, slot, first) {
-            add_first(page, scene, number, slot, first)?;
+            add_first(page, scene, number, slot, first);
         }
     }
-    Ok(())
 }

@@ -4,50 +4,23 @@ ghost use Rattle.std.specs.Prelude.{◌≡◌, ◌≢◌, IfOk, false, true};
 ghost use Rattle.task_reader.specs.declared.faults.TaskFault.TheVariants as code;
 ghost use Rattle.explain.specs.Answered.{IsTaskText};
 
-use crate::code_faults::add_code_faults;
-use crate::field_faults::{Faults, add_field_faults};
-use crate::fields::fields_of;
-use crate::pages::Page;
-use crate::pages::Piece::Text;
-use crate::path_faults::add_path_faults;
-use crate::program_texts::program_texts;
 use commands::faults::{Fault, words_of};
 use std::alloc::Global;
 use task_reader::{TaskFault, read_task};
+use task_text::{Page, add_faults};
 
-/// Adds where the text is no TOML, as far as its reader tells.
-fn add_toml(faults: &mut Faults<'_>) -> Result<(), TaskFault> {
-    if let Err(error) = toml::table_from_slice(faults.alloc, faults.file) {
-        if error.is_memory() {
-            return Err(TaskFault::Memory);
-        }
-        if let Some(span) = error.span() {
-            faults.add(span.start, &[Text("here the text is no TOML")])?;
-        }
-    }
-    Ok(())
-}
-
-/// Adds the faults of a text that is no task's, and by which it is refused. Of what is no TOML its reader's place is told alone.
-fn add_faults(
+/// Adds the faults of a text that is no task's, and by which it is refused.
+fn add_refusal(
     alloc: Global,
     page: &mut Page,
     file: &[u8],
     fault: TaskFault,
 ) -> Result<(), TaskFault> {
-    let fields = fields_of(alloc, file)?;
-    let mut faults = Faults::new(alloc, file);
-    if matches!(fault, TaskFault::NotToml) {
-        add_toml(&mut faults)?;
-    } else {
-        add_field_faults(&mut faults, &fields)?;
-        add_path_faults(&mut faults, &fields)?;
-        add_code_faults(&mut faults, &program_texts(alloc, file, &fields)?)?;
-    }
-    faults.tell(page)?;
-    page.text("the task is refused: ")?;
-    page.bytes(&words_of(alloc, &Fault::Task(fault))?)?;
-    page.text("\n")?;
+    let is_toml = !matches!(fault, TaskFault::NotToml);
+    add_faults(alloc, page, file, is_toml)?;
+    page.text("the task is refused: ");
+    page.bytes(&words_of(alloc, &Fault::Task(fault))?);
+    page.text("\n");
     Ok(())
 }
 
@@ -79,14 +52,14 @@ pub(crate) fn add_task_faults(
 {
     match read_task(alloc, file) {
         Ok(_) => {
-            page.text("the text is a task's\n")?;
+            page.text("the text is a task's\n");
             Ok(true)
         }
         Err(fault) => {
             if is_memory(&fault) {
                 return Err(TaskFault::Memory);
             }
-            add_faults(alloc, page, file, fault)?;
+            add_refusal(alloc, page, file, fault)?;
             Ok(false)
         }
     }

@@ -2,7 +2,6 @@
 
 use certificate::{Bound, Held};
 use prog_asm::Operand;
-use std::alloc::{AllocError, Global};
 use transfer::{Need, operand_interval};
 
 /// A slot that may be open.
@@ -19,21 +18,15 @@ pub(crate) struct Use {
     pub need: Need,
 }
 
-/// The slots that an operand may name.
-pub(crate) fn slots_of(
-    alloc: Global,
-    bound: &Bound,
-    operand: Operand,
-) -> Result<Vec<OpenSlot>, AllocError> {
-    let interval = operand_interval(bound, operand);
-    let mut slots = Vec::new(alloc);
-    for (number, slot) in bound.slots().iter().enumerate() {
-        let is_named = interval.low() as usize <= number && number <= interval.high() as usize;
-        if let Some(held) = slot.held() {
-            if is_named {
-                slots.push(OpenSlot { number, held })?;
-            }
-        }
+/// The slot of a number, if an operand may name it and it may be open.
+pub(crate) fn open_slot(bound: &Bound, operand: &Operand, number: usize) -> Option<OpenSlot> {
+    let interval = operand_interval(bound, *operand);
+    let (low, high) = (interval.low() as usize, interval.high() as usize);
+    if number < low || high < number {
+        return None;
     }
-    Ok(slots)
+    match bound.slots().get(number) {
+        Some(slot) => slot.held().map(|held| OpenSlot { number, held }),
+        None => None,
+    }
 }

@@ -14,12 +14,14 @@ use Rattle.process.specs.State.{ProcessState, One, Two}
 use Rattle.process.specs.Views.{walking_in}
 use Rattle.process.specs.declared.walking.Walking.{Walking}
 use Rattle.process.specs.declared.walking.Walking.TheVariants as walking
+use Rattle.prog_asm.specs.Paths.{has_path}
 use Rattle.prog_asm.specs.Programs.{Syscall}
+use Rattle.prog_asm.specs.Programs as programs
 use Rattle.fd_table.specs.OpenFiles.{OpenFiles}
 use Rattle.kernel.specs.World.{World}
 use Rattle.kernel.specs.Answers.{Answer, Event, lookup_fails}
 use Rattle.kernel.specs.Calls.{found_last, is_at_last, looks_twice, or_fails, walked_both, walked_first, walked_second}
-use Rattle.kernel.specs.Walks.{IfOne, IfTwo}
+use Rattle.kernel.specs.Walks.{IfOne, IfTwo, No_path, lookups_of}
 use Rattle.syscalls.specs.declared.lookups.Both.{Both}
 use Rattle.syscalls.specs.declared.outcomes.Refusal.{Refusal}
 use Rattle.syscalls.specs.declared.outcomes.Refusal.TheVariants as refusal
@@ -146,3 +148,39 @@ pub performs_at_rest : (t : List Node) (f : OpenFiles) (caller : Caller) (walk :
 performs_at_rest t f caller walk after left r call known same none rests performs =
     subst (Performs t f caller (state_with caller walk) after left r) (sym same)
     (subst (λ s. Performs t f caller s after left r known) (sym (ap (λ o. record caller.process.now { walk = o }) (none ∙ sym rests))) performs)
+
+-- ## Calls without a path
+-- what a call answers that is known to be this one
+pub performs_as : (t : List Node) (f : OpenFiles) (caller : Caller) (s : ProcessState) (after : List Node) (left : OpenFiles) (r : Result Success Refusal) (call known : Syscall) →
+    call ≡ known → Performs t f caller s after left r known → Performs t f caller s after left r call
+performs_as t f caller s after left r call known same performs = subst (Performs t f caller s after left r) (sym same) performs
+
+pub pathless_looks_nothing_up : (call : Syscall) → has_path call ≡ false → lookups_of call ≡ No_path
+unfolding lookups_of
+pathless_looks_nothing_up (programs.Open a b) is = absurd (let clash : true ≡ false = is in cc)
+pathless_looks_nothing_up (programs.Openat a b c) is = absurd (let clash : true ≡ false = is in cc)
+pathless_looks_nothing_up (programs.Read a) is = refl
+pathless_looks_nothing_up (programs.Write a b) is = refl
+pathless_looks_nothing_up (programs.Sendfd a b c) is = refl
+pathless_looks_nothing_up (programs.Recvfd a) is = refl
+pathless_looks_nothing_up (programs.Lseek a b) is = refl
+pathless_looks_nothing_up (programs.Ftruncate a b) is = refl
+pathless_looks_nothing_up (programs.Fsync a) is = refl
+pathless_looks_nothing_up (programs.Fstat a) is = refl
+pathless_looks_nothing_up (programs.Fcntl_getfl a) is = refl
+pathless_looks_nothing_up (programs.Fcntl_setfl a b) is = refl
+pathless_looks_nothing_up (programs.Fstatat a b) is = absurd (let clash : true ≡ false = is in cc)
+pathless_looks_nothing_up (programs.Stat a) is = absurd (let clash : true ≡ false = is in cc)
+pathless_looks_nothing_up (programs.Mkdirat a b) is = absurd (let clash : true ≡ false = is in cc)
+pathless_looks_nothing_up (programs.Mkdir a) is = absurd (let clash : true ≡ false = is in cc)
+pathless_looks_nothing_up (programs.Unlinkat a b c) is = absurd (let clash : true ≡ false = is in cc)
+pathless_looks_nothing_up (programs.Unlink a b) is = absurd (let clash : true ≡ false = is in cc)
+pathless_looks_nothing_up (programs.Renameat a b c d) is = absurd (let clash : true ≡ false = is in cc)
+pathless_looks_nothing_up (programs.Dup a) is = refl
+pathless_looks_nothing_up (programs.Close a) is = refl
+pathless_looks_nothing_up (programs.Cap_rights_limit a b) is = refl
+pathless_looks_nothing_up (programs.Cap_fcntls_limit a b) is = refl
+pathless_looks_nothing_up programs.Cap_enter is = refl
+pathless_looks_nothing_up programs.Cap_getmode is = refl
+pathless_looks_nothing_up programs.Socketpair is = refl
+pathless_looks_nothing_up programs.Fork is = refl

@@ -29,7 +29,7 @@ use Rattle.syscalls.specs.declared.outcomes.Success.{Success}
 use Rattle.syscalls.specs.declared.outcomes.Refusal.{Refusal}
 use Rattle.syscalls.specs.declared.outcomes.Refusal.TheVariants as refusal
 use Rattle.fd_table.specs.Views.{access_seen, side_seen}
-use Rattle.prog_asm.specs.Programs.{Syscall, called}
+use Rattle.prog_asm.specs.Programs.{Syscall, Read, Write, Lseek, Ftruncate, Fsync, Fstat, called}
 use Rattle.kernel.specs.Calls.{answer, lost, no_request, renamed_from}
 use Rattle.syscalls.specs.declared.paths.Beneath.{Beneath}
 use Rattle.syscalls.specs.declared.lookups.Both.{Both}
@@ -257,6 +257,16 @@ Performs t f caller s after left r call =
     → e.refuse ≡ caller.refuse
     → length processes ≡ caller.made
     → Meets (world_with t f processes) caller.number after left r (answer (world_with t f processes) caller.number s e call)
+
+-- which calls work on the node of a descriptor, without a path
+abbrev pub works_on_node : Syscall → Bool
+works_on_node (Read descriptor) = true
+works_on_node (Write descriptor value) = true
+works_on_node (Lseek descriptor offset) = true
+works_on_node (Ftruncate descriptor len) = true
+works_on_node (Fsync descriptor) = true
+works_on_node (Fstat descriptor) = true
+works_on_node _ = false
 
 -- what a call that opens nothing needs of its first descriptor
 abbrev pub need : Call → ℕ

@@ -4,7 +4,7 @@ use crate::places::part;
 use std::alloc::{AllocError, Global};
 
 /// How a text in quotes is written.
-#[derive(Clone, Copy, PartialEq, Eq)]
+#[derive(Clone, Copy)]
 pub(crate) enum Quoting {
     Basic,
     Literal,
@@ -12,8 +12,28 @@ pub(crate) enum Quoting {
     LongLiteral,
 }
 
+impl Quoting {
+    /// The byte that ends it, once or three times.
+    fn quote(self) -> u8 {
+        match self {
+            Quoting::Basic | Quoting::LongBasic => b'"',
+            Quoting::Literal | Quoting::LongLiteral => b'\'',
+        }
+    }
+
+    /// Whether a backslash escapes what follows.
+    pub(crate) fn has_escapes(self) -> bool {
+        matches!(self, Quoting::Basic | Quoting::LongBasic)
+    }
+
+    /// Whether it is in three quotes.
+    pub(crate) fn is_long(self) -> bool {
+        matches!(self, Quoting::LongBasic | Quoting::LongLiteral)
+    }
+}
+
 /// What a token is.
-#[derive(Clone, Copy, PartialEq, Eq)]
+#[derive(Clone, Copy)]
 pub(crate) enum TokenKind {
     /// A bare key, a number, a date or a truth value.
     Word,
@@ -69,16 +89,17 @@ fn is_word_byte(byte: u8) -> bool {
 
 /// What a byte between words is a token of by itself.
 fn single(byte: u8) -> Option<TokenKind> {
-    match byte {
-        b'{' => Some(TokenKind::OpenBrace),
-        b'}' => Some(TokenKind::CloseBrace),
-        b'[' => Some(TokenKind::OpenBracket),
-        b']' => Some(TokenKind::CloseBracket),
-        b',' => Some(TokenKind::Comma),
-        b'=' => Some(TokenKind::Equals),
-        b'\n' => Some(TokenKind::NewLine),
-        _ => None,
-    }
+    let kinds = [
+        TokenKind::OpenBrace,
+        TokenKind::CloseBrace,
+        TokenKind::OpenBracket,
+        TokenKind::CloseBracket,
+        TokenKind::Comma,
+        TokenKind::Equals,
+        TokenKind::NewLine,
+    ];
+    let place = b"{}[],=\n".iter().position(|one| *one == byte)?;
+    kinds.get(place).copied()
 }
 
 /// Whether three quotes of this kind stand at an offset.
@@ -146,12 +167,8 @@ impl Reader {
             self.push(TokenKind::Unclosed, start, offset)?;
             return self.push(TokenKind::NewLine, offset, offset.saturating_add(1));
         }
-        let quote = if quoting == Quoting::Basic {
-            b'"'
-        } else {
-            b'\''
-        };
-        if byte == quote && !(quoting == Quoting::Basic && is_escaped(file, start, offset)) {
+        let is_inner = quoting.has_escapes() && is_escaped(file, start, offset);
+        if byte == quoting.quote() && !is_inner {
             return self.push(TokenKind::Text(quoting), start, offset);
         }
         Ok(())
@@ -165,15 +182,11 @@ impl Reader {
         start: usize,
         offset: usize,
     ) -> Result<(), AllocError> {
-        let quote = if quoting == Quoting::LongBasic {
-            b'"'
-        } else {
-            b'\''
-        };
+        let quote = quoting.quote();
+        let is_inner = quoting.has_escapes() && is_escaped(file, start, offset);
         let is_last = has_three(file, offset, quote)
-            && !has_three(file, offset.saturating_add(1), quote)
-            && !(quoting == Quoting::LongBasic && is_escaped(file, start, offset));
-        if is_last {
+            && !has_three(file, offset.saturating_add(1), quote);
+        if is_last && !is_inner {
             self.next = offset.saturating_add(3);
             return self.push(TokenKind::Text(quoting), start, offset);
         }

@@ -16,15 +16,15 @@ pub(crate) struct CodeLine {
 
 /// The text of a program.
 #[derive(Drop)]
-pub(crate) struct ProgramText {
+pub struct ProgramText {
     pub name: Vec<u8>,
-    pub code: Decoded,
-    pub lines: Vec<CodeLine>,
+    pub(crate) code: Decoded,
+    pub(crate) lines: Vec<CodeLine>,
 }
 
 /// An instruction as it is written, and the line of the file that it stands in.
 #[derive(Clone, Copy)]
-pub(crate) struct Written<'a> {
+pub struct Written<'a> {
     pub text: &'a [u8],
     pub line: u32,
 }
@@ -140,7 +140,7 @@ pub(crate) fn tokens_in(
 
 impl ProgramText {
     /// The instruction of a point, and its line in the file; nothing where the program hasn't the point.
-    pub(crate) fn written_at(&self, file: &[u8], point: usize) -> Written<'_> {
+    pub fn written_at(&self, file: &[u8], point: usize) -> Written<'_> {
         let mut number = 0usize;
         for line in &self.lines {
             if line.instruction.0 < line.instruction.1 {
@@ -194,7 +194,7 @@ pub(crate) fn program_texts(
 }
 
 /// The same, from the file alone.
-pub(crate) fn texts_of_file(alloc: Global, file: &[u8]) -> Result<Vec<ProgramText>, AllocError> {
+pub fn texts_of_file(alloc: Global, file: &[u8]) -> Result<Vec<ProgramText>, AllocError> {
     let fields = fields_of(alloc, file)?;
     program_texts(alloc, file, &fields)
 }

@@ -128,12 +128,18 @@ impl Fields {
 
     /// The value of a key of a table, if it has it.
     pub(crate) fn value_at(&self, file: &[u8], table: usize, key: &[u8]) -> Option<Token> {
-        for entry in &self.entries {
-            if entry.table == table && entry.key.written(file) == key {
-                return entry.value;
-            }
-        }
-        None
+        let entry = self
+            .entries
+            .iter()
+            .find(|entry| entry.table == table && entry.key.written(file) == key)?;
+        entry.value
+    }
+
+    /// Whether a table has a key.
+    pub(crate) fn has(&self, file: &[u8], table: usize, key: &[u8]) -> bool {
+        self.entries
+            .iter()
+            .any(|entry| entry.table == table && entry.key.written(file) == key)
     }
 
     /// The table of the last process before a header.
@@ -193,7 +199,7 @@ impl Reader {
     /// Takes the token that a value begins with.
     fn value(&mut self, file: &[u8], entry: usize, token: Token) -> Result<(), AllocError> {
         self.step = Step::Key;
-        if token.kind == TokenKind::NewLine {
+        if matches!(token.kind, TokenKind::NewLine) {
             return Ok(());
         }
         if let Some(entry) = self.fields.entries.get_mut(entry) {
@@ -248,7 +254,7 @@ impl Reader {
     /// Takes a token behind a key.
     fn behind_key(&mut self, key: Token, token: Token) -> Result<(), AllocError> {
         self.step = Step::Key;
-        if token.kind != TokenKind::Equals {
+        if !matches!(token.kind, TokenKind::Equals) {
             return Ok(());
         }
         let entry = self.fields.entries.len();

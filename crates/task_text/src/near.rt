@@ -54,20 +54,13 @@ fn is_meant(word: &[u8], known: &[u8]) -> bool {
 
 /// The known word that was meant, if there is one.
 pub(crate) fn meant<'w>(word: &[u8], known: &[&'w str]) -> Option<&'w str> {
-    for one in known {
-        if is_meant(word, one.as_bytes()) {
-            return Some(*one);
-        }
-    }
-    None
+    known
+        .iter()
+        .find(|one| is_meant(word, one.as_bytes()))
+        .copied()
 }
 
 /// Whether a word is one of these.
 pub(crate) fn is_known(word: &[u8], known: &[&str]) -> bool {
-    for one in known {
-        if word == one.as_bytes() {
-            return true;
-        }
-    }
-    false
+    known.iter().any(|one| word == one.as_bytes())
 }

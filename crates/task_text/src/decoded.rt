@@ -1,7 +1,7 @@
 //! What a text in quotes stands for, with the offset that each of its bytes comes from.
 
 use crate::places::part;
-use crate::tokens::{Quoting, Token, TokenKind};
+use crate::tokens::{Token, TokenKind};
 use std::alloc::{AllocError, Global};
 
 /// A text, and for each of its bytes the offset in the file that it comes from.
@@ -54,7 +54,7 @@ fn first_end(written: &[u8]) -> usize {
 }
 
 /// Where a reader of escapes stands.
-#[derive(Clone, Copy, PartialEq, Eq)]
+#[derive(Clone, Copy)]
 enum Reading {
     None,
     /// Behind a backslash.
@@ -113,9 +113,7 @@ pub(crate) fn decode(alloc: Global, file: &[u8], token: Token) -> Result<Decoded
         end: token.end,
     };
     let (is_long, has_escapes) = match token.kind {
-        TokenKind::Text(Quoting::Basic) => (false, true),
-        TokenKind::Text(Quoting::LongBasic) => (true, true),
-        TokenKind::Text(Quoting::LongLiteral) => (true, false),
+        TokenKind::Text(quoting) => (quoting.is_long(), quoting.has_escapes()),
         _ => (false, false),
     };
     let left_out = if is_long {

@@ -5,7 +5,6 @@ use crate::near::{is_known, meant};
 use crate::pages::Page;
 use crate::pages::Piece::Text;
 use crate::places::part;
-use std::alloc::AllocError;
 use texts::{is_name, number_up_to};
 
 /// What stands at a place of an instruction.
@@ -63,51 +62,107 @@ pub(crate) const MNEMONICS: &[&str] = &[
     "fork",
 ];
 
-/// What stands behind the word of an instruction; `dir` before an `else` is left out.
-pub(crate) fn forms_of(word: &str) -> &'static [Form] {
-    match word {
-        "set" => &[Form::Register, Form::Number],
-        "mov" | "add" => &[Form::Register, Form::Register],
-        "in" => &[Form::Register],
-        "jmp" => &[Form::Label],
-        "jeq" | "jlt" => &[Form::Register, Form::Number, Form::Label],
-        "open" => &[Form::Path, Form::Flags, Form::Else, Form::Label],
-        "openat" => &[
+/// Instructions behind whose words the same stands.
+#[derive(Clone, Copy)]
+struct Shape {
+    words: &'static [&'static str],
+    forms: &'static [Form],
+}
+
+/// What stands behind the words of instructions; `dir` before an `else` is left out.
+const SHAPES: &[Shape] = &[
+    Shape {
+        words: &["set"],
+        forms: &[Form::Register, Form::Number],
+    },
+    Shape {
+        words: &["mov", "add"],
+        forms: &[Form::Register, Form::Register],
+    },
+    Shape {
+        words: &["in"],
+        forms: &[Form::Register],
+    },
+    Shape {
+        words: &["jmp"],
+        forms: &[Form::Label],
+    },
+    Shape {
+        words: &["jeq", "jlt"],
+        forms: &[Form::Register, Form::Number, Form::Label],
+    },
+    Shape {
+        words: &["open"],
+        forms: &[Form::Path, Form::Flags, Form::Else, Form::Label],
+    },
+    Shape {
+        words: &["openat"],
+        forms: &[
             Form::Value,
             Form::Path,
             Form::Flags,
             Form::Else,
             Form::Label,
         ],
-        "read" | "recvfd" | "fsync" | "fstat" | "fcntl_getfl" | "dup" | "close" => {
-            &[Form::Value, Form::Else, Form::Label]
-        }
-        "write" | "lseek" | "ftruncate" | "fcntl_setfl" => {
-            &[Form::Value, Form::Value, Form::Else, Form::Label]
-        }
-        "sendfd" => &[
+    },
+    Shape {
+        words: &[
+            "read", "recvfd", "fsync", "fstat", "fcntl_getfl", "dup", "close",
+        ],
+        forms: &[Form::Value, Form::Else, Form::Label],
+    },
+    Shape {
+        words: &["write", "lseek", "ftruncate", "fcntl_setfl"],
+        forms: &[Form::Value, Form::Value, Form::Else, Form::Label],
+    },
+    Shape {
+        words: &["sendfd"],
+        forms: &[
             Form::Value,
             Form::Value,
             Form::Value,
             Form::Else,
             Form::Label,
         ],
-        "stat" | "mkdir" | "unlink" => &[Form::Path, Form::Else, Form::Label],
-        "fstatat" | "mkdirat" | "unlinkat" => &[Form::Value, Form::Path, Form::Else, Form::Label],
-        "renameat" => {
-            &[
-                Form::Value,
-                Form::Path,
-                Form::Value,
-                Form::Path,
-                Form::Else,
-                Form::Label,
-            ]
-        }
-        "cap_rights_limit" => &[Form::Value, Form::Rights, Form::Else, Form::Label],
-        "cap_fcntls_limit" => &[Form::Value, Form::Commands, Form::Else, Form::Label],
-        "cap_enter" | "cap_getmode" | "socketpair" | "fork" => &[Form::Else, Form::Label],
-        _ => &[],
+    },
+    Shape {
+        words: &["stat", "mkdir", "unlink"],
+        forms: &[Form::Path, Form::Else, Form::Label],
+    },
+    Shape {
+        words: &["fstatat", "mkdirat", "unlinkat"],
+        forms: &[Form::Value, Form::Path, Form::Else, Form::Label],
+    },
+    Shape {
+        words: &["renameat"],
+        forms: &[
+            Form::Value,
+            Form::Path,
+            Form::Value,
+            Form::Path,
+            Form::Else,
+            Form::Label,
+        ],
+    },
+    Shape {
+        words: &["cap_rights_limit"],
+        forms: &[Form::Value, Form::Rights, Form::Else, Form::Label],
+    },
+    Shape {
+        words: &["cap_fcntls_limit"],
+        forms: &[Form::Value, Form::Commands, Form::Else, Form::Label],
+    },
+    Shape {
+        words: &["cap_enter", "cap_getmode", "socketpair", "fork"],
+        forms: &[Form::Else, Form::Label],
+    },
+];
+
+/// What stands behind the word of an instruction.
+pub(crate) fn forms_of(word: &[u8]) -> &'static [Form] {
+    match SHAPES.iter().find(|shape| is_known(word, shape.words)) {
+        Some(shape) => shape.forms,
+        None => &[],
     }
 }
 
@@ -126,7 +181,7 @@ fn is_small(token: &[u8]) -> bool {
 
 /// Whether it is a text in quotes.
 fn is_quoted(token: &[u8]) -> bool {
-    token.len() >= 2 && token.starts_with(b"\"") && token.ends_with(b"\"")
+    token.len() > 1 && token.starts_with(b"\"") && token.ends_with(b"\"")
 }
 
 /// What is wanted at a place of this form.
@@ -155,7 +210,7 @@ pub(crate) fn words_of(form: Form) -> &'static [&'static str] {
 }
 
 /// Adds a list with its words as they were meant, parted by commas. Whether all its words are known then.
-pub(crate) fn add_meant(page: &mut Page, list: &[u8], known: &[&str]) -> Result<bool, AllocError> {
+pub(crate) fn add_meant(page: &mut Page, list: &[u8], known: &[&str]) -> bool {
     let mut start = 0;
     let mut separator = "";
     for at in 0..list.len().saturating_add(1) {
@@ -167,13 +222,13 @@ pub(crate) fn add_meant(page: &mut Page, list: &[u8], known: &[&str]) -> Result<
             let word = part(list, start, at);
             start = at.saturating_add(1);
             let Some(one) = meant(word, known) else {
-                return Ok(false);
+                return false;
             };
-            page.pieces(&[Text(separator), Text(one)])?;
+            page.pieces(&[Text(separator), Text(one)]);
             separator = ",";
         }
     }
-    Ok(true)
+    true
 }
 
 /// Whether a list has only known words, each once, or is `none`.

@@ -1,7 +1,7 @@
 //! Where a byte of a file stands: its line and its column.
 
 /// A line and a column, each counted from 1.
-#[derive(Clone, Copy, PartialEq, Eq)]
+#[derive(Clone, Copy)]
 pub(crate) struct Place {
     pub line: u32,
     pub column: u32,

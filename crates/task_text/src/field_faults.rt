@@ -1,0 +1,380 @@
+//! Faults in the keys and words of a task's text.
+
+use crate::decoded::decode;
+use crate::fields::{Entry, Fields, Table, TableKind};
+use crate::known_words::{Value, keys_of, kind_name, needed_keys, value_of};
+use crate::near::{is_known, meant};
+use crate::pages::Page;
+use crate::pages::Piece::{self, Bytes, Number, Text};
+use crate::places::place_at;
+use crate::tokens::{Token, TokenKind};
+use std::alloc::{AllocError, Global};
+use texts::is_name;
+
+/// What is told at an offset of a text.
+#[derive(Drop)]
+struct Line {
+    offset: usize,
+    text: Page,
+}
+
+/// The faults that are told of a text. Where memory is refused some are left out, and `tell` says so.
+#[derive(Drop)]
+pub(crate) struct Faults<'a> {
+    pub alloc: Global,
+    pub file: &'a [u8],
+    lines: Vec<Line>,
+    is_short: bool,
+}
+
+impl<'a> Faults<'a> {
+    /// No faults yet of a text.
+    pub(crate) fn new(alloc: Global, file: &'a [u8]) -> Faults<'a> {
+        Faults {
+            alloc,
+            file,
+            lines: Vec::new(alloc),
+            is_short: false,
+        }
+    }
+
+    /// Adds the fault at an offset.
+    pub(crate) fn add(&mut self, offset: usize, pieces: &[Piece<'_>]) {
+        let mut text = Page::new(self.alloc);
+        text.pieces(pieces);
+        self.add_page(offset, text);
+    }
+
+    /// Adds the lines of all faults to a page, in the order of the text.
+    pub(crate) fn tell(&mut self, page: &mut Page) -> Result<(), AllocError> {
+        if self.is_short {
+            return Err(AllocError);
+        }
+        self.lines.sort_by_key(|line| line.offset)?;
+        for line in &self.lines {
+            let place = place_at(self.file, line.offset);
+            page.pieces(&[
+                Text("line "),
+                Number(place.line),
+                Text(", column "),
+                Number(place.column),
+                Text(": "),
+            ]);
+            page.page(&line.text);
+            page.text("\n");
+        }
+        Ok(())
+    }
+
+    /// Adds what is told at an offset: a word, and what is said of it.
+    pub(crate) fn add_of(
+        &mut self,
+        offset: usize,
+        word: &[u8],
+        text: &str,
+    ) {
+        let mut line = Page::new(self.alloc);
+        line.text("`");
+        line.bytes(word);
+        line.text("` ");
+        line.text(text);
+        self.add_page(offset, line);
+    }
+
+    /// Adds what is told at an offset.
+    pub(crate) fn add_page(&mut self, offset: usize, text: Page) {
+        if self.lines.push(Line { offset, text }).is_err() {
+            self.is_short = true;
+        }
+    }
+
+    /// Adds the line of a word that isn't one of these, with what was meant.
+    pub(crate) fn add_word(
+        &mut self,
+        offset: usize,
+        what: &str,
+        word: &[u8],
+        known: &[&str],
+    ) {
+        let mut line = Page::new(self.alloc);
+        line.text(what);
+        line.text(" `");
+        line.bytes(word);
+        match meant(word, known) {
+            Some(one) => {
+                line.text("`: `");
+                line.text(one);
+                line.text("` is meant?");
+            }
+            None => {
+                line.text("` is none of ");
+                add_list(&mut line, known);
+            }
+        }
+        self.add_page(offset, line);
+    }
+}
+
+/// Adds words, parted by commas.
+fn add_list(page: &mut Page, words: &[&str]) {
+    let mut separator = "";
+    for word in words {
+        page.text(separator);
+        page.text(word);
+        separator = ", ";
+    }
+}
+
+/// The key of this name that tables of a kind may have.
+fn key_named(kind: TableKind, name: &[u8]) -> Option<&'static str> {
+    keys_of(kind)
+        .iter()
+        .find(|key| key.as_bytes() == name)
+        .copied()
+}
+
+/// Whether a token is a text in quotes.
+fn is_text(token: Token) -> bool {
+    matches!(token.kind, TokenKind::Text(_))
+}
+
+/// Whether a token begins a list.
+fn is_list(token: Token) -> bool {
+    matches!(token.kind, TokenKind::OpenBracket)
+}
+
+/// Whether a token is `true` or `false`.
+fn is_truth(file: &[u8], token: Token) -> bool {
+    matches!(token.kind, TokenKind::Word) && is_known(token.written(file), &["true", "false"])
+}
+
+/// Tells of a key that its table may not have.
+fn add_unknown_key(faults: &mut Faults<'_>, kind: TableKind, entry: &Entry) {
+    let what = match kind {
+        TableKind::Top => "key of the task",
+        TableKind::Node => "key of a node",
+        TableKind::Grant => "key of a grant",
+        TableKind::Process => "key of a process",
+        TableKind::Descriptor => "key of a descriptor",
+        TableKind::Program => "key of a program",
+        TableKind::Other => "key",
+    };
+    let word = entry.key.written(faults.file);
+    faults.add_word(entry.key.start, what, word, keys_of(kind));
+}
+
+/// What a value has to be that isn't even of the right kind; empty where it is.
+fn wanted_kind(file: &[u8], expected: Value, value: Token) -> &'static str {
+    let (is_right, wanted) = match expected {
+        Value::Text | Value::Name | Value::OneOf(_) => (is_text(value), "a text in quotes"),
+        Value::Number => (matches!(value.kind, TokenKind::Word), "a number"),
+        Value::Truth => (is_truth(file, value), "true or false"),
+        Value::Words(_) => (is_list(value), "a list of words in brackets"),
+        Value::Tables => (is_list(value), "a list of tables in brackets"),
+    };
+    if is_right { "" } else { wanted }
+}
+
+/// Tells of a word that isn't one of those that its key wants, or is no name where it wants one.
+fn add_wrong_word(
+    faults: &mut Faults<'_>,
+    key: &'static str,
+    value: Token,
+    expected: Value,
+    word: &[u8],
+) {
+    match expected {
+        Value::OneOf(known) => {
+            if !is_known(word, known) {
+                faults.add_word(value.start, key, word, known);
+            }
+        }
+        Value::Name => {
+            if !is_name(word) {
+                let text = "is no name: a letter a to z, then up to 15 of a to z, 0 to 9 and _";
+                faults.add_of(value.start, word, text);
+            }
+        }
+        _ => {}
+    }
+}
+
+/// Tells of a value that isn't what its key wants.
+fn add_value(
+    faults: &mut Faults<'_>,
+    fields: &Fields,
+    entry: &Entry,
+    key: &'static str,
+    value: Token,
+) -> Result<(), AllocError> {
+    let expected = value_of(fields.kind_of(entry.table), key);
+    let wanted = wanted_kind(faults.file, expected, value);
+    if wanted.is_empty() {
+        let word = decode(faults.alloc, faults.file, value)?.bytes;
+        add_wrong_word(faults, key, value, expected, &word);
+    } else {
+        let name = entry.key.written(faults.file);
+        faults.add(
+            value.start,
+            &[Text("`"), Bytes(name), Text("` is "), Text(wanted)],
+        );
+    }
+    Ok(())
+}
+
+/// Tells of the faults of a key and its value.
+fn add_entry(faults: &mut Faults<'_>, fields: &Fields, entry: &Entry) -> Result<(), AllocError> {
+    let kind = fields.kind_of(entry.table);
+    if kind == TableKind::Other {
+        return Ok(());
+    }
+    let Some(key) = key_named(kind, entry.key.written(faults.file)) else {
+        add_unknown_key(faults, kind, entry);
+        return Ok(());
+    };
+    match entry.value {
+        Some(value) => add_value(faults, fields, entry, key, value),
+        None => {
+            faults.add(
+                entry.key.start,
+                &[Text("`"), Text(key), Text("` has no value")],
+            );
+            Ok(())
+        }
+    }
+}
+
+/// Whether a word stands in a list before, by its place among all words.
+fn is_twice(file: &[u8], fields: &Fields, number: usize) -> bool {
+    let Some(item) = fields.items.get(number) else {
+        return false;
+    };
+    let word = item.word.written(file);
+    fields
+        .items
+        .iter()
+        .take(number)
+        .any(|before| before.entry == item.entry && before.word.written(file) == word)
+}
+
+/// A word of a list whose words are known: the word, the key of the list, and its words.
+#[derive(Clone, Copy)]
+struct Listed {
+    word: Token,
+    key: &'static str,
+    known: &'static [&'static str],
+}
+
+/// The word of this place among all words, if its list has known words.
+fn listed_at(file: &[u8], fields: &Fields, number: usize) -> Option<Listed> {
+    let item = fields.items.get(number)?;
+    let entry = fields.entries.get(item.entry)?;
+    let kind = fields.kind_of(entry.table);
+    let key = key_named(kind, entry.key.written(file))?;
+    match value_of(kind, key) {
+        Value::Words(known) => Some(Listed {
+            word: item.word,
+            key,
+            known,
+        }),
+        _ => None,
+    }
+}
+
+/// Tells of the fault of a word of a list, by its place among all words.
+fn add_item(faults: &mut Faults<'_>, fields: &Fields, number: usize) {
+    let Some(listed) = listed_at(faults.file, fields, number) else {
+        return;
+    };
+    let word = listed.word.written(faults.file);
+    let start = listed.word.start;
+    if !is_text(listed.word) {
+        faults.add_of(start, word, "is to be in quotes");
+    } else if !is_known(word, listed.known) {
+        faults.add_word(start, listed.key, word, listed.known);
+    } else if is_twice(faults.file, fields, number) {
+        faults.add_of(start, word, "is in the list before");
+    }
+}
+
+/// Whether a table has a key, or one of its kind is there by a header.
+fn has_key(file: &[u8], fields: &Fields, table: usize, kind: TableKind, key: &str) -> bool {
+    if fields.has(file, table, key.as_bytes()) {
+        return true;
+    }
+    let beneath = match (kind, key) {
+        (TableKind::Top, "node") => TableKind::Node,
+        (TableKind::Top, "grant") => TableKind::Grant,
+        (TableKind::Top, "process") => TableKind::Process,
+        (TableKind::Top, "program") => TableKind::Program,
+        (TableKind::Process, "fd") => TableKind::Descriptor,
+        _ => return false,
+    };
+    fields
+        .tables
+        .iter()
+        .any(|other| other.kind == beneath && other.parent == table)
+}
+
+/// Whether the name of a table stands in a header.
+fn is_header(file: &[u8], table: &Table) -> bool {
+    table.start > 0 && file.get(table.start.saturating_sub(1)) == Some(&b'[')
+}
+
+/// Tells of a table that no task has, or of the keys that a table lacks.
+fn add_missing(faults: &mut Faults<'_>, fields: &Fields, number: usize) {
+    let Some(table) = fields.tables.get(number) else {
+        return;
+    };
+    if table.kind == TableKind::Other && is_header(faults.file, table) {
+        let known = &["node", "grant", "process", "program"];
+        let word = table_name(faults.file, table.start);
+        faults.add_word(table.start, "table", word, known);
+    }
+    for key in needed_keys(table.kind) {
+        if !has_key(faults.file, fields, number, table.kind, *key) {
+            add_lack(faults, table, *key);
+        }
+    }
+}
+
+/// Tells of a key that a table lacks.
+fn add_lack(faults: &mut Faults<'_>, table: &Table, key: &'static str) {
+    faults.add(
+        table.start,
+        &[
+            Text(kind_name(table.kind)),
+            Text(" without `"),
+            Text(key),
+            Text("`"),
+        ],
+    );
+}
+
+/// The name of a header, up to its bracket.
+fn table_name(file: &[u8], start: usize) -> &[u8] {
+    let mut end = start;
+    for (offset, byte) in file.iter().enumerate() {
+        if offset >= start {
+            if *byte == b']' || *byte == b'\n' {
+                break;
+            }
+            end = offset.saturating_add(1);
+        }
+    }
+    crate::places::part(file, start, end)
+}
+
+/// Tells of the faults in keys and words.
+pub(crate) fn add_field_faults(faults: &mut Faults<'_>, fields: &Fields) -> Result<(), AllocError> {
+    for (number, _table) in fields.tables.iter().enumerate() {
+        add_missing(faults, fields, number);
+    }
+    for entry in &fields.entries {
+        add_entry(faults, fields, entry)?;
+    }
+    for (number, _item) in fields.items.iter().enumerate() {
+        add_item(faults, fields, number);
+    }
+    Ok(())
+}
