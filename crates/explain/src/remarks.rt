@@ -5,13 +5,13 @@ use crate::reaching::{points_reached, rights_used};
 use crate::scenes::{Scene, short};
 use crate::uses::open_slot;
 use certificate::{Bound, Domain, Target};
-use prog_asm::{Instruction, Operand, Syscall};
+use prog_asm::{Instruction, Operand};
 use rights::Rights;
 use rights::limits::MAX_DESCRIPTORS;
 use std::alloc::{AllocError, Global};
 use task_text::Piece::{Bytes, Number, Text};
 use task_text::Page;
-use transfer::{Through, may_be_on, needed};
+use transfer::{Through, enters_mode, may_be_on, needed};
 
 /// A program, and the bounds of its points.
 #[derive(Drop)]
@@ -120,17 +120,6 @@ fn flags_of(alloc: Global, code: &[Instruction], flag: bool) -> Result<Vec<bool>
     Ok(flags)
 }
 
-/// Whether an instruction enters the mode.
-fn enters(instruction: &Instruction) -> bool {
-    matches!(
-        instruction,
-        Instruction::Invoke {
-            call: Syscall::CapEnter,
-            ..
-        }
-    )
-}
-
 /// Remarks that a process of the program never enters the mode.
 fn add_outside(
     alloc: Global,
@@ -149,7 +138,7 @@ fn add_outside(
     let mut is_entered = false;
     for (point, instruction) in bounded.code.iter().enumerate() {
         let is_unbounded = !has_cert || bounded.untrusted;
-        if bounded.is_on(point) || (is_unbounded && enters(instruction)) {
+        if bounded.is_on(point) || (is_unbounded && enters_mode(instruction)) {
             is_entered = true;
         }
     }

@@ -8,12 +8,13 @@ ghost use Rattle.task.specs.Views.{starts_of};
 
 use crate::channels::{Channels, End};
 use crate::rounds::first_bound;
-use crate::spots::Way;
+use crate::spots::{Spot, Way};
 use certificate::{Bound, Ceiling, Cert, Domain, End as Listed, Held, Line, Name, Refusal, Target};
-use prog_asm::{Instruction, Syscall};
+use prog_asm::Instruction;
 use rights::Rights;
 use std::alloc::{AllocError, Global};
 use task::{Start, Task};
+use transfer::enters_mode;
 
 /// What a program needs in the mode: rights in grants, by their names, and ends in the order of channels.
 #[derive(Drop)]
@@ -139,24 +140,17 @@ impl Need {
     }
 }
 
-/// Whether an instruction enters the mode.
-fn enters(instruction: &Instruction) -> bool {
-    matches!(
-        instruction,
-        Instruction::Invoke {
-            call: Syscall::CapEnter,
-            ..
-        }
-    )
-}
-
 /// Takes what a program's processes hold where they enter the mode.
 fn take_entered(need: &mut Need, way: &Way, code: &[Instruction]) -> Result<(), AllocError> {
     for (point, instruction) in code.iter().enumerate() {
-        if let (true, Some(spot)) = (enters(instruction), way.spots.get(point)) {
-            if let Some(bound) = &spot.bound {
-                need.take_slots(bound)?;
-            }
+        if !enters_mode(instruction) {
+            continue;
+        }
+        if let Some(Spot {
+            bound: Some(bound), ..
+        }) = way.spots.get(point)
+        {
+            need.take_slots(bound)?;
         }
     }
     Ok(())
@@ -201,6 +195,27 @@ pub(crate) fn all_needs(alloc: Global, task: &Task) -> Result<Vec<Option<Need>>,
     Ok(needs)
 }
 
+/// Learns what a marked program needs, by what is known of its points.
+fn learn_need(
+    alloc: Global,
+    task: &Task,
+    channels: &mut Channels,
+    number: usize,
+    way: &Way,
+    need: &mut Need,
+) -> Result<(), Refusal> {
+    need.changed = false;
+    let Some(program) = task.programs().get(number) else {
+        return Ok(());
+    };
+    if take_entered(need, way, program.program.code()).is_err()
+        || take_starts(task, need, number).is_err()
+    {
+        return Err(Refusal::Memory);
+    }
+    need.take_received(alloc, channels)
+}
+
 /// Learns what each marked program needs, by what is known of the points. Whether a need or a channel grew.
 pub(crate) fn learn_needs(
     alloc: Global,
@@ -210,15 +225,9 @@ pub(crate) fn learn_needs(
     needs: &mut Vec<Option<Need>>,
 ) -> Result<bool, Refusal> {
     let mut any = false;
-    for (number, program) in task.programs().iter().enumerate() {
-        if let (Some(Some(need)), Some(way)) = (needs.get_mut(number), ways.get(number)) {
-            need.changed = false;
-            if take_entered(need, way, program.program.code()).is_err()
-                || take_starts(task, need, number).is_err()
-            {
-                return Err(Refusal::Memory);
-            }
-            need.take_received(alloc, channels)?;
+    for (number, way) in ways.iter().enumerate() {
+        if let Some(Some(need)) = needs.get_mut(number) {
+            learn_need(alloc, task, channels, number, way, need)?;
             any = any || need.changed;
         }
     }

@@ -45,6 +45,20 @@ fn settle_needs(
     Ok(false)
 }
 
+/// The certificate with these points and channels, and these needs.
+fn written(
+    alloc: Global,
+    ways: Vec<Way>,
+    channels: &Channels,
+    needs: Vec<Option<Need>>,
+) -> Result<Cert, Refusal>
+    ensures { IfOk result (λ cert. cert.version ≡ Three) }
+{
+    let mut cert = draw(Cert::new(alloc, Version::Three), ways, channels)?;
+    push_needs(&mut cert, needs)?;
+    Ok(cert)
+}
+
 /// The certificate with what is found of a task's points, and what its untrusted programs need.
 fn drawn(
     alloc: Global,
@@ -58,9 +72,7 @@ fn drawn(
     if !settle_needs(alloc, task, &mut channels, &mut ways, &mut needs)? {
         return Ok(None);
     }
-    let mut cert = draw(Cert::new(alloc, Version::Three), ways, &channels)?;
-    push_needs(&mut cert, needs)?;
-    Ok(Some(cert))
+    Ok(Some(written(alloc, ways, &channels, needs)?))
 }
 
 /// The same where it isn't refused for its length.
