@@ -252,15 +252,15 @@ fn add_sent(page: &mut Page, told: &Told<'_>, one: &Use) {
 
 /// Whether the channel that a call uses by a slot has a line.
 fn has_channel(told: &Told<'_>, one: &Use) -> bool {
-    match (one.need.passed, one.slot.held.target()) {
-        (Passed::Sent(_), Target::Socket(class, side)) => {
-            channel_at(told.scene.cert, &class, side).is_some()
-        }
-        (Passed::Received, Target::Socket(class, side)) => {
-            channel_at(told.scene.cert, &class, other(side)).is_some()
-        }
-        (Passed::Sent(_), Target::Unknown) => false,
-        _ => true,
+    let cert = told.scene.cert;
+    match one.slot.held.target() {
+        Target::Socket(class, side) => match one.need.passed {
+            Passed::Sent(_) => channel_at(cert, &class, side).is_some(),
+            Passed::Received => channel_at(cert, &class, other(side)).is_some(),
+            Passed::Nothing => true,
+        },
+        Target::Unknown => !matches!(one.need.passed, Passed::Sent(_)),
+        Target::InGrant(_) | Target::AnyNode => true,
     }
 }
 

@@ -52,23 +52,33 @@ fn lies_in_grant(task: &Task, node: &TaskNode) -> bool {
     false
 }
 
+/// The path that an instruction opens by itself, if it does.
+fn opened_path(instruction: &Instruction) -> Option<&[u8]> {
+    match instruction {
+        Instruction::Invoke {
+            call: Syscall::Open { path, .. },
+            ..
+        } => Some(path.bytes()),
+        _ => None,
+    }
+}
+
+/// Adds that the grant of a path would be needed, which is opened at a point.
+fn add_open(page: &mut Page, scene: &Scene<'_>, program: usize, point: usize, path: &[u8]) {
+    page.text("a grant of ");
+    page.bytes(path);
+    page.text(" would be needed, if it is a directory: ");
+    scene.add_point(page, program, point);
+    page.text(" opens it by its path\n");
+}
+
 /// Adds each path that is opened and is no grant's: what comes of it lies in no grant.
 fn add_opens(page: &mut Page, scene: &Scene<'_>) {
     for (program, named) in scene.task.programs().iter().enumerate() {
         for (point, instruction) in named.program.code().iter().enumerate() {
-            if let Instruction::Invoke {
-                call: Syscall::Open { path, .. },
-                ..
-            } = instruction
-            {
-                if !is_granted(scene.task, path.bytes()) {
-                    page.text("a grant of ");
-                    page.pieces(&[
-                        Bytes(path.bytes()),
-                        Text(" would be needed, if it is a directory: "),
-                    ]);
-                    scene.add_point(page, program, point);
-                    page.text(" opens it by its path\n");
+            if let Some(path) = opened_path(instruction) {
+                if !is_granted(scene.task, path) {
+                    add_open(page, scene, program, point, path);
                 }
             }
         }

@@ -94,6 +94,31 @@ fn at<T: Copy>(points: &[T], point: Option<usize>, default: T) -> T {
     }
 }
 
+/// For each point the rights that its call needs of what a target may be.
+fn rights_needed(
+    alloc: Global,
+    code: &[Instruction],
+    bounds: &[Option<Bound>],
+    target: &Target,
+) -> Result<Vec<Rights>, AllocError> {
+    let mut needed = Vec::with_capacity(alloc, code.len())?;
+    for (instruction, bound) in code.iter().zip(bounds) {
+        needed.push(needs_of(instruction, bound, target))?;
+    }
+    Ok(needed)
+}
+
+/// Adds to the rights of each point those of the points that it leads to.
+fn carry_back(code: &[Instruction], used: &mut [Rights]) {
+    for (point, instruction) in code.iter().enumerate() {
+        let (next, target) = leads_to(instruction, point);
+        let later = at(used, next, Rights::empty()).union(at(used, target, Rights::empty()));
+        if let Some(here) = used.get_mut(point) {
+            *here = here.union(later);
+        }
+    }
+}
+
 /// For each point the rights that some call needs that may come from there on, of what a target may be.
 pub(crate) fn rights_used(
     alloc: Global,
@@ -101,22 +126,9 @@ pub(crate) fn rights_used(
     bounds: &[Option<Bound>],
     target: &Target,
 ) -> Result<Vec<Rights>, AllocError> {
-    let mut used = Vec::with_capacity(alloc, code.len())?;
-    for (point, instruction) in code.iter().enumerate() {
-        let needs = match bounds.get(point) {
-            Some(bound) => needs_of(instruction, bound, target),
-            None => Rights::empty(),
-        };
-        used.push(needs)?;
-    }
+    let mut used = rights_needed(alloc, code, bounds, target)?;
     for _ in 0..code.len() {
-        for (point, instruction) in code.iter().enumerate() {
-            let (next, target) = leads_to(instruction, point);
-            let later = at(&used, next, Rights::empty()).union(at(&used, target, Rights::empty()));
-            if let Some(here) = used.get_mut(point) {
-                *here = here.union(later);
-            }
-        }
+        carry_back(code, &mut used);
     }
     Ok(used)
 }
