@@ -60,7 +60,14 @@ pub(crate) fn answer_breach<'a, W: Out, P: Watcher>(
     };
     match explored {
         Explored::Breaks(found) => {
-            write_breach(alloc, &task, &found.events, &found.breach, out)?;
+            write_breach(
+                alloc,
+                &task,
+                &found.events,
+                &found.breach,
+                &found.detail,
+                out,
+            )?;
             Ok(BROKEN)
         }
         Explored::Ended(states) => write_unbroken(

@@ -5,6 +5,7 @@ ghost use Rattle.explore.specs.FoundViews.{IsExplored};
 
 use crate::breaches::Breach;
 use crate::breaking::breaks;
+use crate::details::detail_of;
 use crate::explorer::{Explorer, Progress};
 use crate::shrinking::shrink;
 use rights::Memory;
@@ -26,6 +27,9 @@ pub trait Watcher {
 pub struct FoundRun {
     pub events: Vec<Event>,
     pub breach: Breach,
+    /// What stands behind the words of the breach where a call is refused: `: FSTAT of descriptor 3`, or `: open`. It is empty of an
+    /// effect, and where it can't be told.
+    pub detail: Vec<u8>,
 }
 
 /// What a search came to.
@@ -52,7 +56,14 @@ fn check_found(
     match breaks(alloc, task, &events) {
         Err(_) => Err(Memory),
         Ok(None) => Ok(Explored::Bounded(states)),
-        Ok(Some(breach)) => Ok(Explored::Breaks(FoundRun { events, breach })),
+        Ok(Some(breach)) => {
+            let detail = detail_of(alloc, task, &events, &breach)?;
+            Ok(Explored::Breaks(FoundRun {
+                events,
+                breach,
+                detail,
+            }))
+        }
     }
 }
 

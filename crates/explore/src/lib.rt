@@ -6,6 +6,7 @@
 
 pub mod breaches;
 pub mod breaking;
+mod details;
 mod digests;
 mod explorer;
 mod exploring;

@@ -53,7 +53,7 @@ enum Transfer {
 }
 
 /// The value of an operand.
-fn value_of(process: &Process, operand: Operand) -> u32 {
+pub(crate) fn value_of(process: &Process, operand: Operand) -> u32 {
     match operand {
         Operand::Number(number) => number,
         Operand::Register(register) => process.registers[register.number() as usize],
@@ -83,6 +83,14 @@ pub(crate) fn instruction_of<'t>(task: &'t Task, process: &Process) -> Option<&'
     }
     let named = task.programs().get(process.program as usize)?;
     named.program.code().get(process.point as usize)
+}
+
+/// The call at which a process stands, if it does.
+pub(crate) fn call_of<'t>(task: &'t Task, process: &Process) -> Option<&'t Syscall> {
+    match instruction_of(task, process) {
+        Some(Instruction::Invoke { call, .. }) => Some(call),
+        _ => None,
+    }
 }
 
 impl<'a> Runner<'a> {
@@ -198,18 +206,16 @@ impl<'a> Runner<'a> {
         let Some(state) = self.machine.processes().get(process as usize) else {
             return Transfer::None;
         };
-        match instruction_of(self.task, state) {
-            Some(Instruction::Invoke { call, .. }) => self.transfer(process, state, call),
-            _ => Transfer::None,
+        match call_of(self.task, state) {
+            None => Transfer::None,
+            Some(call) => self.transfer(process, state, call),
         }
     }
 
     /// The number that the next step of a process has for its first descriptor, if it calls with one.
     fn next_number(&self, process: u8) -> Option<u8> {
         let state = self.machine.processes().get(process as usize)?;
-        let Some(Instruction::Invoke { call, .. }) = instruction_of(self.task, state) else {
-            return None;
-        };
+        let call = call_of(self.task, state)?;
         u8::try_from(value_of(state, first_operand(call)?)).ok()
     }
 

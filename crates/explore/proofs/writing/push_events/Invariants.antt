@@ -1,7 +1,7 @@
 use Rattle.std.proofs.Common.{◌≡◌, ◌++◌, drop, map}
 use Rattle.syscalls.specs.Views.{event_of}
 use Rattle.explore.specs.Texts.{schedule_text}
-use Rattle.explore.proofs.writing.push_schedule.Given as goal
+use Rattle.explore.proofs.writing.push_events.Given as goal
 
 -- what is written, and then the events that are left
 abbrev pub invariant-loop-event : goal.invariant-loop-event

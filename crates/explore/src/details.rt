@@ -1,0 +1,225 @@
+//! What is missing where a call is refused, as a text.
+
+use crate::breaches::Breach;
+use crate::runners::{call_of, value_of};
+use bitflags::Flags;
+use fd_table::{Descriptor, Files};
+use link_tree::LinkTree;
+use process::Process;
+use prog_asm::{Operand, Syscall};
+use rights::{Call, Fcntls, Memory, OpenFlags, Position, Rights, Stop, needs};
+use simulator::Machine;
+use std::alloc::{AllocError, Global};
+use syscalls::Event;
+use task::Task;
+use texts::Decimal;
+
+/// What a call needs of a descriptor, or what a limit keeps of it.
+#[derive(Clone, Copy)]
+struct Need {
+    operand: Operand,
+    rights: Rights,
+    commands: Fcntls,
+}
+
+/// What a descriptor lacks, by the number that its process uses.
+#[derive(Clone, Copy)]
+struct Lack {
+    number: u8,
+    rights: Rights,
+    commands: Fcntls,
+}
+
+/// The only descriptor that a call goes through, or the first of two.
+fn first_operand(call: &Syscall) -> Option<Operand> {
+    match call {
+        Syscall::Openat { descriptor, .. }
+        | Syscall::Read { descriptor }
+        | Syscall::Write { descriptor, .. }
+        | Syscall::Sendfd { descriptor, .. }
+        | Syscall::Recvfd { descriptor }
+        | Syscall::Lseek { descriptor, .. }
+        | Syscall::Ftruncate { descriptor, .. }
+        | Syscall::Fsync { descriptor }
+        | Syscall::Fstat { descriptor }
+        | Syscall::FcntlGetfl { descriptor }
+        | Syscall::FcntlSetfl { descriptor, .. }
+        | Syscall::Fstatat { descriptor, .. }
+        | Syscall::Mkdirat { descriptor, .. }
+        | Syscall::Unlinkat { descriptor, .. }
+        | Syscall::Renameat { descriptor, .. }
+        | Syscall::CapRightsLimit { descriptor, .. }
+        | Syscall::CapFcntlsLimit { descriptor, .. } => Some(*descriptor),
+        _ => None,
+    }
+}
+
+/// Flags to read with, which only an open looks at.
+fn no_flags() -> Option<OpenFlags> {
+    OpenFlags::new(true, false, false, false, false)
+}
+
+/// The rights that a call needs of its first descriptor, or that it keeps.
+fn first_rights(call: &Syscall, flags: OpenFlags) -> Rights {
+    match call {
+        Syscall::Openat { flags, .. } => needs(Call::Openat, *flags, Position::First, false),
+        Syscall::CapRightsLimit { rights, .. } => *rights,
+        _ => needs(call.call(), flags, Position::First, false),
+    }
+}
+
+/// The fcntl commands that a call goes by, or that it keeps.
+fn first_commands(call: &Syscall) -> Fcntls {
+    match call {
+        Syscall::FcntlGetfl { .. } => Fcntls::GETFL,
+        Syscall::FcntlSetfl { .. } => Fcntls::SETFL,
+        Syscall::CapFcntlsLimit { commands, .. } => *commands,
+        _ => Fcntls::empty(),
+    }
+}
+
+/// What a call needs of its first descriptor.
+fn first_need(call: &Syscall) -> Option<Need> {
+    let operand = first_operand(call)?;
+    let flags = no_flags()?;
+    Some(Need {
+        operand,
+        rights: first_rights(call, flags),
+        commands: first_commands(call),
+    })
+}
+
+/// What a move needs of the directory that it moves to, where it replaces a node or not.
+fn second_need(call: &Syscall, replaces: bool) -> Option<Need> {
+    let flags = no_flags()?;
+    match call {
+        Syscall::Renameat { target, .. } => Some(Need {
+            operand: *target,
+            rights: needs(Call::Renameat, flags, Position::Second, replaces),
+            commands: Fcntls::empty(),
+        }),
+        _ => None,
+    }
+}
+
+/// What a descriptor lacks of a need.
+fn lack_in(descriptor: Descriptor, number: u8, need: Need) -> Option<Lack> {
+    let rights = Flags::difference(need.rights, descriptor.rights);
+    let commands = Flags::difference(need.commands, descriptor.fcntls);
+    if Flags::is_empty(&rights) && Flags::is_empty(&commands) {
+        return None;
+    }
+    Some(Lack {
+        number,
+        rights,
+        commands,
+    })
+}
+
+/// What the descriptor lacks that an operand of a process names, if that is open.
+fn lack_of(files: &Files, number: u8, process: &Process, need: Option<Need>) -> Option<Lack> {
+    let need = need?;
+    let at = u8::try_from(value_of(process, need.operand)).ok()?;
+    let descriptor = files.get(number, at)?;
+    lack_in(descriptor, at, need)
+}
+
+/// What is lacking for a call, as the kernel looks for it: first of the first descriptor, and last for a node that is replaced.
+fn first_lack(files: &Files, number: u8, process: &Process, call: &Syscall) -> Option<Lack> {
+    let lack = lack_of(files, number, process, first_need(call));
+    if lack.is_some() {
+        return lack;
+    }
+    let lack = lack_of(files, number, process, second_need(call, false));
+    if lack.is_some() {
+        return lack;
+    }
+    lack_of(files, number, process, second_need(call, true))
+}
+
+/// Appends the names of a set of rights or commands, with commas between them.
+fn push_names<F: Flags>(text: &mut Vec<u8>, set: &F) -> Result<(), AllocError> {
+    let mut is_first = true;
+    for (name, _) in set.iter_names() {
+        if !is_first {
+            text.push(b',')?;
+        }
+        is_first = false;
+        text.extend_from_slice(name.as_bytes())?;
+    }
+    Ok(())
+}
+
+/// Appends what a descriptor lacks: its rights, or the commands where it has the rights.
+fn push_lack(text: &mut Vec<u8>, lack: &Lack) -> Result<(), AllocError> {
+    text.extend_from_slice(b": ")?;
+    if Flags::is_empty(&lack.rights) {
+        push_names(text, &lack.commands)?;
+    } else {
+        push_names(text, &lack.rights)?;
+    }
+    text.extend_from_slice(b" of descriptor ")?;
+    text.extend_from_slice(Decimal::new(u32::from(lack.number)).as_bytes())
+}
+
+/// Appends the name of a call.
+fn push_call(text: &mut Vec<u8>, call: Call) -> Result<(), AllocError> {
+    text.extend_from_slice(b": ")?;
+    text.extend_from_slice(call.name().as_bytes())
+}
+
+/// Appends what the next step of a process breaks by its call.
+fn push_detail(
+    text: &mut Vec<u8>,
+    task: &Task,
+    machine: &Machine<'_, LinkTree>,
+    number: u8,
+    breach: &Breach,
+) -> Result<(), AllocError> {
+    let Some(process) = machine.processes().get(number as usize) else {
+        return Ok(());
+    };
+    let Some(call) = call_of(task, process) else {
+        return Ok(());
+    };
+    match breach {
+        Breach::Outside(_, _) => Ok(()),
+        Breach::CapMode => push_call(text, call.call()),
+        Breach::MissingRight => match first_lack(machine.files(), number, process, call) {
+            None => Ok(()),
+            Some(lack) => push_lack(text, &lack),
+        },
+    }
+}
+
+/// The machine of a task after these events.
+fn machine_after<'a>(
+    alloc: Global,
+    task: &'a Task,
+    events: &[Event],
+) -> Result<Machine<'a, LinkTree>, Stop> {
+    let mut machine: Machine<'a, LinkTree> = Machine::start(alloc, task)?;
+    for event in events {
+        machine.step(*event)?;
+    }
+    Ok(machine)
+}
+
+/// What stands behind the words of what the last of these events breaks: `: FSTAT of descriptor 3` of a missing right, `: open` of a call
+/// in capability mode, and nothing where that can't be told.
+pub(crate) fn detail_of(
+    alloc: Global,
+    task: &Task,
+    events: &[Event],
+    breach: &Breach,
+) -> Result<Vec<u8>, Memory> {
+    let mut text = Vec::new(alloc);
+    let Some((last, before)) = events.split_last() else {
+        return Ok(text);
+    };
+    let Ok(machine) = machine_after(alloc, task, before) else {
+        return Err(Memory);
+    };
+    push_detail(&mut text, task, &machine, last.process, breach)?;
+    Ok(text)
+}
