@@ -192,17 +192,12 @@ fn push_detail(
     }
 }
 
-/// The machine of a task after these events.
-fn machine_after<'a>(
-    alloc: Global,
-    task: &'a Task,
-    events: &[Event],
-) -> Result<Machine<'a, LinkTree>, Stop> {
-    let mut machine: Machine<'a, LinkTree> = Machine::start(alloc, task)?;
+/// Runs a machine over some events.
+fn run_over(machine: &mut Machine<'_, LinkTree>, events: &[Event]) -> Result<(), Stop> {
     for event in events {
         machine.step(*event)?;
     }
-    Ok(machine)
+    Ok(())
 }
 
 /// What stands behind the words of what the last of these events breaks: `: FSTAT of descriptor 3` of a missing right, `: open` of a call
@@ -217,9 +212,13 @@ pub(crate) fn detail_of(
     let Some((last, before)) = events.split_last() else {
         return Ok(text);
     };
-    let Ok(machine) = machine_after(alloc, task, before) else {
+    let started: Result<Machine<'_, LinkTree>, Stop> = Machine::start(alloc, task);
+    let Ok(mut machine) = started else {
         return Err(Memory);
     };
+    if run_over(&mut machine, before).is_err() {
+        return Err(Memory);
+    }
     push_detail(&mut text, task, &machine, last.process, breach)?;
     Ok(text)
 }

@@ -22,7 +22,7 @@ struct Visit {
 }
 
 /// What became of a machine that was run on.
-#[derive(Clone, Copy, Debug, PartialEq, Eq)]
+#[derive(Clone, Copy)]
 enum Arrival {
     /// The last step breaks something.
     Breaks,
@@ -32,8 +32,20 @@ enum Arrival {
     Stays,
 }
 
+/// What became of the events of a state that were tried so far.
+#[derive(Drop)]
+struct Tried<'a> {
+    runner: Runner<'a>,
+    /// The machine stands at the state.
+    stands: bool,
+    /// The process of the last event that led on, where that left names of a path.
+    walking: Option<u8>,
+    /// A new state was met.
+    any_new: bool,
+}
+
 /// What was come to.
-#[derive(Clone, Copy, Debug, PartialEq, Eq)]
+#[derive(Clone, Copy)]
 pub(crate) enum Progress {
     /// A run breaks something.
     Found,
@@ -177,6 +189,48 @@ impl<'a> Explorer<'a> {
         }
     }
 
+    /// Keeps the state that an event led to from another.
+    fn keep_after(
+        &mut self,
+        place: usize,
+        event: Event,
+        is_long: bool,
+        tried: &mut Tried<'a>,
+    ) -> Result<(), Memory> {
+        let visit = Visit {
+            parent: Some(place),
+            event,
+            is_long,
+        };
+        tried.stands = false;
+        tried.walking = tried.runner.walking;
+        if self.keep(&tried.runner, visit)? {
+            tried.any_new = true;
+        }
+        Ok(())
+    }
+
+    /// Tries an event from a state. Whether it breaks something is told.
+    fn try_event(
+        &mut self,
+        place: usize,
+        event: Event,
+        tried: &mut Tried<'a>,
+    ) -> Result<bool, Memory> {
+        if !tried.stands {
+            tried.runner = self.runner_at(place)?;
+            tried.stands = true;
+        }
+        match self.advance(&mut tried.runner, event)? {
+            Arrival::Breaks => Ok(true),
+            Arrival::Stays => Ok(false),
+            Arrival::At { is_long } => {
+                self.keep_after(place, event, is_long, tried)?;
+                Ok(false)
+            }
+        }
+    }
+
     /// Tries some events from a state, at which a machine stands. Whether a new state was met is told, if nothing breaks.
     fn try_events(
         &mut self,
@@ -184,36 +238,21 @@ impl<'a> Explorer<'a> {
         events: &[Event],
         runner: Runner<'a>,
     ) -> Result<Option<bool>, Memory> {
-        let mut any_new = false;
-        let mut standing = Some(runner);
-        let mut walking = None;
+        let mut tried = Tried {
+            runner,
+            stands: true,
+            walking: None,
+            any_new: false,
+        };
         for event in events {
             // While names of a path are left, the kernel refuses nothing.
-            if event.refuse && walking == Some(event.process) {
-                continue;
-            }
-            let mut runner = match standing.take() {
-                Some(runner) => runner,
-                None => self.runner_at(place)?,
-            };
-            match self.advance(&mut runner, *event)? {
-                Arrival::Breaks => {
-                    self.found = runner.events;
-                    return Ok(None);
-                }
-                Arrival::Stays => standing = Some(runner),
-                Arrival::At { is_long } => {
-                    walking = runner.walking;
-                    let visit = Visit {
-                        parent: Some(place),
-                        event: *event,
-                        is_long,
-                    };
-                    any_new = self.keep(&runner, visit)? || any_new;
-                }
+            let is_needless = event.refuse && tried.walking == Some(event.process);
+            if !is_needless && self.try_event(place, *event, &mut tried)? {
+                self.found = tried.runner.events;
+                return Ok(None);
             }
         }
-        Ok(Some(any_new))
+        Ok(Some(tried.any_new))
     }
 
     /// Goes on from the next state that was met.
@@ -243,7 +282,7 @@ impl<'a> Explorer<'a> {
     pub(crate) fn go_on(&mut self, states: usize) -> Result<Progress, Memory> {
         if self.visits.is_empty() {
             let progress = self.begin()?;
-            if progress == Progress::Found {
+            if matches!(progress, Progress::Found) {
                 return Ok(progress);
             }
         }
@@ -257,7 +296,7 @@ impl<'a> Explorer<'a> {
             let place = self.next;
             self.next = place + 1;
             let progress = self.expand(place)?;
-            if progress != Progress::Goes {
+            if !matches!(progress, Progress::Goes) {
                 return Ok(progress);
             }
         }
