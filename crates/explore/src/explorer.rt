@@ -33,9 +33,8 @@ enum Arrival {
 }
 
 /// What became of the events of a state that were tried so far.
-#[derive(Drop)]
-struct Tried<'a> {
-    runner: Runner<'a>,
+#[derive(Clone, Copy)]
+struct Tried {
     /// The machine stands at the state.
     stands: bool,
     /// The process of the last event that led on, where that left names of a path.
@@ -189,46 +188,36 @@ impl<'a> Explorer<'a> {
         }
     }
 
-    /// Keeps the state that an event led to from another.
-    fn keep_after(
-        &mut self,
-        place: usize,
-        event: Event,
-        is_long: bool,
-        tried: &mut Tried<'a>,
-    ) -> Result<(), Memory> {
-        let visit = Visit {
-            parent: Some(place),
-            event,
-            is_long,
-        };
-        tried.stands = false;
-        tried.walking = tried.runner.walking;
-        if self.keep(&tried.runner, visit)? {
-            tried.any_new = true;
-        }
+    /// Brings a machine to a state that was met.
+    fn bring(&mut self, place: usize, runner: &mut Runner<'a>) -> Result<(), Memory> {
+        *runner = self.runner_at(place)?;
         Ok(())
     }
 
-    /// Tries an event from a state. Whether it breaks something is told.
+    /// Tries an event from a state, at which the machine is brought unless it stands there. Whether it breaks something is told.
     fn try_event(
         &mut self,
         place: usize,
         event: Event,
-        tried: &mut Tried<'a>,
+        runner: &mut Runner<'a>,
+        tried: &mut Tried,
     ) -> Result<bool, Memory> {
         if !tried.stands {
-            tried.runner = self.runner_at(place)?;
-            tried.stands = true;
+            self.bring(place, runner)?;
         }
-        match self.advance(&mut tried.runner, event)? {
-            Arrival::Breaks => Ok(true),
-            Arrival::Stays => Ok(false),
-            Arrival::At { is_long } => {
-                self.keep_after(place, event, is_long, tried)?;
-                Ok(false)
-            }
+        let arrival = self.advance(runner, event)?;
+        tried.stands = matches!(arrival, Arrival::Stays);
+        if let Arrival::At { is_long } = arrival {
+            let visit = Visit {
+                parent: Some(place),
+                event,
+                is_long,
+            };
+            let is_new = self.keep(runner, visit)?;
+            tried.walking = runner.walking;
+            tried.any_new = is_new || tried.any_new;
         }
+        Ok(matches!(arrival, Arrival::Breaks))
     }
 
     /// Tries some events from a state, at which a machine stands. Whether a new state was met is told, if nothing breaks.
@@ -238,8 +227,8 @@ impl<'a> Explorer<'a> {
         events: &[Event],
         runner: Runner<'a>,
     ) -> Result<Option<bool>, Memory> {
+        let mut runner = runner;
         let mut tried = Tried {
-            runner,
             stands: true,
             walking: None,
             any_new: false,
@@ -247,8 +236,8 @@ impl<'a> Explorer<'a> {
         for event in events {
             // While names of a path are left, the kernel refuses nothing.
             let is_needless = event.refuse && tried.walking == Some(event.process);
-            if !is_needless && self.try_event(place, *event, &mut tried)? {
-                self.found = tried.runner.events;
+            if !is_needless && self.try_event(place, *event, &mut runner, &mut tried)? {
+                self.found = runner.events;
                 return Ok(None);
             }
         }
