@@ -1,14 +1,12 @@
 //! What is missing where a call is refused, as a text.
 
 use crate::breaches::Breach;
-use crate::runners::{call_of, value_of};
+use crate::runners::{Runner, call_of, value_of};
 use bitflags::Flags;
-use fd_table::{Descriptor, Files};
-use link_tree::LinkTree;
+use fd_table::Descriptor;
 use process::Process;
 use prog_asm::{Operand, Syscall};
-use rights::{Call, Fcntls, Memory, OpenFlags, Position, Rights, Stop, needs};
-use simulator::Machine;
+use rights::{Call, Fcntls, Memory, OpenFlags, Position, Rights, needs};
 use std::alloc::{AllocError, Global};
 use syscalls::Event;
 use task::Task;
@@ -117,24 +115,24 @@ fn lack_in(descriptor: Descriptor, number: u8, need: Need) -> Option<Lack> {
 }
 
 /// What the descriptor lacks that an operand of a process names, if that is open.
-fn lack_of(files: &Files, number: u8, process: &Process, need: Option<Need>) -> Option<Lack> {
+fn lack_of(runner: &Runner<'_>, number: u8, process: &Process, need: Option<Need>) -> Option<Lack> {
     let need = need?;
     let at = u8::try_from(value_of(process, need.operand)).ok()?;
-    let descriptor = files.get(number, at)?;
+    let descriptor = runner.machine.files().get(number, at)?;
     lack_in(descriptor, at, need)
 }
 
 /// What is lacking for a call, as the kernel looks for it: first of the first descriptor, and last for a node that is replaced.
-fn first_lack(files: &Files, number: u8, process: &Process, call: &Syscall) -> Option<Lack> {
-    let lack = lack_of(files, number, process, first_need(call));
+fn first_lack(runner: &Runner<'_>, number: u8, process: &Process, call: &Syscall) -> Option<Lack> {
+    let lack = lack_of(runner, number, process, first_need(call));
     if lack.is_some() {
         return lack;
     }
-    let lack = lack_of(files, number, process, second_need(call, false));
+    let lack = lack_of(runner, number, process, second_need(call, false));
     if lack.is_some() {
         return lack;
     }
-    lack_of(files, number, process, second_need(call, true))
+    lack_of(runner, number, process, second_need(call, true))
 }
 
 /// Appends the names of a set of rights or commands, with commas between them.
@@ -172,11 +170,11 @@ fn push_call(text: &mut Vec<u8>, call: Call) -> Result<(), AllocError> {
 fn push_detail(
     text: &mut Vec<u8>,
     task: &Task,
-    machine: &Machine<'_, LinkTree>,
+    runner: &Runner<'_>,
     number: u8,
     breach: &Breach,
 ) -> Result<(), AllocError> {
-    let Some(process) = machine.processes().get(number as usize) else {
+    let Some(process) = runner.machine.processes().get(number as usize) else {
         return Ok(());
     };
     let Some(call) = call_of(task, process) else {
@@ -185,7 +183,7 @@ fn push_detail(
     match breach {
         Breach::Outside(_, _) => Ok(()),
         Breach::CapMode => push_call(text, call.call()),
-        Breach::MissingRight => match first_lack(machine.files(), number, process, call) {
+        Breach::MissingRight => match first_lack(runner, number, process, call) {
             None => Ok(()),
             Some(lack) => push_lack(text, &lack),
         },
@@ -193,9 +191,9 @@ fn push_detail(
 }
 
 /// Runs a machine over some events.
-fn run_over(machine: &mut Machine<'_, LinkTree>, events: &[Event]) -> Result<(), Stop> {
+fn run_over(runner: &mut Runner<'_>, events: &[Event]) -> Result<(), Memory> {
     for event in events {
-        machine.step(*event)?;
+        runner.step(*event)?;
     }
     Ok(())
 }
@@ -212,13 +210,8 @@ pub(crate) fn detail_of(
     let Some((last, before)) = events.split_last() else {
         return Ok(text);
     };
-    let started: Result<Machine<'_, LinkTree>, Stop> = Machine::start(alloc, task);
-    let Ok(mut machine) = started else {
-        return Err(Memory);
-    };
-    if run_over(&mut machine, before).is_err() {
-        return Err(Memory);
-    }
-    push_detail(&mut text, task, &machine, last.process, breach)?;
+    let mut runner = Runner::start(alloc, task)?;
+    run_over(&mut runner, before)?;
+    push_detail(&mut text, task, &runner, last.process, breach)?;
     Ok(text)
 }

@@ -8,11 +8,12 @@ use task::Task;
 
 /// The events without some in the middle, from one place up to another.
 fn without(alloc: Global, events: &[Event], from: usize, to: usize) -> Result<Vec<Event>, Memory> {
-    let mut left = Vec::with_capacity(alloc, events.len())?;
-    for (place, event) in events.iter().enumerate() {
-        if place < from || place >= to {
-            left.push(*event)?;
-        }
+    let mut left = Vec::new(alloc);
+    if let Some(front) = events.get(..from) {
+        left.extend_from_slice(front)?;
+    }
+    if let Some(back) = events.get(to..) {
+        left.extend_from_slice(back)?;
     }
     Ok(left)
 }
