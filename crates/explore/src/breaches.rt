@@ -55,7 +55,7 @@ fn refusal(outcome: LineResult) -> Option<Breach>
 }
 
 /// What counts of a process before its step: whether it was in capability mode, and whether its program is untrusted.
-#[derive(Clone, Copy, PartialEq, Eq)]
+#[derive(Clone, Copy)]
 pub(crate) struct Standing {
     pub in_mode: bool,
     pub is_marked: bool,

@@ -1,7 +1,7 @@
 //! What is missing where a call is refused, as a text.
 
 use crate::breaches::Breach;
-use crate::runners::{Runner, call_of, value_of};
+use crate::runners::{Runner, call_of, first_operand, value_of};
 use bitflags::Flags;
 use fd_table::Descriptor;
 use process::Process;
@@ -26,30 +26,6 @@ struct Lack {
     number: u8,
     rights: Rights,
     commands: Fcntls,
-}
-
-/// The only descriptor that a call goes through, or the first of two.
-fn first_operand(call: &Syscall) -> Option<Operand> {
-    match call {
-        Syscall::Openat { descriptor, .. }
-        | Syscall::Read { descriptor }
-        | Syscall::Write { descriptor, .. }
-        | Syscall::Sendfd { descriptor, .. }
-        | Syscall::Recvfd { descriptor }
-        | Syscall::Lseek { descriptor, .. }
-        | Syscall::Ftruncate { descriptor, .. }
-        | Syscall::Fsync { descriptor }
-        | Syscall::Fstat { descriptor }
-        | Syscall::FcntlGetfl { descriptor }
-        | Syscall::FcntlSetfl { descriptor, .. }
-        | Syscall::Fstatat { descriptor, .. }
-        | Syscall::Mkdirat { descriptor, .. }
-        | Syscall::Unlinkat { descriptor, .. }
-        | Syscall::Renameat { descriptor, .. }
-        | Syscall::CapRightsLimit { descriptor, .. }
-        | Syscall::CapFcntlsLimit { descriptor, .. } => Some(*descriptor),
-        _ => None,
-    }
 }
 
 /// Flags to read with, which only an open looks at.

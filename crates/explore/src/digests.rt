@@ -1,7 +1,7 @@
 //! Short digests of states.
 
 /// What is kept of a state, in place of the state: 128 bits. Two states of one digest are taken for one.
-#[derive(Clone, Copy, Debug, PartialEq, Eq, Hash)]
+#[derive(Clone, Copy, PartialEq, Eq, Hash)]
 pub(crate) struct Digest {
     first: u64,
     second: u64,

@@ -60,13 +60,26 @@ pub(crate) fn value_of(process: &Process, operand: Operand) -> u32 {
     }
 }
 
-/// The first descriptor of a call whose description's state it may change.
-fn first_operand(call: &Syscall) -> Option<Operand> {
+/// The only descriptor that a call goes through or limits, or the first of two.
+pub(crate) fn first_operand(call: &Syscall) -> Option<Operand> {
     match call {
-        Syscall::Read { descriptor }
+        Syscall::Openat { descriptor, .. }
+        | Syscall::Read { descriptor }
         | Syscall::Write { descriptor, .. }
+        | Syscall::Sendfd { descriptor, .. }
+        | Syscall::Recvfd { descriptor }
         | Syscall::Lseek { descriptor, .. }
-        | Syscall::FcntlSetfl { descriptor, .. } => Some(*descriptor),
+        | Syscall::Ftruncate { descriptor, .. }
+        | Syscall::Fsync { descriptor }
+        | Syscall::Fstat { descriptor }
+        | Syscall::FcntlGetfl { descriptor }
+        | Syscall::FcntlSetfl { descriptor, .. }
+        | Syscall::Fstatat { descriptor, .. }
+        | Syscall::Mkdirat { descriptor, .. }
+        | Syscall::Unlinkat { descriptor, .. }
+        | Syscall::Renameat { descriptor, .. }
+        | Syscall::CapRightsLimit { descriptor, .. }
+        | Syscall::CapFcntlsLimit { descriptor, .. } => Some(*descriptor),
         _ => None,
     }
 }
@@ -212,7 +225,7 @@ impl<'a> Runner<'a> {
         }
     }
 
-    /// The number that the next step of a process has for its first descriptor, if it calls with one.
+    /// The number that the next step of a process has for its first descriptor, if it goes through one.
     fn next_number(&self, process: u8) -> Option<u8> {
         let state = self.machine.processes().get(process as usize)?;
         let call = call_of(self.task, state)?;
