@@ -30,7 +30,8 @@ unfolding is_within_limits is_file_name ℕ_discrete unless held at_object answe
 mode c fresh d other = refl
 
 effect : Breaks writing_plan (first_moves ∷ first_moves ∷ []) (Some (Outside Write (codes "/work/in")))
-unfolding is_within_limits is_file_name ℕ_discrete filled unless held at_object answer files_after changed answered jumped executed stepped_at stepped_by stepped step first_world first_files is_beneath
+unfolding is_within_limits is_file_name ℕ_discrete filled unless held at_object answer files_after changed answered jumped executed stepped_at stepped_by stepped step
+    first_world first_files is_beneath
 effect c fresh d other = refl
 
 second_effect : Breaks moving_plan (first_moves ∷ first_moves ∷ []) (Some (Outside Create (codes "/work/new")))
