@@ -166,6 +166,19 @@ fn push_detail(
     }
 }
 
+/// What the next step of a process of a machine breaks by its call.
+fn detail_at(
+    alloc: Global,
+    task: &Task,
+    runner: &Runner<'_>,
+    number: u8,
+    breach: &Breach,
+) -> Result<Vec<u8>, Memory> {
+    let mut text = Vec::new(alloc);
+    push_detail(&mut text, task, runner, number, breach)?;
+    Ok(text)
+}
+
 /// Runs a machine over some events.
 fn run_over(runner: &mut Runner<'_>, events: &[Event]) -> Result<(), Memory> {
     for event in events {
@@ -182,12 +195,10 @@ pub(crate) fn detail_of(
     events: &[Event],
     breach: &Breach,
 ) -> Result<Vec<u8>, Memory> {
-    let mut text = Vec::new(alloc);
     let Some((last, before)) = events.split_last() else {
-        return Ok(text);
+        return Ok(Vec::new(alloc));
     };
     let mut runner = Runner::start(alloc, task)?;
     run_over(&mut runner, before)?;
-    push_detail(&mut text, task, &runner, last.process, breach)?;
-    Ok(text)
+    detail_at(alloc, task, &runner, last.process, breach)
 }

@@ -7,6 +7,7 @@ use crate::states::Met;
 use indexmap::IndexSet;
 use rights::Memory;
 use std::alloc::Global;
+use std::mem;
 use syscalls::Event;
 use task::Task;
 
@@ -68,7 +69,7 @@ pub(crate) struct Explorer<'a> {
     next: usize,
     bound: usize,
     /// The run that breaks something, once there is one.
-    pub found: Vec<Event>,
+    found: Vec<Event>,
 }
 
 impl<'a> Explorer<'a> {
@@ -91,6 +92,11 @@ impl<'a> Explorer<'a> {
     /// How many states were met.
     pub(crate) fn count(&self) -> usize {
         self.visits.len()
+    }
+
+    /// The run that breaks something, taken away; no events where there is none.
+    pub(crate) fn take_found(&mut self) -> Vec<Event> {
+        mem::replace(&mut self.found, Vec::new(self.alloc))
     }
 
     /// The events that lead to a state, the last one first.
@@ -141,15 +147,21 @@ impl<'a> Explorer<'a> {
         self.run_on(runner)
     }
 
+    /// Runs a machine from its start to a state that was met.
+    fn run_to(&mut self, place: usize, runner: &mut Runner<'a>) -> Result<(), Memory> {
+        let mut choices = self.choices(place)?;
+        choices.reverse();
+        self.run_on(runner)?;
+        for event in &choices {
+            self.advance(runner, *event)?;
+        }
+        Ok(())
+    }
+
     /// A machine at a state that was met.
     fn runner_at(&mut self, place: usize) -> Result<Runner<'a>, Memory> {
-        let mut choices = self.choices(place)?;
         let mut runner = Runner::start(self.alloc, self.task)?;
-        self.run_on(&mut runner)?;
-        choices.reverse();
-        for event in &choices {
-            self.advance(&mut runner, *event)?;
-        }
+        self.run_to(place, &mut runner)?;
         Ok(runner)
     }
 
@@ -163,12 +175,11 @@ impl<'a> Explorer<'a> {
         Ok(is_new)
     }
 
-    /// Begins with the task's first state.
-    fn begin(&mut self) -> Result<Progress, Memory> {
-        let mut runner = Runner::start(self.alloc, self.task)?;
-        match self.run_on(&mut runner)? {
+    /// Begins with the task's first state, up to which a machine is run.
+    fn begin_with(&mut self, runner: &mut Runner<'a>) -> Result<Progress, Memory> {
+        match self.run_on(runner)? {
             Arrival::Breaks => {
-                self.found = runner.events;
+                self.found = runner.take_events();
                 Ok(Progress::Found)
             }
             Arrival::Stays => Ok(Progress::Goes),
@@ -182,10 +193,16 @@ impl<'a> Explorer<'a> {
                     },
                     is_long,
                 };
-                self.keep(&runner, visit)?;
+                self.keep(runner, visit)?;
                 Ok(Progress::Goes)
             }
         }
+    }
+
+    /// Begins with the task's first state.
+    fn begin(&mut self) -> Result<Progress, Memory> {
+        let mut runner = Runner::start(self.alloc, self.task)?;
+        self.begin_with(&mut runner)
     }
 
     /// Brings a machine to a state that was met.
@@ -225,9 +242,8 @@ impl<'a> Explorer<'a> {
         &mut self,
         place: usize,
         events: &[Event],
-        runner: Runner<'a>,
+        runner: &mut Runner<'a>,
     ) -> Result<Option<bool>, Memory> {
-        let mut runner = runner;
         let mut tried = Tried {
             stands: true,
             walking: None,
@@ -236,12 +252,39 @@ impl<'a> Explorer<'a> {
         for event in events {
             // While names of a path are left, the kernel refuses nothing.
             let is_needless = event.refuse && tried.walking == Some(event.process);
-            if !is_needless && self.try_event(place, *event, &mut runner, &mut tried)? {
-                self.found = runner.events;
+            if !is_needless && self.try_event(place, *event, runner, &mut tried)? {
+                self.found = runner.take_events();
                 return Ok(None);
             }
         }
         Ok(Some(tried.any_new))
+    }
+
+    /// Goes on from a state, at which a machine stands, by all events that may come.
+    fn expand_all(&mut self, place: usize, runner: &mut Runner<'a>) -> Result<Progress, Memory> {
+        let all = next_moves(self.alloc, self.task, runner, &self.bytes, true)?;
+        match self.try_events(place, &all.events, runner)? {
+            None => Ok(Progress::Found),
+            Some(_) => Ok(Progress::Goes),
+        }
+    }
+
+    /// Goes on from a state, at which a machine stands, by the events of one process, if that can be, and by all if these lead to nothing new.
+    fn expand_with(
+        &mut self,
+        place: usize,
+        is_long: bool,
+        runner: &mut Runner<'a>,
+    ) -> Result<Progress, Memory> {
+        let some = next_moves(self.alloc, self.task, runner, &self.bytes, is_long)?;
+        match self.try_events(place, &some.events, runner)? {
+            None => Ok(Progress::Found),
+            Some(any_new) if any_new || !some.is_alone => Ok(Progress::Goes),
+            Some(_) => {
+                self.bring(place, runner)?;
+                self.expand_all(place, runner)
+            }
+        }
     }
 
     /// Goes on from the next state that was met.
@@ -249,22 +292,8 @@ impl<'a> Explorer<'a> {
         let Some(visit) = self.visits.get(place).copied() else {
             return Ok(Progress::Ended);
         };
-        let runner = self.runner_at(place)?;
-        let some = next_moves(self.alloc, self.task, &runner, &self.bytes, visit.is_long)?;
-        match self.try_events(place, &some.events, runner)? {
-            None => return Ok(Progress::Found),
-            Some(any_new) => {
-                if any_new || !some.is_alone {
-                    return Ok(Progress::Goes);
-                }
-            }
-        }
-        let runner = self.runner_at(place)?;
-        let all = next_moves(self.alloc, self.task, &runner, &self.bytes, true)?;
-        match self.try_events(place, &all.events, runner)? {
-            None => Ok(Progress::Found),
-            Some(_) => Ok(Progress::Goes),
-        }
+        let mut runner = self.runner_at(place)?;
+        self.expand_with(place, visit.is_long, &mut runner)
     }
 
     /// Goes on from so many states.

@@ -67,6 +67,22 @@ fn check_found(
     }
 }
 
+/// Goes through states in slices, at most so many, and tells the watcher behind each.
+fn go_through<W: Watcher>(
+    explorer: &mut Explorer<'_>,
+    bound: usize,
+    watcher: &mut W,
+) -> Result<Progress, Memory> {
+    for _ in 0..=bound / SLICE {
+        let progress = explorer.go_on(SLICE)?;
+        if !matches!(progress, Progress::Goes) {
+            return Ok(progress);
+        }
+        watcher.tell(explorer.count());
+    }
+    Ok(Progress::Bounded)
+}
+
 /// Searches a run that breaks something, over at most so many states, and tells the watcher now and then how many were met. What is found
 /// is checked by `breaks` before it is given, and no event of it can be left out. Where nothing is found, nothing is claimed.
 pub fn explore<W: Watcher>(
@@ -78,16 +94,11 @@ pub fn explore<W: Watcher>(
     ensures { IfOk result (IsExplored task.now) }
 {
     let mut explorer = Explorer::new(alloc, task, bound)?;
-    for _ in 0..=bound / SLICE {
-        match explorer.go_on(SLICE)? {
-            Progress::Found => {
-                let states = explorer.count();
-                return check_found(alloc, task, explorer.found, states);
-            }
-            Progress::Ended => return Ok(Explored::Ended(explorer.count())),
-            Progress::Bounded => return Ok(Explored::Bounded(explorer.count())),
-            Progress::Goes => watcher.tell(explorer.count()),
-        }
+    let progress = go_through(&mut explorer, bound, watcher)?;
+    let states = explorer.count();
+    match progress {
+        Progress::Found => check_found(alloc, task, explorer.take_found(), states),
+        Progress::Ended => Ok(Explored::Ended(states)),
+        Progress::Goes | Progress::Bounded => Ok(Explored::Bounded(states)),
     }
-    Ok(Explored::Bounded(explorer.count()))
 }

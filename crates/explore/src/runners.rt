@@ -14,6 +14,7 @@ use rights::limits::MAX_PROCESSES;
 use rights::{Memory, Op, Stop};
 use simulator::{Acted, LineResult, Machine};
 use std::alloc::Global;
+use std::mem;
 use syscalls::{Effect, Event};
 use task::Task;
 
@@ -23,7 +24,7 @@ pub(crate) struct Runner<'a> {
     alloc: Global,
     task: &'a Task,
     pub machine: Machine<'a, LinkTree>,
-    pub events: Vec<Event>,
+    events: Vec<Event>,
     /// The process of the last choice, where that left names of a path.
     pub walking: Option<u8>,
     messages: Messages,
@@ -106,18 +107,24 @@ pub(crate) fn call_of<'t>(task: &'t Task, process: &Process) -> Option<&'t Sysca
     }
 }
 
+/// What the calls of processes looked up that have looked nothing up yet.
+fn nothing_looked_up(alloc: Global) -> Result<Vec<Digest>, Memory> {
+    let mut looked = Vec::with_capacity(alloc, MAX_PROCESSES)?;
+    for _ in 0..MAX_PROCESSES {
+        looked.push(Digest::new())?;
+    }
+    Ok(looked)
+}
+
 impl<'a> Runner<'a> {
     /// The machine at the start of the task.
     pub(crate) fn start(alloc: Global, task: &'a Task) -> Result<Runner<'a>, Memory> {
+        let looked = nothing_looked_up(alloc)?;
         let started: Result<Machine<'a, LinkTree>, Stop> = Machine::start(alloc, task);
         let Ok(machine) = started else {
             return Err(Memory);
         };
         let tree = digest_of_tree(alloc, machine.tree())?;
-        let mut looked = Vec::with_capacity(alloc, MAX_PROCESSES)?;
-        for _ in 0..MAX_PROCESSES {
-            looked.push(Digest::new())?;
-        }
         Ok(Runner {
             alloc,
             task,
@@ -128,6 +135,11 @@ impl<'a> Runner<'a> {
             tree,
             looked,
         })
+    }
+
+    /// The events that it ran, taken away.
+    pub(crate) fn take_events(&mut self) -> Vec<Event> {
+        mem::replace(&mut self.events, Vec::new(self.alloc))
     }
 
     /// The descriptor that an operand of a process names, and what it is of.
