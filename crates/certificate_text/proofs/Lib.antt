@@ -2,7 +2,6 @@ pub mod Samples
 pub mod TextRows
 pub mod FaultRows
 pub mod PointWords
-pub mod Parted
 pub mod Growing
 pub mod LineBack
 pub mod CommandDigits

@@ -2,6 +2,7 @@ pub mod Faults
 pub mod KeywordViews
 pub mod Pieces
 pub mod Readings
+pub mod Taking
 pub mod Texts
 pub mod Views
 pub mod WordViews

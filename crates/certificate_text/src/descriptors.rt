@@ -3,40 +3,33 @@
 ghost use Rattle.std.specs.Prelude.{◌≡◌, ◌∷◌, option_map};
 ghost use Rattle.std.specs.Result.{result_map_both};
 ghost use Rattle.certificate.specs.Views.{held_of, slot_of, target_of};
-ghost use Rattle.certificate_text.specs.Views.{IsNextWord, fault_of};
+ghost use Rattle.certificate_text.specs.Views.{fault_of};
 ghost use Rattle.certificate_text.specs.Words.{class_of_word, grant_behind, held_behind, held_of_words, sends_of_words, side_of_word, slot_of_words, socket_behind};
 ghost use Rattle.certificate.specs.Bounds.{Socket};
 ghost use Rattle.certificate_text.specs.Faults.{both, formed};
 
 use crate::faults::LineFault;
+use crate::keywords::Keyword;
+use crate::taking::{both, four_words, is_word, next_two, next_word};
 use crate::words::{read_class, read_fcntls, read_name, read_rights, read_side};
 use certificate::{Held, Slot, Target};
 use texts::Words;
 
-/// The next word, which has to be there.
-pub(crate) fn next_word<'t>(words: &mut Words<'t>) -> Result<&'t [u8], LineFault>
-    ensures { IsNextWord result words.old words.new }
-{
-    match words.take() {
-        Some(word) => Ok(word),
-        None => Err(LineFault::Syntax),
-    }
-}
-
 /// The four sets behind what a descriptor is of, and nothing more.
-fn read_sets(target: Result<Target, LineFault>, mut words: Words<'_>) -> Result<Held, LineFault>
+fn read_sets(target: Result<Target, LineFault>, words: Words<'_>) -> Result<Held, LineFault>
     ensures { result_map_both held_of fault_of result ≡ held_behind (result_map_both target_of fault_of target) words.entry }
 {
-    let least = next_word(&mut words)?;
-    let greatest = next_word(&mut words)?;
-    let least_fcntls = next_word(&mut words)?;
-    let greatest_fcntls = next_word(&mut words)?;
-    if !words.is_done() {
+    let Some((rights, fcntls)) = four_words(words) else {
         return Err(LineFault::Syntax);
+    };
+    let sets = both(
+        read_rights(rights.0, rights.1),
+        read_fcntls(fcntls.0, fcntls.1),
+    );
+    match both(target, sets) {
+        Ok(parts) => Ok(Held::new(parts.0, parts.1.0, parts.1.1)),
+        Err(fault) => Err(fault),
     }
-    let rights = read_rights(least, greatest)?;
-    let fcntls = read_fcntls(least_fcntls, greatest_fcntls)?;
-    Ok(Held::new(target?, rights, fcntls))
 }
 
 /// What is said of a descriptor of a grant's node.
@@ -67,8 +60,9 @@ fn read_end(class: &[u8], side: &[u8]) -> Result<Target, LineFault>
 fn read_socket(mut words: Words<'_>) -> Result<Held, LineFault>
     ensures { result_map_both held_of fault_of result ≡ socket_behind words.entry }
 {
-    let class = next_word(&mut words)?;
-    let side = next_word(&mut words)?;
+    let Some((class, side)) = next_two(&mut words) else {
+        return Err(LineFault::Syntax);
+    };
     read_sets(read_end(class, side), words)
 }
 
@@ -76,13 +70,13 @@ fn read_socket(mut words: Words<'_>) -> Result<Held, LineFault>
 fn read_held_of(what: &[u8], words: Words<'_>) -> Result<Held, LineFault>
     ensures { result_map_both held_of fault_of result ≡ held_of_words (what.now ∷ words.entry) }
 {
-    if what == b"grant".as_slice() {
+    if is_word(what, Keyword::Grant) {
         read_grant(words)
-    } else if what == b"any".as_slice() {
+    } else if is_word(what, Keyword::Any) {
         read_sets(Ok(Target::AnyNode), words)
-    } else if what == b"sock".as_slice() {
+    } else if is_word(what, Keyword::Sock) {
         read_socket(words)
-    } else if what == b"unknown".as_slice() {
+    } else if is_word(what, Keyword::Unknown) {
         read_sets(Ok(Target::Unknown), words)
     } else {
         Err(LineFault::Syntax)
@@ -102,9 +96,9 @@ pub(crate) fn read_slot(mut words: Words<'_>) -> Result<Slot, LineFault>
     ensures { result_map_both slot_of fault_of result ≡ slot_of_words words.entry }
 {
     let presence = next_word(&mut words)?;
-    if presence == b"open".as_slice() {
+    if is_word(presence, Keyword::Open) {
         Ok(Slot::Open(read_held(words)?))
-    } else if presence == b"maybe".as_slice() {
+    } else if is_word(presence, Keyword::Maybe) {
         Ok(Slot::Maybe(read_held(words)?))
     } else {
         Err(LineFault::Syntax)
@@ -116,7 +110,7 @@ pub(crate) fn read_sends(mut words: Words<'_>) -> Result<Option<Held>, LineFault
     ensures { result_map_both (option_map held_of) fault_of result ≡ sends_of_words words.entry }
 {
     let what = next_word(&mut words)?;
-    if what == b"none".as_slice() && words.is_done() {
+    if is_word(what, Keyword::None) && words.is_done() {
         return Ok(None);
     }
     Ok(Some(read_held_of(what, words)?))

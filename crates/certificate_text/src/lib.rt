@@ -7,6 +7,7 @@ mod keywords;
 mod line_words;
 mod lines;
 pub mod reading;
+mod taking;
 mod words;
 pub mod writing;
 

@@ -9,52 +9,57 @@ ghost use Rattle.certificate_text.specs.Views.{fault_of};
 ghost use Rattle.certificate_text.specs.Words.{authority_of_words, block_of_words, ceiling_of_words, channel_of_words, descriptor_of_words, end_of_words, later_line, line_of_words};
 ghost use Rattle.certificate_text.specs.Words.{other_line, register_of_words};
 
-use crate::descriptors::{next_word, read_sends, read_slot};
+use crate::descriptors::{read_sends, read_slot};
 use crate::faults::LineFault;
+use crate::keywords::Keyword;
+use crate::taking::{both, is_word, next_two, next_word, one_word, three_words, two_words};
 use crate::words::{
-    read_ceiling_rights, read_class, read_interval, read_mode, read_name, read_number, read_side,
+    LAST_INSTRUCTION, read_byte, read_ceiling_rights, read_class, read_interval, read_mode,
+    read_name, read_side,
 };
 use certificate::{Ceiling, Channel, End, Line, Version};
-use rights::limits::{MAX_DESCRIPTORS, MAX_INSTRUCTIONS, REGISTERS};
+use rights::limits::{MAX_DESCRIPTORS, REGISTERS};
 use texts::Words;
 
+/// The numbers of the last register and of the last descriptor.
+const LAST_REGISTER: u8 = (REGISTERS - 1) as u8;
+
+const LAST_DESCRIPTOR: u8 = (MAX_DESCRIPTORS - 1) as u8;
+
 /// The words behind `at`: a program's name, a point of it, and its mode.
-fn read_block(mut words: Words<'_>) -> Result<Line, LineFault>
+fn read_block(words: Words<'_>) -> Result<Line, LineFault>
     ensures { result_map_both line_of fault_of result ≡ block_of_words words.entry }
 {
-    let program = next_word(&mut words)?;
-    let point = next_word(&mut words)?;
-    let mode = next_word(&mut words)?;
-    let (true, Some(mode)) = (words.is_done(), read_mode(mode)) else {
+    let Some((start, mode)) = three_words(words) else {
         return Err(LineFault::Syntax);
     };
-    let program = read_name(program)?;
-    let point = read_number(point, MAX_INSTRUCTIONS as u32 - 1)?;
-    Ok(Line::Block {
-        program,
-        point: point as u8,
-        mode,
-    })
+    let Some(mode) = read_mode(mode) else {
+        return Err(LineFault::Syntax);
+    };
+    match both(read_name(start.0), read_byte(start.1, LAST_INSTRUCTION)) {
+        Ok(parts) => Ok(Line::Block {
+            program: parts.0,
+            point: parts.1,
+            mode,
+        }),
+        Err(fault) => Err(fault),
+    }
 }
 
 /// The digits behind `r`, and the ends of an interval.
-fn read_register(digits: &[u8], mut words: Words<'_>) -> Result<Line, LineFault>
+fn read_register(digits: &[u8], words: Words<'_>) -> Result<Line, LineFault>
     ensures { result_map_both line_of fault_of result ≡ register_of_words digits.now words.entry }
 {
-    let low = next_word(&mut words)?;
-    let high = next_word(&mut words)?;
-    if !words.is_done() {
+    let Some((low, high)) = two_words(words) else {
         return Err(LineFault::Syntax);
+    };
+    match both(read_byte(digits, LAST_REGISTER), read_interval(low, high)) {
+        Ok(parts) => Ok(Line::Register {
+            register: parts.0,
+            interval: parts.1,
+        }),
+        Err(fault) => Err(fault),
     }
-    let register = read_number(digits, REGISTERS as u32 - 1);
-    if matches!(register, Err(LineFault::Syntax)) {
-        return Err(LineFault::Syntax);
-    }
-    let interval = read_interval(low, high)?;
-    Ok(Line::Register {
-        register: register? as u8,
-        interval,
-    })
 }
 
 /// The words behind `fd`: a number of the table, and what it may be.
@@ -62,32 +67,29 @@ fn read_descriptor(mut words: Words<'_>) -> Result<Line, LineFault>
     ensures { result_map_both line_of fault_of result ≡ descriptor_of_words words.entry }
 {
     let number = next_word(&mut words)?;
-    let number = read_number(number, MAX_DESCRIPTORS as u32 - 1);
-    if matches!(number, Err(LineFault::Syntax)) {
-        return Err(LineFault::Syntax);
+    match both(read_byte(number, LAST_DESCRIPTOR), read_slot(words)) {
+        Ok(parts) => Ok(Line::Slot {
+            number: parts.0,
+            slot: parts.1,
+        }),
+        Err(fault) => Err(fault),
     }
-    let slot = read_slot(words)?;
-    Ok(Line::Slot {
-        number: number? as u8,
-        slot,
-    })
 }
 
 /// The words behind `chan`: a class, a side, and what it sends.
 fn read_channel(mut words: Words<'_>) -> Result<Line, LineFault>
     ensures { result_map_both line_of fault_of result ≡ channel_of_words words.entry }
 {
-    let class = next_word(&mut words)?;
-    let side = next_word(&mut words)?;
+    let Some((class, side)) = next_two(&mut words) else {
+        return Err(LineFault::Syntax);
+    };
     let Some(side) = read_side(side) else {
         return Err(LineFault::Syntax);
     };
-    let class = read_class(class);
-    if matches!(class, Err(LineFault::Syntax)) {
-        return Err(LineFault::Syntax);
+    match both(read_class(class), read_sends(words)) {
+        Ok(parts) => Ok(Line::Channel(Channel::new(parts.0, side, parts.1))),
+        Err(fault) => Err(fault),
     }
-    let sends = read_sends(words)?;
-    Ok(Line::Channel(Channel::new(class?, side, sends)))
 }
 
 /// A line that begins with none of the other words: one of a register, `r` and its number without a space between.
@@ -97,60 +99,66 @@ fn read_other(first: &[u8], words: Words<'_>) -> Result<Line, LineFault>
     match first {
         [] => Err(LineFault::Syntax),
         [letter, digits @ ..] => {
-            if *letter != b'r' {
-                return Err(LineFault::Syntax);
+            if *letter == b'r' {
+                read_register(digits, words)
+            } else {
+                Err(LineFault::Syntax)
             }
-            read_register(digits, words)
         }
     }
 }
 
 /// The word behind `auth`: a program's name.
-fn read_authority(mut words: Words<'_>) -> Result<Line, LineFault>
+fn read_authority(words: Words<'_>) -> Result<Line, LineFault>
     ensures { result_map_both line_of fault_of result ≡ authority_of_words words.entry }
 {
-    let program = next_word(&mut words)?;
-    if !words.is_done() {
+    let Some(program) = one_word(words) else {
         return Err(LineFault::Syntax);
+    };
+    match read_name(program) {
+        Ok(program) => Ok(Line::Authority(program)),
+        Err(fault) => Err(fault),
     }
-    Ok(Line::Authority(read_name(program)?))
 }
 
 /// The words behind `ceil`: a grant's name, and some rights.
-fn read_ceiling(mut words: Words<'_>) -> Result<Line, LineFault>
+fn read_ceiling(words: Words<'_>) -> Result<Line, LineFault>
     ensures { result_map_both line_of fault_of result ≡ ceiling_of_words words.entry }
 {
-    let grant = next_word(&mut words)?;
-    let rights = next_word(&mut words)?;
-    if !words.is_done() {
+    let Some((grant, rights)) = two_words(words) else {
         return Err(LineFault::Syntax);
+    };
+    match both(read_name(grant), read_ceiling_rights(rights)) {
+        Ok(parts) => Ok(Line::Ceiling(Ceiling::new(parts.0, parts.1))),
+        Err(fault) => Err(fault),
     }
-    let grant = read_name(grant)?;
-    let rights = read_ceiling_rights(rights)?;
-    Ok(Line::Ceiling(Ceiling::new(grant, rights)))
 }
 
 /// The words behind `hold`: a class and a side.
-fn read_end(mut words: Words<'_>) -> Result<Line, LineFault>
+fn read_end(words: Words<'_>) -> Result<Line, LineFault>
     ensures { result_map_both line_of fault_of result ≡ end_of_words words.entry }
 {
-    let class = next_word(&mut words)?;
-    let side = next_word(&mut words)?;
-    let (true, Some(side)) = (words.is_done(), read_side(side)) else {
+    let Some((class, side)) = two_words(words) else {
         return Err(LineFault::Syntax);
     };
-    Ok(Line::Hold(End::new(read_class(class)?, side)))
+    let Some(side) = read_side(side) else {
+        return Err(LineFault::Syntax);
+    };
+    match read_class(class) {
+        Ok(class) => Ok(Line::Hold(End::new(class, side))),
+        Err(fault) => Err(fault),
+    }
 }
 
 /// A line of a version with authorities that begins with none of the words that lines of all versions begin with.
 fn read_later(first: &[u8], words: Words<'_>) -> Result<Line, LineFault>
     ensures { result_map_both line_of fault_of result ≡ later_line first.now words.entry }
 {
-    if first == b"auth".as_slice() {
+    if is_word(first, Keyword::Auth) {
         read_authority(words)
-    } else if first == b"ceil".as_slice() {
+    } else if is_word(first, Keyword::Ceil) {
         read_ceiling(words)
-    } else if first == b"hold".as_slice() {
+    } else if is_word(first, Keyword::Hold) {
         read_end(words)
     } else {
         read_other(first, words)
@@ -162,11 +170,11 @@ fn read_words(version: Version, mut words: Words<'_>) -> Result<Line, LineFault>
     ensures { result_map_both line_of fault_of result ≡ line_of_words (version_of version) words.entry }
 {
     let first = next_word(&mut words)?;
-    if first == b"at".as_slice() {
+    if is_word(first, Keyword::At) {
         read_block(words)
-    } else if first == b"fd".as_slice() {
+    } else if is_word(first, Keyword::Fd) {
         read_descriptor(words)
-    } else if first == b"chan".as_slice() {
+    } else if is_word(first, Keyword::Chan) {
         read_channel(words)
     } else if version.has_authorities() {
         read_later(first, words)

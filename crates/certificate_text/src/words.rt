@@ -11,12 +11,17 @@ ghost use Rattle.certificate_text.specs.Words.{ceiling_from, class_of_word, fcnt
 ghost use Rattle.texts.specs.Parts.{parts};
 
 use crate::faults::LineFault;
+use crate::keywords::Keyword;
+use crate::taking::{both, is_word};
 use bitflags::Flags;
 use certificate::{Class, FcntlsRange, Interval, ModeBound, Name, Pair, RightsRange, Side};
 use rights::limits::{MAX_INSTRUCTIONS, MAX_PAIRS};
 use rights::{Fcntls, Rights};
 use std::cmp::Ordering;
 use texts::{NumberFault, compare_numbers, first_part, number_up_to, read_hex};
+
+/// The number of the last instruction that a program may have.
+pub(crate) const LAST_INSTRUCTION: u8 = (MAX_INSTRUCTIONS - 1) as u8;
 
 /// A number up to a limit.
 pub(crate) fn read_number(word: &[u8], limit: u32) -> Result<u32, LineFault>
@@ -27,6 +32,17 @@ pub(crate) fn read_number(word: &[u8], limit: u32) -> Result<u32, LineFault>
         Ok(number) => Ok(number),
         Err(NumberFault::Form) => Err(LineFault::Syntax),
         Err(NumberFault::Limit) => Err(LineFault::Limit),
+    }
+}
+
+/// A number of one byte up to a limit.
+pub(crate) fn read_byte(word: &[u8], limit: u8) -> Result<u8, LineFault>
+    ensures value { result_map_both (λ n. n) fault_of result ≡ up_to limit (number_of word.now) }
+    ensures within { IfOk result (λ n. n ≤ limit) }
+{
+    match read_number(word, u32::from(limit)) {
+        Ok(number) => Ok(number as u8),
+        Err(fault) => Err(fault),
     }
 }
 
@@ -44,11 +60,11 @@ pub(crate) fn read_name(word: &[u8]) -> Result<Name, LineFault>
 pub(crate) fn read_mode(word: &[u8]) -> Option<ModeBound>
     ensures { option_map mode_of result ≡ mode_of_word word.now }
 {
-    if word == b"off".as_slice() {
+    if is_word(word, Keyword::Off) {
         Some(ModeBound::Off)
-    } else if word == b"on".as_slice() {
+    } else if is_word(word, Keyword::On) {
         Some(ModeBound::On)
-    } else if word == b"maybe".as_slice() {
+    } else if is_word(word, Keyword::Maybe) {
         Some(ModeBound::Either)
     } else {
         None
@@ -59,9 +75,9 @@ pub(crate) fn read_mode(word: &[u8]) -> Option<ModeBound>
 pub(crate) fn read_side(word: &[u8]) -> Option<Side>
     ensures { option_map side_of result ≡ side_of_word word.now }
 {
-    if word == b"a".as_slice() {
+    if is_word(word, Keyword::A) {
         Some(Side::A)
-    } else if word == b"b".as_slice() {
+    } else if is_word(word, Keyword::B) {
         Some(Side::B)
     } else {
         None
@@ -80,9 +96,10 @@ fn read_point(word: &[u8]) -> Result<Class, LineFault>
     if more.is_some() {
         return Err(LineFault::Syntax);
     }
-    let program = read_name(program)?;
-    let point = read_number(point, MAX_INSTRUCTIONS as u32 - 1)?;
-    Ok(Class::MadeAt(program, point as u8))
+    match both(read_name(program), read_byte(point, LAST_INSTRUCTION)) {
+        Ok(parts) => Ok(Class::MadeAt(parts.0, parts.1)),
+        Err(fault) => Err(fault),
+    }
 }
 
 /// A class of socket pairs: `@N`, or `program:point`.
@@ -95,8 +112,10 @@ pub(crate) fn read_class(word: &[u8]) -> Result<Class, LineFault>
             if *first != b'@' {
                 return read_point(word);
             }
-            let number = read_number(digits, u32::from(MAX_PAIRS) - 1)?;
-            Ok(Class::Initial(Pair::new(number as u8)))
+            match read_byte(digits, MAX_PAIRS - 1) {
+                Ok(number) => Ok(Class::Initial(Pair::new(number))),
+                Err(fault) => Err(fault),
+            }
         }
     }
 }
