@@ -1,8 +1,11 @@
 -- What the code takes of the words of a line.
-use Rattle.std.specs.Prelude.{◌≡◌, ℕ, Bool, true, false, List, [], ◌∷◌, Option, Some, None, Result, Ok, Err}
+use Rattle.std.specs.Prelude.{◌≡◌, ℕ, Bool, true, false, nat_le, List, [], ◌∷◌, Option, Some, None, Result, Ok, Err, if◌then◌else◌}
 use Rattle.std.specs.Borrow.{Bor}
 use Rattle.certificate_text.specs.declared.faults.LineFault.{LineFault}
 use Rattle.certificate_text.specs.declared.faults.LineFault.TheVariants as line
+use Rattle.certificate.specs.Bounds.{Interval}
+use Rattle.certificate.specs.Lines.{is_full}
+use Rattle.certificate_text.specs.Faults.{Fault, Syntax}
 
 abbrev pub has_two : List (List ℕ) → Bool
 has_two [] = false
@@ -46,6 +49,15 @@ AreThree (Some three) words = words ≡ three.0.0.now ∷ three.0.1.now ∷ thre
 abbrev pub AreFour : Option ((Bor (List ℕ) × Bor (List ℕ)) × (Bor (List ℕ) × Bor (List ℕ))) → List (List ℕ) → Type 0
 AreFour None words = are_four words ≡ false
 AreFour (Some four) words = words ≡ four.0.0.now ∷ four.0.1.now ∷ four.1.0.now ∷ four.1.1.now ∷ []
+
+-- the ends of an interval, which isn't full
+abbrev pub rise_or_equal : Option ℕ → Option ℕ → Bool
+rise_or_equal None n = false
+rise_or_equal (Some m) None = false
+rise_or_equal (Some m) (Some n) = nat_le m n
+
+abbrev pub unless_full : Interval → Result Interval Fault
+unless_full i = if is_full i then Err Syntax else Ok i
 
 -- two parts of a line, or of their faults the one that counts
 abbrev pub both_parts : {A B : Type 0} → Result A LineFault → Result B LineFault → Result (A × B) LineFault

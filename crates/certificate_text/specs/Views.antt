@@ -52,6 +52,14 @@ TakesLine (Err (faults.Limit n)) new offset answer = (answer ≡ Err Limit) × (
 TakesLine (Err (faults.Order n)) new offset answer = (answer ≡ Err Order) × (n ≡ offset)
 TakesLine (Err faults.Memory) new offset answer = Unit {0}
 
+-- What lines make of a certificate, or the fault of the first faulty one; want of memory aside.
+abbrev pub MakesCert : Result (Unit {0}) CertFault → Certificate → Reading → Type 0
+MakesCert (Ok _) new reading = reading ≡ Ok new
+MakesCert (Err (faults.Syntax n)) new reading = reading ≡ fails Syntax n
+MakesCert (Err (faults.Limit n)) new reading = reading ≡ fails Limit n
+MakesCert (Err (faults.Order n)) new reading = reading ≡ fails Order n
+MakesCert (Err faults.Memory) new reading = Unit {0}
+
 -- A certificate, or a fault, want of memory aside.
 abbrev pub ReadsCert : Result Certificate CertFault → Reading → Type 0
 ReadsCert (Ok certificate) reading = reading ≡ Ok certificate

@@ -7,7 +7,7 @@ ghost use Rattle.certificate_text.specs.declared.faults.CertFault.TheVariants as
 use thiserror::Error;
 
 /// Why a line is none of a certificate's. Of the two the first counts.
-#[derive(Clone, Copy, Debug, PartialEq, Eq)]
+#[derive(Clone, Copy)]
 pub(crate) enum LineFault {
     /// It has no form that a line has.
     Syntax,

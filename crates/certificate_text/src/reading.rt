@@ -1,10 +1,12 @@
 //! How a certificate is read.
 
 ghost use Rattle.std.specs.Prelude.{◌≡◌, IfOk, option_map};
+ghost use Rattle.std.specs.Str.{bytes_eq};
+ghost use Rattle.certificate.specs.Bounds.{Certificate};
 ghost use Rattle.certificate.specs.Views.{version_of};
 ghost use Rattle.certificate_text.specs.Readings.{certificate_of_text, closed, grown_by_line, line_of_text, read_behind, read_lines, version_of_line};
-ghost use Rattle.certificate_text.specs.Texts.{certificate_text};
-ghost use Rattle.certificate_text.specs.Views.{ReadsCert, TakesLine};
+ghost use Rattle.certificate_text.specs.Texts.{certificate_text, end_line};
+ghost use Rattle.certificate_text.specs.Views.{MakesCert, ReadsCert, TakesLine};
 
 use crate::faults::CertFault;
 use crate::lines::read_line;
@@ -28,34 +30,51 @@ fn take_line(cert: &mut Cert, text: &[u8], offset: usize) -> Result<(), CertFaul
     }
 }
 
-/// The certificate, if nothing stands behind its last line.
-fn close(cert: Cert, mut lines: Lines<'_>) -> Result<Cert, CertFault>
-    ensures { ReadsCert result (closed cert lines.entry) }
+/// Whether nothing stands behind the last line.
+fn close(mut lines: Lines<'_>) -> Result<(), CertFault>
+    ensures { (cert : Certificate) → MakesCert result cert (closed cert lines.entry) }
 {
     let Some(line) = lines.next() else {
         return Err(CertFault::Syntax(0));
     };
     if line.text.is_empty() && lines.next().is_none() {
-        return Ok(cert);
+        return Ok(());
     }
     Err(CertFault::Syntax(line.offset))
 }
 
-/// Reads the lines behind the first one.
+/// Whether a line is the last one of a certificate.
+fn is_end(text: &[u8]) -> bool
+    ensures { result ≡ bytes_eq text.now end_line }
+{
+    text == b"end".as_slice()
+}
+
+/// Adds the lines behind the first one.
 #[tactic(auto, unfolding(crate::specs::Readings::read_behind))]
-fn read_body(mut cert: Cert, mut lines: Lines<'_>) -> Result<Cert, CertFault>
-    ensures { ReadsCert result (read_behind cert lines.entry) }
+fn take_lines(cert: &mut Cert, mut lines: Lines<'_>) -> Result<(), CertFault>
+    ensures { MakesCert result cert.new (read_behind cert.old lines.entry) }
 {
     while let Some(line) = lines.next() {
         if !line.is_ended {
             return Err(CertFault::Syntax(line.offset));
         }
-        if line.text == b"end".as_slice() {
-            return close(cert, lines);
+        if is_end(line.text) {
+            return close(lines);
         }
-        take_line(&mut cert, line.text, line.offset)?;
+        take_line(cert, line.text, line.offset)?;
     }
     Err(CertFault::Syntax(0))
+}
+
+/// Reads the lines behind the first one.
+fn read_body(mut cert: Cert, lines: Lines<'_>) -> Result<Cert, CertFault>
+    ensures { ReadsCert result (read_behind cert lines.entry) }
+{
+    match take_lines(&mut cert, lines) {
+        Ok(()) => Ok(cert),
+        Err(fault) => Err(fault),
+    }
 }
 
 /// The version that a first line tells, if it is one.

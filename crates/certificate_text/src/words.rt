@@ -6,6 +6,7 @@ ghost use Rattle.texts.specs.Hex.{hex_of};
 ghost use Rattle.texts.specs.Numbers.{number_of};
 ghost use Rattle.certificate.specs.Lines.{is_ceiling};
 ghost use Rattle.certificate.specs.Views.{class_of, interval_of, mode_of, name_of, side_of};
+ghost use Rattle.certificate_text.specs.Taking.{rise_or_equal, unless_full};
 ghost use Rattle.certificate_text.specs.Views.{fault_of, fcntls_in, rights_in};
 ghost use Rattle.certificate_text.specs.Words.{ceiling_from, class_of_word, fcntls_of_words, interval_from, mode_of_word, name_of_word, point_of_program, rights_of_words, side_of_word, up_to};
 ghost use Rattle.texts.specs.Parts.{parts};
@@ -120,20 +121,38 @@ pub(crate) fn read_class(word: &[u8]) -> Result<Class, LineFault>
     }
 }
 
-/// An interval that isn't full, of its two ends. They are compared first, of whatever length their numbers are.
-pub(crate) fn read_interval(low: &[u8], high: &[u8]) -> Result<Interval, LineFault>
-    ensures { result_map_both interval_of fault_of result ≡ interval_from (number_of low.now) (number_of high.now) }
+/// Whether these are two numbers, the first not above the second, of whatever length they are.
+fn are_ends(low: &[u8], high: &[u8]) -> bool
+    ensures { result ≡ rise_or_equal (number_of low.now) (number_of high.now) }
 {
     match compare_numbers(low, high) {
-        None | Some(Ordering::Greater) => return Err(LineFault::Syntax),
-        Some(Ordering::Less | Ordering::Equal) => {}
+        None | Some(Ordering::Greater) => false,
+        Some(Ordering::Less | Ordering::Equal) => true,
     }
-    let high = read_number(high, u32::MAX)?;
-    let low = read_number(low, u32::MAX)?;
+}
+
+/// The interval between two numbers, if it isn't full.
+fn interval_between(low: u32, high: u32) -> Result<Interval, LineFault>
+    requires { low ≤ high }
+    ensures { result_map_both interval_of fault_of result ≡ unless_full (record { low = low; high = high }) }
+{
     if low == 0 && high == u32::MAX {
         return Err(LineFault::Syntax);
     }
     Ok(Interval::new(low, high))
+}
+
+/// An interval that isn't full, of its two ends. They are compared first.
+pub(crate) fn read_interval(low: &[u8], high: &[u8]) -> Result<Interval, LineFault>
+    ensures { result_map_both interval_of fault_of result ≡ interval_from (number_of low.now) (number_of high.now) }
+{
+    if !are_ends(low, high) {
+        return Err(LineFault::Syntax);
+    }
+    match both(read_number(low, u32::MAX), read_number(high, u32::MAX)) {
+        Ok(ends) => interval_between(ends.0, ends.1),
+        Err(fault) => Err(fault),
+    }
 }
 
 /// The least and the greatest set of rights, in four digits each.

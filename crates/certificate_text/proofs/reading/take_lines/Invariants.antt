@@ -1,6 +1,6 @@
 use Rattle.std.proofs.Common.{◌≡◌}
 use Rattle.certificate_text.specs.Readings.{read_behind}
-use Rattle.certificate_text.proofs.reading.read_body.Given as goal
+use Rattle.certificate_text.proofs.reading.take_lines.Given as goal
 
 -- what comes of the lines that are left comes of all
 abbrev pub invariant-loop-line : goal.invariant-loop-line
