@@ -20,3 +20,4 @@ pub mod Fewer
 pub mod Fits
 pub mod Makes
 pub mod Whole
+pub mod Outcomes

@@ -1,6 +1,6 @@
 //! How a certificate grows by a line: whether there is room for it, whether it stands in its place, and what it adds.
 
-ghost use Rattle.std.specs.Prelude.{◌≡◌, ◌≤◌, ◌∷◌, [], length, map, nat_lt, option_map, IfErr, MatchOption, OnErr, OnOk};
+ghost use Rattle.std.specs.Prelude.{◌≡◌, ◌≤◌, ◌∷◌, ◌++◌, [], length, map, nat_lt, option_map, IfErr, MatchOption, OnErr, OnOk};
 ghost use Rattle.std.specs.List.{flat_map, list_all, list_any};
 ghost use Rattle.std.specs.Str.{bytes_eq};
 ghost use Rattle.rights.specs.Limits.{most_programs};
@@ -9,14 +9,14 @@ ghost use Rattle.certificate.specs.Bounds.{Version, with_interval, with_slot};
 ghost use Rattle.certificate.specs.Lines.{is_closed, is_full};
 ghost use Rattle.certificate.specs.Growth.{above_authorities, above_blocks, above_ceilings, above_channels, above_ends, all_classes, all_from, classes_held, classes_in, classes_in_line};
 ghost use Rattle.certificate.specs.Growth.{classes_of_ends, distinct, may_bound_grant, may_bound_register, may_bound_slot, may_hold_end, most_classes};
-ghost use Rattle.certificate.specs.Growth.{on_last, programs_in_line, programs_of_class, programs_of_held, stands, with_ceiling, with_held_end, with_last, with_line};
+ghost use Rattle.certificate.specs.Growth.{on_last, open_authority, open_bound, programs_in_line, programs_of_class, programs_of_held, stands, with_ceiling, with_held_end, with_last, with_line};
 ghost use Rattle.certificate.specs.Room.{listed_with};
 ghost use Rattle.certificate.specs.CountViews.{programs_listed};
-ghost use Rattle.certificate.specs.Views.{authorities_of, ceiling_of, certificate_with, channel_of, channels_of, class_of, held_end_of, held_of, interval_of, line_of, name_of, point_of, points_of, slot_of};
+ghost use Rattle.certificate.specs.Views.{authorities_of, ceiling_of, certificate_with, channel_of, channels_of, class_of, held_end_of, held_of, interval_of, line_of, mode_of, name_of, point_of, points_of, slot_of};
 ghost use Rattle.certificate.specs.declared.lines.Refusal.TheVariants as refusal;
 
 use crate::authorities::{Authority, Ceiling, End};
-use crate::bounds::{Held, Interval, Slot, Target};
+use crate::bounds::{Held, Interval, ModeBound, Slot, Target};
 use crate::classes::Class;
 use crate::lines::{Channel, Line, Refusal};
 use crate::names::Name;
@@ -319,10 +319,10 @@ fn bound_slot(points: &mut [Point], number: u8, slot: Slot) -> Result<(), Refusa
     ensures err { OnErr result (points_of points.new ≡ points_of points.old) }
     ensures memory { IfErr result (λ reason. reason ≡ refusal.Memory) }
 {
-    if let Some(last) = points.last_mut() {
-        last.bound_slot(number, slot)?;
+    match points.last_mut() {
+        Some(last) => last.bound_slot(number, slot),
+        None => Ok(()),
     }
-    Ok(())
 }
 
 /// Adds a ceiling to the last authority. A refused growth changes nothing.
@@ -331,10 +331,10 @@ fn bound_grant(authorities: &mut [Authority], ceiling: Ceiling) -> Result<(), Re
     ensures err { OnErr result (authorities_of authorities.new ≡ authorities_of authorities.old) }
     ensures memory { IfErr result (λ reason. reason ≡ refusal.Memory) }
 {
-    if let Some(last) = authorities.last_mut() {
-        last.bound_grant(ceiling)?;
+    match authorities.last_mut() {
+        Some(last) => last.bound_grant(ceiling),
+        None => Ok(()),
     }
-    Ok(())
 }
 
 /// Adds an end to the last authority. A refused growth changes nothing.
@@ -343,9 +343,42 @@ fn hold_end(authorities: &mut [Authority], held: End) -> Result<(), Refusal>
     ensures err { OnErr result (authorities_of authorities.new ≡ authorities_of authorities.old) }
     ensures memory { IfErr result (λ reason. reason ≡ refusal.Memory) }
 {
-    if let Some(last) = authorities.last_mut() {
-        last.hold_end(held)?;
+    match authorities.last_mut() {
+        Some(last) => last.hold_end(held),
+        None => Ok(()),
     }
+}
+
+/// Adds a point with full registers and closed slots. A refused growth changes nothing.
+fn push_point(points: &mut Vec<Point>, program: Name, point: u8, mode: ModeBound) -> Result<(), Refusal>
+    ensures ok { OnOk result (points_of points.new.items ≡ points_of points.old.items
+        ++ (record { program = name_of program; point = point; bound = open_bound (mode_of mode) }) ∷ []) }
+    ensures err { OnErr result (points_of points.new.items ≡ points_of points.old.items) }
+    ensures memory { IfErr result (λ reason. reason ≡ refusal.Memory) }
+{
+    let alloc = *points.allocator();
+    points.push(Point::begins(alloc, program, point, mode))?;
+    Ok(())
+}
+
+/// Adds a channel. A refused growth changes nothing.
+fn push_channel(channels: &mut Vec<Channel>, channel: Channel) -> Result<(), Refusal>
+    ensures ok { OnOk result (channels_of channels.new.items ≡ channels_of channels.old.items ++ channel_of channel ∷ []) }
+    ensures err { OnErr result (channels_of channels.new.items ≡ channels_of channels.old.items) }
+    ensures memory { IfErr result (λ reason. reason ≡ refusal.Memory) }
+{
+    channels.push(channel)?;
+    Ok(())
+}
+
+/// Adds an authority that holds nothing. A refused growth changes nothing.
+fn push_authority(authorities: &mut Vec<Authority>, program: Name) -> Result<(), Refusal>
+    ensures ok { OnOk result (authorities_of authorities.new.items ≡ authorities_of authorities.old.items ++ open_authority (name_of program) ∷ []) }
+    ensures err { OnErr result (authorities_of authorities.new.items ≡ authorities_of authorities.old.items) }
+    ensures memory { IfErr result (λ reason. reason ≡ refusal.Memory) }
+{
+    let alloc = *authorities.allocator();
+    authorities.push(Authority::begins(alloc, program))?;
     Ok(())
 }
 
@@ -368,20 +401,16 @@ pub(crate) fn extend(
             point,
             mode,
         } => {
-            let alloc = *points.allocator();
-            points.push(Point::begins(alloc, *program, *point, *mode))?
+            push_point(points, *program, *point, *mode)
         }
         Line::Register { register, interval } => {
             bound_register(points.as_mut_slice(), *register, *interval);
+            Ok(())
         }
-        Line::Slot { number, slot } => bound_slot(points.as_mut_slice(), *number, *slot)?,
-        Line::Channel(channel) => channels.push(*channel)?,
-        Line::Authority(program) => {
-            let alloc = *authorities.allocator();
-            authorities.push(Authority::begins(alloc, *program))?
-        }
-        Line::Ceiling(ceiling) => bound_grant(authorities.as_mut_slice(), *ceiling)?,
-        Line::Hold(held) => hold_end(authorities.as_mut_slice(), *held)?,
+        Line::Slot { number, slot } => bound_slot(points.as_mut_slice(), *number, *slot),
+        Line::Channel(channel) => push_channel(channels, *channel),
+        Line::Authority(program) => push_authority(authorities, *program),
+        Line::Ceiling(ceiling) => bound_grant(authorities.as_mut_slice(), *ceiling),
+        Line::Hold(held) => hold_end(authorities.as_mut_slice(), *held),
     }
-    Ok(())
 }
