@@ -1,5 +1,6 @@
 pub mod Bounds
 pub mod Order
+pub mod Kinds
 pub mod Joins
 pub mod OrderLaws
 pub mod JoinLaws

@@ -102,8 +102,10 @@ pub fn push_channels(cert: &mut Cert, channels: &[Channel]) -> Result<(), Refusa
     match channels {
         [] => Ok(()),
         [first, rest @ ..] => {
-            cert.push(&channel_line(*first))?;
-            push_channels(cert, rest)
+            match cert.push(&channel_line(*first)) {
+                Ok(()) => push_channels(cert, rest),
+                Err(refusal) => Err(refusal),
+            }
         }
     }
 }
@@ -126,8 +128,10 @@ fn push_ceilings(cert: &mut Cert, ceilings: &[Ceiling]) -> Result<(), Refusal>
     match ceilings {
         [] => Ok(()),
         [first, rest @ ..] => {
-            cert.push(&ceiling_line(*first))?;
-            push_ceilings(cert, rest)
+            match cert.push(&ceiling_line(*first)) {
+                Ok(()) => push_ceilings(cert, rest),
+                Err(refusal) => Err(refusal),
+            }
         }
     }
 }
@@ -150,8 +154,10 @@ fn push_ends(cert: &mut Cert, holds: &[End]) -> Result<(), Refusal>
     match holds {
         [] => Ok(()),
         [first, rest @ ..] => {
-            cert.push(&end_line(*first))?;
-            push_ends(cert, rest)
+            match cert.push(&end_line(*first)) {
+                Ok(()) => push_ends(cert, rest),
+                Err(refusal) => Err(refusal),
+            }
         }
     }
 }

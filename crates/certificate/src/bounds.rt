@@ -123,6 +123,41 @@ impl Interval {
     }
 }
 
+impl Target {
+    ghost use Rattle.certificate.specs.Kinds.{is_end_of, is_grant_of, is_node};
+    ghost use Rattle.certificate.specs.Views.{class_of, name_of, side_of, target_of};
+
+    /// Whether it is the grant of this name.
+    pub(crate) fn is_grant(&self, name: &Name) -> bool
+        ensures { result ≡ is_grant_of (target_of self.now) (name_of name.now) }
+    {
+        match self {
+            Target::InGrant(own) => own.as_bytes() == name.as_bytes(),
+            Target::AnyNode | Target::Socket(..) | Target::Unknown => false,
+        }
+    }
+
+    /// Whether it is of nodes alone.
+    pub(crate) fn is_node(&self) -> bool
+        ensures { result ≡ is_node (target_of self.now) }
+    {
+        match self {
+            Target::InGrant(_) | Target::AnyNode => true,
+            Target::Socket(..) | Target::Unknown => false,
+        }
+    }
+
+    /// Whether it is this side of the pairs of this class.
+    pub(crate) fn is_end(&self, class: &Class, side: Side) -> bool
+        ensures { result ≡ is_end_of (target_of self.now) (class_of class.now) (side_of side) }
+    {
+        match self {
+            Target::Socket(own, end) => own.is(class) && end.is(side),
+            Target::InGrant(_) | Target::AnyNode | Target::Unknown => false,
+        }
+    }
+}
+
 impl RightsRange {
     /// The sets between these.
     pub fn new(least: Rights, greatest: Rights) -> RightsRange

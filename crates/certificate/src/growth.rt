@@ -71,24 +71,20 @@ pub(crate) fn programs_with(programs: ProgramNames, line: &Line) -> Option<Progr
 fn has_class(channels: &[Channel], class: Class) -> bool
     ensures { result ≡ list_any (λ y. same_class y (class_of class)) (classes_in (channels_of channels.now)) }
 {
-    for channel in channels {
-        if channel.class.is(&class) {
-            return true;
-        }
+    match channels {
+        [] => false,
+        [first, rest @ ..] => first.class.is(&class) || has_class(rest, class),
     }
-    false
 }
 
 /// Whether an end is of this class.
 fn is_class_of_ends(holds: &[End], class: Class) -> bool
     ensures { result ≡ list_any (λ y. same_class y (class_of class)) (classes_of_ends (map held_end_of holds.now)) }
 {
-    for held in holds {
-        if held.class.is(&class) {
-            return true;
-        }
+    match holds {
+        [] => false,
+        [first, rest @ ..] => first.class.is(&class) || is_class_of_ends(rest, class),
     }
-    false
 }
 
 /// Whether an authority has an end of this class.
@@ -350,7 +346,12 @@ fn hold_end(authorities: &mut [Authority], held: End) -> Result<(), Refusal>
 }
 
 /// Adds a point with full registers and closed slots. A refused growth changes nothing.
-fn push_point(points: &mut Vec<Point>, program: Name, point: u8, mode: ModeBound) -> Result<(), Refusal>
+fn push_point(
+    points: &mut Vec<Point>,
+    program: Name,
+    point: u8,
+    mode: ModeBound,
+) -> Result<(), Refusal>
     ensures ok { OnOk result (points_of points.new.items ≡ points_of points.old.items
         ++ (record { program = name_of program; point = point; bound = open_bound (mode_of mode) }) ∷ []) }
     ensures err { OnErr result (points_of points.new.items ≡ points_of points.old.items) }
@@ -400,9 +401,7 @@ pub(crate) fn extend(
             program,
             point,
             mode,
-        } => {
-            push_point(points, *program, *point, *mode)
-        }
+        } => { push_point(points, *program, *point, *mode) }
         Line::Register { register, interval } => {
             bound_register(points.as_mut_slice(), *register, *interval);
             Ok(())

@@ -98,39 +98,22 @@ impl Domain for Target {
     /// Whether what a descriptor of this is of the other may be of too: a grant's nodes are among all nodes, an end
     /// is within itself, and all is within unknown.
     fn within(&self, other: &Target) -> bool {
-        match (self, other) {
-            (_, Target::Unknown) | (Target::InGrant(_) | Target::AnyNode, Target::AnyNode) => true,
-            (Target::InGrant(name), Target::InGrant(same)) => name.as_bytes() == same.as_bytes(),
-            (Target::Socket(class, side), Target::Socket(same, end)) => {
-                class.is(same) && side.is(*end)
-            }
-            (Target::AnyNode | Target::Socket(..) | Target::Unknown, Target::InGrant(_))
-            | (Target::Socket(..) | Target::Unknown, Target::AnyNode)
-            | (Target::InGrant(_) | Target::AnyNode | Target::Unknown, Target::Socket(..)) => false,
+        match other {
+            Target::InGrant(name) => self.is_grant(name),
+            Target::AnyNode => self.is_node(),
+            Target::Socket(class, side) => self.is_end(class, *side),
+            Target::Unknown => true,
         }
     }
 
     /// Equal targets stay, two different ones that are nodes become any node, and all others unknown.
     fn join(&self, other: &Target) -> Target {
-        match (self, other) {
-            (Target::InGrant(name), Target::InGrant(same)) => {
-                if name.as_bytes() == same.as_bytes() {
-                    return *self;
-                }
-                Target::AnyNode
-            }
-            (Target::InGrant(_), Target::AnyNode)
-            | (Target::AnyNode, Target::InGrant(_) | Target::AnyNode) => Target::AnyNode,
-            (Target::Socket(class, side), Target::Socket(same, end)) => {
-                if class.is(same) && side.is(*end) {
-                    return *self;
-                }
-                Target::Unknown
-            }
-            (Target::Socket(..), Target::InGrant(_) | Target::AnyNode)
-            | (Target::InGrant(_) | Target::AnyNode, Target::Socket(..))
-            | (Target::Unknown, _)
-            | (_, Target::Unknown) => Target::Unknown,
+        if self.within(other) {
+            *other
+        } else if self.is_node() && other.is_node() {
+            Target::AnyNode
+        } else {
+            Target::Unknown
         }
     }
 }
