@@ -169,9 +169,13 @@ fn push_authority(cert: &mut Cert, authority: &Authority) -> Result<(), Refusal>
     ensures grows { Grows result cert.new (grown (authority_lines (authority_of authority.now)) cert.old) }
     ensures version { cert.new.version ≡ cert.old.version }
 {
-    cert.push(&Line::Authority(authority.program))?;
-    push_ceilings(cert, &authority.ceilings)?;
-    push_ends(cert, &authority.holds)
+    match cert.push(&Line::Authority(authority.program)) {
+        Ok(()) => match push_ceilings(cert, &authority.ceilings) {
+            Ok(()) => push_ends(cert, &authority.holds),
+            Err(refusal) => Err(refusal),
+        },
+        Err(refusal) => Err(refusal),
+    }
 }
 
 /// Adds authorities to a certificate of version 3. Its errors are those of `Cert::push`; after one of them the certificate may

@@ -9,7 +9,7 @@ ghost use Rattle.certificate.specs.Bounds.{Version, with_interval, with_slot};
 ghost use Rattle.certificate.specs.Lines.{is_closed, is_full};
 ghost use Rattle.certificate.specs.Growth.{above_authorities, above_blocks, above_ceilings, above_channels, above_ends, all_classes, all_from, classes_held, classes_in, classes_in_line};
 ghost use Rattle.certificate.specs.Growth.{classes_of_ends, distinct, may_bound_grant, may_bound_register, may_bound_slot, may_hold_end, most_classes};
-ghost use Rattle.certificate.specs.Growth.{on_last, open_authority, open_bound, programs_in_line, programs_of_class, programs_of_held, stands, with_ceiling, with_held_end, with_last, with_line};
+ghost use Rattle.certificate.specs.Growth.{on_last, open_authority, open_bound, programs_in_line, programs_of_channel, programs_of_class, programs_of_held, stands, with_ceiling, with_held_end, with_last, with_line};
 ghost use Rattle.certificate.specs.Room.{listed_with};
 ghost use Rattle.certificate.specs.CountViews.{programs_listed};
 ghost use Rattle.certificate.specs.Views.{authorities_of, ceiling_of, certificate_with, channel_of, channels_of, class_of, held_end_of, held_of, interval_of, line_of, mode_of, name_of, point_of, points_of, slot_of};
@@ -51,6 +51,17 @@ fn with_held(programs: ProgramNames, held: Option<Held>) -> Option<ProgramNames>
     Some(programs)
 }
 
+/// The names with those of the programs that a channel names.
+fn with_channel(programs: ProgramNames, channel: &Channel) -> Option<ProgramNames>
+    ensures { option_map programs_listed result
+        ≡ listed_with bytes_eq most_programs (programs_listed programs) (programs_of_channel (channel_of channel.now)) }
+{
+    match with_class(programs, channel.class) {
+        Some(programs) => with_held(programs, channel.sends),
+        None => None,
+    }
+}
+
 /// The programs that are named once the line is taken, if there is room for their names.
 pub(crate) fn programs_with(programs: ProgramNames, line: &Line) -> Option<ProgramNames>
     ensures { option_map programs_listed result
@@ -60,7 +71,7 @@ pub(crate) fn programs_with(programs: ProgramNames, line: &Line) -> Option<Progr
         Line::Block { program, .. } => programs.with(program),
         Line::Register { .. } => Some(programs),
         Line::Slot { slot, .. } => with_held(programs, slot.held()),
-        Line::Channel(channel) => with_held(with_class(programs, channel.class)?, channel.sends),
+        Line::Channel(channel) => with_channel(programs, channel),
         Line::Authority(program) => programs.with(program),
         Line::Ceiling(_) => Some(programs),
         Line::Hold(held) => with_class(programs, held.class),
@@ -91,12 +102,10 @@ fn is_class_of_ends(holds: &[End], class: Class) -> bool
 fn is_class_held(authorities: &[Authority], class: Class) -> bool
     ensures { result ≡ list_any (λ y. same_class y (class_of class)) (flat_map classes_held (authorities_of authorities.now)) }
 {
-    for authority in authorities {
-        if is_class_of_ends(&authority.holds, class) {
-            return true;
-        }
+    match authorities {
+        [] => false,
+        [first, rest @ ..] => is_class_of_ends(&first.holds, class) || is_class_held(rest, class),
     }
-    false
 }
 
 /// The class that is counted where the line is taken, if one is.
@@ -289,10 +298,10 @@ pub(crate) fn stands(
 {
     let in_blocks = channels.is_empty() && authorities.is_empty();
     match line {
-        Line::Block { program, point, .. } => in_blocks && is_above_blocks(points, program, *point),
-        Line::Register { register, .. } => in_blocks && may_bound_register(points, *register),
-        Line::Slot { number, .. } => in_blocks && may_bound_slot(points, *number),
-        Line::Channel(channel) => authorities.is_empty() && is_above_channels(channels, channel),
+        Line::Block { program, point, .. } => in_blocks & is_above_blocks(points, program, *point),
+        Line::Register { register, .. } => in_blocks & may_bound_register(points, *register),
+        Line::Slot { number, .. } => in_blocks & may_bound_slot(points, *number),
+        Line::Channel(channel) => authorities.is_empty() & is_above_channels(channels, channel),
         Line::Authority(program) => is_above_authorities(authorities, program),
         Line::Ceiling(ceiling) => may_bound_grant(authorities, &ceiling.grant),
         Line::Hold(held) => may_hold_end(authorities, held),

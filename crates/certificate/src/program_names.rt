@@ -20,18 +20,24 @@ pub(crate) struct ProgramNames {
     pub ghost filled: { length (names_there (take count names)) ≡ count },
 }
 
+/// Whether this name is there.
+fn is_there(place: &Option<Name>, name: &[u8]) -> bool
+    ensures { result ≡ list_any (λ y. bytes_eq y name.now) (names_there (place.now ∷ [])) }
+{
+    match place {
+        Some(known) => known.as_bytes() == name,
+        None => false,
+    }
+}
+
 /// Whether this name is among those.
 fn is_among(names: &[Option<Name>], name: &[u8]) -> bool
     ensures { result ≡ list_any (λ y. bytes_eq y name.now) (names_there names.now) }
 {
-    for place in names {
-        if let Some(known) = *place {
-            if known.as_bytes() == name {
-                return true;
-            }
-        }
+    match names {
+        [] => false,
+        [first, rest @ ..] => is_there(first, name) || is_among(rest, name),
     }
-    false
 }
 
 impl ProgramNames {
