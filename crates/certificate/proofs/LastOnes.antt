@@ -49,12 +49,12 @@ told_more f tell more test grows (x ∷ y ∷ xs) there =
 
 pub with_last-set : {A : Type 0} (f : A → A) (n : ℕ) (xs : List A) (d : A) → length xs ≡ suc n → with_last f xs ≡ set xs n (f (get_or xs n d))
 unfolding with_last
-with_last-set f n [] d long = absurd (omega arith)
+with_last-set f n [] d long = absurd cc
 with_last-set f zero (x ∷ []) d long = refl
-with_last-set f (suc n) (x ∷ []) d long = absurd (omega arith)
-with_last-set f zero (x ∷ y ∷ xs) d long = absurd (omega arith)
+with_last-set f (suc n) (x ∷ []) d long = absurd cc
+with_last-set f zero (x ∷ y ∷ xs) d long = absurd cc
 with_last-set f (suc n) (x ∷ y ∷ xs) d long =
-    let shorter : length (y ∷ xs) ≡ suc n = omega arith in ap (λ rest. x ∷ rest) (with_last-set f n (y ∷ xs) d shorter)
+    let shorter : length (y ∷ xs) ≡ suc n = cc in ap (λ rest. x ∷ rest) (with_last-set f n (y ∷ xs) d shorter)
 
 -- the last one of a list that is seen by a view, changed
 pub last_seen_set : {A B : Type 0} (view : A → B) (f : B → B) (xs : List A) (d w : A) → 0 < length xs

@@ -76,13 +76,18 @@ fn push_slots(cert: &mut Cert, number: u8, slots: &[Slot]) -> Result<(), Refusal
 pub fn push_block(cert: &mut Cert, program: &Name, point: u8, bound: &Bound) -> Result<(), Refusal>
     ensures { Grows result cert.new (grown (block_lines (record { program = name_of program.now; point = point; bound = bound_of bound.now })) cert.old) }
 {
-    cert.push(&Line::Block {
+    let line = Line::Block {
         program: *program,
         point,
         mode: bound.mode(),
-    })?;
-    push_registers(cert, 0, bound.registers())?;
-    push_slots(cert, 0, bound.slots())
+    };
+    match cert.push(&line) {
+        Ok(()) => match push_registers(cert, 0, bound.registers()) {
+            Ok(()) => push_slots(cert, 0, bound.slots()),
+            Err(refusal) => Err(refusal),
+        },
+        Err(refusal) => Err(refusal),
+    }
 }
 
 /// The line of a channel.

@@ -11,6 +11,7 @@ use crate::classes::{Class, Side};
 use crate::names::Name;
 use std::alloc::AllocFailed;
 use std::cmp::Ordering;
+use std::fmt;
 use thiserror::Error;
 
 /// What one side of the socket pairs of a class sends, if it sends descriptors at all. (own)
@@ -94,14 +95,21 @@ pub enum Line {
 #[derive(Clone, Copy, Debug, PartialEq, Eq, Error)]
 pub enum Refusal {
     /// It names a ninth program, or a 33rd class of channels and ends.
-    #[error("too many programs or classes")]
     Limit,
     /// It is out of its place, or not above the line before it.
-    #[error("a line is out of order")]
     Order,
     /// A growth was refused.
-    #[error("no memory")]
     Memory,
+}
+
+impl fmt::Display for Refusal {
+    fn fmt<W: fmt::Write>(&self, f: &mut fmt::Formatter<W>) -> fmt::Result {
+        f.write_str(match self {
+            Refusal::Limit => "too many programs or classes",
+            Refusal::Order => "a line is out of order",
+            Refusal::Memory => "no memory",
+        })
+    }
 }
 
 impl<T: Drop> From<AllocFailed<T>> for Refusal {
