@@ -123,22 +123,27 @@ impl Cert {
         let Some(programs) = programs_with(self.programs, line) else {
             return Err(Refusal::Limit);
         };
-        let Some(classes) = classes_with(self.classes, &self.channels, &self.authorities, line)
-        else {
+        let channels: &[Channel] = &self.channels;
+        let authorities: &[Authority] = &self.authorities;
+        let Some(classes) = classes_with(self.classes, channels, authorities, line) else {
             return Err(Refusal::Limit);
         };
-        if !stands(&self.points, &self.channels, &self.authorities, line) {
+        if !stands(&self.points, channels, authorities, line) {
             return Err(Refusal::Order);
         }
-        extend(
+        match extend(
             &mut self.points,
             &mut self.channels,
             &mut self.authorities,
             line,
-        )?;
-        self.programs = programs;
-        self.classes = classes;
-        Ok(())
+        ) {
+            Ok(()) => {
+                self.programs = programs;
+                self.classes = classes;
+                Ok(())
+            }
+            Err(refusal) => Err(refusal),
+        }
     }
 
     /// Its version.

@@ -35,7 +35,7 @@ returns-in_default-classes_with-clause-taken c =
     let line = line_of c.args.line.now in
     let old = certificate_with version c.self.inside.points.items c.self.inside.channels.items c.self.inside.authorities.items in
     let asked = subst (λ (lists : List Channel × List Authority). None ≡ counted line (all_classes (channels_of lists.0) (authorities_of lists.1)))
-    (λ i. (c.deref.ensures.value i, c.deref-2.ensures.value i)) c.in_default-classes_with.ensures in
+    (λ i. (c.deref-channels.ensures.value i, c.deref-authorities.ensures.value i)) c.in_default-classes_with.ensures in
     (ap (λ v. taken v line) (sym c.self.view_is) ∙ taken_no_room old line (room_no_class old line asked), refl)
 
 pub returns-then-not-stands-clause-taken : goal.returns-then-not-stands-clause-taken
@@ -44,49 +44,49 @@ returns-then-not-stands-clause-taken c =
     let line = line_of c.args.line.now in
     let old = certificate_with version c.self.inside.points.items c.self.inside.channels.items c.self.inside.authorities.items in
     let asked = subst (λ (lists : List Channel × List Authority). Some c.in-Some-classes_with.classes ≡ counted line (all_classes (channels_of lists.0) (authorities_of lists.1)))
-    (λ i. (c.deref.ensures.value i, c.deref-2.ensures.value i)) c.in-Some-classes_with.ensures in
+    (λ i. (c.deref-channels.ensures.value i, c.deref-authorities.ensures.value i)) c.in-Some-classes_with.ensures in
     let has = room_yes old line _ _ _ c.self.invariant.1 c.in-Some.ensures asked in
-    let here : stands (certificate_with version c.deref-3.result.now c.deref-4.result.now c.deref-5.result.now) line ≡ stands old line =
-    λ i. stands (certificate_with version (c.deref-3.ensures.value i) (c.deref-4.ensures.value i) (c.deref-5.ensures.value i)) line in
+    let here : stands (certificate_with version c.deref.result.now c.deref-channels.result.now c.deref-authorities.result.now) line ≡ stands old line =
+    λ i. stands (certificate_with version (c.deref.ensures.value i) (c.deref-channels.ensures.value i) (c.deref-authorities.ensures.value i)) line in
     let astray = sym here ∙ sym (c.stands.ensures version) ∙ c.if-not-stands.true in
     (ap (λ v. taken v line) (sym c.self.view_is) ∙ taken_out_of_order old line has.room astray, refl)
-
-pub invariant_of-self-2 : goal.invariant_of-self-2
-invariant_of-self-2 c =
-    let version = version_of c.self.inside.version in
-    let line = line_of c.args.line.now in
-    let old = certificate_with version c.self.inside.points.items c.self.inside.channels.items c.self.inside.authorities.items in
-    let asked = subst (λ (lists : List Channel × List Authority). Some c.in-Some-classes_with.classes ≡ counted line (all_classes (channels_of lists.0) (authorities_of lists.1)))
-    (λ i. (c.deref.ensures.value i, c.deref-2.ensures.value i)) c.in-Some-classes_with.ensures in
-    let has = room_yes old line _ _ _ c.self.invariant.1 c.in-Some.ensures asked in
-    let here : stands (certificate_with version c.deref-3.result.now c.deref-4.result.now c.deref-5.result.now) line ≡ stands old line =
-    λ i. stands (certificate_with version (c.deref-3.ensures.value i) (c.deref-4.ensures.value i) (c.deref-5.ensures.value i)) line in
-    let place = sym here ∙ sym (c.stands.ensures version) ∙ c.if-not-stands.false in
-    grown old _ line _ _ c.self.invariant.0 c.requires.line (ap (λ (v : Certificate). is_of_version v.version line) c.self.view_is ∙ c.requires.version) has place (c.in_ok-extend.ensures.ok version)
-
-pub returns-clause-taken : goal.returns-clause-taken
-returns-clause-taken c =
-    let version = version_of c.self.inside.version in
-    let line = line_of c.args.line.now in
-    let old = certificate_with version c.self.inside.points.items c.self.inside.channels.items c.self.inside.authorities.items in
-    let asked = subst (λ (lists : List Channel × List Authority). Some c.in-Some-classes_with.classes ≡ counted line (all_classes (channels_of lists.0) (authorities_of lists.1)))
-    (λ i. (c.deref.ensures.value i, c.deref-2.ensures.value i)) c.in-Some-classes_with.ensures in
-    let has = room_yes old line _ _ _ c.self.invariant.1 c.in-Some.ensures asked in
-    let here : stands (certificate_with version c.deref-3.result.now c.deref-4.result.now c.deref-5.result.now) line ≡ stands old line =
-    λ i. stands (certificate_with version (c.deref-3.ensures.value i) (c.deref-4.ensures.value i) (c.deref-5.ensures.value i)) line in
-    let place = sym here ∙ sym (c.stands.ensures version) ∙ c.if-not-stands.false in
-    ap (λ v. taken v line) (sym c.self.view_is) ∙ taken_ok old line has.room place ∙ ap Ok (sym (c.in_ok-extend.ensures.ok version))
 
 pub invariant_of-self : goal.invariant_of-self
 invariant_of-self c =
     let version = version_of c.self.inside.version in
-    subst (λ d. IsCertificate d × (programs_listed c.self.inside.programs ≡ distinct bytes_eq (programs_named d)) × (c.self.inside.classes ≡ length (distinct same_class (classes_of d))))
-    (sym (c.in_err-extend.ensures.err version)) c.self.invariant
+    let line = line_of c.args.line.now in
+    let old = certificate_with version c.self.inside.points.items c.self.inside.channels.items c.self.inside.authorities.items in
+    let asked = subst (λ (lists : List Channel × List Authority). Some c.in-Some-classes_with.classes ≡ counted line (all_classes (channels_of lists.0) (authorities_of lists.1)))
+    (λ i. (c.deref-channels.ensures.value i, c.deref-authorities.ensures.value i)) c.in-Some-classes_with.ensures in
+    let has = room_yes old line _ _ _ c.self.invariant.1 c.in-Some.ensures asked in
+    let here : stands (certificate_with version c.deref.result.now c.deref-channels.result.now c.deref-authorities.result.now) line ≡ stands old line =
+    λ i. stands (certificate_with version (c.deref.ensures.value i) (c.deref-channels.ensures.value i) (c.deref-authorities.ensures.value i)) line in
+    let place = sym here ∙ sym (c.stands.ensures version) ∙ c.if-not-stands.false in
+    grown old _ line _ _ c.self.invariant.0 c.requires.line (ap (λ (v : Certificate). is_of_version v.version line) c.self.view_is ∙ c.requires.version) has place (c.in-Ok.ensures.ok version)
 
-pub returns-in_err-extend-clause-taken : goal.returns-in_err-extend-clause-taken
-returns-in_err-extend-clause-taken c =
+pub returns-in-Ok-clause-taken : goal.returns-in-Ok-clause-taken
+returns-in-Ok-clause-taken c =
+    let version = version_of c.self.inside.version in
+    let line = line_of c.args.line.now in
+    let old = certificate_with version c.self.inside.points.items c.self.inside.channels.items c.self.inside.authorities.items in
+    let asked = subst (λ (lists : List Channel × List Authority). Some c.in-Some-classes_with.classes ≡ counted line (all_classes (channels_of lists.0) (authorities_of lists.1)))
+    (λ i. (c.deref-channels.ensures.value i, c.deref-authorities.ensures.value i)) c.in-Some-classes_with.ensures in
+    let has = room_yes old line _ _ _ c.self.invariant.1 c.in-Some.ensures asked in
+    let here : stands (certificate_with version c.deref.result.now c.deref-channels.result.now c.deref-authorities.result.now) line ≡ stands old line =
+    λ i. stands (certificate_with version (c.deref.ensures.value i) (c.deref-channels.ensures.value i) (c.deref-authorities.ensures.value i)) line in
+    let place = sym here ∙ sym (c.stands.ensures version) ∙ c.if-not-stands.false in
+    ap (λ v. taken v line) (sym c.self.view_is) ∙ taken_ok old line has.room place ∙ ap Ok (sym (c.in-Ok.ensures.ok version))
+
+pub invariant_of-self-in-Err : goal.invariant_of-self-in-Err
+invariant_of-self-in-Err c =
+    let version = version_of c.self.inside.version in
+    subst (λ d. IsCertificate d × (programs_listed c.self.inside.programs ≡ distinct bytes_eq (programs_named d)) × (c.self.inside.classes ≡ length (distinct same_class (classes_of d))))
+    (sym (c.in-Err.ensures.err version)) c.self.invariant
+
+pub returns-in-Err-clause-taken : goal.returns-in-Err-clause-taken
+returns-in-Err-clause-taken c =
     let version = version_of c.self.inside.version in
     let same : certificate_with version c.extend.new.points.items c.extend.new.channels.items c.extend.new.authorities.items ≡ c.args.self.now =
-    c.in_err-extend.ensures.err version ∙ c.self.view_is
+    c.in-Err.ensures.err version ∙ c.self.view_is
     in
     search (rules, same)
