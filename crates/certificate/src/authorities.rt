@@ -4,7 +4,7 @@ ghost use Rattle.std.specs.Prelude.{◌≡◌, map, true};
 ghost use Rattle.certificate.specs.Lines.{is_ceiling};
 
 use crate::classes::{Class, Side};
-use crate::lines::Refusal;
+use crate::lines::{Refusal, add};
 use crate::names::Name;
 use rights::Rights;
 use std::alloc::Global;
@@ -118,8 +118,7 @@ impl Authority {
         ensures err { OnErr result (authority_of self.new ≡ authority_of self.old) }
         ensures memory { IfErr result (λ reason. reason ≡ refusal.Memory) }
     {
-        self.ceilings.push(ceiling)?;
-        Ok(())
+        add(&mut self.ceilings, ceiling)
     }
 
     /// Adds an end. A refused growth changes nothing.
@@ -128,8 +127,7 @@ impl Authority {
         ensures err { OnErr result (authority_of self.new ≡ authority_of self.old) }
         ensures memory { IfErr result (λ reason. reason ≡ refusal.Memory) }
     {
-        self.holds.push(held)?;
-        Ok(())
+        add(&mut self.holds, held)
     }
 
     /// The name of its program.

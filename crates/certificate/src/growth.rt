@@ -18,7 +18,7 @@ ghost use Rattle.certificate.specs.declared.lines.Refusal.TheVariants as refusal
 use crate::authorities::{Authority, Ceiling, End};
 use crate::bounds::{Held, Interval, ModeBound, Slot, Target};
 use crate::classes::Class;
-use crate::lines::{Channel, Line, Refusal};
+use crate::lines::{Channel, Line, Refusal, add};
 use crate::names::Name;
 use crate::points::{NumberedSlot, Point};
 use crate::program_names::ProgramNames;
@@ -367,8 +367,7 @@ fn push_point(
     ensures memory { IfErr result (λ reason. reason ≡ refusal.Memory) }
 {
     let alloc = *points.allocator();
-    points.push(Point::begins(alloc, program, point, mode))?;
-    Ok(())
+    add(points, Point::begins(alloc, program, point, mode))
 }
 
 /// Adds a channel. A refused growth changes nothing.
@@ -377,8 +376,7 @@ fn push_channel(channels: &mut Vec<Channel>, channel: Channel) -> Result<(), Ref
     ensures err { OnErr result (channels_of channels.new.items ≡ channels_of channels.old.items) }
     ensures memory { IfErr result (λ reason. reason ≡ refusal.Memory) }
 {
-    channels.push(channel)?;
-    Ok(())
+    add(channels, channel)
 }
 
 /// Adds an authority that holds nothing. A refused growth changes nothing.
@@ -388,8 +386,7 @@ fn push_authority(authorities: &mut Vec<Authority>, program: Name) -> Result<(),
     ensures memory { IfErr result (λ reason. reason ≡ refusal.Memory) }
 {
     let alloc = *authorities.allocator();
-    authorities.push(Authority::begins(alloc, program))?;
-    Ok(())
+    add(authorities, Authority::begins(alloc, program))
 }
 
 /// Adds what the line says, in any version. A refused growth changes nothing.

@@ -1,6 +1,6 @@
 //! The lines of a certificate's body, as values.
 
-ghost use Rattle.std.specs.Prelude.{◌≡◌, option_map};
+ghost use Rattle.std.specs.Prelude.{◌≡◌, ◌∷◌, ◌++◌, [], option_map, IfErr, OnErr, OnOk};
 ghost use Rattle.certificate.specs.Growth.{channel_order};
 ghost use Rattle.certificate.specs.Views.{channel_of, class_of, held_of, side_of};
 ghost use Rattle.certificate.specs.declared.lines.Refusal.TheVariants as refusal;
@@ -110,6 +110,16 @@ impl fmt::Display for Refusal {
             Refusal::Memory => "no memory",
         })
     }
+}
+
+/// Adds one thing to others. A refused growth changes nothing.
+pub(crate) fn add<T: Drop>(items: &mut Vec<T>, item: T) -> Result<(), Refusal>
+    ensures ok { OnOk result (items.new.items ≡ items.old.items ++ item ∷ []) }
+    ensures err { OnErr result (items.new.items ≡ items.old.items) }
+    ensures memory { IfErr result (λ reason. reason ≡ refusal.Memory) }
+{
+    items.push(item)?;
+    Ok(())
 }
 
 impl<T: Drop> From<AllocFailed<T>> for Refusal {

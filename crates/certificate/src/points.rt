@@ -4,7 +4,7 @@ ghost use Rattle.std.specs.Prelude.{◌≡◌, map, slice_set};
 ghost use Rattle.certificate.specs.Views.{slot_of, slots_with};
 
 use crate::bounds::{Bound, Interval, ModeBound, Slot};
-use crate::lines::Refusal;
+use crate::lines::{Refusal, add};
 use crate::names::Name;
 use rights::limits::{MAX_DESCRIPTORS, REGISTERS};
 use std::alloc::Global;
@@ -90,8 +90,7 @@ impl Point {
         ensures err { OnErr result (point_of self.new ≡ point_of self.old) }
         ensures memory { IfErr result (λ reason. reason ≡ refusal.Memory) }
     {
-        self.slots.push(NumberedSlot { number, slot })?;
-        Ok(())
+        add(&mut self.slots, NumberedSlot { number, slot })
     }
 
     /// The name of its program.
