@@ -1,5 +1,5 @@
 -- What slots come to where those alone are kept that were bounded.
-use Rattle.std.proofs.Common.{◌≡◌, ◌<◌, ◌++◌, ◌&&◌, ◌∷◌, [], Bool, true, ℕ, zero, suc, List, refl, ap, ◌∙◌, arith}
+use Rattle.std.proofs.Common.{◌≡◌, ◌<◌, ◌++◌, ◌∷◌, [], Bool, true, ℕ, zero, suc, List, refl, ap, ◌∙◌, arith}
 use Rattle.std.specs.Prelude.{nat_lt, slice_set}
 use Rattle.std.specs.List.{list_all}
 use Rattle.std.proofs.lemmas.Bool.{ltb-true}

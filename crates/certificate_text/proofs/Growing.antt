@@ -4,10 +4,10 @@ use Rattle.std.specs.Prelude.{slice_set, nat_lt, Ok, Err}
 use Rattle.std.specs.List.{flat_map}
 use Rattle.std.proofs.lemmas.Bool.{and_parts, ltb-true}
 use Rattle.std.proofs.lemmas.Grind.{flat_map-append}
-use Rattle.std.proofs.lemmas.List.{length-set, map-append}
+use Rattle.std.proofs.lemmas.List.{length-set}
 use Rattle.rights.proofs.Tests.{not_true}
-use Rattle.certificate.specs.Bounds.{Interval, Slot, Bound, PointBound, ChannelBound, ModeBound, Certificate, with_interval, with_slot, Closed, Open, Maybe}
-use Rattle.certificate.specs.Growth.{IsCertificate, begins, grows, all_from, has_none, has_room, may_bound_register, may_bound_slot, on_last, open_bound, No_room, Out_of_order, stands}
+use Rattle.certificate.specs.Bounds.{Interval, Slot, Bound, PointBound, ModeBound, Certificate, with_interval, with_slot, Closed, Open, Maybe}
+use Rattle.certificate.specs.Growth.{IsCertificate, begins, grows, all_from, has_room, may_bound_register, may_bound_slot, on_last, open_bound, No_room, Out_of_order, stands}
 use Rattle.certificate.specs.Growth.{taken, with_line}
 use Rattle.certificate.proofs.LastOnes.{behind_nothing}
 use Rattle.certificate.proofs.Behind.{block_stands, is_behind_blocks, no_authorities, no_channels, rest_grows}
