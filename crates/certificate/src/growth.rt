@@ -407,7 +407,7 @@ pub(crate) fn extend(
             program,
             point,
             mode,
-        } => { push_point(points, *program, *point, *mode) }
+        } => push_point(points, *program, *point, *mode),
         Line::Register { register, interval } => {
             bound_register(points.as_mut_slice(), *register, *interval);
             Ok(())
