@@ -76,18 +76,13 @@ fn push_slots(cert: &mut Cert, number: u8, slots: &[Slot]) -> Result<(), Refusal
 pub fn push_block(cert: &mut Cert, program: &Name, point: u8, bound: &Bound) -> Result<(), Refusal>
     ensures { Grows result cert.new (grown (block_lines (record { program = name_of program.now; point = point; bound = bound_of bound.now })) cert.old) }
 {
-    let line = Line::Block {
+    cert.push(&Line::Block {
         program: *program,
         point,
         mode: bound.mode(),
-    };
-    match cert.push(&line) {
-        Ok(()) => match push_registers(cert, 0, bound.registers()) {
-            Ok(()) => push_slots(cert, 0, bound.slots()),
-            Err(refusal) => Err(refusal),
-        },
-        Err(refusal) => Err(refusal),
-    }
+    })?;
+    push_registers(cert, 0, bound.registers())?;
+    push_slots(cert, 0, bound.slots())
 }
 
 /// The line of a channel.
@@ -107,10 +102,8 @@ pub fn push_channels(cert: &mut Cert, channels: &[Channel]) -> Result<(), Refusa
     match channels {
         [] => Ok(()),
         [first, rest @ ..] => {
-            match cert.push(&channel_line(*first)) {
-                Ok(()) => push_channels(cert, rest),
-                Err(refusal) => Err(refusal),
-            }
+            cert.push(&channel_line(*first))?;
+            push_channels(cert, rest)
         }
     }
 }
@@ -133,10 +126,8 @@ fn push_ceilings(cert: &mut Cert, ceilings: &[Ceiling]) -> Result<(), Refusal>
     match ceilings {
         [] => Ok(()),
         [first, rest @ ..] => {
-            match cert.push(&ceiling_line(*first)) {
-                Ok(()) => push_ceilings(cert, rest),
-                Err(refusal) => Err(refusal),
-            }
+            cert.push(&ceiling_line(*first))?;
+            push_ceilings(cert, rest)
         }
     }
 }
@@ -159,10 +150,8 @@ fn push_ends(cert: &mut Cert, holds: &[End]) -> Result<(), Refusal>
     match holds {
         [] => Ok(()),
         [first, rest @ ..] => {
-            match cert.push(&end_line(*first)) {
-                Ok(()) => push_ends(cert, rest),
-                Err(refusal) => Err(refusal),
-            }
+            cert.push(&end_line(*first))?;
+            push_ends(cert, rest)
         }
     }
 }
@@ -174,13 +163,9 @@ fn push_authority(cert: &mut Cert, authority: &Authority) -> Result<(), Refusal>
     ensures grows { Grows result cert.new (grown (authority_lines (authority_of authority.now)) cert.old) }
     ensures version { cert.new.version ≡ cert.old.version }
 {
-    match cert.push(&Line::Authority(authority.program)) {
-        Ok(()) => match push_ceilings(cert, &authority.ceilings) {
-            Ok(()) => push_ends(cert, &authority.holds),
-            Err(refusal) => Err(refusal),
-        },
-        Err(refusal) => Err(refusal),
-    }
+    cert.push(&Line::Authority(authority.program))?;
+    push_ceilings(cert, &authority.ceilings)?;
+    push_ends(cert, &authority.holds)
 }
 
 /// Adds authorities to a certificate of version 3. Its errors are those of `Cert::push`; after one of them the certificate may

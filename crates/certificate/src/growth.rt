@@ -298,10 +298,10 @@ pub(crate) fn stands(
 {
     let in_blocks = channels.is_empty() && authorities.is_empty();
     match line {
-        Line::Block { program, point, .. } => in_blocks & is_above_blocks(points, program, *point),
-        Line::Register { register, .. } => in_blocks & may_bound_register(points, *register),
-        Line::Slot { number, .. } => in_blocks & may_bound_slot(points, *number),
-        Line::Channel(channel) => authorities.is_empty() & is_above_channels(channels, channel),
+        Line::Block { program, point, .. } => in_blocks && is_above_blocks(points, program, *point),
+        Line::Register { register, .. } => in_blocks && may_bound_register(points, *register),
+        Line::Slot { number, .. } => in_blocks && may_bound_slot(points, *number),
+        Line::Channel(channel) => authorities.is_empty() && is_above_channels(channels, channel),
         Line::Authority(program) => is_above_authorities(authorities, program),
         Line::Ceiling(ceiling) => may_bound_grant(authorities, &ceiling.grant),
         Line::Hold(held) => may_hold_end(authorities, held),
