@@ -180,13 +180,7 @@ impl<'a> Draft<'a> {
     }
 
     /// Tells that an instruction lacks what it ends with.
-    fn add_lack<'w>(
-        &self,
-        faults: &mut Faults<'_>,
-        line: CodeLine,
-        word: &'w [u8],
-        lack: &'w str,
-    ) {
+    fn add_lack<'w>(&self, faults: &mut Faults<'_>, line: CodeLine, word: &'w [u8], lack: &'w str) {
         let mut text = Page::new(faults.alloc);
         text.pieces(&[Text("`"), Bytes(word), Text("` lacks "), Text(lack)]);
         faults.add_page(self.text.code.offset(line.instruction.1), text);

@@ -107,7 +107,13 @@ const SHAPES: &[Shape] = &[
     },
     Shape {
         words: &[
-            "read", "recvfd", "fsync", "fstat", "fcntl_getfl", "dup", "close",
+            "read",
+            "recvfd",
+            "fsync",
+            "fstat",
+            "fcntl_getfl",
+            "dup",
+            "close",
         ],
         forms: &[Form::Value, Form::Else, Form::Label],
     },

@@ -67,12 +67,7 @@ impl<'a> Faults<'a> {
     }
 
     /// Adds what is told at an offset: a word, and what is said of it.
-    pub(crate) fn add_of(
-        &mut self,
-        offset: usize,
-        word: &[u8],
-        text: &str,
-    ) {
+    pub(crate) fn add_of(&mut self, offset: usize, word: &[u8], text: &str) {
         let mut line = Page::new(self.alloc);
         line.text("`");
         line.bytes(word);
@@ -89,13 +84,7 @@ impl<'a> Faults<'a> {
     }
 
     /// Adds the line of a word that isn't one of these, with what was meant.
-    pub(crate) fn add_word(
-        &mut self,
-        offset: usize,
-        what: &str,
-        word: &[u8],
-        known: &[&str],
-    ) {
+    pub(crate) fn add_word(&mut self, offset: usize, what: &str, word: &[u8], known: &[&str]) {
         let mut line = Page::new(self.alloc);
         line.text(what);
         line.text(" `");
@@ -250,11 +239,8 @@ fn is_twice(file: &[u8], fields: &Fields, number: usize) -> bool {
         return false;
     };
     let word = item.word.written(file);
-    fields
-        .items
-        .iter()
-        .take(number)
-        .any(|before| before.entry == item.entry && before.word.written(file) == word)
+    fields.items.iter().take(number).any(|before| before.entry == item.entry
+        && before.word.written(file) == word)
 }
 
 /// A word of a list whose words are known: the word, the key of the list, and its words.

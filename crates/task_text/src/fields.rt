@@ -128,18 +128,14 @@ impl Fields {
 
     /// The value of a key of a table, if it has it.
     pub(crate) fn value_at(&self, file: &[u8], table: usize, key: &[u8]) -> Option<Token> {
-        let entry = self
-            .entries
-            .iter()
-            .find(|entry| entry.table == table && entry.key.written(file) == key)?;
+        let entry = self.entries.iter().find(|entry| entry.table == table
+            && entry.key.written(file) == key)?;
         entry.value
     }
 
     /// Whether a table has a key.
     pub(crate) fn has(&self, file: &[u8], table: usize, key: &[u8]) -> bool {
-        self.entries
-            .iter()
-            .any(|entry| entry.table == table && entry.key.written(file) == key)
+        self.entries.iter().any(|entry| entry.table == table && entry.key.written(file) == key)
     }
 
     /// The table of the last process before a header.

@@ -64,10 +64,8 @@ fn text_of(alloc: Global, file: &[u8], token: Token) -> Result<Vec<u8>, AllocErr
 fn lists(faults: &Faults<'_>, fields: &Fields, table: usize, key: &[u8], word: &[u8]) -> bool {
     fields.items.iter().any(|item| {
         item.word.written(faults.file) == word
-            && fields
-                .entries
-                .get(item.entry)
-                .is_some_and(|entry| entry.table == table && entry.key.written(faults.file) == key)
+            && fields.entries.get(item.entry).is_some_and(|entry| entry.table == table
+                && entry.key.written(faults.file) == key)
     })
 }
 
@@ -228,21 +226,14 @@ fn node_fault(items: &[Item], number: usize, path: &[u8]) -> Option<&'static str
 }
 
 /// Tells of the faults of a grant.
-fn add_grant<'t>(
-    faults: &mut Faults<'_>,
-    items: &'t [Item],
-    number: usize,
-    item: &'t Item,
-) {
+fn add_grant<'t>(faults: &mut Faults<'_>, items: &'t [Item], number: usize, item: &'t Item) {
     let path = item.path.bytes.as_slice();
     if !is_directory(items, path) {
         faults.add_of(item.path.place, path, "is no directory that is listed");
         return;
     }
-    let nested = items
-        .iter()
-        .take(number)
-        .find(|before| before.kind == TableKind::Grant && are_nested(path, &before.path.bytes));
+    let nested = items.iter().take(number).find(|before| before.kind == TableKind::Grant
+        && are_nested(path, &before.path.bytes));
     if let Some(before) = nested {
         faults.add(
             item.path.place,
@@ -335,10 +326,8 @@ fn add_process(faults: &mut Faults<'_>, items: &[Item], item: &Item) -> Result<(
 /// Tells that a name is given before.
 fn add_name(faults: &mut Faults<'_>, items: &[Item], number: usize, item: &Item) {
     let name = item.name.bytes.as_slice();
-    let is_twice = items
-        .iter()
-        .take(number)
-        .any(|before| before.kind == item.kind && before.name.bytes.as_slice() == name);
+    let is_twice = items.iter().take(number).any(|before| before.kind == item.kind
+        && before.name.bytes.as_slice() == name);
     if is_twice && !name.is_empty() {
         faults.add_of(item.name.place, name, "is given before");
     }
