@@ -1,5 +1,6 @@
 -- The last one of a list, asked and changed, and what is told of all of them.
-use Rattle.std.proofs.Common.{◌≡◌, ◌<◌, ◌-◌, ◌++◌, ◌∷◌, [], Bool, true, false, ℕ, zero, suc, List, length, map, get_or, set, refl, ap, sym, ◌∙◌, append_assoc, append-nil, arith}
+use Rattle.std.proofs.Common.{◌≡◌, ◌<◌, ◌-◌, ◌++◌, ◌∷◌, [], Bool, true, false, ℕ, zero, suc, List, length, map, get_or, set}
+use Rattle.std.proofs.Common.{refl, ap, sym, ◌∙◌, append_assoc, append-nil, arith}
 use Rattle.std.specs.List.{flat_map}
 use Rattle.std.proofs.lemmas.List.{get_or-map, length-map, map-set}
 use Rattle.certificate.specs.Growth.{asked_of_last, has_none, with_last}

@@ -9,10 +9,12 @@ ghost use Rattle.certificate.specs.Bounds.{Version, with_interval, with_slot};
 ghost use Rattle.certificate.specs.Lines.{is_closed, is_full};
 ghost use Rattle.certificate.specs.Growth.{above_authorities, above_blocks, above_ceilings, above_channels, above_ends, all_classes, all_from, classes_held, classes_in, classes_in_line};
 ghost use Rattle.certificate.specs.Growth.{classes_of_ends, distinct, may_bound_grant, may_bound_register, may_bound_slot, may_hold_end, most_classes};
-ghost use Rattle.certificate.specs.Growth.{on_last, open_authority, open_bound, programs_in_line, programs_of_channel, programs_of_class, programs_of_held, stands, with_ceiling, with_held_end, with_last, with_line};
+ghost use Rattle.certificate.specs.Growth.{on_last, open_authority, open_bound, programs_in_line, programs_of_channel, programs_of_class, programs_of_held};
+ghost use Rattle.certificate.specs.Growth.{stands, with_ceiling, with_held_end, with_last, with_line};
 ghost use Rattle.certificate.specs.Room.{listed_with};
 ghost use Rattle.certificate.specs.CountViews.{programs_listed};
-ghost use Rattle.certificate.specs.Views.{authorities_of, ceiling_of, certificate_with, channel_of, channels_of, class_of, held_end_of, held_of, interval_of, line_of, mode_of, name_of, point_of, points_of, slot_of};
+ghost use Rattle.certificate.specs.Views.{authorities_of, ceiling_of, certificate_with, channel_of, channels_of, class_of, held_end_of, held_of};
+ghost use Rattle.certificate.specs.Views.{interval_of, line_of, mode_of, name_of, point_of, points_of, slot_of};
 ghost use Rattle.certificate.specs.declared.lines.Refusal.TheVariants as refusal;
 
 use crate::authorities::{Authority, Ceiling, End};

@@ -1,5 +1,6 @@
 -- A certificate that takes a line has that line as its last one.
-use Rattle.std.proofs.Common.{◌≡◌, ℕ, zero, suc, ◌+◌, ◌<◌, Bool, true, false, not, cond, List, [], ◌∷◌, ◌++◌, length, map, refl, ap, sym, ◌∙◌, subst, append_assoc, append-nil, arith}
+use Rattle.std.proofs.Common.{◌≡◌, ℕ, zero, suc, ◌+◌, ◌<◌, Bool, true, false, not, cond, List, [], ◌∷◌, ◌++◌, length, map}
+use Rattle.std.proofs.Common.{refl, ap, sym, ◌∙◌, subst, append_assoc, append-nil, arith}
 use Rattle.std.specs.Prelude.{slice_set, nat_lt, Ok, Err}
 use Rattle.std.specs.List.{flat_map}
 use Rattle.std.proofs.lemmas.Bool.{and_parts, ltb-true}
@@ -138,7 +139,8 @@ slots-more base (suc n) (t ∷ slots) s within closed other =
 -- BLOCKS
 
 -- a block with a register more that isn't full
-block-register : (b : PointBound) (n : ℕ) (i : Interval) → length b.bound.registers ≡ 8 → n < 8 → all_from is_full n b.bound.registers ≡ true → all_from is_closed 0 b.bound.slots ≡ true
+block-register : (b : PointBound) (n : ℕ) (i : Interval) → length b.bound.registers ≡ 8 → n < 8 → all_from is_full n b.bound.registers ≡ true →
+    all_from is_closed 0 b.bound.slots ≡ true
     → is_full i ≡ false → block_lines (record b { bound = with_interval b.bound n i }) ≡ block_lines b ++ Bounds_register n i ∷ []
 block-register b n i long within full closed other = ap (λ rest. Begins_block b.program b.point b.bound.mode ∷ rest) (
     (λ k. more k ++ none k) ∙ append-nil (before ++ Bounds_register n i ∷ [])

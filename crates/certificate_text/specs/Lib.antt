@@ -2,7 +2,7 @@ pub mod Faults
 pub mod KeywordViews
 pub mod Pieces
 pub mod Readings
-pub mod Taking
+pub mod TakingViews
 pub mod Texts
 pub mod Views
 pub mod WordViews

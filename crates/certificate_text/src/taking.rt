@@ -4,7 +4,7 @@ ghost use Rattle.std.specs.Prelude.{◌≡◌};
 ghost use Rattle.std.specs.Str.{bytes_eq};
 ghost use Rattle.certificate_text.specs.KeywordViews.{keyword_text};
 ghost use Rattle.certificate_text.specs.Views.{IsNextWord};
-ghost use Rattle.certificate_text.specs.Taking.{AreFour, AreNextTwo, AreThree, AreTwo, IsOne, both_parts};
+ghost use Rattle.certificate_text.specs.TakingViews.{AreFour, AreNextTwo, AreThree, AreTwo, IsOne, both_parts};
 
 use crate::faults::LineFault;
 use crate::keywords::Keyword;

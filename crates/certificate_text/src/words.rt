@@ -6,7 +6,7 @@ ghost use Rattle.texts.specs.Hex.{hex_of};
 ghost use Rattle.texts.specs.Numbers.{number_of};
 ghost use Rattle.certificate.specs.Lines.{is_ceiling};
 ghost use Rattle.certificate.specs.Views.{class_of, interval_of, mode_of, name_of, side_of};
-ghost use Rattle.certificate_text.specs.Taking.{rise_or_equal, unless_full};
+ghost use Rattle.certificate_text.specs.TakingViews.{rise_or_equal, unless_full};
 ghost use Rattle.certificate_text.specs.Views.{fault_of, fcntls_in, rights_in};
 ghost use Rattle.certificate_text.specs.Words.{ceiling_from, class_of_word, fcntls_of_words, interval_from, mode_of_word, name_of_word, point_of_program, rights_of_words, side_of_word, up_to};
 ghost use Rattle.texts.specs.Parts.{parts};

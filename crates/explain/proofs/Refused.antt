@@ -1,6 +1,6 @@
 -- What is read as a fault is no task, and a fault's status is no answer's.
-use Rattle.std.proofs.Common.{◌≡◌, ◌≢◌, ◌<◌, ◌≤◌, ℕ, true, false, [], ◌∷◌, inl, inr, arith, length, map, refl, sym, ◌∙◌}
-use Rattle.std.specs.Prelude.{Option, Some, None, Result, Ok, Err}
+use Rattle.std.proofs.Common.{◌≡◌, ◌≢◌, ◌<◌, ◌≤◌, ℕ, false, [], ◌∷◌, inl, inr, arith, length, map, refl, sym, ◌∙◌}
+use Rattle.std.specs.Prelude.{Option, Some, None, Result, Ok}
 use Rattle.commands.specs.Faults.{Fault, Refused, No_memory, No_output, fault_status}
 use Rattle.commands.specs.Served.{is_done_status}
 use Rattle.prog_asm.specs.Assembly as assembly

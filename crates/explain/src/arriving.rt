@@ -8,8 +8,8 @@ use certificate::{Bound, Domain};
 use checker::instruction_at;
 use rights::limits::REGISTERS;
 use std::alloc::{AllocError, Global};
-use task_text::Piece::{Number, Text};
 use task_text::Page;
+use task_text::Piece::{Number, Text};
 use transfer::{Outcome, OutcomeTest, Site, failure, successes_pass};
 
 /// An outcome of an instruction: the point that it goes to, and the bound that it has there.

@@ -9,8 +9,8 @@ use file_tree::is_front;
 use prog_asm::{Instruction, Syscall};
 use rights::Rights;
 use task::{FirstDescriptor, FirstObject, Grant, Start};
-use task_text::Piece::{Bytes, Number, Text};
 use task_text::Page;
+use task_text::Piece::{Bytes, Number, Text};
 use transfer::{channel_at, other, unknown_held};
 
 /// The ceilings and the ends of a program's authority; none where the certificate has no authority of it.
@@ -55,12 +55,7 @@ fn may_hold(scene: &Scene<'_>, allowed: &Allowed<'_, '_>, target: &Target, right
 }
 
 /// Adds the ceiling of a descriptor's grant, or that it is an end that isn't listed, or that nothing can be said of it.
-fn add_ceiling(
-    page: &mut Page,
-    scene: &Scene<'_>,
-    allowed: &Allowed<'_, '_>,
-    target: &Target,
-) {
+fn add_ceiling(page: &mut Page, scene: &Scene<'_>, allowed: &Allowed<'_, '_>, target: &Target) {
     match target {
         Target::InGrant(name) => {
             page.pieces(&[
@@ -79,12 +74,7 @@ fn add_ceiling(
 }
 
 /// Adds what a process may take into the mode that its authority hasn't.
-fn add_taken(
-    page: &mut Page,
-    scene: &Scene<'_>,
-    allowed: &Allowed<'_, '_>,
-    bound: &Bound,
-) {
+fn add_taken(page: &mut Page, scene: &Scene<'_>, allowed: &Allowed<'_, '_>, bound: &Bound) {
     for (number, slot) in bound.slots().iter().enumerate() {
         if let Some(held) = slot.held() {
             if !may_hold(scene, allowed, &held.target(), held.rights().greatest()) {
@@ -228,12 +218,7 @@ fn add_moves(page: &mut Page, allowed: &Allowed<'_, '_>) {
 }
 
 /// Adds the line of a side's channel: what it lets through, or that it is missing.
-fn add_line(
-    page: &mut Page,
-    channel: Option<&Channel>,
-    class: &Class,
-    side: Side,
-) {
+fn add_line(page: &mut Page, channel: Option<&Channel>, class: &Class, side: Side) {
     page.text("; the channel ");
     add_end(page, class, side);
     match channel {
@@ -249,11 +234,7 @@ fn add_line(
 }
 
 /// Adds what may come by the listed ends that isn't within.
-fn add_received(
-    page: &mut Page,
-    scene: &Scene<'_>,
-    allowed: &Allowed<'_, '_>,
-) {
+fn add_received(page: &mut Page, scene: &Scene<'_>, allowed: &Allowed<'_, '_>) {
     for end in allowed.ends {
         let (class, side) = (end.class(), other(end.side()));
         let channel = channel_at(scene.cert, &class, side);
@@ -287,11 +268,7 @@ fn lets_all(channel: Option<&Channel>) -> bool {
 }
 
 /// Adds which channels of the listed ends don't let everything through.
-fn add_sent(
-    page: &mut Page,
-    scene: &Scene<'_>,
-    allowed: &Allowed<'_, '_>,
-) {
+fn add_sent(page: &mut Page, scene: &Scene<'_>, allowed: &Allowed<'_, '_>) {
     for end in allowed.ends {
         let (class, side) = (end.class(), end.side());
         let channel = channel_at(scene.cert, &class, side);
@@ -311,12 +288,7 @@ pub(crate) fn add_bounded(page: &mut Page, bound: &Bound) {
 }
 
 /// Adds what one of the rules K19 to K22 compares of a program's authority.
-pub(crate) fn add_authority(
-    page: &mut Page,
-    scene: &Scene<'_>,
-    name: &Name,
-    rule: u8,
-) {
+pub(crate) fn add_authority(page: &mut Page, scene: &Scene<'_>, name: &Name, rule: u8) {
     let allowed = allowed_to(scene, name);
     match rule {
         19 => add_ceilings(page, scene, &allowed),

@@ -10,8 +10,8 @@ use prog_asm::{Operand, Syscall};
 use rights::Op;
 use rights::limits::MAX_DESCRIPTORS;
 use task::grant_lists;
-use task_text::Piece::{Bytes, Number, Text};
 use task_text::Page;
+use task_text::Piece::{Bytes, Number, Text};
 use transfer::{
     Need, Passed, Through, channel_at, demanded, is_single, needed, operand_interval, other,
 };
@@ -139,12 +139,7 @@ fn is_listed(scene: &Scene<'_>, one: &Use, operation: Option<Op>) -> bool {
 }
 
 /// Adds the operations of a call that a grant doesn't list.
-fn add_unlisted(
-    page: &mut Page,
-    scene: &Scene<'_>,
-    call: &Syscall,
-    one: &Use,
-) {
+fn add_unlisted(page: &mut Page, scene: &Scene<'_>, call: &Syscall, one: &Use) {
     add_number(page, &one.slot);
     page.text(" is in ");
     add_target(page, &one.slot.held.target());

@@ -6,8 +6,8 @@ use crate::scenes::{Scene, short};
 use certificate::{Bound, Held, Slot, slots_within};
 use rights::Rights;
 use std::alloc::Global;
-use task_text::Piece::{Bytes, Number, Text};
 use task_text::Page;
+use task_text::Piece::{Bytes, Number, Text};
 
 /// Adds a number that may be open: what it is of, and its greatest rights.
 fn add_open(page: &mut Page, number: usize, held: &Held, state: &str) {
@@ -73,12 +73,7 @@ fn add_point(
 
 /// Adds each program with its remarks; the bounds are those of the certificate, if there is one. The numbers of a table are told
 /// where they aren't those of the point before.
-pub(crate) fn add_listing(
-    alloc: Global,
-    page: &mut Page,
-    scene: &Scene<'_>,
-    has_cert: bool,
-) {
+pub(crate) fn add_listing(alloc: Global, page: &mut Page, scene: &Scene<'_>, has_cert: bool) {
     for (number, program) in scene.task.programs().iter().enumerate() {
         let name = program.name.as_bytes();
         page.pieces(&[Bytes(name), Text("\n")]);

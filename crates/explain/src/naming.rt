@@ -3,8 +3,8 @@
 use bitflags::Flags;
 use certificate::{Class, FcntlsRange, Held, Interval, ModeBound, RightsRange, Side, Slot, Target};
 use rights::{Fcntls, Rights};
-use task_text::Piece::{Bytes, Number, Text};
 use task_text::Page;
+use task_text::Piece::{Bytes, Number, Text};
 
 /// Adds the names of the rights of a set; `none` of an empty one. The aliases for sockets aren't used.
 pub(crate) fn add_rights(page: &mut Page, set: Rights) {

@@ -6,8 +6,8 @@ use checker::is_named;
 use prog_asm::Instruction;
 use std::alloc::{AllocError, Global};
 use task::Task;
-use task_text::Piece::{Bytes, Number, Text};
 use task_text::Page;
+use task_text::Piece::{Bytes, Number, Text};
 
 /// How far points may have moved.
 const FURTHEST: usize = 16;
@@ -108,7 +108,8 @@ pub(crate) fn add_older(alloc: Global, page: &mut Page, task: &Task, cert: &Cert
     for program in task.programs() {
         let name = program.name.as_bytes();
         let code = program.program.code();
-        let (Ok(points), Ok(flags)) = (points_of(alloc, cert, name), named_points(alloc, code)) else {
+        let (Ok(points), Ok(flags)) = (points_of(alloc, cert, name), named_points(alloc, code))
+        else {
             page.fail();
             return;
         };

@@ -4,8 +4,8 @@ use crate::scenes::Scene;
 use crate::sentences::add_rule;
 use checker::BrokenRule;
 use std::alloc::Global;
-use task_text::Piece::{Bytes, Text};
 use task_text::Page;
+use task_text::Piece::{Bytes, Text};
 
 /// Adds the line of a point: its instruction as it is written.
 fn add_head(page: &mut Page, scene: &Scene<'_>, found: BrokenRule) {

@@ -9,8 +9,8 @@ use prog_asm::{Instruction, Operand};
 use rights::Rights;
 use rights::limits::MAX_DESCRIPTORS;
 use std::alloc::{AllocError, Global};
-use task_text::Piece::{Bytes, Number, Text};
 use task_text::Page;
+use task_text::Piece::{Bytes, Number, Text};
 use transfer::{Through, enters_mode, may_be_on, needed};
 
 /// A program, and the bounds of its points.
@@ -260,12 +260,7 @@ fn add_limits(alloc: Global, page: &mut Page, bounded: &Bounded<'_>, number: u32
 }
 
 /// Remarks that the number of an operand is never open where an instruction names it.
-fn add_closed(
-    page: &mut Page,
-    bounded: &Bounded<'_>,
-    point: usize,
-    through: Option<Through>,
-) {
+fn add_closed(page: &mut Page, bounded: &Bounded<'_>, point: usize, through: Option<Through>) {
     let Some(through) = through else {
         return;
     };

@@ -51,12 +51,7 @@ impl<'a> Scene<'a> {
     }
 
     /// Adds a point with its line: `main:2 (line 31)`.
-    pub(crate) fn add_point(
-        &self,
-        page: &mut Page,
-        program: usize,
-        point: usize,
-    ) {
+    pub(crate) fn add_point(&self, page: &mut Page, program: usize, point: usize) {
         let name = match self.task.programs().get(program) {
             Some(program) => program.name.as_bytes(),
             None => &[],

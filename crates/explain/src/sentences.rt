@@ -9,8 +9,8 @@ use certificate::Domain;
 use checker::BrokenRule;
 use prog_asm::Instruction;
 use std::alloc::{AllocError, Global};
-use task_text::Piece::{Bytes, Number, Text};
 use task_text::Page;
+use task_text::Piece::{Bytes, Number, Text};
 
 /// How many arrivals of one rule are told.
 const MOST_TOLD: u32 = 3;
@@ -95,12 +95,7 @@ fn add_unbound(
 }
 
 /// Adds which processes start otherwise than the bound of point 0 says.
-fn add_starts(
-    page: &mut Page,
-    scene: &Scene<'_>,
-    spot: &Spot<'_>,
-    program: usize,
-) {
+fn add_starts(page: &mut Page, scene: &Scene<'_>, spot: &Spot<'_>, program: usize) {
     for start in scene.task.starts() {
         if usize::from(start.program) == program {
             add_start(page, scene, spot.bound, start);
@@ -158,12 +153,7 @@ fn add_compared(
 }
 
 /// Adds what a rule compares at its point.
-fn add_detail(
-    alloc: Global,
-    page: &mut Page,
-    scene: &Scene<'_>,
-    found: BrokenRule,
-) {
+fn add_detail(alloc: Global, page: &mut Page, scene: &Scene<'_>, found: BrokenRule) {
     let (program, point) = (usize::from(found.program), usize::from(found.point));
     let (Some(name), Some(instruction)) = (scene.name(program), scene.instruction(program, point))
     else {
@@ -192,12 +182,7 @@ fn add_detail(
 }
 
 /// Adds the line of a rule that is broken at a point: what it asks, and what it compares there.
-pub(crate) fn add_rule(
-    alloc: Global,
-    page: &mut Page,
-    scene: &Scene<'_>,
-    found: BrokenRule,
-) {
+pub(crate) fn add_rule(alloc: Global, page: &mut Page, scene: &Scene<'_>, found: BrokenRule) {
     page.pieces(&[
         Text("  K"),
         Number(u32::from(found.rule)),

@@ -5,15 +5,11 @@ use crate::scenes::{Scene, short};
 use certificate::{Bound, Class, Held, ModeBound, Side, Slot, Target};
 use rights::limits::REGISTERS;
 use task::{FirstDescriptor, FirstObject, Start, grant_holds};
-use task_text::Piece::{Bytes, Number, Text};
 use task_text::Page;
+use task_text::Piece::{Bytes, Number, Text};
 
 /// Adds where a first descriptor stands in the tree, or which side of which pair it is.
-pub(crate) fn add_object(
-    page: &mut Page,
-    scene: &Scene<'_>,
-    object: FirstObject,
-) {
+pub(crate) fn add_object(page: &mut Page, scene: &Scene<'_>, object: FirstObject) {
     match object {
         FirstObject::Node { node, .. } => {
             let Some(node) = scene.task.nodes().get(node as usize) else {
@@ -119,12 +115,7 @@ fn add_first(
 }
 
 /// Adds in which parts a bound doesn't describe the first state of a process.
-pub(crate) fn add_start(
-    page: &mut Page,
-    scene: &Scene<'_>,
-    bound: &Bound,
-    start: &Start,
-) {
+pub(crate) fn add_start(page: &mut Page, scene: &Scene<'_>, bound: &Bound, start: &Start) {
     let is_mode = match bound.mode() {
         ModeBound::Off => !start.mode,
         ModeBound::On => start.mode,

@@ -146,9 +146,12 @@ fn take_entered(need: &mut Need, way: &Way, code: &[Instruction]) -> Result<(), 
         if !enters_mode(instruction) {
             continue;
         }
-        if let Some(Spot {
-            bound: Some(bound), ..
-        }) = way.spots.get(point)
+        if let Some(
+            Spot {
+                bound: Some(bound),
+                ..
+            },
+        ) = way.spots.get(point)
         {
             need.take_slots(bound)?;
         }

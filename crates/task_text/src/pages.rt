@@ -2,7 +2,7 @@
 
 ghost use Rattle.std.specs.Prelude.{◌≡◌, [], false, length, nat_eq, true, IfOk, OnErr, OnOk};
 ghost use Rattle.std.specs.List.{flat_map};
-ghost use Rattle.task_text.specs.Pages.{Adds, piece_text};
+ghost use Rattle.task_text.specs.PageViews.{Adds, piece_text};
 
 use std::alloc::{AllocError, Global};
 use texts::Decimal;

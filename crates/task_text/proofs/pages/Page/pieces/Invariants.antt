@@ -1,6 +1,6 @@
 use Rattle.std.proofs.Common.{◌≡◌, false, ◌++◌, drop}
 use Rattle.std.specs.List.{flat_map}
-use Rattle.task_text.specs.Pages.{piece_text}
+use Rattle.task_text.specs.PageViews.{piece_text}
 use Rattle.task_text.proofs.pages.Page.pieces.Given as goal
 
 -- with what is left to add, all stands there
