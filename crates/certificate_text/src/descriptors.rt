@@ -10,7 +10,7 @@ ghost use Rattle.certificate_text.specs.Faults.{both, formed};
 
 use crate::faults::LineFault;
 use crate::keywords::Keyword;
-use crate::taking::{both, four_words, is_word, next_two, next_word};
+use crate::taking::{four_words, is_word, next_two, next_word};
 use crate::words::{read_class, read_fcntls, read_name, read_rights, read_side};
 use certificate::{Held, Slot, Target};
 use texts::Words;
@@ -22,14 +22,9 @@ fn read_sets(target: Result<Target, LineFault>, words: Words<'_>) -> Result<Held
     let Some((rights, fcntls)) = four_words(words) else {
         return Err(LineFault::Syntax);
     };
-    let sets = both(
-        read_rights(rights.0, rights.1),
-        read_fcntls(fcntls.0, fcntls.1),
-    );
-    match both(target, sets) {
-        Ok(parts) => Ok(Held::new(parts.0, parts.1.0, parts.1.1)),
-        Err(fault) => Err(fault),
-    }
+    let rights = read_rights(rights.0, rights.1)?;
+    let fcntls = read_fcntls(fcntls.0, fcntls.1)?;
+    Ok(Held::new(target?, rights, fcntls))
 }
 
 /// What is said of a descriptor of a grant's node.
