@@ -202,6 +202,9 @@ fn add_strays(alloc: Global, page: &mut Page, bounded: &Bounded<'_>, number: u32
     }
     let mut subject = Page::new(alloc);
     subject.pieces(&[Text("descriptor "), Number(number)]);
+    if subject.finish().is_err() {
+        page.fail();
+    }
     let text = " may hold what lies in no grant, and the report has no line of it, in the mode";
     add_remark(page, subject.as_bytes(), text, &flags)
 }

@@ -191,6 +191,9 @@ pub(crate) fn add_rule(alloc: Global, page: &mut Page, scene: &Scene<'_>, found:
     ]);
     let mut detail = Page::new(alloc);
     add_detail(alloc, &mut detail, scene, found);
+    if detail.finish().is_err() {
+        page.fail();
+    }
     if let Some(rest) = detail.as_bytes().strip_prefix(b"; ".as_slice()) {
         page.pieces(&[Text(": "), Bytes(rest)]);
     }
