@@ -6,6 +6,7 @@ pub mod Growing
 pub mod LineBack
 pub mod CommandDigits
 pub mod Written
+pub mod WordsBack
 pub mod LineText
 pub mod OneSpelling
 pub mod WordsJoined

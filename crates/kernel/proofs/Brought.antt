@@ -1,6 +1,6 @@
 -- What each call brings into a well-formed world.
-use Rattle.std.proofs.Common.{◌≡◌, ℕ, ◌+◌, ◌-◌, ◌%◌, ◌<◌, ◌≤◌, ◌^◌, Bool, true, false, List, [], ◌∷◌, ◌++◌, inl, inr, refl, length, arith, ap, subst, sym}
-use Rattle.std.specs.Prelude.{◌==◌, Option, Some, None, nat_lt, nat_le}
+use Rattle.std.proofs.Common.{◌≡◌, ℕ, ◌+◌, ◌-◌, ◌%◌, ◌<◌, ◌≤◌, ◌^◌, Bool, true, false, List, [], ◌∷◌, inl, inr, refl, length, arith, ap, subst, sym}
+use Rattle.std.specs.Prelude.{◌==◌, Option, Some, None, nat_lt}
 use Rattle.std.specs.List.{slice_get}
 use Rattle.std.proofs.lemmas.Bool.{cases_Bool, ltb-true, leb-true}
 use Rattle.std.proofs.lemmas.Bool.Decides.{nat_tests}
@@ -9,14 +9,13 @@ use Rattle.rights.specs.Sets.{is_within, all_rights, all_commands}
 use Rattle.rights.specs.Opens.{OpenRequest}
 use Rattle.rights.proofs.Lists.{list_all-slice_get}
 use Rattle.rights.proofs.Subsets.{is_within-refl, is_within-trans}
-use Rattle.rights.proofs.Tests.{both_left, both_right, not_true}
+use Rattle.rights.proofs.Tests.{both_right, not_true}
 use Rattle.file_tree.specs.Nodes.{Kind, File, Dir, Link, Node, node, is_dir, is_link}
 use Rattle.rights.specs.Limits.{most_bytes, most_messages}
-use Rattle.file_tree.specs.Refusals.{put_byte_fault, truncate_fault}
 use Rattle.file_tree.specs.WellFormed.{IsTree, is_byte}
 use Rattle.file_tree.proofs.KeptByCreate.{limits_of}
 use Rattle.file_tree.proofs.KeptByFill.{filled_is_tree, written_is_tree, resized_is_tree}
-use Rattle.lookup.specs.Answers.{Way, Last, Beneath, Global, Follow, Keep, Found_node, Found_free, Not_found}
+use Rattle.lookup.specs.Answers.{Way, Last, Beneath, Follow, Keep, Found_node, Found_free, Not_found}
 use Rattle.lookup.specs.Answers as lookups
 use Rattle.lookup.specs.Paths.{last_component}
 use Rattle.lookup.specs.Promises.{IsLinked, IsFindingThere, HasName, IsUnderName}
@@ -47,45 +46,7 @@ use Rattle.kernel.proofs.Lookups.{moved_over, path_bytes}
 use Rattle.kernel.proofs.Brings.{Ground, Known, Brings, Sound, free_low, second_low, directory_kind, file_kind, no_directory, sound-fails, sound-waits, sound-gives, sound-walks, sound-unless}
 use Rattle.kernel.proofs.Brings.{sound-if}
 use Rattle.kernel.proofs.Brings.{sound-held, sound-object, sound-number, sound-lookup_fails}
-
-dir_opened : (kind : Kind) → is_dir kind ≡ true → is_link kind ≡ false
-dir_opened File is = refl
-dir_opened Dir is = refl
-dir_opened Link is = absurd cc
-
--- the node that stands behind a list
-new_node : (t : List Node) (m : Node) → node (t ++ m ∷ []) (length t) ≡ m
-new_node [] m = refl
-new_node (k ∷ t) m = new_node t m
-
-longer : (place : List (List ℕ)) (name : List ℕ) → 0 < length (place ++ name ∷ [])
-longer [] name = omega arith
-longer (first ∷ place) name = omega arith
-
-small_kind : (kind : Kind) → kind_number kind < 2 ^ 32
-small_kind File = omega arith
-small_kind Dir = omega arith
-small_kind Link = omega arith
-
-small_bits : (a b : Bool) → bit_of a 1 + bit_of b 2 < 2 ^ 32
-small_bits true true = omega arith
-small_bits true false = omega arith
-small_bits false true = omega arith
-small_bits false false = omega arith
-
-small_bit : (a : Bool) → bit_of a 1 < 2 ^ 32
-small_bit true = omega arith
-small_bit false = omega arith
-
--- a number below another by a test
-below : (a b : ℕ) → nat_lt a b ≡ true → a < b
-below a b is = ltb-true a b is
-
-no_truncate_fault : (len : ℕ) → nat_le len most_bytes ≡ true → truncate_fault len ≡ None
-no_truncate_fault len is = grind (arith, nat_tests)
-
-no_put_byte_fault : (at : ℕ) → nat_lt at most_bytes ≡ true → put_byte_fault at ≡ None
-no_put_byte_fault at is = rw is refl
+use Rattle.kernel.proofs.SmallFacts.{new_node, longer, small_kind, small_bits, small_bit, below, no_truncate_fault, no_put_byte_fault}
 
 -- The ground is a well-formed world, in which each entry and message is known.
 pub record Standing (programs : Programs) (g : Ground) : Type 0 where

@@ -11,6 +11,7 @@ pub mod Looking
 pub mod FittingWalks
 pub mod Lookups
 pub mod Brings
+pub mod SmallFacts
 pub mod Brought
 pub mod Fresh
 pub mod Points

@@ -12,7 +12,8 @@ use Rattle.kernel.specs.World.{World, Choice}
 use Rattle.kernel.specs.Answers.{Event, TableChange, Same_table, Set_entry, Clear_entry, New_file, New_pair, New_process, Change, Answer, Fails, Waits, Gives, Walks}
 use Rattle.kernel.specs.Calls.{answer}
 use Rattle.kernel.specs.Changes.{given, processes_after, changed}
-use Rattle.kernel.specs.Steps.{Programs, after_deed, next_instruction, Executed, Stepped, with_process, plain, halted, failed, answered, executed, register, acted_as, stepped_at, stepped_by, stepped, step}
+use Rattle.kernel.specs.Steps.{Programs, after_deed, next_instruction, Executed, Stepped, with_process, plain, halted, failed, answered, executed, register}
+use Rattle.kernel.specs.Steps.{acted_as, stepped_at, stepped_by, stepped, step}
 use Rattle.kernel.specs.Walks.{call_in, under_way}
 use Rattle.kernel.specs.WellFormed.{ArePrograms, HasPaths, IfKept, IsProcess, IsProcessIfMade, Numbering, IsDescriptor, EachMessage, IsWorld}
 use Rattle.kernel.specs.Renamings.{Renaming, SameObject, EachNamed, SameFiles, renamed_entry}

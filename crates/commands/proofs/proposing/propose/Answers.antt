@@ -58,7 +58,8 @@ returns-in_err-write_cert-in-Some-clause-begun g c stop = record {
       inl (
         refl,
         proposes c.args.task.now c.in-Some.cert _ _ _ c.note_valid.ensures
-            (λ marked. let clash = sym (ap Ok c.in-Some.is) ∙ c.in_ok-cert.ensures.marked marked in cc) c.in-Some.is c.in_ok-cert.ensures.accepted c.in_ok-cert.ensures.version c.write_cert.ensures.reads_back refl,
+            (λ marked. let clash = sym (ap Ok c.in-Some.is) ∙ c.in_ok-cert.ensures.marked marked in cc) c.in-Some.is c.in_ok-cert.ensures.accepted
+            c.in_ok-cert.ensures.version c.write_cert.ensures.reads_back refl,
       );
   begun = front-taken c.in_err-write_cert-in-Some.field-0.0 _ _ _ _ _ c.in_err-write_cert-in-Some.ensures.written;
 }

@@ -35,7 +35,8 @@ build_node-requires-clause-made g c =
     let few : length nodes ≤ most_nodes = few_nodes nodes c.requires.valid in
     let made : length (take c.args.made nodes) ≡ c.args.made = length-take-le c.args.made nodes (omega arith) in
     let there : is_directory_at (above m.place) (node (take c.args.made nodes) c.directory_near-directory.result) ≡ true =
-    (λ i. is_directory_at (sym (facts.front ∙ ap above place) i) (node (take-map node_of c.args.made c.args.nodes.now i) c.directory_near-directory.result)) ∙ c.directory_near-directory.ensures.directory
+    (λ i. is_directory_at (sym (facts.front ∙ ap above place) i) (node (take-map node_of c.args.made c.args.nodes.now i) c.directory_near-directory.result))
+    ∙ c.directory_near-directory.ensures.directory
     in
     let named : at_name (above m.place) c.deref.result.now ≡ m.place =
     (λ i. at_name (above (sym place i)) (c.deref.ensures.value i)) ∙ facts.whole ∙ place
@@ -45,7 +46,9 @@ build_node-requires-clause-made g c =
     (take c.args.made c.args.nodes.now) ≡ c.args.made = length-take-le c.args.made c.args.nodes.now
     (let w : c.args.made < length c.args.nodes.now = c.requires.within in omega arith) in omega (arith, c.requires.count)) in
     let directory : c.index-numbers-directory.result ≡ c.directory_near-directory.result =
-    c.index-numbers-directory.is ∙ any_default c.args.numbers.now c.directory_near-directory.result c.index-numbers-directory.result 0 number ∙ c.requires.numbers c.directory_near-directory.result number
+    c.index-numbers-directory.is
+    ∙ any_default c.args.numbers.now c.directory_near-directory.result c.index-numbers-directory.result 0 number
+    ∙ c.requires.numbers c.directory_near-directory.result number
     in
     subst (λ t. IsMadeIn t c.index-numbers-directory.result c.deref.result.now m) (sym c.requires.made)
     (subst (λ d. IsMadeIn (take c.args.made nodes) d c.deref.result.now m) (sym directory)
@@ -78,7 +81,9 @@ build_node-requires-clause-there g c =
     let made : length (take c.args.made nodes) ≡ c.args.made = length-take-le c.args.made nodes (omega arith) in
     let number : c.directory_near-directory.result < length c.args.numbers.now = omega (arith, c.requires.count) in
     let directory : c.index-numbers-directory.result ≡ c.directory_near-directory.result =
-    c.index-numbers-directory.is ∙ any_default c.args.numbers.now c.directory_near-directory.result c.index-numbers-directory.result 0 number ∙ c.requires.numbers c.directory_near-directory.result number
+    c.index-numbers-directory.is
+    ∙ any_default c.args.numbers.now c.directory_near-directory.result c.index-numbers-directory.result 0 number
+    ∙ c.requires.numbers c.directory_near-directory.result number
     in
     subst (λ t. c.index-numbers-directory.result < length t) (sym c.requires.made)
     (subst (λ d. d < length (take c.args.made nodes)) (sym directory) (omega arith))
