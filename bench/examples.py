@@ -2,6 +2,7 @@
 
 import glob
 import os
+import tomllib
 
 TOP = os.path.dirname(os.path.dirname(os.path.abspath(__file__)))
 EXAMPLES = os.path.join(TOP, "crates/examples/data")
@@ -25,3 +26,14 @@ def asked():
             task = task_of(path[: -len(kind) - 1])
             for command in commands:
                 yield [command, task] + ([path] if command != "search" else [])
+
+
+def asked_why():
+    """The words of each line that the examples ask of `capwhy`; a search for a run that breaks something among few states."""
+    with open(os.path.join(EXAMPLES, "cases.toml"), "rb") as cases:
+        rows = tomllib.load(cases)["case"]
+    for row in rows:
+        if row.get("why") and row["words"]:
+            command, *files = row["words"]
+            words = [os.path.join(EXAMPLES, it) if os.path.exists(os.path.join(EXAMPLES, it)) else it for it in files]
+            yield [command] + words + (["20"] if command == "breach" and len(words) == 1 else [])

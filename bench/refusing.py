@@ -34,8 +34,9 @@ def says(program, shim, words, at):
     return done.returncode, done.stdout, done.stderr
 
 
-def refused_runs(program, shim, words):
-    """How many runs had a growth refused; it ends after twenty in a row that say what ample memory says."""
+def refused_runs(program, shim, words, name="capcheck"):
+    """How many runs had a growth refused; it ends after twenty in a row that say what ample memory says. `name` is how the program
+    calls itself."""
     ample = says(program, shim, words, 0)
     runs = 0
     at = 1
@@ -44,7 +45,7 @@ def refused_runs(program, shim, words):
         said = says(program, shim, words, at)
         if said == ample:
             quiet += 1
-        elif said[0] == 3 and said[2] == b"capcheck: memory\n" and ample[1].startswith(said[1]):
+        elif said[0] == 3 and said[2] == f"{name}: memory\n".encode() and ample[1].startswith(said[1]):
             quiet = 0
             runs += 1
         else:
