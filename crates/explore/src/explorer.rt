@@ -118,9 +118,10 @@ impl<'a> Explorer<'a> {
 
     /// Runs a machine on as long as one event alone can come.
     fn run_on(&mut self, runner: &mut Runner<'a>) -> Result<Arrival, Memory> {
+        let mut events = Vec::new(self.alloc);
         for _ in 0..MAX_FORCED {
-            let next = next_moves(self.alloc, self.task, runner, &self.bytes, false)?;
-            let [event] = next.events.as_slice() else {
+            next_moves(self.task, runner, &self.bytes, false, &mut events)?;
+            let [event] = events.as_slice() else {
                 return Ok(Arrival::At { is_long: false });
             };
             let advance = runner.step(*event)?;
@@ -151,10 +152,13 @@ impl<'a> Explorer<'a> {
     fn run_to(&mut self, place: usize, runner: &mut Runner<'a>) -> Result<(), Memory> {
         let mut choices = self.choices(place)?;
         choices.reverse();
+        // What these steps break was told when they came first.
+        runner.is_watched = false;
         self.run_on(runner)?;
         for event in &choices {
             self.advance(runner, *event)?;
         }
+        runner.is_watched = true;
         Ok(())
     }
 
@@ -166,7 +170,7 @@ impl<'a> Explorer<'a> {
     }
 
     /// Keeps a state, unless it was met before. Whether it is new is told.
-    fn keep(&mut self, runner: &Runner<'a>, visit: Visit) -> Result<bool, Memory> {
+    fn keep(&mut self, runner: &mut Runner<'a>, visit: Visit) -> Result<bool, Memory> {
         let digest = runner.digest(&mut self.met)?;
         let (_, is_new) = self.seen.insert_full(digest)?;
         if is_new {
@@ -262,8 +266,9 @@ impl<'a> Explorer<'a> {
 
     /// Goes on from a state, at which a machine stands, by all events that may come.
     fn expand_all(&mut self, place: usize, runner: &mut Runner<'a>) -> Result<Progress, Memory> {
-        let all = next_moves(self.alloc, self.task, runner, &self.bytes, true)?;
-        match self.try_events(place, &all.events, runner)? {
+        let mut events = Vec::new(self.alloc);
+        next_moves(self.task, runner, &self.bytes, true, &mut events)?;
+        match self.try_events(place, &events, runner)? {
             None => Ok(Progress::Found),
             Some(_) => Ok(Progress::Goes),
         }
@@ -276,10 +281,11 @@ impl<'a> Explorer<'a> {
         is_long: bool,
         runner: &mut Runner<'a>,
     ) -> Result<Progress, Memory> {
-        let some = next_moves(self.alloc, self.task, runner, &self.bytes, is_long)?;
-        match self.try_events(place, &some.events, runner)? {
+        let mut events = Vec::new(self.alloc);
+        let is_alone = next_moves(self.task, runner, &self.bytes, is_long, &mut events)?;
+        match self.try_events(place, &events, runner)? {
             None => Ok(Progress::Found),
-            Some(any_new) if any_new || !some.is_alone => Ok(Progress::Goes),
+            Some(any_new) if any_new || !is_alone => Ok(Progress::Goes),
             Some(_) => {
                 self.bring(place, runner)?;
                 self.expand_all(place, runner)

@@ -9,14 +9,6 @@ use std::alloc::Global;
 use syscalls::Event;
 use task::Task;
 
-/// The events that are tried from a state.
-#[derive(Drop)]
-pub(crate) struct Moves {
-    pub events: Vec<Event>,
-    /// They are of one process alone, whose next step no other process sees, so that those of others can come later.
-    pub is_alone: bool,
-}
-
 /// Whether a byte is the value or beside it.
 fn is_beside(byte: u8, value: u32) -> bool {
     let byte = u64::from(byte);
@@ -127,16 +119,16 @@ fn add_events(
     Ok(())
 }
 
-/// The events that are tried from a state. Where a process stands at a step that touches nothing shared, it goes first, unless all are
-/// asked for.
+/// Puts the events that are tried from a state in the place of what is there. Where a process stands at a step that touches nothing
+/// shared, it goes first, unless all are asked for; whether one goes first alone, so that those of others can come later, is told.
 pub(crate) fn next_moves(
-    alloc: Global,
     task: &Task,
     runner: &Runner<'_>,
     bytes: &[u8],
     asks_all: bool,
-) -> Result<Moves, Memory> {
-    let mut events = Vec::new(alloc);
+    events: &mut Vec<Event>,
+) -> Result<bool, Memory> {
+    events.clear();
     for (number, process) in runner.machine.processes().iter().enumerate() {
         if number >= MAX_PROCESSES {
             break;
@@ -145,17 +137,11 @@ pub(crate) fn next_moves(
         if let Some(instruction) = instruction_of(task, process) {
             if !asks_all && is_own(runner, number, instruction) {
                 events.clear();
-                add_events(&mut events, bytes, number, instruction)?;
-                return Ok(Moves {
-                    events,
-                    is_alone: true,
-                });
+                add_events(events, bytes, number, instruction)?;
+                return Ok(true);
             }
-            add_events(&mut events, bytes, number, instruction)?;
+            add_events(events, bytes, number, instruction)?;
         }
     }
-    Ok(Moves {
-        events,
-        is_alone: false,
-    })
+    Ok(false)
 }

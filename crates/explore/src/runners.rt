@@ -1,7 +1,7 @@
 //! A machine on its way, with what it doesn't show.
 
 use crate::breaches::Breach;
-use crate::breaking::watched_step;
+use crate::breaking::{Watched, watched_step};
 use crate::digests::Digest;
 use crate::messages::{Message, Messages};
 use crate::states::{Met, digest_of_state, open_at};
@@ -27,8 +27,13 @@ pub(crate) struct Runner<'a> {
     events: Vec<Event>,
     /// The process of the last choice, where that left names of a path.
     pub walking: Option<u8>,
+    /// What its steps break is told.
+    pub is_watched: bool,
     messages: Messages,
+    /// The digest of the tree, made only where it is asked for.
     tree: TreeDigest,
+    /// The tree was changed since.
+    is_changed: bool,
     /// What the call of each process looked up so far, where it is under way.
     looked: Vec<Digest>,
 }
@@ -124,15 +129,16 @@ impl<'a> Runner<'a> {
         let Ok(machine) = started else {
             return Err(Memory);
         };
-        let tree = digest_of_tree(alloc, machine.tree())?;
         Ok(Runner {
             alloc,
             task,
             machine,
             events: Vec::new(alloc),
             walking: None,
+            is_watched: true,
             messages: Messages::new(alloc),
-            tree,
+            tree: TreeDigest::none(alloc),
+            is_changed: true,
             looked,
         })
     }
@@ -274,13 +280,26 @@ impl<'a> Runner<'a> {
         Ok(())
     }
 
+    /// Makes the digest of the tree anew, if the tree was changed since.
+    fn note_tree(&mut self) -> Result<(), Memory> {
+        if self.is_changed {
+            self.tree = digest_of_tree(self.alloc, self.machine.tree())?;
+            self.is_changed = false;
+        }
+        Ok(())
+    }
+
     /// Notes what a step has changed of what the machine doesn't show.
     fn note(&mut self, process: u8, transfer: &Transfer, acted: &Acted) -> Result<(), Memory> {
         if changes_tree(&acted.effects) {
-            self.tree = digest_of_tree(self.alloc, self.machine.tree())?;
+            self.is_changed = true;
+        }
+        let is_walking = matches!(acted.outcome, LineResult::Walking);
+        if is_walking {
+            self.note_tree()?;
         }
         if let Some(looked) = self.looked.get_mut(process as usize) {
-            if matches!(acted.outcome, LineResult::Walking) {
+            if is_walking {
                 looked.add_digest(self.tree.whole);
             } else {
                 *looked = Digest::new();
@@ -292,13 +311,25 @@ impl<'a> Runner<'a> {
         }
     }
 
+    /// One step of the machine, with what it breaks if that is told.
+    fn run(&mut self, event: Event) -> Result<Watched, Memory> {
+        if self.is_watched {
+            return match watched_step(self.alloc, self.task, &mut self.machine, event) {
+                Ok(watched) => Ok(watched),
+                Err(_) => Err(Memory),
+            };
+        }
+        match self.machine.step(event) {
+            Ok(line) => Ok(Watched { line, breach: None }),
+            Err(_) => Err(Memory),
+        }
+    }
+
     /// One step. What breaks is told.
     pub(crate) fn step(&mut self, event: Event) -> Result<Advance, Memory> {
         let transfer = self.next_transfer(event.process);
         let number = self.next_number(event.process);
-        let Ok(watched) = watched_step(self.alloc, self.task, &mut self.machine, event) else {
-            return Err(Memory);
-        };
+        let watched = self.run(event)?;
         self.events.push(event)?;
         let mut is_waiting = true;
         let mut walking = None;
@@ -320,7 +351,8 @@ impl<'a> Runner<'a> {
     }
 
     /// The digest of the state.
-    pub(crate) fn digest(&self, met: &mut Met) -> Result<Digest, Memory> {
+    pub(crate) fn digest(&mut self, met: &mut Met) -> Result<Digest, Memory> {
+        self.note_tree()?;
         digest_of_state(
             met,
             self.machine.processes(),

@@ -15,6 +15,16 @@ pub(crate) struct TreeDigest {
     pub nodes: Vec<Digest>,
 }
 
+impl TreeDigest {
+    /// The digest of no tree.
+    pub(crate) fn none(alloc: Global) -> TreeDigest {
+        TreeDigest {
+            whole: Digest::new(),
+            nodes: Vec::new(alloc),
+        }
+    }
+}
+
 /// The number of a kind.
 fn kind_number(kind: Kind) -> u64 {
     match kind {
