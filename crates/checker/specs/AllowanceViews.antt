@@ -5,4 +5,4 @@ use Rattle.certificate.specs.Views.{ceiling_of, held_end_of, name_of}
 use Rattle.checker.specs.declared.allowances.Allowance.{Allowance}
 
 abbrev pub allowance_of : Allowance → Authority
-allowance_of a = record { program = name_of a.program.now; ceilings = map ceiling_of a.ceilings.now; holds = map held_end_of a.ends.now }
+allowance_of a = record { program = name_of a.program; ceilings = map ceiling_of a.ceilings.now; holds = map held_end_of a.ends.now }

@@ -24,10 +24,10 @@ use rights::{Op, Rights};
 use task::{FirstDescriptor, FirstObject, Grant, Start, Task, grant_lists};
 use transfer::{channel_at, other, unknown_held};
 
-/// What a program may hold: nodes of grants with rights up to their ceilings, and ends.
+/// What a program may hold: nodes of grants with rights up to their ceilings, and ends. (own)
 #[derive(Clone, Copy)]
-pub(crate) struct Allowance<'a> {
-    pub program: &'a Name,
+pub struct Allowance<'a> {
+    pub program: Name,
     pub ceilings: &'a [Ceiling],
     pub ends: &'a [End],
 }
@@ -50,18 +50,18 @@ fn authority_among<'a>(authorities: &'a [Authority], program: &[u8]) -> Option<&
     }
 }
 
-/// What a program may hold by a certificate; nothing where it has no authority.
-pub(crate) fn allowance_at<'a>(cert: &'a Cert, program: &'a Name) -> Allowance<'a>
+/// What a program may hold by a certificate; nothing where it has no authority. (own)
+pub fn allowance_at<'a>(cert: &'a Cert, program: &Name) -> Allowance<'a>
     ensures { allowance_of result ≡ authority_at cert.now (name_of program.now) }
 {
     match authority_among(cert.authorities(), program.as_bytes()) {
         None => Allowance {
-            program,
+            program: *program,
             ceilings: &[],
             ends: &[],
         },
         Some(authority) => Allowance {
-            program: authority.program(),
+            program: *authority.program(),
             ceilings: authority.ceilings(),
             ends: authority.holds(),
         },
@@ -121,8 +121,8 @@ fn may_hold(allowance: &Allowance<'_>, target: &Target, rights: Rights) -> bool
     }
 }
 
-/// Whether all are that this describes.
-fn may_hold_all(allowance: &Allowance<'_>, held: &Held) -> bool
+/// Whether all descriptors are within that this describes. (own)
+pub fn may_hold_all(allowance: &Allowance<'_>, held: &Held) -> bool
     ensures { result ≡ may_hold_all (allowance_of allowance.now) (held_of held.now) }
 {
     may_hold(allowance, &held.target(), held.rights().greatest())
@@ -192,8 +192,8 @@ fn lists_initial(ends: &[End], pair: u8, side: fd_table::Side) -> bool
     }
 }
 
-/// Whether a first descriptor is within.
-fn may_start_with(task: &Task, allowance: &Allowance<'_>, descriptor: FirstDescriptor) -> bool
+/// Whether a first descriptor of the task is within: a node lies in some grant whose ceiling has its rights, and an end is listed. (own)
+pub fn may_start_with(task: &Task, allowance: &Allowance<'_>, descriptor: FirstDescriptor) -> bool
     ensures { result ≡ may_start_with task.now (allowance_of allowance.now) (first_descriptor_of descriptor) }
 {
     match descriptor.object {
@@ -276,18 +276,22 @@ pub(crate) fn keeps_ceilings(grants: &[Grant], ceilings: &[Ceiling]) -> bool
     }
 }
 
+/// Whether nothing can be moved from one ceiling's grant into another's, since they are of one grant, or one of them lacks the right. (own)
+pub fn stays_in(source: &Ceiling, target: &Ceiling) -> bool
+    ensures { result ≡ stays_in (ceiling_of source.now) (ceiling_of target.now) }
+{
+    source.grant().as_bytes() == target.grant().as_bytes()
+        || !(source.rights().contains(Rights::RENAMEAT_SOURCE)
+            && target.rights().contains(Rights::RENAMEAT_TARGET))
+}
+
 /// Whether nothing can be moved from one ceiling's grant into another of these.
 fn stays_in_all(source: &Ceiling, targets: &[Ceiling]) -> bool
     ensures { result ≡ list_all (stays_in (ceiling_of source.now)) (map ceiling_of targets.now) }
 {
     match targets {
         [] => true,
-        [first, rest @ ..] => {
-            (source.grant().as_bytes() == first.grant().as_bytes()
-                || !(source.rights().contains(Rights::RENAMEAT_SOURCE)
-                    && first.rights().contains(Rights::RENAMEAT_TARGET)))
-                && stays_in_all(source, rest)
-        }
+        [first, rest @ ..] => stays_in(source, first) && stays_in_all(source, rest),
     }
 }
 
@@ -301,8 +305,8 @@ pub(crate) fn all_stay(sources: &[Ceiling], targets: &[Ceiling]) -> bool
     }
 }
 
-/// Whether what this side of a class sends is known, and is within.
-fn may_come(cert: &Cert, allowance: &Allowance<'_>, class: &Class, side: Side) -> bool
+/// Whether what this side of a class sends is known, and is within. (own)
+pub fn may_come(cert: &Cert, allowance: &Allowance<'_>, class: &Class, side: Side) -> bool
     ensures { result ≡ may_come (allowance_of allowance.now) (channel_at cert.now (class_of class.now) (side_of side)) }
 {
     match channel_at(cert, class, side) {
@@ -340,8 +344,8 @@ pub(crate) fn all_widest(cert: &Cert, ends: &[End]) -> bool
     }
 }
 
-/// Whether anything is expected from this side of a class.
-fn is_widest(cert: &Cert, class: &Class, side: Side) -> bool
+/// Whether anything is expected from this side of a class. (own)
+pub fn is_widest(cert: &Cert, class: &Class, side: Side) -> bool
     ensures { result ≡ is_widest (channel_at cert.now (class_of class.now) (side_of side)) }
 {
     match channel_at(cert, class, side) {

@@ -16,7 +16,7 @@ mod starts;
 mod uses;
 pub mod verdicts;
 
-pub use allowances::ceiling_at;
+pub use allowances::{Allowance, allowance_at, ceiling_at};
 pub use expanding::{expand, is_expanded};
 pub use findings::{BrokenRule, all_findings};
 pub use points::{code_named, instruction_at, is_named};

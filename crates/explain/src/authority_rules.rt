@@ -3,59 +3,17 @@
 use crate::naming::{add_end, add_held, add_rights, add_slot, mode_name};
 use crate::scenes::{Scene, short};
 use crate::starting::add_object;
-use certificate::{Bound, Ceiling, Channel, Class, Domain, End, Held, Name, Side, Slot, Target};
-use checker::ceiling_at;
-use file_tree::is_front;
+use certificate::{Bound, Channel, Class, Domain, Held, Name, Side, Slot, Target};
+use checker::allowances::{is_widest, may_come, may_hold_all, may_start_with, stays_in};
+use checker::{Allowance, BrokenRule, allowance_at, ceiling_at};
 use prog_asm::{Instruction, Syscall};
-use rights::Rights;
-use task::{FirstDescriptor, FirstObject, Grant, Start};
+use task::{Grant, Start};
 use task_text::Page;
 use task_text::Piece::{Bytes, Number, Text};
-use transfer::{channel_at, other, unknown_held};
-
-/// The ceilings and the ends of a program's authority; none where the certificate has no authority of it.
-#[derive(Clone, Copy)]
-struct Allowed<'a, 'n> {
-    program: &'n [u8],
-    ceilings: &'a [Ceiling],
-    ends: &'a [End],
-}
-
-/// What a program may hold by the certificate.
-fn allowed_to<'a, 'n>(scene: &Scene<'a>, name: &'n Name) -> Allowed<'a, 'n> {
-    let program = name.as_bytes();
-    for authority in scene.cert.authorities() {
-        if authority.program().as_bytes() == program {
-            return Allowed {
-                program,
-                ceilings: authority.ceilings(),
-                ends: authority.holds(),
-            };
-        }
-    }
-    Allowed {
-        program,
-        ceilings: &[],
-        ends: &[],
-    }
-}
-
-/// Whether a descriptor of this, with at most these rights, is within.
-fn may_hold(scene: &Scene<'_>, allowed: &Allowed<'_, '_>, target: &Target, rights: Rights) -> bool {
-    match target {
-        Target::InGrant(name) => {
-            ceiling_at(scene.cert, allowed.program, name.as_bytes()).contains(rights)
-        }
-        Target::Socket(class, side) => allowed
-            .ends
-            .iter()
-            .any(|end| end.class().is(class) && end.side().is(*side)),
-        Target::AnyNode | Target::Unknown => false,
-    }
-}
+use transfer::{channel_at, other};
 
 /// Adds the ceiling of a descriptor's grant, or that it is an end that isn't listed, or that nothing can be said of it.
-fn add_ceiling(page: &mut Page, scene: &Scene<'_>, allowed: &Allowed<'_, '_>, target: &Target) {
+fn add_ceiling(page: &mut Page, scene: &Scene<'_>, allowed: &Allowance<'_>, target: &Target) {
     match target {
         Target::InGrant(name) => {
             page.pieces(&[
@@ -65,7 +23,7 @@ fn add_ceiling(page: &mut Page, scene: &Scene<'_>, allowed: &Allowed<'_, '_>, ta
             ]);
             add_rights(
                 page,
-                ceiling_at(scene.cert, allowed.program, name.as_bytes()),
+                ceiling_at(scene.cert, allowed.program.as_bytes(), name.as_bytes()),
             )
         }
         Target::Socket(..) => page.text(", which isn't listed"),
@@ -74,10 +32,10 @@ fn add_ceiling(page: &mut Page, scene: &Scene<'_>, allowed: &Allowed<'_, '_>, ta
 }
 
 /// Adds what a process may take into the mode that its authority hasn't.
-fn add_taken(page: &mut Page, scene: &Scene<'_>, allowed: &Allowed<'_, '_>, bound: &Bound) {
+fn add_taken(page: &mut Page, scene: &Scene<'_>, allowed: &Allowance<'_>, bound: &Bound) {
     for (number, slot) in bound.slots().iter().enumerate() {
         if let Some(held) = slot.held() {
-            if !may_hold(scene, allowed, &held.target(), held.rights().greatest()) {
+            if !may_hold_all(allowed, &held) {
                 page.pieces(&[Text("; descriptor "), Number(short(number)), Text(" is ")]);
                 add_slot(page, slot);
                 add_ceiling(page, scene, allowed, &held.target());
@@ -86,48 +44,16 @@ fn add_taken(page: &mut Page, scene: &Scene<'_>, allowed: &Allowed<'_, '_>, boun
     }
 }
 
-/// Whether a first descriptor is within.
-fn may_start_with(scene: &Scene<'_>, allowed: &Allowed<'_, '_>, first: FirstDescriptor) -> bool {
-    match first.object {
-        FirstObject::Node { node, .. } => {
-            let Some(node) = scene.task.nodes().get(node as usize) else {
-                return false;
-            };
-            for grant in scene.task.grants() {
-                let most = ceiling_at(scene.cert, allowed.program, grant.name.as_bytes());
-                if is_front(&grant.path, &node.place) && most.contains(first.rights) {
-                    return true;
-                }
-            }
-            false
-        }
-        FirstObject::End { pair, side } => allowed.ends.iter().any(|end| is_end(end, pair, side)),
-    }
-}
-
-/// Whether an end is this side of an initial pair.
-fn is_end(end: &End, pair: u8, side: fd_table::Side) -> bool {
-    let is_pair = match end.class() {
-        Class::Initial(own) => own.number() == pair,
-        Class::MadeAt(..) => false,
-    };
-    is_pair
-        && match side {
-            fd_table::Side::A => end.side().is(Side::A),
-            fd_table::Side::B => end.side().is(Side::B),
-        }
-}
-
 /// Adds with what a process starts in the mode that its authority hasn't.
 fn add_first(
     page: &mut Page,
     scene: &Scene<'_>,
-    allowed: &Allowed<'_, '_>,
+    allowed: &Allowance<'_>,
     process: usize,
     start: &Start,
 ) {
     for first in &start.descriptors {
-        if !may_start_with(scene, allowed, *first) {
+        if !may_start_with(scene.task, allowed, *first) {
             page.pieces(&[
                 Text("; process "),
                 Number(short(process)),
@@ -147,28 +73,25 @@ pub(crate) fn add_beyond(
     page: &mut Page,
     scene: &Scene<'_>,
     name: &Name,
-    program: u8,
-    point: u8,
-    at: Option<(&Instruction, &Bound)>,
+    found: BrokenRule,
+    instruction: &Instruction,
+    bound: Option<&Bound>,
 ) {
-    let allowed = allowed_to(scene, name);
-    if let Some(
-        (
-            Instruction::Invoke {
-                call: Syscall::CapEnter,
-                ..
-            },
-            bound,
-        ),
-    ) = at
+    let allowed = allowance_at(scene.cert, name);
+    if let Instruction::Invoke {
+        call: Syscall::CapEnter,
+        ..
+    } = instruction
     {
-        add_taken(page, scene, &allowed, bound);
+        if let Some(bound) = bound {
+            add_taken(page, scene, &allowed, bound);
+        }
     }
-    if point != 0 {
+    if found.point != 0 {
         return;
     }
     for (process, start) in scene.task.starts().iter().enumerate() {
-        if start.mode && start.program == program {
+        if start.mode && start.program == found.program {
             add_first(page, scene, &allowed, process, start);
         }
     }
@@ -184,7 +107,7 @@ fn add_operations(page: &mut Page, grant: &Grant) {
 }
 
 /// Adds what the ceilings have, and what their grants list.
-fn add_ceilings(page: &mut Page, scene: &Scene<'_>, allowed: &Allowed<'_, '_>) {
+fn add_ceilings(page: &mut Page, scene: &Scene<'_>, allowed: &Allowance<'_>) {
     for ceiling in allowed.ceilings {
         let name = ceiling.grant().as_bytes();
         page.pieces(&[Text("; the ceiling on "), Bytes(name), Text(" has ")]);
@@ -198,13 +121,10 @@ fn add_ceilings(page: &mut Page, scene: &Scene<'_>, allowed: &Allowed<'_, '_>) {
 }
 
 /// Adds which ceilings let a name be moved.
-fn add_moves(page: &mut Page, allowed: &Allowed<'_, '_>) {
+fn add_moves(page: &mut Page, allowed: &Allowance<'_>) {
     for source in allowed.ceilings {
         for target in allowed.ceilings {
-            let is_same = source.grant().as_bytes() == target.grant().as_bytes();
-            let may_move = source.rights().contains(Rights::RENAMEAT_SOURCE)
-                && target.rights().contains(Rights::RENAMEAT_TARGET);
-            if may_move && !is_same {
+            if !stays_in(source, target) {
                 page.pieces(&[
                     Text("; the ceiling on "),
                     Bytes(source.grant().as_bytes()),
@@ -234,20 +154,16 @@ fn add_line(page: &mut Page, channel: Option<&Channel>, class: &Class, side: Sid
 }
 
 /// Adds what may come by the listed ends that isn't within.
-fn add_received(page: &mut Page, scene: &Scene<'_>, allowed: &Allowed<'_, '_>) {
+fn add_received(page: &mut Page, scene: &Scene<'_>, allowed: &Allowance<'_>) {
     for end in allowed.ends {
         let (class, side) = (end.class(), other(end.side()));
-        let channel = channel_at(scene.cert, &class, side);
-        let comes = match channel {
-            None => None,
-            Some(channel) => channel.sends(),
-        };
-        let may_come = match &comes {
-            None => channel.is_some(),
-            Some(held) => may_hold(scene, allowed, &held.target(), held.rights().greatest()),
-        };
-        if !may_come {
+        if !may_come(scene.cert, allowed, &class, side) {
+            let channel = channel_at(scene.cert, &class, side);
             add_line(page, channel, &class, side);
+            let comes = match channel {
+                None => None,
+                Some(channel) => channel.sends(),
+            };
             if let Some(held) = &comes {
                 add_ceiling(page, scene, allowed, &held.target());
             }
@@ -255,25 +171,12 @@ fn add_received(page: &mut Page, scene: &Scene<'_>, allowed: &Allowed<'_, '_>) {
     }
 }
 
-/// Whether a channel lets anything through.
-fn lets_all(channel: Option<&Channel>) -> bool {
-    let sends = match channel {
-        None => None,
-        Some(channel) => channel.sends(),
-    };
-    match sends {
-        None => false,
-        Some(held) => unknown_held().within(&held),
-    }
-}
-
 /// Adds which channels of the listed ends don't let everything through.
-fn add_sent(page: &mut Page, scene: &Scene<'_>, allowed: &Allowed<'_, '_>) {
+fn add_sent(page: &mut Page, scene: &Scene<'_>, allowed: &Allowance<'_>) {
     for end in allowed.ends {
         let (class, side) = (end.class(), end.side());
-        let channel = channel_at(scene.cert, &class, side);
-        if !lets_all(channel) {
-            add_line(page, channel, &class, side);
+        if !is_widest(scene.cert, &class, side) {
+            add_line(page, channel_at(scene.cert, &class, side), &class, side);
             page.text(", and has to have unknown 0000 3fff 0 3");
         }
     }
@@ -289,7 +192,7 @@ pub(crate) fn add_bounded(page: &mut Page, bound: &Bound) {
 
 /// Adds what one of the rules K19 to K22 compares of a program's authority.
 pub(crate) fn add_authority(page: &mut Page, scene: &Scene<'_>, name: &Name, rule: u8) {
-    let allowed = allowed_to(scene, name);
+    let allowed = allowance_at(scene.cert, name);
     match rule {
         19 => add_ceilings(page, scene, &allowed),
         20 => add_moves(page, &allowed),

@@ -4,7 +4,6 @@ use crate::naming::{add_rights, add_target, mode_name};
 use crate::remarks::add_remarks;
 use crate::scenes::{Scene, short};
 use certificate::{Bound, Held, Slot, slots_within};
-use rights::Rights;
 use std::alloc::Global;
 use task_text::Page;
 use task_text::Piece::{Bytes, Number, Text};
@@ -14,12 +13,7 @@ fn add_open(page: &mut Page, number: usize, held: &Held, state: &str) {
     page.pieces(&[Text("    "), Number(short(number)), Text(state)]);
     add_target(page, &held.target());
     page.text(" ");
-    let greatest = held.rights().greatest();
-    if greatest == Rights::all() {
-        page.text("all rights");
-    } else {
-        add_rights(page, greatest);
-    }
+    add_rights(page, held.rights().greatest());
     page.text("\n")
 }
 

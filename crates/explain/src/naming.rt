@@ -6,8 +6,11 @@ use rights::{Fcntls, Rights};
 use task_text::Page;
 use task_text::Piece::{Bytes, Number, Text};
 
-/// Adds the names of the rights of a set; `none` of an empty one. The aliases for sockets aren't used.
+/// Adds the names of the rights of a set; `none` of an empty one, and `all rights` of the whole. The aliases for sockets aren't used.
 pub(crate) fn add_rights(page: &mut Page, set: Rights) {
+    if set == Rights::all() {
+        return page.text("all rights");
+    }
     let mut separator = "";
     for row in Rights::flags() {
         let is_alias = row.name == "RECV" || row.name == "SEND";
@@ -39,17 +42,11 @@ pub(crate) fn add_commands(page: &mut Page, set: Fcntls) {
 fn add_rights_range(page: &mut Page, range: RightsRange) {
     let (least, greatest) = (range.least(), range.greatest());
     if least == greatest {
-        if least == Rights::all() {
-            return page.text("all rights");
-        }
         return add_rights(page, least);
     }
     page.text("at least ");
     add_rights(page, least);
     page.text(" and at most ");
-    if greatest == Rights::all() {
-        return page.text("all rights");
-    }
     add_rights(page, greatest)
 }
 

@@ -161,8 +161,7 @@ fn add_detail(alloc: Global, page: &mut Page, scene: &Scene<'_>, found: BrokenRu
     };
     let bound = scene.cert.bound_at(name.as_bytes(), point);
     if found.rule == 18 {
-        let at = bound.as_ref().map(|bound| (instruction, bound));
-        return add_beyond(page, scene, &name, found.program, found.point, at);
+        return add_beyond(page, scene, &name, found, instruction, bound.as_ref());
     }
     if found.rule > 18 {
         return add_authority(page, scene, &name, found.rule);
