@@ -18,7 +18,7 @@ returns-clause-event g c =
     elim c.match-branch-2.branch [
       | in-More w ↦
           let goes : next (rules_of t trail) (stand_of trail) ≡ Goes (stand_of c.step.new.self) = rw w.in-More.is at c.in_ok-step.ensures.steps in
-          rw w.result-is (event_more t c.args.self.now trail c.self.view_is c.step.new.self w.settle.result c.in_ok-step.ensures.rules goes w.settle.ensures)
+          rw w.result-is (event_more t c.args.self.now trail c.self.view_is c.step.new.self w.settle.result c.in_ok-step.ensures.rules goes w.settle.ensures.settled)
       | in-Done w ↦
           let ends : next (rules_of t trail) (stand_of trail) ≡ Ends (found_of w.in-Done.found) = rw w.in-Done.is at c.in_ok-step.ensures.steps in
           rw w.result-is (event_done t c.args.self.now trail c.self.view_is (found_of w.in-Done.found) ends)
