@@ -48,14 +48,20 @@ pub(crate) fn is_absolute(path: &[u8]) -> bool
 pub(crate) fn is_dot(name: &[u8]) -> bool
     ensures { result ≡ texts.is_dot name.now }
 {
-    name == b".".as_slice()
+    match name {
+        [first] => *first == b'.',
+        _ => false,
+    }
 }
 
 /// Whether a name is that of the directory above.
 pub(crate) fn is_dot_dot(name: &[u8]) -> bool
     ensures { result ≡ texts.is_dot_dot name.now }
 {
-    name == b"..".as_slice()
+    match name {
+        [first, second] => *first == b'.' && *second == b'.',
+        _ => false,
+    }
 }
 
 /// Whether the last name of a path can't be kept.

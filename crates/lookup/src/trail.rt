@@ -36,7 +36,6 @@ enum Meaning {
 /// latest last, the names left, and how many links it followed.
 #[derive(Drop)]
 pub(crate) struct Trail {
-    alloc: Global,
     way: Way,
     last: Last,
     current: NodeId,
@@ -76,7 +75,6 @@ impl Trail {
         };
         let left = Names::new(alloc, path)?;
         Ok(Trail {
-            alloc,
             way,
             last,
             current,
@@ -178,7 +176,7 @@ impl Trail {
                 Way::Beneath => return Err(PathFault::Escape),
                 Way::Global => {
                     self.current = root;
-                    self.before = Vec::new(self.alloc);
+                    self.before.clear();
                 }
             }
         }
