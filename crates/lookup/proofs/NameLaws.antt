@@ -8,7 +8,7 @@ use Rattle.std.proofs.lemmas.List.{append_assoc, append-nil, reverse-append, map
 use Rattle.file_tree.specs.Places.{with_name, names_from, path_components}
 use Rattle.lookup.specs.Names.{AreWithin, IsWithin, name_at, names_at}
 use Rattle.lookup.specs.declared.names.Span.{Span}
-use Rattle.lookup.proofs.PathLaws.{names_at_slash, names_at_byte}
+use Rattle.lookup.proofs.PathLaws.{names_at_byte}
 
 -- a span that is pushed comes first
 names_at-push : (text : List ℕ) (spans : List Span) (span : Span) → names_at text (spans ++ span ∷ []) ≡ name_at text span ∷ names_at text spans
@@ -76,22 +76,10 @@ put_some text spans after span is low some high =
     let count = name_length text span.start span.end low high in
     rw is (names_at-push text spans span ∙ sym (with_name_some (name_at text span) (names_at text spans) (omega arith)))
 
-with_name-append : (name : List ℕ) (names old : List (List ℕ)) → with_name name names ++ old ≡ with_name name (names ++ old)
-with_name-append [] names old = refl
-with_name-append (b ∷ name) names old = refl
-
 -- The names of what was read of a path, from its end, come before others; the first one goes on to the left.
 abbrev pub AreRead : List ℕ → List (List ℕ) → ℕ → ℕ → List (List ℕ) → Type 0
 AreRead text old start end names =
     (begun : List ℕ) → names_from begun (drop start text) ++ old ≡ with_name (begun ++ take (end - start) (drop start text)) names
-
-pub read_slash : (text : List ℕ) (old : List (List ℕ)) (i start end : ℕ) (names more : List (List ℕ)) → start ≡ i + 1 → i < length text → get_or text i 0 ≡ 47 →
-    AreRead text old start end names → more ≡ with_name (take (end - (i + 1)) (drop (i + 1) text)) names → AreRead text old i i more
-read_slash text old i start end names more next there slash read is begun =
-    let none : i - i ≡ 0 = omega arith in
-    let later : AreRead text old (i + 1) end names = rw next at read in
-    rw (names_at_slash begun text i there slash, none, append-nil begun)
-    (with_name-append begun (names_from [] (drop (i + 1) text)) old ∙ ap (with_name begun) (later [] ∙ sym is))
 
 pub read_byte : (text : List ℕ) (old : List (List ℕ)) (i start end : ℕ) (names : List (List ℕ)) → start ≡ i + 1 → i < length text → start ≤ end → get_or text i 0 ≢ 47 →
     AreRead text old start end names → AreRead text old i end names

@@ -7,7 +7,7 @@ use Rattle.file_tree.specs.Places.{with_name, names_from}
 use Rattle.lookup.specs.Paths.{last_or}
 
 -- the next byte of a path ends the name that is begun, or belongs to it
-pub names_at_slash : (begun path : List ℕ) (i : ℕ) → i < length path → get_or path i 0 ≡ 47 → names_from begun (drop i path) ≡ with_name begun (names_from [] (drop (i + 1) path))
+names_at_slash : (begun path : List ℕ) (i : ℕ) → i < length path → get_or path i 0 ≡ 47 → names_from begun (drop i path) ≡ with_name begun (names_from [] (drop (i + 1) path))
 names_at_slash begun path i there slash = rw (drop_more path i 0 there, eq-eqb _ _ slash) refl
 
 pub names_at_byte : (begun path : List ℕ) (i : ℕ) → i < length path → get_or path i 0 ≢ 47 → names_from begun (drop i path) ≡ names_from (begun ++ get_or path i 0 ∷ []) (drop (i + 1) path)
