@@ -2,13 +2,11 @@
 use Rattle.std.proofs.Common.{◌≡◌, ℕ, List, [], ◌∷◌, ◌++◌, Bool, true, false, Option, Some, None, Result, ap, ◌∙◌, refl, cond}
 use Rattle.std.specs.Prelude.{not, ◌&&◌, reverse, IfSome}
 use Rattle.std.proofs.lemmas.List.{reverse-append}
-use Rattle.file_tree.specs.Nodes.{Kind, File, Dir, Link, Node, node, child_of, parent_of, link_target, is_link}
+use Rattle.file_tree.specs.Nodes.{Kind, File, Dir, Link, Node, node, parent_of, link_target, is_link}
 use Rattle.lookup.specs.Answers.{Way, Last, LookupFault, Not_found, is_kept}
-use Rattle.lookup.specs.Paths.{is_dot, is_dot_dot}
 use Rattle.lookup.specs.Leads.{Stand, Next, Ends}
 use Rattle.lookup.specs.Steps.{Rules, Move, Moves, Meets, Stops}
-use Rattle.lookup.specs.ByPlaces.{absent}
-use Rattle.lookup.specs.ByNodes.{Walked, is_holder, no_way_back, back, in_node, into}
+use Rattle.lookup.specs.ByNodes.{Walked, is_holder, no_way_back, back, into}
 use Rattle.lookup.specs.Views.{StepsAlong, after_move}
 use Rattle.lookup.specs.declared.trail.Trail.{Trail}
 use Rattle.lookup.specs.declared.faults.PathFault.{PathFault}
@@ -37,12 +35,6 @@ into_kept t last d before left n h = by_kind (is_link (node t n).kind)
         (Moves (record { current = n; before = d ∷ before })) ≡ Moves (record { current = n; before = d ∷ before })
     by_kind true = rw h refl
     by_kind false = refl
-
--- a name that no node in a directory has is absent there
-pub enters_absent : (t : List Node) (way : Way) (last : Last) (d : ℕ) (before : List ℕ) (name : List ℕ) (left : List (List ℕ)) →
-    (node t d).kind ≡ Dir → (node t d).linked ≡ true → is_dot name ≡ false → is_dot_dot name ≡ false → child_of t d name ≡ None →
-    in_node t way last d before name left ≡ Stops (absent last left d)
-enters_absent t way last d before name left dir linked dot dots none = rw (dir, linked, dot, dots, none) refl
 
 -- what a walk did was next, if that is the same
 pub steps_same : (r : Result Progress PathFault) (one other : Next Walked) (stand : Stand Walked) → one ≡ other → StepsAlong r other stand → StepsAlong r one stand

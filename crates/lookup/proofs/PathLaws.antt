@@ -10,7 +10,7 @@ use Rattle.lookup.specs.Paths.{last_or}
 names_at_slash : (begun path : List ℕ) (i : ℕ) → i < length path → get_or path i 0 ≡ 47 → names_from begun (drop i path) ≡ with_name begun (names_from [] (drop (i + 1) path))
 names_at_slash begun path i there slash = rw (drop_more path i 0 there, eq-eqb _ _ slash) refl
 
-names_at_byte : (begun path : List ℕ) (i : ℕ) → i < length path → get_or path i 0 ≢ 47 → names_from begun (drop i path) ≡ names_from (begun ++ get_or path i 0 ∷ []) (drop (i + 1) path)
+pub names_at_byte : (begun path : List ℕ) (i : ℕ) → i < length path → get_or path i 0 ≢ 47 → names_from begun (drop i path) ≡ names_from (begun ++ get_or path i 0 ∷ []) (drop (i + 1) path)
 names_at_byte begun path i there other = rw (drop_more path i 0 there, ne_eqb _ _ other) refl
 
 begun_more : (path : List ℕ) (from i : ℕ) → from ≤ i → i < length path → take (i + 1 - from) (drop from path) ≡ take (i - from) (drop from path) ++ get_or path i 0 ∷ []

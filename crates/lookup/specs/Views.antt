@@ -1,5 +1,5 @@
 -- What the values of the code stand for.
-use Rattle.std.specs.Prelude.{◌≡◌, ℕ, List, reverse, Option, Some, None, IfSome, Result, Ok, Err, Vec}
+use Rattle.std.specs.Prelude.{◌≡◌, ◌<◌, ℕ, List, length, reverse, Option, Some, None, IfSome, Result, Ok, Err}
 use Rattle.lookup.specs.declared.ways.Way.{Way as WayCode}
 use Rattle.lookup.specs.declared.ways.Way.TheVariants as way
 use Rattle.lookup.specs.declared.ways.Last.{Last as LastCode}
@@ -8,14 +8,16 @@ use Rattle.lookup.specs.declared.ways.Found.{Found}
 use Rattle.lookup.specs.declared.ways.Found.TheVariants as found
 use Rattle.lookup.specs.declared.faults.PathFault.{PathFault}
 use Rattle.lookup.specs.declared.faults.PathFault.TheVariants as fault
-use Rattle.file_tree.specs.Views.{names_of}
 use Rattle.lookup.specs.declared.trail.Trail.{Trail}
 use Rattle.lookup.specs.declared.ways.Progress.{Progress as ProgressCode}
 use Rattle.lookup.specs.declared.ways.Progress.TheVariants as progress
+use Rattle.lookup.specs.declared.trail.Meaning.{Meaning}
+use Rattle.lookup.specs.declared.trail.Meaning.TheVariants as meaning
 use Rattle.file_tree.specs.Nodes.{Node}
 use Rattle.lookup.specs.Leads.{Stand, Next, Goes, Ends, onward}
-use Rattle.lookup.specs.Steps.{Move, Rules}
-use Rattle.lookup.specs.ByNodes.{Walked, by_nodes, in_node, into}
+use Rattle.lookup.specs.Steps.{Move, Moves, Stops, Rules}
+use Rattle.lookup.specs.ByPlaces.{absent}
+use Rattle.lookup.specs.ByNodes.{Walked, back, by_nodes, in_node, into}
 use Rattle.lookup.specs.Walks.{WalkState, Progress, Done, More, settled_at, IsNear, IsNearFinding}
 use Rattle.lookup.specs.Answers.{Way, Beneath, Global, Last, Follow, Keep, LookupFault, Escape, No_entry, Not_dir, Loop, Too_long, Bad_last, Finding, Found_node, Found_free, Not_found}
 
@@ -64,15 +66,11 @@ path_fault_number fault.Memory = 7
 abbrev pub Told : Option LookupFault → PathFault → Type 0
 Told fault error = fault ≡ fault_of error
 
--- the names left, of which the code keeps the next one last
-abbrev pub names_left : {A : Type 0} → List (Vec ℕ A) → List (List ℕ)
-names_left names = reverse (names_of names)
-
 -- where a walk stands, and by which rules it goes on in a tree
 abbrev pub stand_of : Trail → Stand Walked
 stand_of trail = record {
   spot = record { current = trail.current; before = reverse trail.before.items };
-  left = names_left trail.left.items;
+  left = trail.left;
   followed = trail.followed;
 }
 
@@ -86,11 +84,29 @@ rules_of t trail = by_nodes t (way_of trail.way) (last_of trail.last)
 abbrev pub after_move : Rules Walked → Trail → Move Walked → Next Walked
 after_move rules trail move = onward rules (stand_of trail).spot (stand_of trail).left trail.followed move
 
--- what is next after a name, and after a node that has the name
-abbrev pub after_name : List Node → Trail → List ℕ → Next Walked
-after_name t trail name =
-    after_move (rules_of t trail) trail
-    (in_node t (way_of trail.way) (last_of trail.last) trail.current (stand_of trail).spot.before name (stand_of trail).left)
+-- where a name leads that names follow, and where what it means leads
+abbrev pub name_move : List Node → Trail → List ℕ → List (List ℕ) → Move Walked
+name_move t trail name left = in_node t (way_of trail.way) (last_of trail.last) trail.current (stand_of trail).spot.before name left
+
+abbrev pub meaning_move : List Node → Trail → List (List ℕ) → Meaning → Move Walked
+meaning_move t trail left meaning.Itself = Moves (stand_of trail).spot
+meaning_move t trail left meaning.Above = back t (way_of trail.way) trail.current (stand_of trail).spot.before
+meaning_move t trail left meaning.Nothing = Stops (absent (last_of trail.last) left trail.current)
+meaning_move t trail left (meaning.Node n) = into t (last_of trail.last) trail.current (stand_of trail).spot.before left (Some n)
+
+-- The name means that, whichever names follow it.
+abbrev pub Means : List Node → Trail → List ℕ → Result Meaning PathFault → Type 0
+Means t trail name (Ok meaning) = (left : List (List ℕ)) → name_move t trail name left ≡ meaning_move t trail left meaning
+Means t trail name (Err error) = IfSome (fault_of error) (λ fault. (left : List (List ℕ)) → name_move t trail name left ≡ Stops (Not_found fault))
+
+-- A node that it means is one of the tree.
+abbrev pub IsMeaningThere : List Node → Meaning → Type 0
+IsMeaningThere t (meaning.Node n) = n < length t
+IsMeaningThere t _ = Unit {0}
+
+-- what is next after a name, by what it means, and after a node that has the name
+abbrev pub after_name : List Node → Trail → Meaning → Next Walked
+after_name t trail meaning = after_move (rules_of t trail) trail (meaning_move t trail trail.left meaning)
 
 abbrev pub after_node : List Node → Trail → ℕ → Next Walked
 after_node t trail n =

@@ -7,6 +7,7 @@
 
 pub mod faults;
 pub mod lookups;
+mod names;
 pub mod paths;
 mod trail;
 pub mod walk;

@@ -1,16 +1,14 @@
 //! Paths as texts: their names, and what is wrong with them before anything is looked up.
 
-ghost use Rattle.std.specs.Prelude.{◌≡◌, ◌≢◌, ◌++◌, ℕ, List, None, reverse, OnOk, IfOk, IfErr};
-ghost use Rattle.file_tree.specs.Places.{path_components, with_name};
-ghost use Rattle.file_tree.specs.Views.{names_of};
+ghost use Rattle.std.specs.Prelude.{◌≡◌, ◌≢◌, ℕ, List, None, OnOk, IfErr};
+ghost use Rattle.file_tree.specs.Places.{with_name};
 ghost use Rattle.lookup.specs.Paths as texts;
 ghost use Rattle.lookup.specs.Paths.{last_component, last_or, path_fault};
-ghost use Rattle.lookup.specs.Views.{Told, last_of, names_left, way_of};
+ghost use Rattle.lookup.specs.Views.{Told, last_of, way_of};
 
 use crate::faults::PathFault;
 use crate::ways::{Last, Way};
 use file_tree::is_valid_target;
-use std::alloc::{AllocError, Global};
 
 /// The later one of two names, of which an empty one is none.
 fn later<'a>(last: &'a [u8], name: &'a [u8]) -> &'a [u8]
@@ -50,14 +48,20 @@ pub(crate) fn is_absolute(path: &[u8]) -> bool
 pub(crate) fn is_dot(name: &[u8]) -> bool
     ensures { result ≡ texts.is_dot name.now }
 {
-    name == b".".as_slice()
+    match name {
+        [first] => *first == b'.',
+        _ => false,
+    }
 }
 
 /// Whether a name is that of the directory above.
 pub(crate) fn is_dot_dot(name: &[u8]) -> bool
     ensures { result ≡ texts.is_dot_dot name.now }
 {
-    name == b"..".as_slice()
+    match name {
+        [first, second] => *first == b'.' && *second == b'.',
+        _ => false,
+    }
 }
 
 /// Whether the last name of a path can't be kept.
@@ -91,44 +95,6 @@ pub(crate) fn check_text(path: &[u8], way: Way, last: Last) -> Result<(), PathFa
         if is_bad_last(path) {
             return Err(PathFault::BadLast);
         }
-    }
-    Ok(())
-}
-
-/// The names of a path.
-#[tactic(auto, unfolding(file_tree::specs::Places::path_components))]
-fn names_in(alloc: Global, path: &[u8]) -> Result<Vec<Vec<u8>>, AllocError>
-    ensures { IfOk result (λ names. names_of names.items ≡ path_components path.now) }
-{
-    let mut names = Vec::new(alloc);
-    let mut begun = Vec::new(alloc);
-    for b in path {
-        if *b == b'/' {
-            if !begun.is_empty() {
-                names.push(begun)?;
-                begun = Vec::new(alloc);
-            }
-        } else {
-            begun.push(*b)?;
-        }
-    }
-    if !begun.is_empty() {
-        names.push(begun)?;
-    }
-    Ok(names)
-}
-
-/// Puts the names of a path before those that are left, of which the next one is the last.
-pub(crate) fn put_before(
-    alloc: Global,
-    left: &mut Vec<Vec<u8>>,
-    path: &[u8],
-) -> Result<(), AllocError>
-    ensures { OnOk result (names_left left.new.items ≡ path_components path.now ++ names_left left.old.items) }
-{
-    let mut names = names_in(alloc, path)?;
-    while let Some(name) = names.pop() {
-        left.push(name)?;
     }
     Ok(())
 }

@@ -1,6 +1,6 @@
 //! Where a lookup stands, and how it goes on by a name.
 
-ghost use Rattle.std.specs.Prelude.{◌≡◌, ◌<◌, ℕ, List, ◌∷◌, None, length, nat_eq, IfSome, IfOk, IfErr, OnOk};
+ghost use Rattle.std.specs.Prelude.{◌≡◌, ◌<◌, ◌^◌, ℕ, List, ◌∷◌, None, length, nat_eq, IfSome, IfOk, IfErr, OnOk};
 ghost use Rattle.file_tree.specs.Nodes.{Node, parent_of};
 ghost use Rattle.file_tree.specs.WellFormed.{IsTree};
 ghost use Rattle.lookup.specs.Answers.{Not_found, is_kept};
@@ -9,25 +9,38 @@ ghost use Rattle.lookup.specs.Steps.{Rules, Moves, Meets, Stops};
 ghost use Rattle.lookup.specs.ByPlaces.{absent};
 ghost use Rattle.lookup.specs.ByNodes.{Walked, back, from_node, is_holder, no_way_back};
 ghost use Rattle.lookup.specs.Looks.{first_stand, lookup_fault, start_node};
-ghost use Rattle.lookup.specs.Views.{IsSettled, StepsAlong, after_move, after_name, after_node, SameRules, Told, fault_of, last_of, names_left, rules_of, stand_of, way_of};
+ghost use Rattle.lookup.specs.Views.{IsMeaningThere, IsSettled, Means, StepsAlong, after_move, after_name, after_node, SameRules, Told, fault_of, last_of, rules_of, stand_of, way_of};
 
 use crate::faults::PathFault;
-use crate::paths::{check_text, is_absolute, is_dot, is_dot_dot, put_before};
+use crate::names::Names;
+use crate::paths::{check_text, is_absolute, is_dot, is_dot_dot};
 use crate::ways::{Found, Last, Progress, Way};
 use file_tree::{Kind, NodeId, Tree};
 use rights::limits::MAX_LINKS;
 use std::alloc::Global;
 
+/// What a name means in a directory.
+#[derive(Clone, Copy)]
+enum Meaning {
+    /// The directory itself.
+    Itself,
+    /// The directory that was walked before.
+    Above,
+    /// No node there has the name.
+    Nothing,
+    /// The node that has the name there.
+    Node(NodeId),
+}
+
 /// Where a lookup stands, and by which rules it goes on: its node, the directories that it walked before, the
-/// latest last, the names left, the next one last, and how many links it followed.
+/// latest last, the names left, and how many links it followed.
 #[derive(Drop)]
 pub(crate) struct Trail {
-    alloc: Global,
     way: Way,
     last: Last,
     current: NodeId,
     before: Vec<NodeId>,
-    left: Vec<Vec<u8>>,
+    left: Names,
     followed: u8,
 }
 
@@ -60,10 +73,8 @@ impl Trail {
             }
             Way::Global => root,
         };
-        let mut left = Vec::new(alloc);
-        put_before(alloc, &mut left, path)?;
+        let left = Names::new(alloc, path)?;
         Ok(Trail {
-            alloc,
             way,
             last,
             current,
@@ -131,7 +142,7 @@ impl Trail {
 
     /// Whether a name is kept as it is, after which the names left come.
     fn keeps(&self) -> bool
-        ensures { result ≡ is_kept (last_of self.now.last) (names_left self.now.left.items) }
+        ensures { result ≡ is_kept (last_of self.now.last) self.now.left }
     {
         match self.last {
             Last::Keep => self.left.is_empty(),
@@ -142,7 +153,7 @@ impl Trail {
     /// Ends where a name is absent.
     fn end_at_absent(&self) -> Result<Progress, PathFault>
         ensures { (rules : Rules Walked) → StepsAlong result
-            (after_move rules self.now (Stops (absent (last_of self.now.last) (names_left self.now.left.items) self.now.current))) (stand_of self.now) }
+            (after_move rules self.now (Stops (absent (last_of self.now.last) self.now.left self.now.current))) (stand_of self.now) }
     {
         if self.keeps() {
             return Ok(Progress::Done(Found::Free(self.current)));
@@ -165,11 +176,11 @@ impl Trail {
                 Way::Beneath => return Err(PathFault::Escape),
                 Way::Global => {
                     self.current = root;
-                    self.before = Vec::new(self.alloc);
+                    self.before.clear();
                 }
             }
         }
-        put_before(self.alloc, &mut self.left, target)?;
+        self.left.put_before(target)?;
         self.followed += 1;
         Ok(Progress::More)
     }
@@ -198,13 +209,12 @@ impl Trail {
         }
     }
 
-    /// Handles a name, after which the names left come.
+    /// What a name means where the walk stands, which has to be a directory that wasn't removed.
     #[tactic(auto, using(file_tree::proofs::TreeLaws::child_there))]
-    fn enter<T: Tree>(&mut self, tree: &T, root: NodeId, name: &[u8]) -> Result<Progress, PathFault>
-        requires there { self.old.current < length (T.nodes tree.now) }
-        requires root { root ≡ 0 }
-        ensures steps { StepsAlong result (after_name (T.nodes tree.now) self.old name.now) (stand_of self.new) }
-        ensures rules { SameRules self.old self.new }
+    fn meaning<T: Tree>(&self, tree: &T, name: &[u8]) -> Result<Meaning, PathFault>
+        requires { self.now.current < length (T.nodes tree.now) }
+        ensures means { Means (T.nodes tree.now) self.now name.now result }
+        ensures there { IfOk result (IsMeaningThere (T.nodes tree.now)) }
     {
         if tree.kind(self.current) != Kind::Dir {
             return Err(PathFault::NotDir);
@@ -213,14 +223,35 @@ impl Trail {
             return Err(PathFault::NoEntry);
         }
         if is_dot(name) {
-            return Ok(Progress::More);
+            return Ok(Meaning::Itself);
         }
         if is_dot_dot(name) {
-            return self.go_back(tree);
+            return Ok(Meaning::Above);
         }
         match tree.child(self.current, name) {
-            None => self.end_at_absent(),
-            Some(next) => self.go_to(tree, root, next),
+            None => Ok(Meaning::Nothing),
+            Some(next) => Ok(Meaning::Node(next)),
+        }
+    }
+
+    /// Goes to what a name means, after which the names left come.
+    fn enter<T: Tree>(
+        &mut self,
+        tree: &T,
+        root: NodeId,
+        meaning: Meaning,
+    ) -> Result<Progress, PathFault>
+        requires stands { self.old.current < length (T.nodes tree.now) }
+        requires there { IsMeaningThere (T.nodes tree.now) meaning }
+        requires root { root ≡ 0 }
+        ensures steps { StepsAlong result (after_name (T.nodes tree.now) self.old meaning) (stand_of self.new) }
+        ensures rules { SameRules self.old self.new }
+    {
+        match meaning {
+            Meaning::Itself => Ok(Progress::More),
+            Meaning::Above => self.go_back(tree),
+            Meaning::Nothing => self.end_at_absent(),
+            Meaning::Node(next) => self.go_to(tree, root, next),
         }
     }
 
@@ -233,15 +264,18 @@ impl Trail {
         ensures rules { SameRules self.old self.new }
     {
         let root = tree.root();
-        match self.left.pop() {
-            None => Ok(Progress::Done(Found::Node(self.current))),
-            Some(name) => self.enter(tree, root, name.as_slice()),
-        }
+        let meaning = match self.left.next() {
+            None => return Ok(Progress::Done(Found::Node(self.current))),
+            Some(name) => self.meaning(tree, name)?,
+        };
+        self.left.pass();
+        self.enter(tree, root, meaning)
     }
 
     /// Whether the lookup goes on, or ends since no name is left.
     pub(crate) fn settle(&self) -> Progress
-        ensures { IsSettled result (stand_of self.now) }
+        ensures settled { IsSettled result (stand_of self.now) }
+        ensures short { length (stand_of self.now).left < 2 ^ 64 }
     {
         if self.left.is_empty() {
             return Progress::Done(Found::Node(self.current));

@@ -15,10 +15,10 @@ use std::alloc::Global;
 use std::marker::Model;
 
 /// A lookup under way. It has the names that it has left, the directories that it walked, and how many links
-/// it followed; it owns them, so the tree may change as it likes.
+/// it followed; it owns them, so the tree may change as it likes. They stay where they are when it is moved.
 #[derive(Drop)]
 pub struct Walk {
-    trail: Trail,
+    trail: Box<Trail>,
 }
 
 impl Model for Walk {
@@ -27,7 +27,7 @@ impl Model for Walk {
 
     ghost Value = { WalkState };
 
-    ghost view = { λ walk. walk_state walk.trail };
+    ghost view = { λ walk. walk_state walk.trail.value };
 }
 
 impl Walk {
@@ -49,7 +49,9 @@ impl Walk {
         ensures refused { IfErr result (Told (lookup_fault (T.nodes tree.now) start path.now (way_of way) (last_of last))) }
     {
         let trail = Trail::begin(alloc, tree, start, path, way, last)?;
-        Ok(Walk { trail })
+        Ok(Walk {
+            trail: Box::new(alloc, trail)?,
+        })
     }
 
     /// Whether one name is left, the last one.
