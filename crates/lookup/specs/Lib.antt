@@ -8,5 +8,5 @@ pub mod Looks
 pub mod Promises
 pub mod Walks
 pub mod UnderWay
-pub mod Names
+pub mod NameViews
 pub mod Views

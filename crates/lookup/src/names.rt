@@ -2,7 +2,7 @@
 
 ghost use Rattle.std.specs.Prelude.{◌≡◌, ◌<◌, ◌≤◌, ◌-◌, ◌^◌, ◌++◌, ℕ, List, [], ◌∷◌, drop, take, length, nat_eq, IfOk, MatchOption, OnOk};
 ghost use Rattle.file_tree.specs.Places.{path_components, with_name};
-ghost use Rattle.lookup.specs.Names.{AreWithin, IsWithin, name_at, names_at};
+ghost use Rattle.lookup.specs.NameViews.{AreSpansOf, IsSpanOf, spanned, all_spanned};
 
 use std::alloc::{AllocError, Global};
 use std::marker::Model;
@@ -24,19 +24,19 @@ pub(crate) struct Names {
 
 impl Model for Names {
     ghost use Rattle.std.specs.Prelude.{ℕ, List};
-    ghost use Rattle.lookup.specs.Names.{AreWithin, names_at};
+    ghost use Rattle.lookup.specs.NameViews.{AreSpansOf, all_spanned};
 
     ghost Value = { List (List ℕ) };
 
-    ghost view = { λ n. names_at n.text.items n.spans.items };
+    ghost view = { λ n. all_spanned n.text.items n.spans.items };
 
-    ghost invariant = { λ n. AreWithin n.text.items n.spans.items };
+    ghost invariant = { λ n. AreSpansOf n.text.items n.spans.items };
 }
 
 /// The name that lies at a span.
 fn name_in(text: &[u8], span: Span) -> &[u8]
-    requires { IsWithin text.now span }
-    ensures { result.now ≡ name_at text.now span }
+    requires { IsSpanOf text.now span }
+    ensures { result.now ≡ spanned text.now span }
 {
     &text[span.start..span.end]
 }
@@ -45,8 +45,8 @@ fn name_in(text: &[u8], span: Span) -> &[u8]
 fn put_name(spans: &mut Vec<Span>, start: usize, end: usize) -> Result<(), AllocError>
     requires { start ≤ end }
     ensures names { (text : List ℕ) → end ≤ length text → OnOk result
-        (names_at text spans.new.items ≡ with_name (take (end - start) (drop start text)) (names_at text spans.old.items)) }
-    ensures within { (text : List ℕ) → end ≤ length text → AreWithin text spans.old.items → AreWithin text spans.new.items }
+        (all_spanned text spans.new.items ≡ with_name (take (end - start) (drop start text)) (all_spanned text spans.old.items)) }
+    ensures within { (text : List ℕ) → end ≤ length text → AreSpansOf text spans.old.items → AreSpansOf text spans.new.items }
 {
     if start == end {
         return Ok(());
@@ -58,8 +58,8 @@ fn put_name(spans: &mut Vec<Span>, start: usize, end: usize) -> Result<(), Alloc
 /// Puts the names of a path before others. The path is the end of a text, and is read from its end.
 fn put_names(spans: &mut Vec<Span>, text: &[u8], from: usize) -> Result<(), AllocError>
     requires { from ≤ length text.now }
-    ensures names { OnOk result (names_at text.now spans.new.items ≡ path_components (drop from text.now) ++ names_at text.now spans.old.items) }
-    ensures within { AreWithin text.now spans.old.items → AreWithin text.now spans.new.items }
+    ensures names { OnOk result (all_spanned text.now spans.new.items ≡ path_components (drop from text.now) ++ all_spanned text.now spans.old.items) }
+    ensures within { AreSpansOf text.now spans.old.items → AreSpansOf text.now spans.new.items }
 {
     let mut start = text.len();
     let mut end = start;

@@ -1,5 +1,5 @@
 use Rattle.std.proofs.Common.{◌≤◌, ◌-◌, length}
-use Rattle.lookup.specs.Names.{AreWithin, names_at}
+use Rattle.lookup.specs.NameViews.{AreSpansOf, all_spanned}
 use Rattle.lookup.proofs.NameLaws.{AreRead}
 use Rattle.lookup.proofs.names.put_names.Given as goal
 
@@ -9,8 +9,8 @@ invariant-loop-start l = record {
   low : l.from ≤ l.start;
   order : l.start ≤ l.end;
   high : l.end ≤ length l.text;
-  names : AreRead l.text (names_at l.text l.fn.spans.items) l.start l.end (names_at l.text l.spans.items);
-  within : AreWithin l.text l.fn.spans.items → AreWithin l.text l.spans.items;
+  names : AreRead l.text (all_spanned l.text l.fn.spans.items) l.start l.end (all_spanned l.text l.spans.items);
+  within : AreSpansOf l.text l.fn.spans.items → AreSpansOf l.text l.spans.items;
 }
 
 abbrev pub decreases-loop-start : goal.decreases-loop-start
