@@ -13,3 +13,4 @@ pub mod ScheduleRows
 pub mod Splitting
 pub mod EventWords
 pub mod LinesRead
+pub mod Pages
