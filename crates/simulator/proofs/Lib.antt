@@ -12,5 +12,6 @@ pub mod Tracing
 pub mod ScheduleRows
 pub mod Splitting
 pub mod EventWords
+pub mod PlainEvents
 pub mod LinesRead
 pub mod Pages

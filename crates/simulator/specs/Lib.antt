@@ -10,3 +10,4 @@ pub mod GiftViews
 pub mod Schedules
 pub mod ScheduleViews
 pub mod Pages
+pub mod FirstEvents
