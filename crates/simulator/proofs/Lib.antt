@@ -8,6 +8,7 @@ pub mod Begun
 pub mod Paired
 pub mod Given
 pub mod Started
+pub mod Digits
 pub mod Tracing
 pub mod ScheduleRows
 pub mod Splitting

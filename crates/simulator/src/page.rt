@@ -49,6 +49,17 @@ fn put_bytes(room: &mut Vec<u8>, at: usize, bytes: &[u8])
     room[at..at + bytes.len()].copy_from_slice(bytes);
 }
 
+/// Puts the word here in the room.
+fn put_word<const N: usize>(room: &mut Vec<u8>, at: usize, word: &[u8; N])
+    requires { at + N ≤ vec_len room.old }
+    ensures put { take (at + N) room.new.items ≡ take at room.old.items ++ word.now }
+    ensures len { vec_len room.new ≡ vec_len room.old }
+{
+    for (i, byte) in word.iter().enumerate() {
+        room[at + i] = *byte;
+    }
+}
+
 impl Page {
     /// An empty page with so much room.
     pub(crate) fn new(alloc: Global, room: usize) -> Result<Page, AllocError>
@@ -87,6 +98,19 @@ impl Page {
         }
         put_bytes(&mut self.room, self.end, bytes);
         self.end += bytes.len();
+        Ok(())
+    }
+
+    /// Appends a word to the line.
+    pub(crate) fn append_word<const N: usize>(&mut self, word: &[u8; N]) -> Result<(), AllocError>
+        ensures lines { self.new.lines ≡ self.old.lines }
+        ensures line { OnOk result (self.new.line ≡ self.old.line ++ word.now) }
+    {
+        if N > self.room.len() - self.end {
+            make_room(&mut self.room, N)?;
+        }
+        put_word(&mut self.room, self.end, word);
+        self.end += N;
         Ok(())
     }
 

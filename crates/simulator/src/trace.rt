@@ -29,14 +29,17 @@ fn push_digits(page: &mut Page, number: u32) -> Result<(), AllocError>
     page.push(b'0' + (number % 10) as u8)
 }
 
-/// Appends a number in decimal; most have one digit.
-#[tactic(auto, using(std::proofs::lemmas::Fmt::decimal_digit))]
+/// Appends a number in decimal; most have one digit or two.
 fn push_number(page: &mut Page, number: u32) -> Result<(), AllocError>
     ensures lines { page.new.lines ≡ page.old.lines }
     ensures line { OnOk result (page.new.line ≡ page.old.line ++ decimal number) }
 {
     if number < 10 {
         return page.push(b'0' + number as u8);
+    }
+    if number < 100 {
+        page.push(b'0' + (number / 10) as u8)?;
+        return page.push(b'0' + (number % 10) as u8);
     }
     push_digits(page, number)
 }
@@ -47,7 +50,7 @@ fn push_failure(page: &mut Page, errno: Errno, cause: Cause) -> Result<(), Alloc
     ensures line { OnOk result (page.new.line
         ≡ page.old.line ++ codes " " ++ result_text (Failed (errno_of errno) (cause_of cause))) }
 {
-    page.append(b" ! ")?;
+    page.append_word(b" ! ")?;
     page.append(errno.name().as_bytes())?;
     page.push(b' ')?;
     page.append(cause.name().as_bytes())
@@ -59,29 +62,31 @@ fn push_result(page: &mut Page, outcome: LineResult) -> Result<(), AllocError>
     ensures line { OnOk result (page.new.line ≡ page.old.line ++ codes " " ++ result_text (result_of outcome)) }
 {
     match outcome {
-        LineResult::Done => page.append(b" ok"),
-        LineResult::Halted => page.append(b" halt"),
+        LineResult::Done => page.append_word(b" ok"),
+        LineResult::Halted => page.append_word(b" halt"),
         LineResult::Value(value) => {
-            page.append(b" = ")?;
+            page.append_word(b" = ")?;
             push_number(page, value)
         }
         LineResult::Failed(errno, cause) => push_failure(page, errno, cause),
-        LineResult::Waiting => page.append(b" wait"),
-        LineResult::Walking => page.append(b" walk"),
-        LineResult::Ended => page.append(b" ended"),
+        LineResult::Waiting => page.append_word(b" wait"),
+        LineResult::Walking => page.append_word(b" walk"),
+        LineResult::Ended => page.append_word(b" ended"),
     }
 }
 
-/// The word of an operation, with a blank before it and one behind it.
-fn operation_word(op: Op) -> &'static [u8]
-    ensures { result.now ≡ codes " " ++ operation_name (operation_of op) ++ codes " " }
+/// Appends the word of an operation, with a blank before it and one behind it.
+fn push_operation(page: &mut Page, op: Op) -> Result<(), AllocError>
+    ensures lines { page.new.lines ≡ page.old.lines }
+    ensures line { OnOk result (page.new.line
+        ≡ page.old.line ++ codes " " ++ operation_name (operation_of op) ++ codes " ") }
 {
     match op {
-        Op::Look => b" look ",
-        Op::Read => b" read ",
-        Op::Write => b" write ",
-        Op::Create => b" create ",
-        Op::Remove => b" remove ",
+        Op::Look => page.append_word(b" look "),
+        Op::Read => page.append_word(b" read "),
+        Op::Write => page.append_word(b" write "),
+        Op::Create => page.append_word(b" create "),
+        Op::Remove => page.append_word(b" remove "),
     }
 }
 
@@ -91,7 +96,7 @@ fn push_effects(page: &mut Page, effects: &[Effect]) -> Result<(), AllocError>
     ensures line { OnOk result (page.new.line ≡ page.old.line ++ flat_map effect_text (effects_of effects.now)) }
 {
     for effect in effects {
-        page.append(operation_word(effect.op))?;
+        push_operation(page, effect.op)?;
         page.append(&effect.place)?;
     }
     Ok(())
@@ -119,7 +124,7 @@ pub(crate) fn push_line(page: &mut Page, task: &Task, line: &Line) -> Result<(),
 {
     push_number(page, u32::from(line.process))?;
     match &line.acted {
-        None => page.append(b" - none")?,
+        None => page.append_word(b" - none")?,
         Some(acted) => push_acted(page, task, acted)?,
     }
     page.push(b'\n')?;
