@@ -23,23 +23,21 @@ fn push_digits(page: &mut Page, number: u32) -> Result<(), AllocError>
     ensures lines { page.new.lines ≡ page.old.lines }
     ensures line { OnOk result (page.new.line ≡ page.old.line ++ decimal number) }
 {
-    if number >= 10 {
+    if number >= 100 {
         push_digits(page, number / 10)?;
+    } else if number >= 10 {
+        page.push(b'0' + (number / 10) as u8)?;
     }
     page.push(b'0' + (number % 10) as u8)
 }
 
-/// Appends a number in decimal; most have one digit or two.
+/// Appends a number in decimal; most have one digit.
 fn push_number(page: &mut Page, number: u32) -> Result<(), AllocError>
     ensures lines { page.new.lines ≡ page.old.lines }
     ensures line { OnOk result (page.new.line ≡ page.old.line ++ decimal number) }
 {
     if number < 10 {
         return page.push(b'0' + number as u8);
-    }
-    if number < 100 {
-        page.push(b'0' + (number / 10) as u8)?;
-        return page.push(b'0' + (number % 10) as u8);
     }
     push_digits(page, number)
 }
