@@ -5,6 +5,9 @@ ghost use Rattle.std.specs.Prelude.{◌≡◌, ◌+◌, ◌++◌, ◌∷◌, ◌
 use std::alloc::{AllocError, Global};
 use std::marker::Model;
 
+/// The room of a page at first: for a piece of 16 KiB, and for the line that makes it one.
+const ROOM: usize = 20480;
+
 /// Whole lines, and a line that has begun, in a room that is made once and grows where a line is longer. What stands in the room
 /// behind the line may be any bytes.
 #[derive(Drop)]
@@ -61,15 +64,13 @@ fn put_word<const N: usize>(room: &mut Vec<u8>, at: usize, word: &[u8; N])
 }
 
 impl Page {
-    /// An empty page with so much room.
-    pub(crate) fn new(alloc: Global, room: usize) -> Result<Page, AllocError>
+    /// An empty page.
+    pub(crate) fn new(alloc: Global) -> Result<Page, AllocError>
         ensures lines { IfOk result (λ page. page.lines ≡ []) }
         ensures line { IfOk result (λ page. page.line ≡ []) }
     {
-        let mut bytes = Vec::new(alloc);
-        bytes.resize(room, 0)?;
         Ok(Page {
-            room: bytes,
+            room: Vec::from_slice(alloc, &[0; ROOM])?,
             start: 0,
             end: 0,
         })

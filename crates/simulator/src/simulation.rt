@@ -21,9 +21,6 @@ use task::Task;
 /// So many bytes of whole lines are written in one piece.
 const PIECE: usize = 16384;
 
-/// The room of the page at first: for a piece, and for the line that makes it one.
-const ROOM: usize = 20480;
-
 /// Writes the whole lines once they are a piece, and takes them off the page.
 fn write_piece<W: Out>(page: &mut Page, out: &mut W) -> Result<(), Stop>
     requires begun { page.old.line ≡ [] }
@@ -78,7 +75,7 @@ pub fn simulate<W: Out>(
     ensures gains { NeverGains (programs_of_plan task.now) (first_world task.now) (map event_of events.now) }
 {
     let mut machine: Machine<'_, LinkTree> = Machine::start(alloc, task)?;
-    let mut page = Page::new(alloc, ROOM)?;
+    let mut page = Page::new(alloc)?;
     for event in events {
         let Ok(line) = machine.step(*event) else {
             return Err(write_left(page.lines(), out));
