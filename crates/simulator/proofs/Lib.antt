@@ -15,4 +15,3 @@ pub mod Splitting
 pub mod EventWords
 pub mod PlainEvents
 pub mod LinesRead
-pub mod Pages
