@@ -8,8 +8,10 @@ pub mod Begun
 pub mod Paired
 pub mod Given
 pub mod Started
+pub mod Digits
 pub mod Tracing
 pub mod ScheduleRows
 pub mod Splitting
 pub mod EventWords
+pub mod PlainEvents
 pub mod LinesRead

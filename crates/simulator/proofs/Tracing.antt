@@ -21,6 +21,7 @@ use Rattle.task.proofs.FirstWorlds.{first_well_formed}
 use Rattle.simulator.specs.Lines.{Line, line_at}
 use Rattle.simulator.specs.Steps.{StepsMachine}
 use Rattle.simulator.specs.Simulations.{IsRun, WritesFront, WritesTrace}
+use Rattle.simulator.specs.Pages.{MovesLines}
 use Rattle.simulator.specs.Traces.{line_text, trace_text}
 
 -- a step leads to a well-formed world
@@ -39,22 +40,29 @@ pub record IsAhead (plan : Plan) (events : List Event) (lines : List (Option Act
   pub run : Runs (programs_of_plan plan) world left rest
   pub text : begun ++ trace_text plan left rest ≡ trace_text plan events lines
 
--- So much is taken, and each run of the events is there.
-pub record IsTraced (plan : Plan) (events : List Event) (before after : Option (List ℕ)) (w : World) (left : List Event) : Type 0 where
+-- So much is taken, these lines are gathered, and each run of the events is there.
+pub record IsTraced (plan : Plan) (events : List Event) (before after : Option (List ℕ)) (gathered : List ℕ) (w : World) (left : List Event) : Type 0 where
   pub begun : List ℕ
   pub took : Took before after begun
-  pub each : (lines : List (Option Acted)) → IsRun plan events lines → IsAhead plan events lines begun w left
+  pub each : (lines : List (Option Acted)) → IsRun plan events lines → IsAhead plan events lines (begun ++ gathered) w left
 
 pub took_nothing : (before : Option (List ℕ)) → Took before before []
 took_nothing None = refl
 took_nothing (Some bytes) = ap Some (sym (append-nil bytes))
 
-pub traced-start : (plan : Plan) (events : List Event) (before : Option (List ℕ)) (w : World) → is_plan plan ≡ true →
-    DiffersInNumbers (first_world plan) w → IsTraced plan events before before w events
-traced-start plan events before w test differs = record {
+pub traced-start : (plan : Plan) (events : List Event) (before : Option (List ℕ)) (gathered : List ℕ) (w : World) → gathered ≡ [] → is_plan plan ≡ true →
+    DiffersInNumbers (first_world plan) w → IsTraced plan events before before gathered w events
+traced-start plan events before gathered w none test differs = record {
   begun = [];
   took = took_nothing before;
-  each = λ lines run. record { world = first_world plan; rest = lines; good = (first_well_formed plan test).1; same = differs; run = run; text = refl };
+  each = λ lines run. record {
+    world = first_world plan;
+    rest = lines;
+    good = (first_well_formed plan test).1;
+    same = differs;
+    run = run;
+    text = ap (λ t. t ++ trace_text plan events lines) none;
+  };
 }
 
 -- one line more
@@ -90,18 +98,33 @@ ahead-step plan events lines begun w next e left line test good byte s at = go a
               ∙ text;
         }
 
-pub traced-step : (plan : Plan) (events : List Event) (before mid after : Option (List ℕ)) (w next : World) (e : Event) (left : List Event)
-    (line : Line) → is_plan plan ≡ true → IsWellFormed (programs_of_plan plan) w → IsEvent e → IsTraced plan events before mid w (e ∷ left) →
-    StepsMachine (programs_of_plan plan) w e line next → Took mid after (line_text plan line) → IsTraced plan events before after next left
-traced-step plan events before mid after w next e left line test good byte so_far s took = record {
-  begun = so_far.begun ++ line_text plan line;
-  took = took_more before mid after _ _ so_far.took took;
-  each = λ lines run. ahead-step plan events lines so_far.begun w next e left line test good byte s (so_far.each lines run);
+-- a line more is gathered
+pub traced-step : (plan : Plan) (events : List Event) (before after : Option (List ℕ)) (gathered more : List ℕ) (w next : World) (e : Event) (left : List Event)
+    (line : Line) → is_plan plan ≡ true → IsWellFormed (programs_of_plan plan) w → IsEvent e → IsTraced plan events before after gathered w (e ∷ left) →
+    StepsMachine (programs_of_plan plan) w e line next → more ≡ gathered ++ line_text plan line → IsTraced plan events before after more next left
+traced-step plan events before after gathered more w next e left line test good byte so_far s is = record {
+  begun = so_far.begun;
+  took = so_far.took;
+  each = λ lines run.
+      subst (λ begun. IsAhead plan events lines begun next left) (append_assoc so_far.begun gathered (line_text plan line) ∙ ap (λ t. so_far.begun ++ t) (sym is))
+      (ahead-step plan events lines (so_far.begun ++ gathered) w next e left line test good byte s (so_far.each lines run));
 }
 
-pub traced-end : (plan : Plan) (events : List Event) (before after : Option (List ℕ)) (w : World) → is_plan plan ≡ true → AreEvents events →
-    IsTraced plan events before after w [] → WritesTrace plan events before after
-traced-end plan events before after w test bytes so_far =
+-- some of what is gathered is taken
+pub traced-moved : (plan : Plan) (events : List Event) (before mid after : Option (List ℕ)) (gathered more : List ℕ) (w : World) (left : List Event) →
+    IsTraced plan events before mid gathered w left → MovesLines mid after gathered more → IsTraced plan events before after more w left
+traced-moved plan events before mid after gathered more w left so_far moves = record {
+  begun = so_far.begun ++ moves.moved;
+  took = took_more before mid after _ _ so_far.took moves.took;
+  each = λ lines run.
+      subst (λ begun. IsAhead plan events lines begun w left) (ap (λ t. so_far.begun ++ t) (sym moves.whole) ∙ sym (append_assoc so_far.begun moves.moved more))
+      (so_far.each lines run);
+}
+
+-- what is left is taken at the end
+pub traced-end : (plan : Plan) (events : List Event) (before mid after : Option (List ℕ)) (gathered : List ℕ) (w : World) → is_plan plan ≡ true → AreEvents events →
+    IsTraced plan events before mid gathered w [] → Took mid after gathered → WritesTrace plan events before after
+traced-end plan events before mid after gathered w test bytes so_far took =
     let first = first_well_formed plan test in
     let run = run_exists (programs_of_plan plan) (first_world plan) events first.0 first.1 bytes in
     record {
@@ -109,28 +132,17 @@ traced-end plan events before after w test bytes so_far =
       run = run.1;
       every = λ others other.
           let at = so_far.each others other in
-          subst (Took before after) (sym (append-nil so_far.begun) ∙ at.text) so_far.took;
+          subst (Took before after) (sym (append-nil (so_far.begun ++ gathered)) ∙ at.text) (took_more before mid after _ _ so_far.took took);
     }
 
--- what was taken is a beginning of every run's trace
-pub traced-front : (plan : Plan) (events : List Event) (before after : Option (List ℕ)) (w : World) (left : List Event) →
-    IsTraced plan events before after w left → WritesFront plan events before after
-traced-front plan events before after w left so_far lines run =
+-- what was taken, with a beginning of what is gathered, is a beginning of every run's trace
+pub traced-front : (plan : Plan) (events : List Event) (before mid after : Option (List ℕ)) (gathered : List ℕ) (w : World) (left : List Event) →
+    IsTraced plan events before mid gathered w left → TookFront mid after gathered → WritesFront plan events before after
+traced-front plan events before mid after gathered w left so_far front lines run =
     let at = so_far.each lines run in
-    record { front = so_far.begun; rest = trace_text plan left at.rest; whole = at.text; took = so_far.took }
-
--- so is what was taken, with a beginning of the next line
-pub traced-line : (plan : Plan) (events : List Event) (before mid after : Option (List ℕ)) (w next : World) (e : Event) (left : List Event)
-    (line : Line) → is_plan plan ≡ true → IsWellFormed (programs_of_plan plan) w → IsEvent e → IsTraced plan events before mid w (e ∷ left) →
-    StepsMachine (programs_of_plan plan) w e line next → TookFront mid after (line_text plan line) → WritesFront plan events before after
-traced-line plan events before mid after w next e left line test good byte so_far s front lines run =
-    let at = ahead-step plan events lines so_far.begun w next e left line test good byte s (so_far.each lines run) in
-    let whole : so_far.begun ++ (line_text plan line ++ trace_text plan left at.rest) ≡ trace_text plan events lines =
-    sym (append_assoc so_far.begun (line_text plan line) (trace_text plan left at.rest)) ∙ at.text
-    in
-    subst (TookFront before after) whole
-    (front_after before mid after so_far.begun (line_text plan line ++ trace_text plan left at.rest) so_far.took
-    (front_of_more mid after (line_text plan line) (trace_text plan left at.rest) front))
+    subst (TookFront before after) at.text
+    (front_of_more before after (so_far.begun ++ gathered) (trace_text plan left at.rest)
+    (front_after before mid after so_far.begun gathered so_far.took front))
 
 -- the events so far are bytes
 pub bytes_more : (events : List Event) (k : ℕ) (none : Event) → k < length events → AreEvents (take k events) → IsEvent (slice_index_or events k none) → AreEvents (take (k + 1) events)

@@ -9,3 +9,5 @@ pub mod Starts
 pub mod GiftViews
 pub mod Schedules
 pub mod ScheduleViews
+pub mod Pages
+pub mod FirstEvents

@@ -9,6 +9,7 @@ mod deeds;
 mod gifts;
 pub mod lines;
 pub mod machine;
+mod page;
 pub mod schedule;
 pub mod simulation;
 mod starting;

@@ -1,8 +1,13 @@
-use Rattle.std.proofs.Common.{◌≡◌, ◌+◌, ◌<◌, ◌≤◌, refl, true, List, [], map, drop, ◌∙◌, subst, sym, false}
+use Rattle.std.proofs.Common.{arith, ◌++◌, ◌≡◌, ◌+◌, ◌<◌, ◌≤◌, refl, true, List, [], map, drop, ◌∙◌, subst, sym, false}
 use Rattle.std.specs.List.{slice_index_or}
 use Rattle.std.proofs.Math.ListN.{length-map}
 use Rattle.std.proofs.lemmas.List.{get_or-map, take_all}
+use Rattle.std.proofs.lemmas.Grind.{common_steps}
+use Rattle.std.specs.Prelude.{OnErr, OnOk}
+use Rattle.std.proofs.lemmas.Result.{on_err_weaker, on_ok_weaker}
+use Rattle.rights.specs.Output.{Took, TookFront}
 use Rattle.rights.proofs.Tests.{on_err}
+use Rattle.simulator.specs.Traces.{line_text}
 use Rattle.syscalls.specs.declared.events.Event.{Event as EventCode}
 use Rattle.syscalls.specs.Views.{event_of}
 use Rattle.kernel.specs.Answers.{Event, IsEvent, AreEvents}
@@ -16,7 +21,7 @@ use Rattle.simulator.specs.Lines.{Line}
 use Rattle.simulator.specs.Steps.{StepsMachine}
 use Rattle.simulator.specs.Views.{line_of}
 use Rattle.simulator.proofs.Splitting.{map-drop, drop-end}
-use Rattle.simulator.proofs.Tracing.{IsTraced, bytes_more, traced-start, traced-step, traced-end, traced-front, traced-line}
+use Rattle.simulator.proofs.Tracing.{IsTraced, bytes_more, traced-start, traced-step, traced-moved, traced-end, traced-front}
 use Rattle.simulator.proofs.simulation.simulate.Goals as goal
 
 pub loop-event-init : goal.loop-event-init
@@ -31,77 +36,121 @@ loop-event-init g c =
       valid = test;
       well_formed = subst (λ (p : Plan). IsWellFormed (programs_of_plan p) (machine_world c.in_ok-machine.machine)) same c.in_ok-machine.ensures.well_formed;
       bytes = tt;
-      traced = traced-start plan (map event_of c.args.events.now) (g.W.Out.taken c.args.out.now) (machine_world c.in_ok-machine.machine) test c.in_ok-machine.ensures.world;
+      ended = c.in_ok-page.ensures.line;
+      traced =
+          traced-start plan (map event_of c.args.events.now) (g.W.Out.taken c.args.out.now) c.in_ok-page.page.lines (machine_world c.in_ok-machine.machine)
+          c.in_ok-page.ensures.lines test c.in_ok-machine.ensures.world;
     }
 
 pub returns-in_err-machine-clause-gains : goal.returns-in_err-machine-clause-gains
 returns-in_err-machine-clause-gains g c = never_gains (programs_of_plan c.args.task.now) (first_world c.args.task.now) (map event_of c.args.events.now)
 
-pub returns-in_err-line-clause-gains : goal.returns-in_err-line-clause-gains
-returns-in_err-line-clause-gains g c = never_gains (programs_of_plan c.args.task.now) (first_world c.args.task.now) (map event_of c.args.events.now)
+pub returns-in_err-page-clause-gains : goal.returns-in_err-page-clause-gains
+returns-in_err-page-clause-gains g c = never_gains (programs_of_plan c.args.task.now) (first_world c.args.task.now) (map event_of c.args.events.now)
 
-pub returns-in_err-write_line-clause-gains : goal.returns-in_err-write_line-clause-gains
-returns-in_err-write_line-clause-gains g c = never_gains (programs_of_plan c.args.task.now) (first_world c.args.task.now) (map event_of c.args.events.now)
+pub returns-in_default-clause-gains : goal.returns-in_default-clause-gains
+returns-in_default-clause-gains g c = never_gains (programs_of_plan c.args.task.now) (first_world c.args.task.now) (map event_of c.args.events.now)
+
+pub returns-then-is_err-clause-gains : goal.returns-then-is_err-clause-gains
+returns-then-is_err-clause-gains g c = never_gains (programs_of_plan c.args.task.now) (first_world c.args.task.now) (map event_of c.args.events.now)
+
+pub returns-in_err-write_piece-clause-gains : goal.returns-in_err-write_piece-clause-gains
+returns-in_err-write_piece-clause-gains g c = never_gains (programs_of_plan c.args.task.now) (first_world c.args.task.now) (map event_of c.args.events.now)
 
 pub returns-clause-gains : goal.returns-clause-gains
 returns-clause-gains g c = never_gains (programs_of_plan c.args.task.now) (first_world c.args.task.now) (map event_of c.args.events.now)
 
-pub returns-in_err-line-clause-err : goal.returns-in_err-line-clause-err
-returns-in_err-line-clause-err g c = on_err _ (traced-front c.args.task.now (map event_of c.args.events.now) _ _ _ _ c.loop-event.invariant.traced)
+-- the lines that were gathered before the step
+pub returns-in_default-clause-err : goal.returns-in_default-clause-err
+returns-in_default-clause-err g c =
+    traced-front c.args.task.now (map event_of c.args.events.now) _ _ _ _ _ _ c.loop-event.invariant.traced
+    (subst (TookFront (g.W.Out.taken c.loop-event.out) (g.W.Out.taken c.write_left.new.out)) c.lines.ensures c.write_left.ensures.front)
 
-pub returns-in_err-write_line-clause-err : goal.returns-in_err-write_line-clause-err
-returns-in_err-write_line-clause-err g c =
+pub returns-then-is_err-clause-err : goal.returns-then-is_err-clause-err
+returns-then-is_err-clause-err g c =
+    let kept : c.push_line.new.page.lines ≡ c.loop-event.page.lines = grind (arith, common_steps, c.push_line.ensures.err, c.if-is_err.ensures.value, c.if-is_err.true) in
+    traced-front c.args.task.now (map event_of c.args.events.now) _ _ _ _ _ _ c.loop-event.invariant.traced
+    (subst (TookFront (g.W.Out.taken c.loop-event.out) (g.W.Out.taken c.write_left-then-is_err.new.out)) (c.lines-then-is_err.ensures ∙ kept) c.write_left-then-is_err.ensures.front)
+
+pub returns-in_err-write_piece-clause-err : goal.returns-in_err-write_piece-clause-err
+returns-in_err-write_piece-clause-err g c =
     let plan : Plan = c.args.task.now in
+    let events : List Event = map event_of c.args.events.now in
     let inv = c.loop-event.invariant in
     let none : EventCode = record { process = 0; input = 0; refuse = false } in
     let e : Event = event_of (slice_index_or c.args.events.now c.loop-event.event-index none) in
     let left : List Event = map event_of (drop (c.loop-event.event-index + 1) c.args.events.now) in
-    let line : Line = line_of c.in_ok-line.line in
+    let line : Line = line_of c.in-Ok.line in
     let w = machine_world c.loop-event.machine in
     let next = machine_world c.step.new.self in
-    let so_far = subst (IsTraced plan (map event_of c.args.events.now) (g.W.Out.taken c.args.out.now) (g.W.Out.taken c.loop-event.out) w)
+    let so_far = subst (IsTraced plan events (g.W.Out.taken c.args.out.now) (g.W.Out.taken c.loop-event.out) c.loop-event.page.lines w)
     (map-drop event_of c.args.events.now c.loop-event.event-index none c.loop-event-test.true) inv.traced
     in
-    let byte : IsEvent e = c.in_ok-line.ensures.byte in
-    let s = subst (λ (p : Plan). StepsMachine (programs_of_plan p) w e line next) inv.plan c.in_ok-line.ensures.step in
-    on_err _ (traced-line plan (map event_of c.args.events.now) _ _ _ w next e left line inv.valid inv.well_formed byte so_far s c.in_err-write_line.ensures.err)
+    let s = subst (λ (p : Plan). StepsMachine (programs_of_plan p) w e line next) inv.plan c.in-Ok.ensures.step in
+    let more : c.push_line.new.page.lines ≡ c.loop-event.page.lines ++ line_text plan line =
+    grind (arith, common_steps, c.push_line.ensures.ok, c.if-is_err.ensures.value, c.if-is_err.false)
+    in
+    on_err _
+    (traced-front plan events _ _ _ _ next left (traced-step plan events _ _ _ _ w next e left line inv.valid inv.well_formed c.in-Ok.ensures.byte so_far s more)
+    c.in_err-write_piece.ensures.err)
 
 pub loop-event-preserved : goal.loop-event-preserved
 loop-event-preserved g c =
     let plan : Plan = c.args.task.now in
+    let events : List Event = map event_of c.args.events.now in
     let inv = c.loop-event.invariant in
     let none : EventCode = record { process = 0; input = 0; refuse = false } in
     let e : Event = event_of (slice_index_or c.args.events.now c.loop-event.event-index none) in
     let left : List Event = map event_of (drop (c.loop-event.event-index + 1) c.args.events.now) in
-    let line : Line = line_of c.in_ok-line.line in
+    let line : Line = line_of c.in-Ok.line in
     let w = machine_world c.loop-event.machine in
     let next = machine_world c.step.new.self in
-    let so_far = subst (IsTraced plan (map event_of c.args.events.now) (g.W.Out.taken c.args.out.now) (g.W.Out.taken c.loop-event.out) w)
+    let so_far = subst (IsTraced plan events (g.W.Out.taken c.args.out.now) (g.W.Out.taken c.loop-event.out) c.loop-event.page.lines w)
     (map-drop event_of c.args.events.now c.loop-event.event-index none c.loop-event-test.true) inv.traced
     in
-    let byte : IsEvent e = c.in_ok-line.ensures.byte in
-    let s = subst (λ (p : Plan). StepsMachine (programs_of_plan p) w e line next) inv.plan c.in_ok-line.ensures.step in
-    let same : c.step.new.self.plan ≡ plan = c.in_ok-line.ensures.plan ∙ inv.plan in
+    let byte : IsEvent e = c.in-Ok.ensures.byte in
+    let s = subst (λ (p : Plan). StepsMachine (programs_of_plan p) w e line next) inv.plan c.in-Ok.ensures.step in
+    let same : c.step.new.self.plan ≡ plan = c.in-Ok.ensures.plan ∙ inv.plan in
+    let more : c.push_line.new.page.lines ≡ c.loop-event.page.lines ++ line_text plan line =
+    grind (arith, common_steps, c.push_line.ensures.ok, c.if-is_err.ensures.value, c.if-is_err.false)
+    in
     record {
-      runs_on = c.in_ok-line.ensures.runs_on;
-      steady = c.in_ok-write_line.ensures.steady ∙ inv.steady;
+      runs_on = c.in-Ok.ensures.runs_on;
+      steady = c.in_ok-write_piece.ensures.steady ∙ inv.steady;
       plan = same;
       valid = inv.valid;
-      well_formed = subst (λ (p : Plan). IsWellFormed (programs_of_plan p) next) same c.in_ok-line.ensures.well_formed;
+      well_formed = subst (λ (p : Plan). IsWellFormed (programs_of_plan p) next) same c.in-Ok.ensures.well_formed;
       bytes =
-          bytes_more (map event_of c.args.events.now) c.loop-event.event-index (event_of none)
+          bytes_more events c.loop-event.event-index (event_of none)
           (subst (λ n. c.loop-event.event-index < n) (sym (length-map c.args.events.now event_of)) c.loop-event-test.true) inv.bytes
           (subst IsEvent (sym (get_or-map event_of c.args.events.now c.loop-event.event-index none (event_of none) c.loop-event-test.true)) byte);
-      traced = traced-step plan (map event_of c.args.events.now) _ _ _ w next e left line inv.valid inv.well_formed byte so_far s c.in_ok-write_line.ensures.ok;
+      ended = c.in_ok-write_piece.ensures.begun;
+      traced = traced-moved plan events _ _ _ _ _ next left
+          (traced-step plan events _ _ _ _ w next e left line inv.valid inv.well_formed byte so_far s more) c.in_ok-write_piece.ensures.ok;
     }
+
+pub returns-clause-err : goal.returns-clause-err
+returns-clause-err g c =
+    let front = traced-front c.args.task.now (map event_of c.args.events.now) (g.W.Out.taken c.args.out.now) (g.W.Out.taken c.loop-event.out) (g.W.Out.taken c.write_all.new.out)
+    c.loop-event.page.lines (machine_world c.loop-event.machine) (map event_of (drop c.loop-event.event-index c.args.events.now)) c.loop-event.invariant.traced
+    in
+    on_err_weaker c.write_all.result front (subst (λ lines. OnErr c.write_all.result (TookFront (g.W.Out.taken c.loop-event.out) (g.W.Out.taken c.write_all.new.out) lines))
+    c.lines-2.ensures c.write_all.ensures.err)
 
 pub returns-clause-ok : goal.returns-clause-ok
 returns-clause-ok g c =
     let plan : Plan = c.args.task.now in
+    let events : List Event = map event_of c.args.events.now in
     let all : drop c.loop-event.event-index c.args.events.now ≡ [] = drop-end c.args.events.now c.loop-event.event-index c.loop-event-test.false in
-    traced-end plan (map event_of c.args.events.now) _ _ (machine_world c.loop-event.machine) c.loop-event.invariant.valid
-    (subst AreEvents (take_all c.loop-event.event-index (map event_of c.args.events.now)
+    let bytes = subst AreEvents (take_all c.loop-event.event-index events
     (subst (λ n. n ≤ c.loop-event.event-index) (sym (length-map c.args.events.now event_of)) c.loop-event-test.false))
-    c.loop-event.invariant.bytes)
-    (subst (λ events. IsTraced plan (map event_of c.args.events.now) (g.W.Out.taken c.args.out.now) (g.W.Out.taken c.loop-event.out)
-    (machine_world c.loop-event.machine) (map event_of events)) all c.loop-event.invariant.traced)
+    c.loop-event.invariant.bytes
+    in
+    let so_far = subst (λ left. IsTraced plan events (g.W.Out.taken c.args.out.now) (g.W.Out.taken c.loop-event.out) c.loop-event.page.lines
+    (machine_world c.loop-event.machine) (map event_of left)) all c.loop-event.invariant.traced
+    in
+    let end = traced-end plan events (g.W.Out.taken c.args.out.now) (g.W.Out.taken c.loop-event.out) (g.W.Out.taken c.write_all.new.out)
+    c.loop-event.page.lines (machine_world c.loop-event.machine) c.loop-event.invariant.valid bytes so_far
+    in
+    on_ok_weaker c.write_all.result end (subst (λ lines. OnOk c.write_all.result (Took (g.W.Out.taken c.loop-event.out) (g.W.Out.taken c.write_all.new.out) lines))
+    c.lines-2.ensures c.write_all.ensures.ok)

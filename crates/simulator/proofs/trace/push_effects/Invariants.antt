@@ -6,6 +6,7 @@ use Rattle.simulator.proofs.trace.push_effects.Given as goal
 
 -- what is written, and then the effects that are left
 abbrev pub invariant-loop-effect : goal.invariant-loop-effect
-invariant-loop-effect l =
-    l.text.items ++ flat_map effect_text (effects_of (drop l.effect-index l.effects))
-    ≡ l.fn.text.items ++ flat_map effect_text (effects_of l.effects)
+invariant-loop-effect l = record {
+  lines : l.page.lines ≡ l.fn.page.lines;
+  line : l.page.line ++ flat_map effect_text (effects_of (drop l.effect-index l.effects)) ≡ l.fn.page.line ++ flat_map effect_text (effects_of l.effects);
+}
