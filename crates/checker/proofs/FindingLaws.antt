@@ -1,5 +1,5 @@
 -- What the list of findings holds: each rule that a point breaks, and nothing else.
-use Rattle.std.proofs.Common.{◌≡◌, ◌+◌, ◌<◌, ◌≤◌, ◌⊎◌, inl, inr, ℕ, zero, suc, Bool, true, false, List, [], ◌∷◌, ◌++◌, length, Some, None, refl, ap, sym, ◌∙◌, subst, cond, arith}
+use Rattle.std.proofs.Common.{◌≡◌, ◌<◌, ◌≤◌, ◌⊎◌, inl, inr, ℕ, zero, suc, Bool, true, false, List, [], ◌∷◌, ◌++◌, length, Some, None, refl, ap, sym, ◌∙◌, subst, cond, arith}
 use Rattle.std.specs.Prelude.{◌↔◌, Option}
 use Rattle.std.specs.List.{Contains, slice_get, slice_index_or}
 use Rattle.std.proofs.lemmas.List.Elements.{Contains-append_left, Contains-append_right, Contains-append_cases}
@@ -13,7 +13,6 @@ use Rattle.rules.specs.Rules.{Test, least_broken}
 use Rattle.rules.specs.Verdicts.{MeetsRules, found_at, found_with}
 use Rattle.checker.specs.Findings.{BrokenRule, IsBroken, findings, findings_before, findings_in, findings_of_programs, tests_there, tests_with}
 use Rattle.checker.proofs.Apart.{nothing_there}
-use Rattle.checker.proofs.PastEnds.{no_instruction}
 
 -- ## Lists
 nothing_in : (f : BrokenRule) → Contains [] f → {A : Type 0} → A

@@ -1,5 +1,5 @@
 -- All rules that are broken, at all points of a task's programs. (own)
-use Rattle.std.specs.Prelude.{◌≡◌, ◌↔◌, ℕ, zero, suc, List, [], ◌∷◌, ◌++◌, map, length, Option, Some, None, if◌then◌else◌}
+use Rattle.std.specs.Prelude.{◌≡◌, ◌↔◌, ℕ, zero, suc, List, [], ◌∷◌, ◌++◌, length, Option, Some, None, if◌then◌else◌}
 use Rattle.std.specs.List.{Contains}
 use Rattle.certificate.specs.Bounds.{Bound, Certificate, bound_at}
 use Rattle.prog_asm.specs.Programs.{Instruction}

@@ -1,1 +1,6 @@
 pub mod PageViews
+pub mod Places
+pub mod Instructions
+pub mod ProgramViews
+pub mod FaultLines
+pub mod FaultViews

@@ -1,5 +1,8 @@
 //! What a text in quotes stands for, with the offset that each of its bytes comes from.
 
+ghost use Rattle.std.specs.Prelude.{◌≡◌};
+ghost use Rattle.task_text.specs.Instructions.{offset_of};
+
 use crate::places::part;
 use crate::tokens::{Token, TokenKind};
 use std::alloc::{AllocError, Global};
@@ -22,7 +25,9 @@ impl Decoded {
     }
 
     /// The offset in the file that a byte comes from; behind the last byte, that behind the text.
-    pub(crate) fn offset(&self, at: usize) -> usize {
+    pub(crate) fn offset(&self, at: usize) -> usize
+        ensures { result ≡ offset_of self.now.offsets.items self.now.end at }
+    {
         match self.offsets.get(at) {
             Some(offset) => *offset,
             None => self.end,

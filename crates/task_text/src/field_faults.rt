@@ -1,5 +1,8 @@
 //! Faults in the keys and words of a task's text.
 
+ghost use Rattle.std.specs.Prelude.{OnOk};
+ghost use Rattle.task_text.specs.FaultViews.{AddsFaultLines};
+
 use crate::decoded::decode;
 use crate::fields::{Entry, Fields, Table, TableKind};
 use crate::known_words::{Value, keys_of, kind_name, needed_keys, value_of};
@@ -45,14 +48,16 @@ impl<'a> Faults<'a> {
         self.add_page(offset, text);
     }
 
-    /// Adds the lines of all faults to a page, in the order of the text.
-    pub(crate) fn tell(&mut self, page: &mut Page) -> Result<(), AllocError> {
+    /// Adds the lines of all faults of this file to a page, in the order of the text.
+    pub(crate) fn tell(&mut self, file: &[u8], page: &mut Page) -> Result<(), AllocError>
+        ensures { OnOk result (AddsFaultLines file.now page.old page.new) }
+    {
         if self.is_short {
             return Err(AllocError);
         }
         self.lines.sort_by_key(|line| line.offset)?;
         for line in &self.lines {
-            let place = place_at(self.file, line.offset);
+            let place = place_at(file, line.offset);
             page.pieces(&[
                 Text("line "),
                 Number(place.line),

@@ -1,5 +1,9 @@
 //! The texts of a task's programs as they stand in its file, and where each instruction does.
 
+ghost use Rattle.std.specs.Prelude.{◌≡◌};
+ghost use Rattle.task_text.specs.Instructions.{line_there, span_of, text_there};
+ghost use Rattle.task_text.specs.ProgramViews.{spans};
+
 use crate::decoded::{Decoded, decode};
 use crate::fields::{Fields, TableKind, fields_of};
 use crate::places::{part, place_at};
@@ -139,8 +143,11 @@ pub(crate) fn tokens_in(
 }
 
 impl ProgramText {
-    /// The instruction of a point, and its line in the file; nothing where the program hasn't the point.
-    pub fn written_at(&self, file: &[u8], point: usize) -> Written<'_> {
+    /// The instruction of a point, counted from 0, and its line in the file, counted from 1; nothing and 0 where the program hasn't the point.
+    pub fn written_at(&self, file: &[u8], point: usize) -> Written<'_>
+        ensures text { result.text.now ≡ text_there self.now.code.bytes.items (span_of (spans self.now) point) }
+        ensures line { result.line ≡ line_there file.now self.now.code.offsets.items self.now.code.end (span_of (spans self.now) point) }
+    {
         let mut number = 0usize;
         for line in &self.lines {
             if line.instruction.0 < line.instruction.1 {
@@ -150,7 +157,7 @@ impl ProgramText {
                         line: place_at(file, self.code.offset(line.instruction.0)).line,
                     };
                 }
-                number = number.saturating_add(1);
+                number += 1;
             }
         }
         Written { text: &[], line: 0 }

@@ -1,4 +1,4 @@
-use Rattle.std.proofs.Common.{◌≡◌, Bool, true, List, sym, ◌∙◌}
+use Rattle.std.proofs.Common.{◌≡◌, sym, ◌∙◌}
 use Rattle.std.specs.Prelude.{Option, is_some, option_map}
 use Rattle.std.specs.List.{list_all}
 use Rattle.certificate.specs.Bounds.{Bound}
@@ -9,7 +9,6 @@ use Rattle.rules.specs.Outcomes.{Outcome}
 use Rattle.rules.specs.Rules.{all_there, all_within, within_if_there}
 use Rattle.rules.proofs.expansions.Arriving.{successes_there, successes_within}
 use Rattle.transfer.specs.CallViews.{successes_at}
-use Rattle.checker.specs.KeptUses.{arrives}
 use Rattle.checker.specs.SiteViews.{expanded_successes, expansion_at, site_name}
 use Rattle.checker.proofs.KeptRules.{all_both}
 use Rattle.checker.proofs.arrivals.successes_arrive.Goals as goal

@@ -1,4 +1,4 @@
-use Rattle.std.proofs.Common.{◌∙◌, ◌++◌, [], Some, None, map, append-nil, ap, sym}
+use Rattle.std.proofs.Common.{◌∙◌, ◌++◌, Some, None, map, append-nil, ap, sym}
 use Rattle.std.specs.Prelude.{option_map}
 use Rattle.std.proofs.lemmas.Result.{on_ok_weaker}
 use Rattle.certificate.specs.Views.{bound_of, name_of}
