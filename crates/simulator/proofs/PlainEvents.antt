@@ -1,5 +1,6 @@
 -- A line of two numbers, as it is read in one pass.
-use Rattle.std.proofs.Common.{◌≡◌, ℕ, ◌+◌, ◌-◌, ◌*◌, ◌<◌, ◌≤◌, true, false, List, [], ◌∷◌, ◌++◌, length, refl, arith, ap, sym, ◌∙◌, append_assoc, append-nil, length-append, take, drop, get_or, le-leb, leb-true, ne_eqb, suc, add-one}
+use Rattle.std.proofs.Common.{◌≡◌, ℕ, ◌+◌, ◌-◌, ◌*◌, ◌<◌, ◌≤◌, true, false, List, [], ◌∷◌, ◌++◌, length, refl}
+use Rattle.std.proofs.Common.{arith, ap, sym, ◌∙◌, append_assoc, append-nil, length-append, take, drop, get_or, le-leb, leb-true, ne_eqb, suc, add-one}
 use Rattle.std.proofs.Math.Seq.{split_at}
 use Rattle.std.specs.Prelude.{Some, None, ◌==◌, cond, nat_le}
 use Rattle.std.specs.List.{list_all}
