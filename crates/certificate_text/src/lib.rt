@@ -4,6 +4,7 @@
 mod descriptors;
 pub mod faults;
 mod keywords;
+mod line_bytes;
 mod line_words;
 mod lines;
 pub mod reading;

@@ -1,8 +1,8 @@
 //! How the text of a certificate is written.
 
-ghost use Rattle.std.specs.Prelude.{◌≡◌, ◌++◌, ◌∷◌, ◌<◌, ◌≤◌, ◌-◌, ◌^◌, ℕ, List, [], Ok, length, map};
+ghost use Rattle.std.specs.Prelude.{◌≡◌, ◌++◌, ◌+◌, ◌*◌, ◌<◌, ◌≤◌, ◌-◌, ◌^◌, ℕ, List, Ok, length, map};
 ghost use Rattle.std.specs.Fmt.{decimal};
-ghost use Rattle.texts.specs.Bytes.{colon, space};
+ghost use Rattle.texts.specs.Bytes.{space};
 ghost use Rattle.texts.specs.Parts.{joined};
 ghost use Rattle.certificate.specs.Lines.{Begins_authority, Begins_block};
 ghost use Rattle.certificate.specs.Views.{authorities_of, authority_of, bound_of, ceiling_of, channel_of, channels_of, class_of, held_end_of, interval_of, line_of, point_of, points_of, slot_of};
@@ -13,6 +13,7 @@ ghost use Rattle.certificate_text.specs.Pieces.{authority_text, block_text, ceil
 ghost use Rattle.certificate_text.specs.WordViews.{word_text};
 ghost use Rattle.certificate_text.specs.WritingViews.{Writes};
 
+use crate::line_bytes::LineBytes;
 use crate::line_words::{Word, words_of_line};
 use bitflags::Flags;
 use certificate::{
@@ -29,86 +30,67 @@ fn write_bytes<W: Out>(out: &mut W, bytes: &[u8]) -> Result<(), Stop>
     write_all(out, bytes)
 }
 
-/// Writes a number in decimal digits.
-fn write_number<W: Out>(out: &mut W, number: u32) -> Result<(), Stop>
-    requires { W.faults out.old < 2 ^ 64 - 1 }
-    ensures { Writes result (W.taken out.old) (W.taken out.new) (W.faults out.old) (W.faults out.new) (decimal number) }
+/// Adds a number in decimal digits.
+fn push_number(line: &mut LineBytes, number: u32)
+    requires { length line.old ≤ 278 }
+    ensures digits { line.new ≡ line.old ++ decimal number }
+    ensures few { length line.new ≤ length line.old + 10 }
 {
-    write_bytes(out, Decimal::new(number).as_bytes())
+    line.push(Decimal::new(number).as_bytes())
 }
 
-/// Writes a mark, and a number behind it.
-fn write_marked<W: Out>(out: &mut W, mark: &[u8], number: u32) -> Result<(), Stop>
-    requires { W.faults out.old < 2 ^ 64 - 1 }
-    ensures { Writes result (W.taken out.old) (W.taken out.new) (W.faults out.old) (W.faults out.new)
-        (mark.now ++ decimal number) }
-{
-    write_bytes(out, mark)?;
-    write_number(out, number)
-}
-
-/// Writes a point of a program.
-fn write_point<W: Out>(out: &mut W, program: &[u8], point: u32) -> Result<(), Stop>
-    requires { W.faults out.old < 2 ^ 64 - 1 }
-    ensures { Writes result (W.taken out.old) (W.taken out.new) (W.faults out.old) (W.faults out.new)
-        (program.now ++ colon ∷ decimal point) }
-{
-    write_bytes(out, program)?;
-    write_marked(out, b":", point)
-}
-
-/// Writes a class of socket pairs.
-fn write_class<W: Out>(out: &mut W, class: &Class) -> Result<(), Stop>
-    requires { W.faults out.old < 2 ^ 64 - 1 }
-    ensures { Writes result (W.taken out.old) (W.taken out.new) (W.faults out.old) (W.faults out.new)
-        (class_word (class_of class.now)) }
+/// Adds a class of socket pairs.
+fn push_class(line: &mut LineBytes, class: &Class)
+    requires { length line.old ≤ 261 }
+    ensures class { line.new ≡ line.old ++ class_word (class_of class.now) }
+    ensures few { length line.new ≤ length line.old + 27 }
 {
     match class {
-        Class::Initial(pair) => write_marked(out, b"@", u32::from(pair.number())),
-        Class::MadeAt(program, point) => write_point(out, program.as_bytes(), u32::from(*point)),
-    }
-}
-
-/// Writes a word.
-fn write_word<W: Out>(out: &mut W, word: &Word) -> Result<(), Stop>
-    requires { W.faults out.old < 2 ^ 64 - 1 }
-    ensures { Writes result (W.taken out.old) (W.taken out.new) (W.faults out.old) (W.faults out.new) (word_text word.now) }
-{
-    match word {
-        Word::Keyword(keyword) => write_bytes(out, keyword.as_bytes()),
-        Word::Name(name) => write_bytes(out, name.as_bytes()),
-        Word::Number(number) => write_number(out, *number),
-        Word::Register(register) => write_marked(out, b"r", u32::from(*register)),
-        Word::Class(class) => write_class(out, class),
-        Word::Rights(rights) => write_bytes(out, &four_digits(rights.bits())),
-        Word::Digit(digit) => write_bytes(out, &[*digit]),
-    }
-}
-
-/// Writes a word and a space behind it.
-fn write_separated<W: Out>(out: &mut W, word: &Word) -> Result<(), Stop>
-    requires { W.faults out.old < 2 ^ 64 - 1 }
-    ensures { Writes result (W.taken out.old) (W.taken out.new) (W.faults out.old) (W.faults out.new)
-        (word_text word.now ++ space ∷ []) }
-{
-    write_word(out, word)?;
-    write_bytes(out, b" ")
-}
-
-/// Writes words with a space between each two.
-fn write_words<W: Out>(out: &mut W, words: &[Word]) -> Result<(), Stop>
-    requires { W.faults out.old < 2 ^ 64 - 1 }
-    ensures { Writes result (W.taken out.old) (W.taken out.new) (W.faults out.old) (W.faults out.new)
-        (joined space (map word_text words.now)) }
-{
-    match words {
-        [] => Ok(()),
-        [word] => write_word(out, word),
-        [word, rest @ ..] => {
-            write_separated(out, word)?;
-            write_words(out, rest)
+        Class::Initial(pair) => {
+            line.push_byte(b'@');
+            push_number(line, u32::from(pair.number()));
+        }
+        Class::MadeAt(program, point) => {
+            line.push(program.as_bytes());
+            line.push_byte(b':');
+            push_number(line, u32::from(*point));
         }
     }
+}
+
+/// Adds a word.
+fn push_word(line: &mut LineBytes, word: &Word)
+    requires { length line.old ≤ 261 }
+    ensures word { line.new ≡ line.old ++ word_text word.now }
+    ensures few { length line.new ≤ length line.old + 27 }
+{
+    match word {
+        Word::Keyword(keyword) => line.push(keyword.as_bytes()),
+        Word::Name(name) => line.push(name.as_bytes()),
+        Word::Number(number) => push_number(line, *number),
+        Word::Register(register) => {
+            line.push_byte(b'r');
+            push_number(line, u32::from(*register));
+        }
+        Word::Class(class) => push_class(line, class),
+        Word::Rights(rights) => line.push(&four_digits(rights.bits())),
+        Word::Digit(digit) => line.push_byte(*digit),
+    }
+}
+
+/// Adds words with a space between each two, and a line feed behind them.
+fn push_words(line: &mut LineBytes, words: &[Word])
+    requires some { 0 < length words.now }
+    requires few { length line.old + 28 * length words.now < 288 }
+    ensures { line.new ≡ line.old ++ ended_line (joined space (map word_text words.now)) }
+{
+    for (index, word) in words.iter().enumerate() {
+        if index > 0 {
+            line.push_byte(b' ');
+        }
+        push_word(line, word);
+    }
+    line.push_byte(b'\n');
 }
 
 /// Writes a line, with its line feed.
@@ -119,8 +101,9 @@ fn write_line<W: Out>(out: &mut W, line: &Line) -> Result<(), Stop>
         (ended_line (line_text (line_of line.now))) }
 {
     let words = words_of_line(line);
-    write_words(out, words.as_slice())?;
-    write_bytes(out, b"\n")
+    let mut bytes = LineBytes::new();
+    push_words(&mut bytes, words.as_slice());
+    write_bytes(out, bytes.as_slice())
 }
 
 /// Writes the line of a register that isn't full.
