@@ -5,7 +5,7 @@ mod descriptors;
 pub mod faults;
 mod keywords;
 mod line_bytes;
-mod line_words;
+mod line_texts;
 mod lines;
 pub mod reading;
 mod taking;

@@ -1,26 +1,20 @@
 //! How the text of a certificate is written.
 
-ghost use Rattle.std.specs.Prelude.{◌≡◌, ◌++◌, ◌+◌, ◌*◌, ◌<◌, ◌≤◌, ◌-◌, ◌^◌, ℕ, List, Ok, length, map};
-ghost use Rattle.std.specs.Fmt.{decimal};
-ghost use Rattle.texts.specs.Bytes.{space};
-ghost use Rattle.texts.specs.Parts.{joined};
+ghost use Rattle.std.specs.Prelude.{◌≡◌, ◌++◌, ◌<◌, ◌≤◌, ◌-◌, ◌^◌, ℕ, List, Ok, length, map};
 ghost use Rattle.certificate.specs.Lines.{Begins_authority, Begins_block};
-ghost use Rattle.certificate.specs.Views.{authorities_of, authority_of, bound_of, ceiling_of, channel_of, channels_of, class_of, held_end_of, interval_of, line_of, point_of, points_of, slot_of};
+ghost use Rattle.certificate.specs.Views.{authorities_of, authority_of, bound_of, ceiling_of, channel_of, channels_of, held_end_of, interval_of, line_of, point_of, points_of, slot_of};
 ghost use Rattle.certificate.specs.Views.{version_of};
-ghost use Rattle.certificate_text.specs.Texts.{certificate_text, class_word, ended_line, first_line, end_line, line_text};
+ghost use Rattle.certificate_text.specs.Texts.{certificate_text, ended_line, first_line, end_line, line_text};
 ghost use Rattle.certificate_text.specs.Readings.{certificate_of_text};
 ghost use Rattle.certificate_text.specs.Pieces.{authority_text, block_text, ceiling_text, channel_text, end_text, in_order, register_text, slot_text};
-ghost use Rattle.certificate_text.specs.WordViews.{word_text};
 ghost use Rattle.certificate_text.specs.WritingViews.{Writes};
 
 use crate::line_bytes::LineBytes;
-use crate::line_words::{Word, words_of_line};
-use bitflags::Flags;
+use crate::line_texts::push_line;
 use certificate::{
-    Authority, Bound, Ceiling, Cert, Channel, Class, End, Interval, Line, Point, Slot, Version,
+    Authority, Bound, Ceiling, Cert, Channel, End, Interval, Line, Point, Slot, Version,
 };
 use rights::{Out, Stop, write_all};
-use texts::{Decimal, four_digits};
 
 /// Writes some bytes.
 fn write_bytes<W: Out>(out: &mut W, bytes: &[u8]) -> Result<(), Stop>
@@ -30,69 +24,6 @@ fn write_bytes<W: Out>(out: &mut W, bytes: &[u8]) -> Result<(), Stop>
     write_all(out, bytes)
 }
 
-/// Adds a number in decimal digits.
-fn push_number(line: &mut LineBytes, number: u32)
-    requires { length line.old ≤ 278 }
-    ensures digits { line.new ≡ line.old ++ decimal number }
-    ensures few { length line.new ≤ length line.old + 10 }
-{
-    line.push(Decimal::new(number).as_bytes())
-}
-
-/// Adds a class of socket pairs.
-fn push_class(line: &mut LineBytes, class: &Class)
-    requires { length line.old ≤ 261 }
-    ensures class { line.new ≡ line.old ++ class_word (class_of class.now) }
-    ensures few { length line.new ≤ length line.old + 27 }
-{
-    match class {
-        Class::Initial(pair) => {
-            line.push_byte(b'@');
-            push_number(line, u32::from(pair.number()));
-        }
-        Class::MadeAt(program, point) => {
-            line.push(program.as_bytes());
-            line.push_byte(b':');
-            push_number(line, u32::from(*point));
-        }
-    }
-}
-
-/// Adds a word.
-fn push_word(line: &mut LineBytes, word: &Word)
-    requires { length line.old ≤ 261 }
-    ensures word { line.new ≡ line.old ++ word_text word.now }
-    ensures few { length line.new ≤ length line.old + 27 }
-{
-    match word {
-        Word::Keyword(keyword) => line.push(keyword.as_bytes()),
-        Word::Name(name) => line.push(name.as_bytes()),
-        Word::Number(number) => push_number(line, *number),
-        Word::Register(register) => {
-            line.push_byte(b'r');
-            push_number(line, u32::from(*register));
-        }
-        Word::Class(class) => push_class(line, class),
-        Word::Rights(rights) => line.push(&four_digits(rights.bits())),
-        Word::Digit(digit) => line.push_byte(*digit),
-    }
-}
-
-/// Adds words with a space between each two, and a line feed behind them.
-fn push_words(line: &mut LineBytes, words: &[Word])
-    requires some { 0 < length words.now }
-    requires few { length line.old + 28 * length words.now < 288 }
-    ensures { line.new ≡ line.old ++ ended_line (joined space (map word_text words.now)) }
-{
-    for (index, word) in words.iter().enumerate() {
-        if index > 0 {
-            line.push_byte(b' ');
-        }
-        push_word(line, word);
-    }
-    line.push_byte(b'\n');
-}
-
 /// Writes a line, with its line feed.
 #[tactic(auto, unfolding(crate::specs::Texts::line_text))]
 fn write_line<W: Out>(out: &mut W, line: &Line) -> Result<(), Stop>
@@ -100,10 +31,10 @@ fn write_line<W: Out>(out: &mut W, line: &Line) -> Result<(), Stop>
     ensures { Writes result (W.taken out.old) (W.taken out.new) (W.faults out.old) (W.faults out.new)
         (ended_line (line_text (line_of line.now))) }
 {
-    let words = words_of_line(line);
-    let mut bytes = LineBytes::new();
-    push_words(&mut bytes, words.as_slice());
-    write_bytes(out, bytes.as_slice())
+    let mut text = LineBytes::new();
+    push_line(&mut text, line);
+    text.push_byte(b'\n');
+    write_bytes(out, text.as_slice())
 }
 
 /// Writes the line of a register that isn't full.
