@@ -4,12 +4,10 @@ pub mod FaultRows
 pub mod PointWords
 pub mod Growing
 pub mod LineBack
-pub mod CommandDigits
 pub mod Written
 pub mod WordsBack
 pub mod LineText
 pub mod OneSpelling
-pub mod WordsJoined
 pub mod InOrder
 pub mod Loops
 pub mod Pieces

@@ -2,9 +2,9 @@ pub mod Faults
 pub mod KeywordViews
 pub mod Pieces
 pub mod Readings
+pub mod Spaced
 pub mod TakingViews
 pub mod Texts
 pub mod Views
-pub mod WordViews
 pub mod Words
 pub mod WritingViews

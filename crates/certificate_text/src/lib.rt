@@ -4,7 +4,8 @@
 mod descriptors;
 pub mod faults;
 mod keywords;
-mod line_words;
+mod line_bytes;
+mod line_texts;
 mod lines;
 pub mod reading;
 mod taking;

@@ -1,25 +1,20 @@
 //! How the text of a certificate is written.
 
-ghost use Rattle.std.specs.Prelude.{◌≡◌, ◌++◌, ◌∷◌, ◌<◌, ◌≤◌, ◌-◌, ◌^◌, ℕ, List, [], Ok, length, map};
-ghost use Rattle.std.specs.Fmt.{decimal};
-ghost use Rattle.texts.specs.Bytes.{colon, space};
-ghost use Rattle.texts.specs.Parts.{joined};
+ghost use Rattle.std.specs.Prelude.{◌≡◌, ◌++◌, ◌<◌, ◌≤◌, ◌-◌, ◌^◌, ℕ, List, Ok, length, map};
 ghost use Rattle.certificate.specs.Lines.{Begins_authority, Begins_block};
-ghost use Rattle.certificate.specs.Views.{authorities_of, authority_of, bound_of, ceiling_of, channel_of, channels_of, class_of, held_end_of, interval_of, line_of, point_of, points_of, slot_of};
+ghost use Rattle.certificate.specs.Views.{authorities_of, authority_of, bound_of, ceiling_of, channel_of, channels_of, held_end_of, interval_of, line_of, point_of, points_of, slot_of};
 ghost use Rattle.certificate.specs.Views.{version_of};
-ghost use Rattle.certificate_text.specs.Texts.{certificate_text, class_word, ended_line, first_line, end_line, line_text};
+ghost use Rattle.certificate_text.specs.Texts.{certificate_text, ended_line, first_line, end_line, line_text};
 ghost use Rattle.certificate_text.specs.Readings.{certificate_of_text};
 ghost use Rattle.certificate_text.specs.Pieces.{authority_text, block_text, ceiling_text, channel_text, end_text, in_order, register_text, slot_text};
-ghost use Rattle.certificate_text.specs.WordViews.{word_text};
 ghost use Rattle.certificate_text.specs.WritingViews.{Writes};
 
-use crate::line_words::{Word, words_of_line};
-use bitflags::Flags;
+use crate::line_bytes::LineBytes;
+use crate::line_texts::push_line;
 use certificate::{
-    Authority, Bound, Ceiling, Cert, Channel, Class, End, Interval, Line, Point, Slot, Version,
+    Authority, Bound, Ceiling, Cert, Channel, End, Interval, Line, Point, Slot, Version,
 };
 use rights::{Out, Stop, write_all};
-use texts::{Decimal, four_digits};
 
 /// Writes some bytes.
 fn write_bytes<W: Out>(out: &mut W, bytes: &[u8]) -> Result<(), Stop>
@@ -29,88 +24,6 @@ fn write_bytes<W: Out>(out: &mut W, bytes: &[u8]) -> Result<(), Stop>
     write_all(out, bytes)
 }
 
-/// Writes a number in decimal digits.
-fn write_number<W: Out>(out: &mut W, number: u32) -> Result<(), Stop>
-    requires { W.faults out.old < 2 ^ 64 - 1 }
-    ensures { Writes result (W.taken out.old) (W.taken out.new) (W.faults out.old) (W.faults out.new) (decimal number) }
-{
-    write_bytes(out, Decimal::new(number).as_bytes())
-}
-
-/// Writes a mark, and a number behind it.
-fn write_marked<W: Out>(out: &mut W, mark: &[u8], number: u32) -> Result<(), Stop>
-    requires { W.faults out.old < 2 ^ 64 - 1 }
-    ensures { Writes result (W.taken out.old) (W.taken out.new) (W.faults out.old) (W.faults out.new)
-        (mark.now ++ decimal number) }
-{
-    write_bytes(out, mark)?;
-    write_number(out, number)
-}
-
-/// Writes a point of a program.
-fn write_point<W: Out>(out: &mut W, program: &[u8], point: u32) -> Result<(), Stop>
-    requires { W.faults out.old < 2 ^ 64 - 1 }
-    ensures { Writes result (W.taken out.old) (W.taken out.new) (W.faults out.old) (W.faults out.new)
-        (program.now ++ colon ∷ decimal point) }
-{
-    write_bytes(out, program)?;
-    write_marked(out, b":", point)
-}
-
-/// Writes a class of socket pairs.
-fn write_class<W: Out>(out: &mut W, class: &Class) -> Result<(), Stop>
-    requires { W.faults out.old < 2 ^ 64 - 1 }
-    ensures { Writes result (W.taken out.old) (W.taken out.new) (W.faults out.old) (W.faults out.new)
-        (class_word (class_of class.now)) }
-{
-    match class {
-        Class::Initial(pair) => write_marked(out, b"@", u32::from(pair.number())),
-        Class::MadeAt(program, point) => write_point(out, program.as_bytes(), u32::from(*point)),
-    }
-}
-
-/// Writes a word.
-fn write_word<W: Out>(out: &mut W, word: &Word) -> Result<(), Stop>
-    requires { W.faults out.old < 2 ^ 64 - 1 }
-    ensures { Writes result (W.taken out.old) (W.taken out.new) (W.faults out.old) (W.faults out.new) (word_text word.now) }
-{
-    match word {
-        Word::Keyword(keyword) => write_bytes(out, keyword.as_bytes()),
-        Word::Name(name) => write_bytes(out, name.as_bytes()),
-        Word::Number(number) => write_number(out, *number),
-        Word::Register(register) => write_marked(out, b"r", u32::from(*register)),
-        Word::Class(class) => write_class(out, class),
-        Word::Rights(rights) => write_bytes(out, &four_digits(rights.bits())),
-        Word::Digit(digit) => write_bytes(out, &[*digit]),
-    }
-}
-
-/// Writes a word and a space behind it.
-fn write_separated<W: Out>(out: &mut W, word: &Word) -> Result<(), Stop>
-    requires { W.faults out.old < 2 ^ 64 - 1 }
-    ensures { Writes result (W.taken out.old) (W.taken out.new) (W.faults out.old) (W.faults out.new)
-        (word_text word.now ++ space ∷ []) }
-{
-    write_word(out, word)?;
-    write_bytes(out, b" ")
-}
-
-/// Writes words with a space between each two.
-fn write_words<W: Out>(out: &mut W, words: &[Word]) -> Result<(), Stop>
-    requires { W.faults out.old < 2 ^ 64 - 1 }
-    ensures { Writes result (W.taken out.old) (W.taken out.new) (W.faults out.old) (W.faults out.new)
-        (joined space (map word_text words.now)) }
-{
-    match words {
-        [] => Ok(()),
-        [word] => write_word(out, word),
-        [word, rest @ ..] => {
-            write_separated(out, word)?;
-            write_words(out, rest)
-        }
-    }
-}
-
 /// Writes a line, with its line feed.
 #[tactic(auto, unfolding(crate::specs::Texts::line_text))]
 fn write_line<W: Out>(out: &mut W, line: &Line) -> Result<(), Stop>
@@ -118,9 +31,10 @@ fn write_line<W: Out>(out: &mut W, line: &Line) -> Result<(), Stop>
     ensures { Writes result (W.taken out.old) (W.taken out.new) (W.faults out.old) (W.faults out.new)
         (ended_line (line_text (line_of line.now))) }
 {
-    let words = words_of_line(line);
-    write_words(out, words.as_slice())?;
-    write_bytes(out, b"\n")
+    let mut text = LineBytes::new();
+    push_line(&mut text, line);
+    text.push_byte(b'\n');
+    write_bytes(out, text.as_slice())
 }
 
 /// Writes the line of a register that isn't full.

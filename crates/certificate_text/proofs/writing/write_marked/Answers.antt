@@ -1,8 +1,0 @@
-use Rattle.certificate_text.proofs.Written.{passed_on, written-both, written-front}
-use Rattle.certificate_text.proofs.writing.write_marked.Goals as goal
-
-pub returns-in_err-write_bytes : goal.returns-in_err-write_bytes
-returns-in_err-write_bytes g c = written-front _ _ _ _ _ _ c.in_err-write_bytes.field-0.0 _ (passed_on _ _ c.from_residual.ensures) c.in_err-write_bytes.ensures
-
-pub returns : goal.returns
-returns g c = written-both _ _ _ _ _ _ _ _ _ _ c.in_ok-write_bytes.ensures c.write_number.ensures
