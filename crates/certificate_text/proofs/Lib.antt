@@ -11,3 +11,4 @@ pub mod OneSpelling
 pub mod InOrder
 pub mod Loops
 pub mod Pieces
+pub mod Spaced

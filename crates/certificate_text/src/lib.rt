@@ -3,8 +3,8 @@
 
 mod descriptors;
 pub mod faults;
+mod gathering;
 mod keywords;
-mod line_bytes;
 mod line_texts;
 mod lines;
 pub mod reading;

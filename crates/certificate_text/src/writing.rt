@@ -1,4 +1,4 @@
-//! How the text of a certificate is written.
+//! How the text of a certificate is written. It is gathered in some room first, and handed on when that is full.
 
 ghost use Rattle.std.specs.Prelude.{◌≡◌, ◌++◌, ◌<◌, ◌≤◌, ◌-◌, ◌^◌, ℕ, List, Ok, length, map};
 ghost use Rattle.certificate.specs.Lines.{Begins_authority, Begins_block};
@@ -7,40 +7,48 @@ ghost use Rattle.certificate.specs.Views.{version_of};
 ghost use Rattle.certificate_text.specs.Texts.{certificate_text, ended_line, first_line, end_line, line_text};
 ghost use Rattle.certificate_text.specs.Readings.{certificate_of_text};
 ghost use Rattle.certificate_text.specs.Pieces.{authority_text, block_text, ceiling_text, channel_text, end_text, in_order, register_text, slot_text};
-ghost use Rattle.certificate_text.specs.WritingViews.{Writes};
+ghost use Rattle.certificate_text.specs.WritingViews.{Gathers, Writes};
 
-use crate::line_bytes::LineBytes;
+use crate::gathering::{Room, hand_on, make_room};
 use crate::line_texts::push_line;
 use certificate::{
     Authority, Bound, Ceiling, Cert, Channel, End, Interval, Line, Point, Slot, Version,
 };
-use rights::{Out, Stop, write_all};
+use rights::{Out, Stop};
 
 /// Writes some bytes.
-fn write_bytes<W: Out>(out: &mut W, bytes: &[u8]) -> Result<(), Stop>
-    requires { W.faults out.old < 2 ^ 64 - 1 }
-    ensures { Writes result (W.taken out.old) (W.taken out.new) (W.faults out.old) (W.faults out.new) bytes.now }
+fn write_bytes<W: Out>(out: &mut W, room: &mut Room, bytes: &[u8]) -> Result<(), Stop>
+    requires few { length bytes.now ≤ 288 }
+    requires faults { W.faults out.old < 2 ^ 64 - 1 }
+    ensures { Gathers result (W.taken out.old) (W.taken out.new) (W.faults out.old) (W.faults out.new) room.old room.new bytes.now }
 {
-    write_all(out, bytes)
+    make_room(out, room)?;
+    room.push(bytes);
+    Ok(())
 }
 
 /// Writes a line, with its line feed.
 #[tactic(auto, unfolding(crate::specs::Texts::line_text))]
-fn write_line<W: Out>(out: &mut W, line: &Line) -> Result<(), Stop>
+fn write_line<W: Out>(out: &mut W, room: &mut Room, line: &Line) -> Result<(), Stop>
     requires { W.faults out.old < 2 ^ 64 - 1 }
-    ensures { Writes result (W.taken out.old) (W.taken out.new) (W.faults out.old) (W.faults out.new)
+    ensures { Gathers result (W.taken out.old) (W.taken out.new) (W.faults out.old) (W.faults out.new) room.old room.new
         (ended_line (line_text (line_of line.now))) }
 {
-    let mut text = LineBytes::new();
-    push_line(&mut text, line);
-    text.push_byte(b'\n');
-    write_bytes(out, text.as_slice())
+    make_room(out, room)?;
+    push_line(room, line);
+    room.push_byte(b'\n');
+    Ok(())
 }
 
 /// Writes the line of a register that isn't full.
-fn write_register<W: Out>(out: &mut W, register: u8, interval: &Interval) -> Result<(), Stop>
+fn write_register<W: Out>(
+    out: &mut W,
+    room: &mut Room,
+    register: u8,
+    interval: &Interval,
+) -> Result<(), Stop>
     requires { W.faults out.old < 2 ^ 64 - 1 }
-    ensures { Writes result (W.taken out.old) (W.taken out.new) (W.faults out.old) (W.faults out.new)
+    ensures { Gathers result (W.taken out.old) (W.taken out.new) (W.faults out.old) (W.faults out.new) room.old room.new
         (register_text register (interval_of interval.now)) }
 {
     if interval.is_full() {
@@ -48,6 +56,7 @@ fn write_register<W: Out>(out: &mut W, register: u8, interval: &Interval) -> Res
     }
     write_line(
         out,
+        room,
         &Line::Register {
             register,
             interval: *interval,
@@ -56,22 +65,22 @@ fn write_register<W: Out>(out: &mut W, register: u8, interval: &Interval) -> Res
 }
 
 /// Writes the lines of registers, the first of which has this number.
-fn write_registers<W: Out>(out: &mut W, registers: &[Interval]) -> Result<(), Stop>
+fn write_registers<W: Out>(out: &mut W, room: &mut Room, registers: &[Interval]) -> Result<(), Stop>
     requires few { length registers.now ≤ 255 }
     requires faults { W.faults out.old < 2 ^ 64 - 1 }
-    ensures { Writes result (W.taken out.old) (W.taken out.new) (W.faults out.old) (W.faults out.new)
+    ensures { Gathers result (W.taken out.old) (W.taken out.new) (W.faults out.old) (W.faults out.new) room.old room.new
         (in_order register_text 0 (map interval_of registers.now)) }
 {
     for (register, interval) in registers.iter().enumerate() {
-        write_register(out, register as u8, interval)?;
+        write_register(out, room, register as u8, interval)?;
     }
     Ok(())
 }
 
 /// Writes the line of a slot that isn't closed.
-fn write_slot<W: Out>(out: &mut W, number: u8, slot: &Slot) -> Result<(), Stop>
+fn write_slot<W: Out>(out: &mut W, room: &mut Room, number: u8, slot: &Slot) -> Result<(), Stop>
     requires { W.faults out.old < 2 ^ 64 - 1 }
-    ensures { Writes result (W.taken out.old) (W.taken out.new) (W.faults out.old) (W.faults out.new)
+    ensures { Gathers result (W.taken out.old) (W.taken out.new) (W.faults out.old) (W.faults out.new) room.old room.new
         (slot_text number (slot_of slot.now)) }
 {
     if slot.is_closed() {
@@ -79,6 +88,7 @@ fn write_slot<W: Out>(out: &mut W, number: u8, slot: &Slot) -> Result<(), Stop>
     }
     write_line(
         out,
+        room,
         &Line::Slot {
             number,
             slot: *slot,
@@ -87,26 +97,26 @@ fn write_slot<W: Out>(out: &mut W, number: u8, slot: &Slot) -> Result<(), Stop>
 }
 
 /// Writes the lines of slots, by their numbers.
-fn write_slots<W: Out>(out: &mut W, slots: &[Slot]) -> Result<(), Stop>
+fn write_slots<W: Out>(out: &mut W, room: &mut Room, slots: &[Slot]) -> Result<(), Stop>
     requires few { length slots.now ≤ 255 }
     requires faults { W.faults out.old < 2 ^ 64 - 1 }
-    ensures { Writes result (W.taken out.old) (W.taken out.new) (W.faults out.old) (W.faults out.new)
+    ensures { Gathers result (W.taken out.old) (W.taken out.new) (W.faults out.old) (W.faults out.new) room.old room.new
         (in_order slot_text 0 (map slot_of slots.now)) }
 {
     for (number, slot) in slots.iter().enumerate() {
-        write_slot(out, number as u8, slot)?;
+        write_slot(out, room, number as u8, slot)?;
     }
     Ok(())
 }
 
 /// Writes the registers and slots of a block.
-fn write_bound<W: Out>(out: &mut W, bound: &Bound) -> Result<(), Stop>
+fn write_bound<W: Out>(out: &mut W, room: &mut Room, bound: &Bound) -> Result<(), Stop>
     requires { W.faults out.old < 2 ^ 64 - 1 }
-    ensures { Writes result (W.taken out.old) (W.taken out.new) (W.faults out.old) (W.faults out.new)
+    ensures { Gathers result (W.taken out.old) (W.taken out.new) (W.faults out.old) (W.faults out.new) room.old room.new
         (in_order register_text 0 (bound_of bound.now).registers ++ in_order slot_text 0 (bound_of bound.now).slots) }
 {
-    write_registers(out, bound.registers())?;
-    write_slots(out, bound.slots())
+    write_registers(out, room, bound.registers())?;
+    write_slots(out, room, bound.slots())
 }
 
 /// The first line of a point's block.
@@ -121,98 +131,98 @@ fn first_line(point: &Point) -> Line
 }
 
 /// Writes the block of a point.
-fn write_block<W: Out>(out: &mut W, point: &Point) -> Result<(), Stop>
+fn write_block<W: Out>(out: &mut W, room: &mut Room, point: &Point) -> Result<(), Stop>
     requires { W.faults out.old < 2 ^ 64 - 1 }
-    ensures { Writes result (W.taken out.old) (W.taken out.new) (W.faults out.old) (W.faults out.new)
+    ensures { Gathers result (W.taken out.old) (W.taken out.new) (W.faults out.old) (W.faults out.new) room.old room.new
         (block_text (point_of point.now)) }
 {
-    write_line(out, &first_line(point))?;
-    write_bound(out, &point.bound())
+    write_line(out, room, &first_line(point))?;
+    write_bound(out, room, &point.bound())
 }
 
 /// Writes the blocks of points, one after another.
-fn write_points<W: Out>(out: &mut W, points: &[Point]) -> Result<(), Stop>
+fn write_points<W: Out>(out: &mut W, room: &mut Room, points: &[Point]) -> Result<(), Stop>
     requires { W.faults out.old < 2 ^ 64 - 1 }
-    ensures { Writes result (W.taken out.old) (W.taken out.new) (W.faults out.old) (W.faults out.new)
+    ensures { Gathers result (W.taken out.old) (W.taken out.new) (W.faults out.old) (W.faults out.new) room.old room.new
         (in_order (λ n. block_text) 0 (points_of points.now)) }
 {
     for point in points {
-        write_block(out, point)?;
+        write_block(out, room, point)?;
     }
     Ok(())
 }
 
 /// Writes the line of a channel.
-fn write_channel<W: Out>(out: &mut W, channel: &Channel) -> Result<(), Stop>
+fn write_channel<W: Out>(out: &mut W, room: &mut Room, channel: &Channel) -> Result<(), Stop>
     requires { W.faults out.old < 2 ^ 64 - 1 }
-    ensures { Writes result (W.taken out.old) (W.taken out.new) (W.faults out.old) (W.faults out.new)
+    ensures { Gathers result (W.taken out.old) (W.taken out.new) (W.faults out.old) (W.faults out.new) room.old room.new
         (channel_text (channel_of channel.now)) }
 {
-    write_line(out, &Line::Channel(*channel))
+    write_line(out, room, &Line::Channel(*channel))
 }
 
 /// Writes the lines of channels, one after another.
-fn write_channels<W: Out>(out: &mut W, channels: &[Channel]) -> Result<(), Stop>
+fn write_channels<W: Out>(out: &mut W, room: &mut Room, channels: &[Channel]) -> Result<(), Stop>
     requires { W.faults out.old < 2 ^ 64 - 1 }
-    ensures { Writes result (W.taken out.old) (W.taken out.new) (W.faults out.old) (W.faults out.new)
+    ensures { Gathers result (W.taken out.old) (W.taken out.new) (W.faults out.old) (W.faults out.new) room.old room.new
         (in_order (λ n. channel_text) 0 (channels_of channels.now)) }
 {
     for channel in channels {
-        write_channel(out, channel)?;
+        write_channel(out, room, channel)?;
     }
     Ok(())
 }
 
 /// Writes the line of a ceiling.
-fn write_ceiling<W: Out>(out: &mut W, ceiling: &Ceiling) -> Result<(), Stop>
+fn write_ceiling<W: Out>(out: &mut W, room: &mut Room, ceiling: &Ceiling) -> Result<(), Stop>
     requires { W.faults out.old < 2 ^ 64 - 1 }
-    ensures { Writes result (W.taken out.old) (W.taken out.new) (W.faults out.old) (W.faults out.new)
+    ensures { Gathers result (W.taken out.old) (W.taken out.new) (W.faults out.old) (W.faults out.new) room.old room.new
         (ceiling_text (ceiling_of ceiling.now)) }
 {
-    write_line(out, &Line::Ceiling(*ceiling))
+    write_line(out, room, &Line::Ceiling(*ceiling))
 }
 
 /// Writes the lines of ceilings, one after another.
-fn write_ceilings<W: Out>(out: &mut W, ceilings: &[Ceiling]) -> Result<(), Stop>
+fn write_ceilings<W: Out>(out: &mut W, room: &mut Room, ceilings: &[Ceiling]) -> Result<(), Stop>
     requires { W.faults out.old < 2 ^ 64 - 1 }
-    ensures { Writes result (W.taken out.old) (W.taken out.new) (W.faults out.old) (W.faults out.new)
+    ensures { Gathers result (W.taken out.old) (W.taken out.new) (W.faults out.old) (W.faults out.new) room.old room.new
         (in_order (λ n. ceiling_text) 0 (map ceiling_of ceilings.now)) }
 {
     for ceiling in ceilings {
-        write_ceiling(out, ceiling)?;
+        write_ceiling(out, room, ceiling)?;
     }
     Ok(())
 }
 
 /// Writes the line of an end.
-fn write_end<W: Out>(out: &mut W, held: &End) -> Result<(), Stop>
+fn write_end<W: Out>(out: &mut W, room: &mut Room, held: &End) -> Result<(), Stop>
     requires { W.faults out.old < 2 ^ 64 - 1 }
-    ensures { Writes result (W.taken out.old) (W.taken out.new) (W.faults out.old) (W.faults out.new)
+    ensures { Gathers result (W.taken out.old) (W.taken out.new) (W.faults out.old) (W.faults out.new) room.old room.new
         (end_text (held_end_of held.now)) }
 {
-    write_line(out, &Line::Hold(*held))
+    write_line(out, room, &Line::Hold(*held))
 }
 
 /// Writes the lines of ends, one after another.
-fn write_ends<W: Out>(out: &mut W, holds: &[End]) -> Result<(), Stop>
+fn write_ends<W: Out>(out: &mut W, room: &mut Room, holds: &[End]) -> Result<(), Stop>
     requires { W.faults out.old < 2 ^ 64 - 1 }
-    ensures { Writes result (W.taken out.old) (W.taken out.new) (W.faults out.old) (W.faults out.new)
+    ensures { Gathers result (W.taken out.old) (W.taken out.new) (W.faults out.old) (W.faults out.new) room.old room.new
         (in_order (λ n. end_text) 0 (map held_end_of holds.now)) }
 {
     for held in holds {
-        write_end(out, held)?;
+        write_end(out, room, held)?;
     }
     Ok(())
 }
 
 /// Writes the ceilings and the ends of an authority.
-fn write_holdings<W: Out>(out: &mut W, authority: &Authority) -> Result<(), Stop>
+fn write_holdings<W: Out>(out: &mut W, room: &mut Room, authority: &Authority) -> Result<(), Stop>
     requires { W.faults out.old < 2 ^ 64 - 1 }
-    ensures { Writes result (W.taken out.old) (W.taken out.new) (W.faults out.old) (W.faults out.new)
+    ensures { Gathers result (W.taken out.old) (W.taken out.new) (W.faults out.old) (W.faults out.new) room.old room.new
         (in_order (λ n. ceiling_text) 0 (authority_of authority.now).ceilings ++ in_order (λ n. end_text) 0 (authority_of authority.now).holds) }
 {
-    write_ceilings(out, authority.ceilings())?;
-    write_ends(out, authority.holds())
+    write_ceilings(out, room, authority.ceilings())?;
+    write_ends(out, room, authority.holds())
 }
 
 /// The first line of an authority.
@@ -223,67 +233,73 @@ fn authority_line(authority: &Authority) -> Line
 }
 
 /// Writes the lines of an authority.
-fn write_authority<W: Out>(out: &mut W, authority: &Authority) -> Result<(), Stop>
+fn write_authority<W: Out>(out: &mut W, room: &mut Room, authority: &Authority) -> Result<(), Stop>
     requires { W.faults out.old < 2 ^ 64 - 1 }
-    ensures { Writes result (W.taken out.old) (W.taken out.new) (W.faults out.old) (W.faults out.new)
+    ensures { Gathers result (W.taken out.old) (W.taken out.new) (W.faults out.old) (W.faults out.new) room.old room.new
         (authority_text (authority_of authority.now)) }
 {
-    write_line(out, &authority_line(authority))?;
-    write_holdings(out, authority)
+    write_line(out, room, &authority_line(authority))?;
+    write_holdings(out, room, authority)
 }
 
 /// Writes the lines of authorities, one after another.
-fn write_authorities<W: Out>(out: &mut W, authorities: &[Authority]) -> Result<(), Stop>
+fn write_authorities<W: Out>(
+    out: &mut W,
+    room: &mut Room,
+    authorities: &[Authority],
+) -> Result<(), Stop>
     requires { W.faults out.old < 2 ^ 64 - 1 }
-    ensures { Writes result (W.taken out.old) (W.taken out.new) (W.faults out.old) (W.faults out.new)
+    ensures { Gathers result (W.taken out.old) (W.taken out.new) (W.faults out.old) (W.faults out.new) room.old room.new
         (in_order (λ n. authority_text) 0 (authorities_of authorities.now)) }
 {
     for authority in authorities {
-        write_authority(out, authority)?;
+        write_authority(out, room, authority)?;
     }
     Ok(())
 }
 
 /// Writes the lines of authorities, and the last line behind them.
-fn write_last<W: Out>(out: &mut W, authorities: &[Authority]) -> Result<(), Stop>
+fn write_last<W: Out>(out: &mut W, room: &mut Room, authorities: &[Authority]) -> Result<(), Stop>
     requires { W.faults out.old < 2 ^ 64 - 1 }
-    ensures { Writes result (W.taken out.old) (W.taken out.new) (W.faults out.old) (W.faults out.new)
+    ensures { Gathers result (W.taken out.old) (W.taken out.new) (W.faults out.old) (W.faults out.new) room.old room.new
         (in_order (λ n. authority_text) 0 (authorities_of authorities.now) ++ ended_line end_line) }
 {
-    write_authorities(out, authorities)?;
-    write_bytes(out, b"end\n")
+    write_authorities(out, room, authorities)?;
+    write_bytes(out, room, b"end\n")
 }
 
 /// Writes the channels and what stands behind them.
 fn write_rest<W: Out>(
     out: &mut W,
+    room: &mut Room,
     channels: &[Channel],
     authorities: &[Authority],
 ) -> Result<(), Stop>
     requires { W.faults out.old < 2 ^ 64 - 1 }
-    ensures { Writes result (W.taken out.old) (W.taken out.new) (W.faults out.old) (W.faults out.new)
+    ensures { Gathers result (W.taken out.old) (W.taken out.new) (W.faults out.old) (W.faults out.new) room.old room.new
         (in_order (λ n. channel_text) 0 (channels_of channels.now)
         ++ (in_order (λ n. authority_text) 0 (authorities_of authorities.now) ++ ended_line end_line)) }
 {
-    write_channels(out, channels)?;
-    write_last(out, authorities)
+    write_channels(out, room, channels)?;
+    write_last(out, room, authorities)
 }
 
 /// Writes the blocks of points, and what stands behind them.
 fn write_body<W: Out>(
     out: &mut W,
+    room: &mut Room,
     points: &[Point],
     channels: &[Channel],
     authorities: &[Authority],
 ) -> Result<(), Stop>
     requires { W.faults out.old < 2 ^ 64 - 1 }
-    ensures { Writes result (W.taken out.old) (W.taken out.new) (W.faults out.old) (W.faults out.new)
+    ensures { Gathers result (W.taken out.old) (W.taken out.new) (W.faults out.old) (W.faults out.new) room.old room.new
         (in_order (λ n. block_text) 0 (points_of points.now)
         ++ (in_order (λ n. channel_text) 0 (channels_of channels.now)
         ++ (in_order (λ n. authority_text) 0 (authorities_of authorities.now) ++ ended_line end_line))) }
 {
-    write_points(out, points)?;
-    write_rest(out, channels, authorities)
+    write_points(out, room, points)?;
+    write_rest(out, room, channels, authorities)
 }
 
 /// The first line of a certificate of this version, with its line feed.
@@ -297,6 +313,20 @@ fn version_line(version: Version) -> &'static [u8]
     }
 }
 
+/// Gathers the text of a certificate, and hands on what there is no room for.
+fn gather_cert<W: Out>(cert: &Cert, out: &mut W, room: &mut Room) -> Result<(), Stop>
+    requires { W.faults out.old < 2 ^ 64 - 1 }
+    ensures written { Gathers result (W.taken out.old) (W.taken out.new) (W.faults out.old) (W.faults out.new) room.old room.new
+        (certificate_text cert.now) }
+    ensures reads_back { certificate_of_text (certificate_text cert.now) ≡ Ok cert.now }
+    ensures alone { (text : List ℕ) → certificate_of_text text ≡ Ok cert.now → text ≡ certificate_text cert.now }
+{
+    let (points, channels) = (cert.points(), cert.channels());
+    let authorities = cert.authorities();
+    write_bytes(out, room, version_line(cert.version()))?;
+    write_body(out, room, points, channels, authorities)
+}
+
 /// Writes the text of a certificate of any version. `Device` is answered only after a failure of the writer, and what it
 /// took then is a beginning of the text; nothing else is answered, since it takes no memory. That text is read as this
 /// certificate, and no other is. (own)
@@ -307,8 +337,7 @@ pub fn write_cert<W: Out>(cert: &Cert, out: &mut W) -> Result<(), Stop>
     ensures reads_back { certificate_of_text (certificate_text cert.now) ≡ Ok cert.now }
     ensures alone { (text : List ℕ) → certificate_of_text text ≡ Ok cert.now → text ≡ certificate_text cert.now }
 {
-    let (points, channels) = (cert.points(), cert.channels());
-    let authorities = cert.authorities();
-    write_bytes(out, version_line(cert.version()))?;
-    write_body(out, points, channels, authorities)
+    let mut room = Room::new();
+    gather_cert(cert, out, &mut room)?;
+    hand_on(out, &room)
 }

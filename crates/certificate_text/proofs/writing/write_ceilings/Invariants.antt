@@ -7,5 +7,5 @@ use Rattle.certificate_text.proofs.writing.write_ceilings.Given as goal
 -- those before this one are written
 abbrev pub invariant-loop-ceiling : goal.invariant-loop-ceiling
 invariant-loop-ceiling g l =
-    Written (g.W.Out.taken l.fn.out) (g.W.Out.taken l.out) (g.W.Out.faults l.fn.out) (g.W.Out.faults l.out)
+    Written (g.W.Out.taken l.fn.out) (g.W.Out.taken l.out) (g.W.Out.faults l.fn.out) (g.W.Out.faults l.out) l.fn.room l.room
     (in_order (λ n. ceiling_text) 0 (map ceiling_of l.ceilings)) (in_order (λ n. ceiling_text) l.ceiling-index (map ceiling_of (drop l.ceiling-index l.ceilings)))

@@ -7,17 +7,17 @@ use Rattle.certificate_text.proofs.writing.write_channels.Goals as goal
 
 pub returns-in_err-write_channel : goal.returns-in_err-write_channel
 returns-in_err-write_channel g c =
-    loop-failed channel_of (λ n. channel_text) c.args.channels.now _ _ _ _ _ _ c.loop-channel.channel-index
+    loop-failed channel_of (λ n. channel_text) c.args.channels.now _ _ _ _ _ _ _ _ _ c.loop-channel.channel-index
     (in_order (λ n. channel_text) 0 (map channel_of c.args.channels.now)) c.channel-item.result c.loop-channel-test.true c.channel-item.is
     c.loop-channel.invariant
     c.in_err-write_channel.field-0.0 _ (passed_on _ _ c.from_residual.ensures) c.in_err-write_channel.ensures
 
 pub loop-channel-preserved : goal.loop-channel-preserved
 loop-channel-preserved g c =
-    loop-next channel_of (λ n. channel_text) c.args.channels.now _ _ _ _ _ _ c.loop-channel.channel-index
+    loop-next channel_of (λ n. channel_text) c.args.channels.now _ _ _ _ _ _ _ _ _ c.loop-channel.channel-index
     (in_order (λ n. channel_text) 0 (map channel_of c.args.channels.now)) c.channel-item.result c.loop-channel-test.true c.channel-item.is
     c.loop-channel.invariant
     c.in_ok-write_channel.field-0 c.in_ok-write_channel.ensures
 
 pub returns : goal.returns
-returns g c = loop-end channel_of (λ n. channel_text) c.args.channels.now _ _ _ _ c.loop-channel.channel-index _ tt c.loop-channel-test.false c.loop-channel.invariant
+returns g c = loop-end channel_of (λ n. channel_text) c.args.channels.now _ _ _ _ _ _ c.loop-channel.channel-index _ tt c.loop-channel-test.false c.loop-channel.invariant

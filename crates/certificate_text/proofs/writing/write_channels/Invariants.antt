@@ -7,5 +7,5 @@ use Rattle.certificate_text.proofs.writing.write_channels.Given as goal
 -- those before this one are written
 abbrev pub invariant-loop-channel : goal.invariant-loop-channel
 invariant-loop-channel g l =
-    Written (g.W.Out.taken l.fn.out) (g.W.Out.taken l.out) (g.W.Out.faults l.fn.out) (g.W.Out.faults l.out)
+    Written (g.W.Out.taken l.fn.out) (g.W.Out.taken l.out) (g.W.Out.faults l.fn.out) (g.W.Out.faults l.out) l.fn.room l.room
     (in_order (λ n. channel_text) 0 (map channel_of l.channels)) (in_order (λ n. channel_text) l.channel-index (map channel_of (drop l.channel-index l.channels)))

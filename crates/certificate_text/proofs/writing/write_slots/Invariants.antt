@@ -7,5 +7,5 @@ use Rattle.certificate_text.proofs.writing.write_slots.Given as goal
 -- those before this one are written
 abbrev pub invariant-loop-number : goal.invariant-loop-number
 invariant-loop-number g l =
-    Written (g.W.Out.taken l.fn.out) (g.W.Out.taken l.out) (g.W.Out.faults l.fn.out) (g.W.Out.faults l.out)
+    Written (g.W.Out.taken l.fn.out) (g.W.Out.taken l.out) (g.W.Out.faults l.fn.out) (g.W.Out.faults l.out) l.fn.room l.room
     (in_order slot_text 0 (map slot_of l.slots)) (in_order slot_text l.number (map slot_of (drop l.number l.slots)))
