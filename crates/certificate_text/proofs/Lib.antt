@@ -5,10 +5,12 @@ pub mod PointWords
 pub mod Growing
 pub mod LineBack
 pub mod Written
+pub mod GatheredTexts
 pub mod WordsBack
 pub mod LineText
 pub mod OneSpelling
 pub mod InOrder
 pub mod Loops
+pub mod GatheredLoops
 pub mod Pieces
 pub mod Spaced

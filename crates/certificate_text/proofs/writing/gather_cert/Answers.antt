@@ -4,7 +4,8 @@ use Rattle.certificate_text.specs.Pieces.{authority_text, block_text, channel_te
 use Rattle.certificate_text.specs.Texts.{ended_line, first_line, end_line}
 use Rattle.certificate_text.proofs.OneSpelling.{text-back, text-read}
 use Rattle.certificate_text.proofs.Pieces.{whole-text}
-use Rattle.certificate_text.proofs.Written.{passed_on, written-as, written-both, written-front}
+use Rattle.certificate_text.proofs.GatheredTexts.{gathered-as, gathered-both, gathered-front}
+use Rattle.certificate_text.proofs.Written.{passed_on}
 use Rattle.certificate_text.proofs.writing.gather_cert.Goals as goal
 
 -- what stands behind the first line
@@ -17,9 +18,9 @@ pub returns-in_err-write_bytes-clause-written : goal.returns-in_err-write_bytes-
 returns-in_err-write_bytes-clause-written g c =
     let cert = c.args.cert.now in
     let first = c.version_line.ensures ∙ ap (λ version. ended_line (first_line version)) c.version.ensures in
-    written-as _ _ _ _ _ _ _ _ _
+    gathered-as _ _ _ _ _ _ _ _ _
     (ap (λ line. line ++ behind cert.points cert.channels cert.authorities) first ∙ whole-text cert)
-    (written-front _ _ _ _ _ _ _ _ c.in_err-write_bytes.field-0.0 _ (passed_on _ _ c.from_residual.ensures) c.in_err-write_bytes.ensures)
+    (gathered-front _ _ _ _ _ _ _ _ c.in_err-write_bytes.field-0.0 _ (passed_on _ _ c.from_residual.ensures) c.in_err-write_bytes.ensures)
 
 pub returns-in_err-write_bytes-clause-reads_back : goal.returns-in_err-write_bytes-clause-reads_back
 returns-in_err-write_bytes-clause-reads_back g c = text-back c.args.cert.now c.points-points.ensures.valid
@@ -31,10 +32,10 @@ pub returns-clause-written : goal.returns-clause-written
 returns-clause-written g c =
     let cert = c.args.cert.now in
     let first = c.version_line.ensures ∙ ap (λ version. ended_line (first_line version)) c.version.ensures in
-    written-as _ _ _ _ _ _ _ _ _
+    gathered-as _ _ _ _ _ _ _ _ _
     ((λ i. first i ++ behind (c.points-points.ensures.points i) (c.channels-channels.ensures.channels i) (c.authorities-authorities.ensures.authorities i))
     ∙ whole-text cert)
-    (written-both _ _ _ _ _ _ _ _ _ _ _ _ _ c.in_ok-write_bytes.ensures c.write_body.ensures)
+    (gathered-both _ _ _ _ _ _ _ _ _ _ _ _ _ c.in_ok-write_bytes.ensures c.write_body.ensures)
 
 pub returns-clause-reads_back : goal.returns-clause-reads_back
 returns-clause-reads_back g c = text-back c.args.cert.now c.points-points.ensures.valid

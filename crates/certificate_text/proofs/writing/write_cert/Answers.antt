@@ -2,7 +2,7 @@ use Rattle.std.proofs.Common.{subst}
 use Rattle.std.specs.Prelude.{Ok}
 use Rattle.certificate_text.specs.Texts.{certificate_text}
 use Rattle.certificate_text.specs.WritingViews.{Gathers}
-use Rattle.certificate_text.proofs.Written.{handed-all}
+use Rattle.certificate_text.proofs.GatheredTexts.{handed-all}
 use Rattle.certificate_text.proofs.writing.write_cert.Goals as goal
 
 pub returns-clause-written : goal.returns-clause-written

@@ -1,7 +1,7 @@
 use Rattle.std.proofs.Common.{map}
 use Rattle.certificate.specs.Views.{channel_of}
 use Rattle.certificate_text.specs.Pieces.{in_order, channel_text}
-use Rattle.certificate_text.proofs.Loops.{loop-end, loop-failed, loop-next}
+use Rattle.certificate_text.proofs.GatheredLoops.{loop-end, loop-failed, loop-next}
 use Rattle.certificate_text.proofs.Written.{passed_on}
 use Rattle.certificate_text.proofs.writing.write_channels.Goals as goal
 

@@ -1,8 +1,9 @@
-use Rattle.certificate_text.proofs.Written.{passed_on, written-both, written-front}
+use Rattle.certificate_text.proofs.GatheredTexts.{gathered-both, gathered-front}
+use Rattle.certificate_text.proofs.Written.{passed_on}
 use Rattle.certificate_text.proofs.writing.write_rest.Goals as goal
 
 pub returns-in_err-write_channels : goal.returns-in_err-write_channels
-returns-in_err-write_channels g c = written-front _ _ _ _ _ _ _ _ c.in_err-write_channels.field-0.0 _ (passed_on _ _ c.from_residual.ensures) c.in_err-write_channels.ensures
+returns-in_err-write_channels g c = gathered-front _ _ _ _ _ _ _ _ c.in_err-write_channels.field-0.0 _ (passed_on _ _ c.from_residual.ensures) c.in_err-write_channels.ensures
 
 pub returns : goal.returns
-returns g c = written-both _ _ _ _ _ _ _ _ _ _ _ _ _ c.in_ok-write_channels.ensures c.write_last.ensures
+returns g c = gathered-both _ _ _ _ _ _ _ _ _ _ _ _ _ c.in_ok-write_channels.ensures c.write_last.ensures
