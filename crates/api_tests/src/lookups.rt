@@ -3,7 +3,7 @@
 use crate::trees::{Grown, Row, base, node, plays};
 use file_tree::{New, Tree, TreeFault};
 use link_tree::LinkTree;
-use lookup::{Found, Last, PathFault, Way, find, last_name};
+use lookup::{Found, Last, PathFault, Way, find, find_name, last_name};
 use place_tree::PlaceTree;
 use std::alloc::Global;
 use std::process::Abort;
@@ -98,6 +98,32 @@ fn from_work<T: Tree>(rt: &impl Abort, alloc: Global) -> Result<(), TreeFault> {
     Ok(())
 }
 
+/// Names alone, from `/work` of the base tree: what they lead to at once, or nothing where that takes a walk.
+fn at_once<T: Tree>(rt: &impl Abort, alloc: Global) -> Result<(), TreeFault> {
+    let rows: [(&[u8], Last, Option<Led>); 6] = [
+        (b"in", Last::Follow, Some(Led::Node(2))),
+        (b"same", Last::Keep, Some(Led::Node(4))),
+        (b"nope", Last::Keep, Some(Led::Free(1))),
+        (b"same", Last::Follow, None),
+        (b"nope", Last::Follow, None),
+        (b"out/new", Last::Keep, None),
+    ];
+    let grown = base::<T>(rt, alloc)?;
+    let start = node(rt, &grown, 1);
+    for (number, (path, last, led)) in rows.iter().enumerate() {
+        let wanted = match *led {
+            Some(Led::Node(n)) => Some(Found::Node(node(rt, &grown, n))),
+            Some(Led::Free(dir)) => Some(Found::Free(node(rt, &grown, dir))),
+            Some(Led::Fault(_)) | None => None,
+        };
+        assert!(rt;
+            find_name(&grown.tree, start, *path, *last) == wanted,
+            "row {number}"
+        );
+    }
+    Ok(())
+}
+
 /// Nothing is found beneath a removed directory, though its name is taken again.
 fn removed<T: Tree>(rt: &impl Abort, alloc: Global) -> Result<(), TreeFault> {
     let mut grown = base::<T>(rt, alloc)?;
@@ -172,6 +198,7 @@ fn lengths<T: Tree>(rt: &impl Abort, alloc: Global) -> Result<(), TreeFault> {
 /// All rows, on one way to keep a tree.
 fn rows<T: Tree>(rt: &impl Abort, alloc: Global) -> Result<(), TreeFault> {
     from_work::<T>(rt, alloc)?;
+    at_once::<T>(rt, alloc)?;
     removed::<T>(rt, alloc)?;
     chain::<T>(rt, alloc)?;
     lengths::<T>(rt, alloc)

@@ -17,7 +17,7 @@ fn may_stand_in_name(byte: u8) -> bool
 fn is_dot_name(name: &[u8]) -> bool
     ensures { result ≡ is_dots name.now }
 {
-    name == b".".as_slice() || name == b"..".as_slice()
+    matches!(name, [b'.'] | [b'.', b'.'])
 }
 
 /// Whether each byte may stand in a name.

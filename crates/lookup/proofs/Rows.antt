@@ -1,6 +1,6 @@
 -- Rows of the definitions: the values of worked examples, which the definitions compute.
-use Rattle.std.specs.Prelude.{◌≡◌, ℕ, zero, suc, ◌+◌, List, [], ◌∷◌, ◌++◌, codes, replicate, refl}
-use Rattle.file_tree.specs.Places.{path_components}
+use Rattle.std.specs.Prelude.{◌≡◌, ℕ, zero, suc, ◌+◌, List, [], ◌∷◌, ◌++◌, Some, None, codes, replicate, refl}
+use Rattle.file_tree.specs.Places.{is_file_name, path_components}
 use Rattle.file_tree.specs.Nodes.{File, Dir, Link, Node, node_at, child_of, parent_of}
 use Rattle.file_tree.specs.Changes.{removed}
 use Rattle.file_tree.specs.Refusals.{new_tree, created}
@@ -10,6 +10,7 @@ use Rattle.lookup.specs.Steps.{looked}
 use Rattle.lookup.specs.ByPlaces.{by_places}
 use Rattle.lookup.specs.ByNodes.{by_nodes}
 use Rattle.lookup.specs.Looks.{lookup_fault, find_of, walk_of}
+use Rattle.lookup.specs.AtOnce.{at_once}
 
 -- Directories `/work` with `in`, `out` and three links, `/workshop` with `x`, `/log`, and `/etc` with
 -- `passwd`: eleven nodes after the root.
@@ -249,3 +250,49 @@ greatest_path = (refl, refl)
 long_absolute : Leads_to base (replicate 1024 47) Beneath Keep (Not_found Too_long)
 unfolding base created find_of walk_of lookup_fault path_fault path_components last_component looked by_places by_nodes node_at child_of parent_of
 long_absolute = (refl, refl)
+
+-- One name that leads somewhere at once, from `/work`: to what has it, or to that it is free if it is kept.
+file_at_once : at_once base 1 (codes "in") Follow ≡ Some (Found_node 2)
+unfolding base created removed at_once is_file_name node_at child_of parent_of
+file_at_once = refl
+
+directory_at_once : at_once base 1 (codes "out") Follow ≡ Some (Found_node 3)
+unfolding base created removed at_once is_file_name node_at child_of parent_of
+directory_at_once = refl
+
+kept_link_at_once : at_once base 1 (codes "same") Keep ≡ Some (Found_node 4)
+unfolding base created removed at_once is_file_name node_at child_of parent_of
+kept_link_at_once = refl
+
+free_at_once : at_once base 1 (codes "new") Keep ≡ Some (Found_free 1)
+unfolding base created removed at_once is_file_name node_at child_of parent_of
+free_at_once = refl
+
+-- and what takes a walk
+no_followed_link : at_once base 1 (codes "same") Follow ≡ None
+unfolding base created removed at_once is_file_name node_at child_of parent_of
+no_followed_link = refl
+
+no_absent_name : at_once base 1 (codes "new") Follow ≡ None
+unfolding base created removed at_once is_file_name node_at child_of parent_of
+no_absent_name = refl
+
+no_dot_dot : at_once base 1 (codes "..") Keep ≡ None
+unfolding base created removed at_once is_file_name node_at child_of parent_of
+no_dot_dot = refl
+
+no_path : at_once base 1 (codes "out/new") Keep ≡ None
+unfolding base created removed at_once is_file_name node_at child_of parent_of
+no_path = refl
+
+no_name : at_once base 1 (codes "") Keep ≡ None
+unfolding base created removed at_once is_file_name node_at child_of parent_of
+no_name = refl
+
+no_file_above : at_once base 2 (codes "x") Keep ≡ None
+unfolding base created removed at_once is_file_name node_at child_of parent_of
+no_file_above = refl
+
+no_removed_directory : at_once (removed base 3) 3 (codes "f") Keep ≡ None
+unfolding base created removed at_once is_file_name node_at child_of parent_of
+no_removed_directory = refl

@@ -7,6 +7,7 @@ pub mod ByNodes
 pub mod Looks
 pub mod Promises
 pub mod Walks
+pub mod AtOnce
 pub mod UnderWay
 pub mod NameViews
 pub mod Views

@@ -5,6 +5,7 @@
 //! exact both ways.
 #![tactic(auto)]
 
+pub mod at_once;
 pub mod faults;
 pub mod lookups;
 mod names;
@@ -13,6 +14,7 @@ mod trail;
 pub mod walk;
 pub mod ways;
 
+pub use at_once::find_name;
 pub use faults::PathFault;
 pub use lookups::find;
 pub use paths::last_name;

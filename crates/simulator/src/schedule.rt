@@ -91,10 +91,28 @@ fn may_begin(digits: &[u8]) -> bool
     }
 }
 
+/// The number that the text begins with, if it is one digit and this byte ends it, and what is behind the byte.
+fn first_digit(text: &[u8], end: u8) -> Option<(u32, &[u8])>
+    ensures { IfSome result (λ found. BeginsWithNumber text.now end found.0 found.1.now) }
+{
+    match text {
+        [digit, last, rest @ ..] if digit.is_ascii_digit() && *last == end => Some((
+            u32::from(*digit - b'0'),
+            rest,
+        )),
+        _ => None,
+    }
+}
+
 /// The number below 1000 that the text begins with, if this byte ends it, and what is behind the byte.
 fn first_number(text: &[u8], end: u8) -> Option<(u32, &[u8])>
     ensures { IfSome result (λ found. BeginsWithNumber text.now end found.0 found.1.now) }
 {
+    // Most numbers have one digit.
+    let digit = first_digit(text, end);
+    if digit.is_some() {
+        return digit;
+    }
     let mut number: u32 = 0;
     for (at, byte) in text.iter().enumerate() {
         if *byte == end {

@@ -4,6 +4,7 @@ pub mod Pairing
 mod Growth
 pub mod Finding
 pub mod Walked
+pub mod AtOnce
 pub mod Unwaiting
 pub mod Forking
 pub mod Queues

@@ -1,6 +1,6 @@
 //! Lookups of calls, one name at an event: what the event finds, or why its call doesn't go on.
 
-ghost use Rattle.std.specs.Prelude.{◌≡◌, ◌<◌, Err, IfOk, IfSome, None, false, length};
+ghost use Rattle.std.specs.Prelude.{◌≡◌, ◌<◌, Err, Ok, IfOk, IfSome, None, false, length};
 ghost use Rattle.file_tree.specs.Nodes.{is_link, node};
 ghost use Rattle.file_tree.specs.WellFormed.{IsTree};
 ghost use Rattle.lookup.specs.Answers as lookups;
@@ -20,7 +20,7 @@ ghost use Rattle.syscalls.specs.AnswerViews.{AreFound, Finds, FindsLast, LeavesN
 
 use crate::outcomes::Refusal;
 use file_tree::{NodeId, Tree};
-use lookup::{Found, Last, PathFault, Progress, Walk, Way};
+use lookup::{Found, Last, PathFault, Progress, Walk, Way, find_name};
 use process::Walking;
 use rights::{Cause, Errno};
 use std::alloc::Global;
@@ -66,6 +66,12 @@ fn step_first<T: Tree>(
     requires { start < length (T.nodes tree.now) }
     ensures { Finds (first_handled (T.nodes tree.now) start path.now (way_of way) (last_of last)) result }
 {
+    // One name that leads somewhere at once needs no walk.
+    if way == Way::Beneath {
+        if let Some(found) = find_name(tree, start, path, last) {
+            return Ok(found);
+        }
+    }
     match Walk::begin(alloc, tree, start, path, way, last) {
         Ok(walk) => step_on(tree, walk),
         Err(fault) => Err(refusal_of(fault)),
@@ -215,6 +221,33 @@ fn step_both<T: Tree>(tree: &T, one: Walk, other: Walk) -> Result<Both, Refusal>
     step_last_names(tree, one, other)
 }
 
+/// What two paths lead to of which each is one name, if both lead there at once.
+fn find_both<T: Tree>(
+    tree: &T,
+    start: NodeId,
+    path: &[u8],
+    target: NodeId,
+    new_path: &[u8],
+) -> Option<Both>
+    requires there { start < length (T.nodes tree.now) }
+    requires opened { is_link (node (T.nodes tree.now) start).kind ≡ false }
+    requires target_there { target < length (T.nodes tree.now) }
+    requires target_opened { is_link (node (T.nodes tree.now) target).kind ≡ false }
+    ensures leads { (s : ProcessState) → IfSome result (λ both. RenamesIn (T.nodes tree.now) s (λ w p s e rest.
+        or_fails (lookup_fault (T.nodes tree.now) start path.now lookups.Beneath lookups.Keep)
+        (or_fails (lookup_fault (T.nodes tree.now) target new_path.now lookups.Beneath lookups.Keep)
+        (model.walked_both w p s e rest (walks.begun start path.now lookups.Beneath lookups.Keep) (walks.begun target new_path.now lookups.Beneath lookups.Keep)))) (Ok both)) }
+    ensures found { IfSome result (AreFound (T.nodes tree.now) path.now new_path.now) }
+{
+    match find_name(tree, start, path, Last::Keep)? {
+        Found::Free(_) => None,
+        Found::Node(node) => {
+            let place = find_name(tree, target, new_path, Last::Keep)?;
+            Some(Both { node, place })
+        }
+    }
+}
+
 /// The first event of the two lookups of a rename. What is wrong with the text or the start of either path is told first. (own)
 fn step_both_first<T: Tree>(
     alloc: Global,
@@ -234,6 +267,9 @@ fn step_both_first<T: Tree>(
         (model.walked_both w p s e rest (walks.begun start path.now lookups.Beneath lookups.Keep) (walks.begun target new_path.now lookups.Beneath lookups.Keep)))) result }
     ensures found { IfOk result (AreFound (T.nodes tree.now) path.now new_path.now) }
 {
+    if let Some(both) = find_both(tree, start, path, target, new_path) {
+        return Ok(both);
+    }
     let one = match Walk::begin(alloc, tree, start, path, Way::Beneath, Last::Keep) {
         Err(fault) => return Err(refusal_of(fault)),
         Ok(walk) => walk,

@@ -143,12 +143,12 @@ pub(crate) fn remove<T: Tree>(
     }
 }
 
-/// These effects, in this order.
+/// These effects, in this order, with room for a third.
 fn two_effects(alloc: Global, first: Effect, second: Effect) -> Result<Vec<Effect>, Refusal>
     ensures effects { IfOk result (λ effects. effects_of effects.items ≡ effect_of first ∷ effect_of second ∷ []) }
     ensures only_memory { IfErr result (λ e. e ≡ Refusal.Memory) }
 {
-    let mut effects = Vec::new(alloc);
+    let mut effects = Vec::with_capacity(alloc, 3)?;
     effects.push(first)?;
     effects.push(second)?;
     Ok(effects)

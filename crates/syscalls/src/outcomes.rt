@@ -13,6 +13,9 @@ use process::Walking;
 use rights::{Cause, Errno, Memory, Op};
 use std::alloc::{AllocError, AllocFailed, Global};
 
+/// So many bytes hold the text of most places.
+const USUAL_PLACE: usize = 64;
+
 /// An operation at a place, written as a trace prints it: `/` for the root, else each name after a `/`.
 #[derive(Drop, PartialEq, Eq)]
 pub struct Effect {
@@ -104,7 +107,7 @@ pub(crate) fn place_of<T: Tree>(alloc: Global, tree: &T, n: NodeId) -> Result<Ve
     ensures place { IfOk result (λ place. place.items ≡ place_text (node (T.nodes tree.now) n).place) }
     ensures only_memory { IfErr result (λ e. e ≡ Refusal.Memory) }
 {
-    let mut place = Vec::new(alloc);
+    let mut place = Vec::with_capacity(alloc, USUAL_PLACE)?;
     if tree.place_text(n, &mut place).is_err() {
         return Err(Refusal::Memory);
     }
@@ -138,7 +141,7 @@ pub(crate) fn effects_at<T: Tree>(
     ensures only_memory { IfErr result (λ e. e ≡ Refusal.Memory) }
 {
     let effect = effect_at(alloc, tree, op, n)?;
-    let mut effects = Vec::new(alloc);
+    let mut effects = Vec::with_capacity(alloc, 1)?;
     effects.push(effect)?;
     Ok(effects)
 }

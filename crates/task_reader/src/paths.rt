@@ -33,7 +33,7 @@ fn has_name_bytes(name: &[u8]) -> bool
 fn is_dot_name(name: &[u8]) -> bool
     ensures { result ≡ is_dots name.now }
 {
-    name == b".".as_slice() || name == b"..".as_slice()
+    matches!(name, [b'.'] | [b'.', b'.'])
 }
 
 /// Whether a text is a name of a path: a node's name of any length. (own)
