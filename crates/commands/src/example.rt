@@ -10,7 +10,7 @@ ghost use Rattle.task.specs.Views.{grants_of, nodes_of, starts_of};
 
 use fd_table::Access;
 use file_tree::Kind;
-use prog_asm::{Instruction, Operand, Program, Syscall};
+use programs::{Instruction, Operand, Program, Syscall};
 use rights::{Fcntls, Op, Rights};
 use std::alloc::{AllocError, Global};
 use task::{FirstDescriptor, FirstObject, Grant, NamedProgram, Start, Task, TaskNode};

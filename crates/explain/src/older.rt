@@ -3,7 +3,7 @@
 use crate::scenes::short;
 use certificate::{Cert, Version};
 use checker::is_named;
-use prog_asm::Instruction;
+use programs::Instruction;
 use std::alloc::{AllocError, Global};
 use task::Task;
 use task_text::Page;

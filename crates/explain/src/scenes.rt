@@ -2,7 +2,7 @@
 
 use certificate::{Bound, Cert, Name};
 use checker::instruction_at;
-use prog_asm::Instruction;
+use programs::Instruction;
 use task::Task;
 use task_text::Piece::{Bytes, Number, Text};
 use task_text::{Page, ProgramText, Written};

@@ -1,7 +1,7 @@
 //! The slots that an operand may name, and what a call needs of them.
 
 use certificate::{Bound, Held};
-use prog_asm::Operand;
+use programs::Operand;
 use transfer::{Need, operand_interval};
 
 /// A slot that may be open.

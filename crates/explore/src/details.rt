@@ -5,7 +5,7 @@ use crate::runners::{Runner, call_of, first_operand, value_of};
 use bitflags::Flags;
 use fd_table::Descriptor;
 use process::Process;
-use prog_asm::{Operand, Syscall};
+use programs::{Operand, Syscall};
 use rights::{Call, Fcntls, Memory, OpenFlags, Position, Rights, needs};
 use std::alloc::{AllocError, Global};
 use syscalls::Event;

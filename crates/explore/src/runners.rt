@@ -9,7 +9,7 @@ use crate::trees::{TreeDigest, digest_of_tree};
 use fd_table::{Description, Descriptor, End, Object};
 use link_tree::LinkTree;
 use process::Process;
-use prog_asm::{Instruction, Operand, Syscall};
+use programs::{Instruction, Operand, Syscall};
 use rights::limits::MAX_PROCESSES;
 use rights::{Memory, Op, Stop};
 use simulator::{Acted, LineResult, Machine};

@@ -6,7 +6,7 @@ use Rattle.std.proofs.lemmas.Bool.{and_parts}
 use Rattle.std.proofs.Math.Decide.{ℕ_discrete}
 use Rattle.rights.specs.Sets.{is_within, all_rights, all_commands, read_right}
 use Rattle.process.specs.State.{new_process}
-use Rattle.prog_asm.specs.Programs.{Syscall, Number, Sendfd, Recvfd, Dup, Cap_rights_limit, Cap_fcntls_limit, Fork}
+use Rattle.programs.specs.Programs.{Syscall, Number, Sendfd, Recvfd, Dup, Cap_rights_limit, Cap_fcntls_limit, Fork}
 use Rattle.fd_table.specs.Descriptions.{Descriptor, Message}
 use Rattle.kernel.specs.World.{World}
 use Rattle.kernel.specs.Origins.{Caller, ComesFrom, stood, was_made, was_copied, makes_own, source_of, IsNoWider, IsMade, IsSent, origin, QueuedFrom, had_waited, was_sent}

@@ -2,7 +2,7 @@
 use Rattle.std.specs.Prelude.{ℕ, Bool, true, false, not, ◌&&◌, List, replicate, slice_set, Option, Some, None, is_some, if◌then◌else◌}
 use Rattle.rights.specs.Limits.{register_count}
 use Rattle.lookup.specs.Walks.{WalkState}
-use Rattle.prog_asm.specs.Programs.{Instruction}
+use Rattle.programs.specs.Programs.{Instruction}
 
 -- The lookups that a call has under way between its events: of its path, or of the two paths of a rename.
 pub data Walking : Type 0 where

@@ -1,4 +1,3 @@
-mod Rows
 pub mod WordsRead
 pub mod Ends
 pub mod DraftLaws

@@ -1,13 +1,6 @@
-pub mod Assembly
 pub mod DraftViews
 pub mod FaultViews
-pub mod Fields
 pub mod FormParts
 pub mod FormViews
-pub mod Forms
 pub mod LineViews
-pub mod Lines
-pub mod Programs
 pub mod ReadingViews
-pub mod Views
-pub mod Paths

@@ -1,16 +1,16 @@
 //! A text that is read line by line, before labels are points.
 
 ghost use Rattle.std.specs.Prelude.{◌≡◌, ◌+◌, Ok, ◌≤◌, [], List, length, map, option_map};
-ghost use Rattle.prog_asm.specs.Assembly.{Line as LineRead, line_read, lines_behind, placed};
+ghost use Rattle.programs.specs.Assembly.{Line as LineRead, line_read, lines_behind, placed};
 ghost use Rattle.prog_asm.specs.DraftViews.{AddsLine, Drafts, DraftsLines, StepAdded, below, step_from};
 ghost use Rattle.prog_asm.specs.FormViews.{written_from};
 ghost use Rattle.prog_asm.specs.LineViews.{line_from, point_in};
-ghost use Rattle.prog_asm.specs.Lines.{text_lines};
-ghost use Rattle.prog_asm.specs.Views.{instruction_of};
+ghost use Rattle.programs.specs.Lines.{text_lines};
+ghost use Rattle.programs.specs.Views.{instruction_of};
 
 use crate::faults::{AsmFault, fault_at};
 use crate::forms::Written;
-use crate::instructions::Instruction;
+use programs::Instruction;
 use crate::labels::{add_label, point_of};
 use crate::mistakes::Mistake;
 use crate::statements::{Line, read_line};

@@ -5,14 +5,14 @@ ghost use Rattle.std.specs.Prelude.{◌≡◌, map};
 ghost use Rattle.rights.specs.Views.{call_of};
 ghost use Rattle.prog_asm.specs.FormParts.{at_call_at, descriptor_call_at, register_form_at};
 ghost use Rattle.prog_asm.specs.FormViews.{TakesField, TakesWord, mnemonic_from, written_from};
-ghost use Rattle.prog_asm.specs.Forms.{Make, commands_at, directory_at, else_at, flags_at, label_at, number_at, operand_at, path_at, register_at, rights_at, syscall_at, written_at, written_of};
+ghost use Rattle.programs.specs.Forms.{Make, commands_at, directory_at, else_at, flags_at, label_at, number_at, operand_at, path_at, register_at, rights_at, syscall_at, written_at, written_of};
 ghost use Rattle.prog_asm.specs.ReadingViews.{ReadsField};
-ghost use Rattle.prog_asm.specs.Views.{operand_of, syscall_of};
+ghost use Rattle.programs.specs.Views.{operand_of, syscall_of};
 
-use crate::instructions::Syscall;
+use programs::Syscall;
 use crate::mistakes::Mistake;
 use crate::mnemonics::Mnemonic;
-use crate::operands::{Operand, Path, Register};
+use programs::{Operand, Path, Register};
 use crate::{fields, lists};
 use rights::{Call, Fcntls, OpenFlags, Rights};
 use std::alloc::Global;

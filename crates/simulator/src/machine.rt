@@ -4,7 +4,7 @@ ghost use Rattle.std.specs.Prelude.{◌≡◌, ◌<◌, ◌↔◌, IfOk, IsErrOf
 ghost use Rattle.kernel.specs.Renamings.{DiffersInNumbers};
 ghost use Rattle.kernel.specs.Steps.{handed};
 ghost use Rattle.kernel.specs.WellFormed.{IsWellFormed};
-ghost use Rattle.prog_asm.specs.Views.{instruction_of};
+ghost use Rattle.programs.specs.Views.{instruction_of};
 ghost use Rattle.syscalls.specs.Views.{event_of};
 ghost use Rattle.task.specs.Begins.{first_world};
 ghost use Rattle.task.specs.Limits.{is_plan};
@@ -20,7 +20,7 @@ use crate::steps::{may_stand_at, step_world, step_world_as};
 use fd_table::Files;
 use file_tree::Tree;
 use process::Process;
-use prog_asm::Instruction;
+use programs::Instruction;
 use rights::Stop;
 use rights::limits::REGISTERS;
 use std::alloc::Global;

@@ -12,9 +12,9 @@ ghost use Rattle.lookup.specs.Promises.{IsFreeName, IsFindingThere, IsUnderName,
 ghost use Rattle.lookup.specs.UnderWay.{IsUnderWay};
 ghost use Rattle.lookup.specs.Views.{found_of, last_of};
 ghost use Rattle.process.specs.Views.{walking_in};
-ghost use Rattle.prog_asm.specs.Programs as programs;
-ghost use Rattle.prog_asm.specs.Programs.{Syscall, is_path};
-ghost use Rattle.prog_asm.specs.Views.{operand_of};
+ghost use Rattle.programs.specs.Programs as programs;
+ghost use Rattle.programs.specs.Programs.{Syscall, is_path};
+ghost use Rattle.programs.specs.Views.{operand_of};
 ghost use Rattle.rights.specs.Calls as calls;
 ghost use Rattle.rights.specs.Errors.{ECAPMODE, CapMode};
 ghost use Rattle.rights.specs.Needs.{First, needs_of};
@@ -35,7 +35,7 @@ use fd_table::{DescriptionId, Files};
 use file_tree::{NodeId, Tree};
 use lookup::{Found, Last, Way};
 use process::Walking;
-use prog_asm::Operand;
+use programs::Operand;
 use rights::{Call, Cause, Errno, Fcntls, OpenFlags, Position, Rights, needs};
 use std::alloc::Global;
 

@@ -7,8 +7,8 @@ ghost use Rattle.fd_table.specs.Descriptions.{other_side};
 ghost use Rattle.fd_table.specs.Filled.{IsEndThere, IsFreeAt, IsNamed, MayPass};
 ghost use Rattle.fd_table.specs.Kept.{open_files};
 ghost use Rattle.fd_table.specs.Views.{class_seen, descriptor_seen, side_seen};
-ghost use Rattle.prog_asm.specs.Programs as programs;
-ghost use Rattle.prog_asm.specs.Views.{operand_of};
+ghost use Rattle.programs.specs.Programs as programs;
+ghost use Rattle.programs.specs.Views.{operand_of};
 ghost use Rattle.kernel.specs.Answers as answers;
 ghost use Rattle.kernel.specs.Calls as model;
 ghost use Rattle.syscalls.specs.AnswerViews.{Calls, Does, HasNumbers, IsIdle, Refuses};
@@ -19,7 +19,7 @@ use crate::operands::{Caller, Target, byte_of, held, need_of, target_of, through
 use crate::outcomes::{Besides, Refusal, Success};
 use fd_table::{Class, DescriptionId, Descriptor, End, Entry, Files, PairId, SendFault, Side};
 use process::Process;
-use prog_asm::Operand;
+use programs::Operand;
 use rights::{Call, Cause, Errno};
 use std::alloc::Global;
 

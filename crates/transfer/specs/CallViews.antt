@@ -2,7 +2,7 @@
 use Rattle.std.specs.Prelude.{ℕ, List, Option}
 use Rattle.certificate.specs.Bounds.{Held, Bound}
 use Rattle.certificate.specs.Views.{bound_of, name_of}
-use Rattle.prog_asm.specs.Programs.{Syscall, Instruction}
+use Rattle.programs.specs.Programs.{Syscall, Instruction}
 use Rattle.rules.specs.Outcomes.{Outcome, new_end, with_pair, successes_of, successes, successes_in}
 use Rattle.rules.specs.Carrying.{carried_on}
 use Rattle.transfer.specs.declared.successes.Site.{Site}

@@ -3,8 +3,8 @@
 ghost use Rattle.std.specs.Prelude.{◌≡◌, ◌-◌, true};
 ghost use Rattle.rights.specs.Sets.{all_commands, all_rights, is_within};
 ghost use Rattle.certificate.specs.Views.{bound_of, held_of, interval_of, mode_of, side_of};
-ghost use Rattle.prog_asm.specs.Programs.{Cap_enter, Cap_fcntls_limit, Cap_rights_limit, Fork, Socketpair};
-ghost use Rattle.prog_asm.specs.Views.{operand_of, syscall_of};
+ghost use Rattle.programs.specs.Programs.{Cap_enter, Cap_fcntls_limit, Cap_rights_limit, Fork, Socketpair};
+ghost use Rattle.programs.specs.Views.{operand_of, syscall_of};
 ghost use Rattle.rules.specs.Outcomes.{is_formed, is_surely_on, mode_interval};
 ghost use Rattle.transfer.specs.CallViews.{call_at, end_at, pair_made};
 ghost use Rattle.transfer.specs.Kept.{TestsEach};
@@ -21,7 +21,7 @@ use crate::targets::{all_held, target_of_path};
 use certificate::{
     Bound, Class, FcntlsRange, Held, Interval, ModeBound, RightsRange, Side, Slot, Target,
 };
-use prog_asm::{Operand, Syscall};
+use programs::{Operand, Syscall};
 use rights::limits::{MAX_BYTES, MAX_PROCESSES};
 use rights::{Fcntls, Rights};
 

@@ -1,9 +1,9 @@
 use Rattle.std.proofs.Common.{ap, sym, ◌∙◌, subst}
 use Rattle.std.proofs.lemmas.Result.{err_from_is_err_and}
-use Rattle.prog_asm.specs.Assembly.{code_from, complete, last_line_number, point_named, steps_of}
+use Rattle.programs.specs.Assembly.{code_from, complete, last_line_number, point_named, steps_of}
 use Rattle.prog_asm.specs.FaultViews.{FaultIs}
-use Rattle.prog_asm.specs.Programs.{ends_well}
-use Rattle.prog_asm.specs.Views.{code_of}
+use Rattle.programs.specs.Programs.{ends_well}
+use Rattle.programs.specs.Views.{code_of}
 use Rattle.prog_asm.proofs.Points.{code_from-drafts, fault-passes, program-ends, program-falls}
 use Rattle.prog_asm.proofs.assembler.finish.Goals as goal
 

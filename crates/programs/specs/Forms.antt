@@ -5,9 +5,9 @@ use Rattle.std.specs.Str.{bytes_eq}
 use Rattle.rights.specs.Calls.{Call, call_name}
 use Rattle.rights.specs.Calls as calls
 use Rattle.rights.specs.Opens.{OpenRequest}
-use Rattle.prog_asm.specs.Programs.{Operand, Syscall, Instruction}
-use Rattle.prog_asm.specs.Programs as programs
-use Rattle.prog_asm.specs.Fields.{read_name, read_value, read_register, read_operand, read_path, read_rights, read_commands, read_flags}
+use Rattle.programs.specs.Programs.{Operand, Syscall, Instruction}
+use Rattle.programs.specs.Programs as programs
+use Rattle.programs.specs.Fields.{read_name, read_value, read_register, read_operand, read_path, read_rights, read_commands, read_flags}
 
 -- the word that an instruction begins with
 pub data Mnemonic : Type 0 where

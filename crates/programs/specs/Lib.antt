@@ -1,0 +1,7 @@
+pub mod Assembly
+pub mod Fields
+pub mod Forms
+pub mod Lines
+pub mod Paths
+pub mod Programs
+pub mod Views

@@ -1,0 +1,11 @@
+//! Programs over the system calls of a Capsicum sandbox, and the language in which they are written.
+#![tactic(auto)]
+
+mod copies;
+pub mod instructions;
+pub mod operands;
+pub mod programs;
+
+pub use instructions::{Instruction, Syscall};
+pub use operands::{Operand, Path, Register, is_valid_path};
+pub use programs::Program;
