@@ -5,7 +5,7 @@ use crate::reaching::{points_reached, rights_used};
 use crate::scenes::{Scene, short};
 use crate::uses::open_slot;
 use certificate::{Bound, Domain, Target};
-use prog_asm::{Instruction, Operand};
+use programs::{Instruction, Operand};
 use rights::Rights;
 use rights::limits::MAX_DESCRIPTORS;
 use std::alloc::{AllocError, Global};
@@ -149,7 +149,7 @@ fn add_outside(
         page.fail();
         return;
     };
-    let text = " never enters the mode, and a yes says nothing of what a process does outside it,";
+    let text = " never enters the mode, and a yes does not bound what it does to the tree,";
     add_remark(page, bounded.name, text, &flags)
 }
 
