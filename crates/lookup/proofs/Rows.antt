@@ -1,6 +1,7 @@
 -- Rows of the definitions: the values of worked examples, which the definitions compute.
-use Rattle.std.specs.Prelude.{◌≡◌, ℕ, zero, suc, ◌+◌, List, [], ◌∷◌, ◌++◌, Some, None, codes, replicate, refl}
-use Rattle.file_tree.specs.Places.{is_file_name, path_components}
+use Rattle.std.specs.Prelude.{◌≡◌, ℕ, zero, suc, ◌+◌, List, [], ◌∷◌, ◌++◌, Some, None, codes, length, nat_eq, nat_le, replicate, refl, true, false}
+use Rattle.rights.specs.Limits.{most_path}
+use Rattle.file_tree.specs.Places.{is_file_name, names_fit, names_from, path_components, slash}
 use Rattle.file_tree.specs.Nodes.{File, Dir, Link, Node, node_at, child_of, parent_of}
 use Rattle.file_tree.specs.Changes.{removed}
 use Rattle.file_tree.specs.Refusals.{new_tree, created}
@@ -243,9 +244,22 @@ greatest_name : Leads_to base (replicate 255 97) Beneath Follow (Not_found No_en
 unfolding base created find_of walk_of lookup_fault path_fault path_components last_component looked by_places by_nodes node_at child_of parent_of
 greatest_name = (refl, refl)
 
-greatest_path : Leads_to base (codes "in" ++ replicate 1021 47) Beneath Follow (Found_node 2)
+-- Any number of slashes behind a name fit, and name nothing.
+slashes_fit : (n : ℕ) → names_fit 0 (replicate n slash) ≡ true
+slashes_fit zero = refl
+slashes_fit (suc n) = slashes_fit n
+
+slashes_name_nothing : (n : ℕ) → names_from [] (replicate n slash) ≡ []
+slashes_name_nothing zero = refl
+slashes_name_nothing (suc n) = slashes_name_nothing n
+
+in_and_slashes : (n : ℕ) → nat_le (length (codes "in" ++ replicate (suc n) slash)) most_path ≡ true → nat_eq (length (codes "in" ++ replicate (suc n) slash)) 0 ≡ false
+    → Leads_to base (codes "in" ++ replicate (suc n) slash) Beneath Follow (Found_node 2)
 unfolding base created find_of walk_of lookup_fault path_fault path_components last_component looked by_places by_nodes node_at child_of parent_of
-greatest_path = (refl, refl)
+in_and_slashes n short some = (rw (short, some, slashes_fit n, slashes_name_nothing n) refl, rw (short, some, slashes_fit n, slashes_name_nothing n) refl)
+
+greatest_path : Leads_to base (codes "in" ++ replicate 1021 slash) Beneath Follow (Found_node 2)
+greatest_path = in_and_slashes 1020 refl refl
 
 long_absolute : Leads_to base (replicate 1024 47) Beneath Keep (Not_found Too_long)
 unfolding base created find_of walk_of lookup_fault path_fault path_components last_component looked by_places by_nodes node_at child_of parent_of

@@ -1,7 +1,7 @@
 -- What holds of a lookup by any rules: it leads to one answer, which is the one that is computed.
 use Rattle.std.proofs.Common.{◌≡◌, ℕ, zero, suc, ◌+◌, ◌-◌, ◌≤◌, List, [], ◌∷◌, ◌++◌, Bool, true, false, Option, Some, None, ap, sym, ◌∙◌, refl, arith, cond}
 use Rattle.std.specs.Prelude.{nat_le}
-use Rattle.std.proofs.lemmas.Bool.Decides.{nat_tests}
+use Rattle.std.proofs.lemmas.Bool.{le-leb, lt-leb}
 use Rattle.file_tree.specs.Places.{path_components}
 use Rattle.lookup.specs.Paths.{is_absolute}
 use Rattle.lookup.specs.Answers.{Loop, Finding, Not_found}
@@ -47,9 +47,9 @@ module _ {Spot : Type 0} (rules : Rules Spot) where
       Agrees rules (onward rules spot left followed (Meets target)) (met rules links spot left target)
   unfolding met
   meets_agrees spot left followed zero target e =
-      let most : nat_le most_links followed ≡ true = grind (arith, nat_tests) in rw most refl
+      let most : nat_le most_links followed ≡ true = le-leb most_links followed (omega arith) in rw most refl
   meets_agrees spot left followed (suc links) target e =
-      let more : nat_le most_links followed ≡ false = grind (arith, nat_tests) in
+      let more : nat_le most_links followed ≡ false = lt-leb most_links followed (omega arith) in
       rw more (followed_agrees (path_components target ++ left) (followed + 1) links (target_spot rules spot target) (omega arith))
 
   onward_agrees : (spot : Spot) (left : List (List ℕ)) (followed : ℕ) (move : Move Spot) →
@@ -90,10 +90,10 @@ module _ {Spot : Type 0} (rules : Rules Spot) where
       by_move (Stops a) e rest = here (ap (onward rules spot left followed) e)
 
   too_many : (links followed : ℕ) → followed + links ≡ most_links → links ≡ 0 → nat_le most_links followed ≡ true
-  too_many links followed sum none = grind (arith, nat_tests)
+  too_many links followed sum none = le-leb most_links followed (omega arith)
 
   some_more : (links followed : ℕ) → followed + suc links ≡ most_links → nat_le most_links followed ≡ false
-  some_more links followed sum = grind (arith, nat_tests)
+  some_more links followed sum = lt-leb most_links followed (omega arith)
 
   onward_met : {move : Move Spot} (spot : Spot) (left : List (List ℕ)) (followed : ℕ) (target : List ℕ) (from : Option Spot) →
       nat_le most_links followed ≡ false → target_spot rules spot target ≡ from → move ≡ Meets target →

@@ -13,7 +13,7 @@ use certificate::{Bound, Ceiling, Cert, Domain, End as Listed, Held, Line, Name,
 use programs::Instruction;
 use rights::Rights;
 use std::alloc::{AllocError, Global};
-use task::{Start, Task};
+use task::{NamedProgram, Start, Task};
 use transfer::enters_mode;
 
 /// What a program needs in the mode: rights in grants, by their names, and ends in the order of channels.
@@ -185,20 +185,24 @@ fn take_starts(task: &Task, need: &mut Need, program: usize) -> Result<(), Alloc
     take_first(task, need, program, task.starts())
 }
 
+/// The need of a program, if it is marked: nothing yet.
+fn first_need(alloc: Global, program: &NamedProgram) -> Option<Need> {
+    match Name::read(program.name.as_bytes()) {
+        Some(name) if program.untrusted => Some(Need::new(alloc, name)),
+        _ => None,
+    }
+}
+
 /// The marked programs, none of which needs anything yet.
 pub(crate) fn all_needs(alloc: Global, task: &Task) -> Result<Vec<Option<Need>>, AllocError> {
     let mut needs = Vec::new(alloc);
     for program in task.programs() {
-        let name = Name::read(program.name.as_bytes());
-        match name {
-            Some(name) if program.untrusted => needs.push(Some(Need::new(alloc, name)))?,
-            _ => needs.push(None)?,
-        }
+        needs.push(first_need(alloc, program))?;
     }
     Ok(needs)
 }
 
-/// Learns what a marked program needs, by what is known of its points.
+/// Learns what a marked program needs, by what is known of its points. Whether the need grew.
 fn learn_need(
     alloc: Global,
     task: &Task,
@@ -206,17 +210,33 @@ fn learn_need(
     number: usize,
     way: &Way,
     need: &mut Need,
-) -> Result<(), Refusal> {
+) -> Result<bool, Refusal> {
     need.changed = false;
     let Some(program) = task.programs().get(number) else {
-        return Ok(());
+        return Ok(false);
     };
     if take_entered(need, way, program.program.code()).is_err()
         || take_starts(task, need, number).is_err()
     {
         return Err(Refusal::Memory);
     }
-    need.take_received(alloc, channels)
+    need.take_received(alloc, channels)?;
+    Ok(need.changed)
+}
+
+/// Learns what a program needs, if it is marked. Whether the need grew.
+fn learn_at(
+    alloc: Global,
+    task: &Task,
+    channels: &mut Channels,
+    number: usize,
+    way: &Way,
+    needs: &mut Vec<Option<Need>>,
+) -> Result<bool, Refusal> {
+    match needs.get_mut(number) {
+        Some(Some(need)) => learn_need(alloc, task, channels, number, way, need),
+        _ => Ok(false),
+    }
 }
 
 /// Learns what each marked program needs, by what is known of the points. Whether a need or a channel grew.
@@ -229,9 +249,8 @@ pub(crate) fn learn_needs(
 ) -> Result<bool, Refusal> {
     let mut any = false;
     for (number, way) in ways.iter().enumerate() {
-        if let Some(Some(need)) = needs.get_mut(number) {
-            learn_need(alloc, task, channels, number, way, need)?;
-            any = any || need.changed;
+        if learn_at(alloc, task, channels, number, way, needs)? {
+            any = true;
         }
     }
     Ok(any || channels.changed)
@@ -310,10 +329,10 @@ fn push_so_many(cert: &mut Cert, needs: &mut Vec<Option<Need>>, left: usize) -> 
 }
 
 /// Adds what programs need, by their names.
-pub(crate) fn push_needs(cert: &mut Cert, mut needs: Vec<Option<Need>>) -> Result<(), Refusal>
+pub(crate) fn push_needs(cert: &mut Cert, needs: &mut Vec<Option<Need>>) -> Result<(), Refusal>
     requires { has_authorities cert.old.version ≡ true }
     ensures { cert.new.version ≡ cert.old.version }
 {
     let count = needs.len();
-    push_so_many(cert, &mut needs, count)
+    push_so_many(cert, needs, count)
 }

@@ -1,7 +1,7 @@
 //! The search for a certificate of a task with untrusted programs.
 
-ghost use Rattle.std.specs.Prelude.{◌≡◌, true, false, IfOk, IfSome};
-ghost use Rattle.certificate.specs.Bounds.{Certificate, Two, Three};
+ghost use Rattle.std.specs.Prelude.{◌≡◌, true, false, IfOk, IfSome, OnOk};
+ghost use Rattle.certificate.specs.Bounds.{Certificate, Two, Three, has_authorities};
 ghost use Rattle.checker.specs.Verdicts.{IsAccepted};
 ghost use Rattle.searcher.specs.Flat.{flat};
 ghost use Rattle.searcher.specs.Shortening.{short_form};
@@ -9,7 +9,7 @@ ghost use Rattle.task.specs.Plans.{none_marked};
 
 use crate::authority::{Need, all_needs, learn_needs, push_needs};
 use crate::channels::Channels;
-use crate::drawing::draw;
+use crate::drawing::push_found;
 use crate::rounds::{all_ways, settle, wake_receivers};
 use crate::searching::{is_accepted, search};
 use crate::shortening::push_named;
@@ -45,18 +45,24 @@ fn settle_needs(
     Ok(false)
 }
 
-/// The certificate with these points and channels, and these needs.
-fn written(
+/// Adds what is found of a task's points, and what its untrusted programs need. Whether that was found.
+fn push_all(
     alloc: Global,
-    ways: Vec<Way>,
-    channels: &Channels,
-    needs: Vec<Option<Need>>,
-) -> Result<Cert, Refusal>
-    ensures { IfOk result (λ cert. cert.version ≡ Three) }
+    task: &Task,
+    cert: &mut Cert,
+    channels: &mut Channels,
+    ways: &mut Vec<Way>,
+    needs: &mut Vec<Option<Need>>,
+) -> Result<bool, Refusal>
+    requires { has_authorities cert.old.version ≡ true }
+    ensures { OnOk result (cert.new.version ≡ cert.old.version) }
 {
-    let mut cert = draw(Cert::new(alloc, Version::Three), ways, channels)?;
-    push_needs(&mut cert, needs)?;
-    Ok(cert)
+    if !settle_needs(alloc, task, channels, ways, needs)? {
+        return Ok(false);
+    }
+    push_found(cert, ways, channels)?;
+    push_needs(cert, needs)?;
+    Ok(true)
 }
 
 /// The certificate with what is found of a task's points, and what its untrusted programs need.
@@ -69,10 +75,12 @@ fn drawn(
     ensures { IfOk result (λ found. IfSome found (λ cert. cert.version ≡ Three)) }
 {
     let mut channels = Channels::new(alloc);
-    if !settle_needs(alloc, task, &mut channels, &mut ways, &mut needs)? {
-        return Ok(None);
+    let mut cert = Cert::new(alloc, Version::Three);
+    match push_all(alloc, task, &mut cert, &mut channels, &mut ways, &mut needs) {
+        Ok(true) => Ok(Some(cert)),
+        Ok(false) => Ok(None),
+        Err(refusal) => Err(refusal),
     }
-    Ok(Some(written(alloc, ways, &channels, needs)?))
 }
 
 /// The same where it isn't refused for its length.
@@ -90,24 +98,24 @@ fn proposed(alloc: Global, task: &Task) -> Result<Option<Cert>, Memory>
     }
 }
 
-/// The same certificate with bounds at named points alone, in version 3.
+/// Adds the bounds of a certificate at named points, its channels and its authorities.
 #[tactic(auto, using(certificate::proofs::Growths::grown_keeps, certificate::proofs::Growths::by_keeps, crate::proofs::Authorities::with_keeps))]
-fn short_lines(alloc: Global, task: &Task, cert: &Cert) -> Result<Cert, Refusal>
-    ensures { IfOk result (λ short. short.version ≡ Three) }
+fn push_short(short: &mut Cert, task: &Task, cert: &Cert) -> Result<(), Refusal>
+    requires { has_authorities short.old.version ≡ true }
+    ensures { OnOk result (short.new.version ≡ short.old.version) }
 {
-    let mut short = Cert::new(alloc, Version::Three);
-    push_named(&mut short, task, cert.points())?;
-    push_channels(&mut short, cert.channels())?;
-    push_authorities(&mut short, cert.authorities())?;
-    Ok(short)
+    push_named(short, task, cert.points())?;
+    push_channels(short, cert.channels())?;
+    push_authorities(short, cert.authorities())
 }
 
-/// The same, if it isn't refused.
+/// The same certificate with bounds at named points alone, in version 3, if it isn't refused.
 fn shortened(alloc: Global, task: &Task, cert: &Cert) -> Result<Option<Cert>, Memory>
     ensures { IfOk result (λ found. IfSome found (λ short. short.version ≡ Three)) }
 {
-    match short_lines(alloc, task, cert) {
-        Ok(short) => Ok(Some(short)),
+    let mut short = Cert::new(alloc, Version::Three);
+    match push_short(&mut short, task, cert) {
+        Ok(()) => Ok(Some(short)),
         Err(Refusal::Memory) => Err(Memory),
         Err(Refusal::Limit | Refusal::Order) => Ok(None),
     }

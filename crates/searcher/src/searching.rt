@@ -1,6 +1,6 @@
 //! The search.
 
-ghost use Rattle.std.specs.Prelude.{◌≡◌, true, false, IfOk, IfSome};
+ghost use Rattle.std.specs.Prelude.{◌≡◌, true, false, IfOk, IfSome, OnOk};
 ghost use Rattle.certificate.specs.Bounds.{Certificate, Two};
 ghost use Rattle.checker.specs.Verdicts.{IsAccepted};
 ghost use Rattle.searcher.specs.Flat.{flat};
@@ -8,7 +8,7 @@ ghost use Rattle.searcher.specs.Shortening.{short_form};
 ghost use Rattle.task.specs.Plans.{none_marked};
 
 use crate::channels::Channels;
-use crate::drawing::draw;
+use crate::drawing::push_found;
 use crate::flat::flat;
 use crate::rounds::{all_ways, settle};
 use crate::shortening::shortened;
@@ -27,16 +27,34 @@ pub(crate) fn is_accepted(task: &Task, cert: &Cert) -> bool
     check(task, cert) == Verdict::Yes
 }
 
+/// Goes through all points until none waits, and adds what is found of them. Whether that came.
+fn push_settled(
+    alloc: Global,
+    task: &Task,
+    cert: &mut Cert,
+    channels: &mut Channels,
+    ways: &mut Vec<Way>,
+) -> Result<bool, Refusal>
+    ensures { OnOk result (cert.new.version ≡ cert.old.version) }
+{
+    if !settle(alloc, task, channels, ways)? {
+        return Ok(false);
+    }
+    push_found(cert, ways, channels)?;
+    Ok(true)
+}
+
 /// What is found point by point, where the search settles.
 fn settled(alloc: Global, task: &Task, mut ways: Vec<Way>) -> Result<Option<Cert>, Refusal>
     ensures { IfOk result (λ found. IfSome found (λ cert. cert.version ≡ Two)) }
 {
     let mut channels = Channels::new(alloc);
-    if !settle(alloc, task, &mut channels, &mut ways)? {
-        return Ok(None);
+    let mut cert = Cert::new(alloc, Version::Two);
+    match push_settled(alloc, task, &mut cert, &mut channels, &mut ways) {
+        Ok(true) => Ok(Some(cert)),
+        Ok(false) => Ok(None),
+        Err(refusal) => Err(refusal),
     }
-    let cert = draw(Cert::new(alloc, Version::Two), ways, &channels)?;
-    Ok(Some(cert))
 }
 
 /// The certificate that the search point by point proposes, if it comes to one.

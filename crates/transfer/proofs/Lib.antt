@@ -2,4 +2,5 @@ pub mod UseTests
 pub mod Named
 pub mod Repeated
 pub mod Keeping
+pub mod EachTested
 pub mod Known

@@ -1,9 +1,9 @@
 -- Where a call leads from a point of the code.
-use Rattle.std.specs.Prelude.{ℕ, List, Option}
+use Rattle.std.specs.Prelude.{ℕ, List, [], Option, if◌then◌else◌}
 use Rattle.certificate.specs.Bounds.{Held, Bound}
 use Rattle.certificate.specs.Views.{bound_of, name_of}
 use Rattle.programs.specs.Programs.{Syscall, Instruction}
-use Rattle.rules.specs.Outcomes.{Outcome, new_end, with_pair, successes_of, successes, successes_in}
+use Rattle.rules.specs.Outcomes.{Outcome, is_formed, new_end, with_pair, successes_of, successes, successes_in}
 use Rattle.rules.specs.Carrying.{carried_on}
 use Rattle.transfer.specs.declared.successes.Site.{Site}
 
@@ -15,6 +15,10 @@ pair_made s first second = with_pair s.task.now.grants s.cert.now (name_of s.nam
 
 abbrev pub call_at : Site → Syscall → List Outcome
 call_at s call = successes_of s.task.now.grants s.cert.now (name_of s.name.now) s.point (bound_of s.bound.now) call
+
+-- where it leads if its success is looked at at all
+abbrev pub invoked_at : Site → Syscall → List Outcome
+invoked_at s call = if is_formed s.cert.now (bound_of s.bound.now) call then call_at s call else []
 
 -- those of a program that isn't marked, and those of the site's
 abbrev pub plain_successes_at : Site → Instruction → List Outcome

@@ -2,6 +2,7 @@ pub mod CallViews
 pub mod GivenViews
 pub mod Kept
 pub mod Limits
+pub mod Manners
 pub mod OutcomeViews
 pub mod SiteViews
 pub mod Tested

@@ -72,7 +72,7 @@ pub fn all_slots_pass<T: SlotTest>(bound: &Bound, operand: Operand, test: &T) ->
 }
 
 /// A test of uses as one of slots, where the bound and the need are known.
-#[derive(Clone, Copy)]
+#[derive(Drop)]
 struct Asked<'a, T> {
     bound: &'a Bound,
     need: &'a Need,

@@ -1,14 +1,14 @@
 //! Where each call may lead, but for errors.
 
 ghost use Rattle.std.specs.Prelude.{◌≡◌, ◌-◌, true};
-ghost use Rattle.rights.specs.Sets.{all_commands, all_rights, is_within};
 ghost use Rattle.certificate.specs.Views.{bound_of, held_of, interval_of, mode_of, side_of};
-ghost use Rattle.programs.specs.Programs.{Cap_enter, Cap_fcntls_limit, Cap_rights_limit, Fork, Socketpair};
-ghost use Rattle.programs.specs.Views.{operand_of, syscall_of};
+ghost use Rattle.programs.specs.Programs.{Cap_enter, Fork, Socketpair};
+ghost use Rattle.programs.specs.Views.{syscall_of};
 ghost use Rattle.rules.specs.Outcomes.{is_formed, is_surely_on, mode_interval};
-ghost use Rattle.transfer.specs.CallViews.{call_at, end_at, pair_made};
+ghost use Rattle.transfer.specs.CallViews.{call_at, end_at, invoked_at, pair_made};
 ghost use Rattle.transfer.specs.Kept.{TestsEach};
 ghost use Rattle.transfer.specs.Limits.{has_known_limit};
+ghost use Rattle.transfer.specs.Manners.{led_by};
 
 use crate::channels::all_have_channels;
 use crate::demands::{demanded, keeps_single};
@@ -23,7 +23,6 @@ use certificate::{
 };
 use programs::{Operand, Syscall};
 use rights::limits::{MAX_BYTES, MAX_PROCESSES};
-use rights::{Fcntls, Rights};
 
 /// Whether a process is surely in capability mode.
 fn is_surely_on(mode: ModeBound) -> bool
@@ -48,7 +47,7 @@ fn mode_interval(mode: ModeBound) -> Interval
 
 /// Whether the success of a call is looked at: where its slot is a single number if it has to be, the channels that it uses
 /// are known, and it isn't surely kept from a global name space by the mode.
-pub(crate) fn is_formed(site: &Site<'_>, call: &Syscall) -> bool
+fn is_formed(site: &Site<'_>, call: &Syscall) -> bool
     ensures { result ≡ is_formed site.now.cert.now (bound_of site.now.bound.now) (syscall_of call.now) }
 {
     keeps_single(site.bound, call)
@@ -111,106 +110,114 @@ fn forked_pass<T: OutcomeTest>(site: &Site<'_>, test: &mut T) -> bool
         && step_passes(site, Interval::new(1, MAX_PROCESSES as u32 - 1), test)
 }
 
-/// Whether the outcomes pass of leaving these rights alone.
-fn rights_limited_pass<T: OutcomeTest>(
-    site: &Site<'_>,
-    operand: Operand,
-    rights: Rights,
-    test: &mut T,
-) -> bool
-    requires { is_within rights.0 all_rights ≡ true }
-    ensures { TestsEach T.passes T.joins T.kept test.old test.new result
-        (call_at site.now (Cap_rights_limit (operand_of operand) rights.0)) }
-{
-    let left = RightsRange::new(rights, rights);
-    all_pass(site, Act::Limits(Limit::Rights(left)), operand, test)
+/// How the successes of a call are asked about.
+#[derive(Clone, Copy)]
+enum Manner {
+    /// By what it does with each slot of an operand.
+    Acts(Act, Operand),
+    /// All slots stay, and register 0 gets this for each slot of an operand that may be of a kind,
+    Gives(Operand, Kind, Interval),
+    /// for each of one operand and each of another,
+    GivesBoth((Operand, Kind), (Operand, Kind), Interval),
+    /// or whatever the slots are.
+    Stays(Interval),
+    /// The lowest free number is taken for this.
+    Takes(Held),
+    /// It enters the mode.
+    Enters,
+    /// It makes a pair.
+    Pairs,
+    /// It makes a child.
+    Forks,
 }
 
-/// Whether the outcomes pass of leaving these commands alone.
-fn commands_limited_pass<T: OutcomeTest>(
-    site: &Site<'_>,
-    operand: Operand,
-    commands: Fcntls,
-    test: &mut T,
-) -> bool
-    requires { is_within commands.0 all_commands ≡ true }
-    ensures { TestsEach T.passes T.joins T.kept test.old test.new result
-        (call_at site.now (Cap_fcntls_limit (operand_of operand) commands.0)) }
+/// How the successes of a call are asked about.
+fn manner_of(site: &Site<'_>, call: &Syscall) -> Manner
+    requires { has_known_limit (syscall_of call.now) ≡ true }
+    ensures { led_by site.now result ≡ call_at site.now (syscall_of call.now) }
 {
-    let left = FcntlsRange::new(commands, commands);
-    all_pass(site, Act::Limits(Limit::Commands(left)), operand, test)
+    match call {
+        Syscall::Open { path, .. } => {
+            Manner::Takes(all_held(target_of_path(site.task, path.bytes())))
+        }
+        Syscall::Openat { descriptor, .. } => Manner::Acts(Act::Opens, *descriptor),
+        Syscall::Recvfd { descriptor } => Manner::Acts(Act::Receives, *descriptor),
+        Syscall::Dup { descriptor } => Manner::Acts(Act::Copies, *descriptor),
+        Syscall::Close { descriptor } => Manner::Acts(Act::Closes, *descriptor),
+        Syscall::CapRightsLimit { descriptor, rights } => {
+            let left = RightsRange::new(*rights, *rights);
+            Manner::Acts(Act::Limits(Limit::Rights(left)), *descriptor)
+        }
+        Syscall::CapFcntlsLimit {
+            descriptor,
+            commands,
+        } => {
+            let left = FcntlsRange::new(*commands, *commands);
+            Manner::Acts(Act::Limits(Limit::Commands(left)), *descriptor)
+        }
+        Syscall::CapEnter => Manner::Enters,
+        Syscall::Socketpair => Manner::Pairs,
+        Syscall::Fork => Manner::Forks,
+        Syscall::CapGetmode => Manner::Stays(mode_interval(site.bound.mode())),
+        Syscall::Stat { .. } => Manner::Stays(Interval::new(1, 2)),
+        Syscall::Mkdir { .. } | Syscall::Unlink { .. } => Manner::Stays(only(0)),
+        Syscall::Read { descriptor } => {
+            Manner::Gives(*descriptor, Kind::Any, Interval::new(0, 256))
+        }
+        Syscall::Write { descriptor, .. } => Manner::Gives(*descriptor, Kind::Any, only(1)),
+        Syscall::Sendfd {
+            descriptor,
+            sent,
+            ..
+        } => Manner::GivesBoth((*descriptor, Kind::End), (*sent, Kind::Any), only(1)),
+        Syscall::Lseek { descriptor, .. } => {
+            Manner::Gives(*descriptor, Kind::Any, Interval::new(0, MAX_BYTES as u32))
+        }
+        Syscall::Ftruncate { descriptor, .. }
+        | Syscall::Fsync { descriptor }
+        | Syscall::FcntlSetfl { descriptor, .. } => Manner::Gives(*descriptor, Kind::Any, only(0)),
+        Syscall::Fstat { descriptor } => Manner::Gives(*descriptor, Kind::Any, Interval::new(1, 3)),
+        Syscall::FcntlGetfl { descriptor } => {
+            Manner::Gives(*descriptor, Kind::Any, Interval::new(0, 3))
+        }
+        Syscall::Fstatat { descriptor, .. } => {
+            Manner::Gives(*descriptor, Kind::Node, Interval::new(1, 2))
+        }
+        Syscall::Mkdirat { descriptor, .. } | Syscall::Unlinkat { descriptor, .. } => {
+            Manner::Gives(*descriptor, Kind::Node, only(0))
+        }
+        Syscall::Renameat {
+            descriptor,
+            target,
+            ..
+        } => Manner::GivesBoth((*descriptor, Kind::Node), (*target, Kind::Node), only(0)),
+    }
+}
+
+/// Whether the outcomes pass that a call leads to by its manner.
+fn passes_by<T: OutcomeTest>(site: &Site<'_>, manner: &Manner, test: &mut T) -> bool
+    ensures { TestsEach T.passes T.joins T.kept test.old test.new result
+        (led_by site.now manner.now) }
+{
+    match manner {
+        Manner::Acts(act, operand) => all_pass(site, *act, *operand, test),
+        Manner::Gives(operand, kind, given) => given_passes(site, *operand, *kind, *given, test),
+        Manner::GivesBoth(first, second, given) => {
+            both_given_pass(site, *first, *second, *given, test)
+        }
+        Manner::Stays(given) => step_passes(site, *given, test),
+        Manner::Takes(held) => taken_passes(site, held, test),
+        Manner::Enters => entered_passes(site, test),
+        Manner::Pairs => pair_passes(site, test),
+        Manner::Forks => forked_pass(site, test),
+    }
 }
 
 /// Whether each success of a call passes, where it is looked at.
 pub(crate) fn call_passes<T: OutcomeTest>(site: &Site<'_>, call: &Syscall, test: &mut T) -> bool
     requires { has_known_limit (syscall_of call.now) ≡ true }
     ensures { TestsEach T.passes T.joins T.kept test.old test.new result
-        (call_at site.now (syscall_of call.now)) }
+        (invoked_at site.now (syscall_of call.now)) }
 {
-    match call {
-        Syscall::Open { path, .. } => {
-            let held = all_held(target_of_path(site.task, path.bytes()));
-            taken_passes(site, &held, test)
-        }
-        Syscall::Openat { descriptor, .. } => all_pass(site, Act::Opens, *descriptor, test),
-        Syscall::Recvfd { descriptor } => all_pass(site, Act::Receives, *descriptor, test),
-        Syscall::Dup { descriptor } => all_pass(site, Act::Copies, *descriptor, test),
-        Syscall::Close { descriptor } => all_pass(site, Act::Closes, *descriptor, test),
-        Syscall::CapRightsLimit { descriptor, rights } => {
-            rights_limited_pass(site, *descriptor, *rights, test)
-        }
-        Syscall::CapFcntlsLimit {
-            descriptor,
-            commands,
-        } => commands_limited_pass(site, *descriptor, *commands, test),
-        Syscall::CapEnter => entered_passes(site, test),
-        Syscall::Socketpair => pair_passes(site, test),
-        Syscall::Fork => forked_pass(site, test),
-        Syscall::CapGetmode => step_passes(site, mode_interval(site.bound.mode()), test),
-        Syscall::Stat { .. } => step_passes(site, Interval::new(1, 2), test),
-        Syscall::Mkdir { .. } | Syscall::Unlink { .. } => step_passes(site, only(0), test),
-        Syscall::Read { descriptor } => {
-            given_passes(site, *descriptor, Kind::Any, Interval::new(0, 256), test)
-        }
-        Syscall::Write { descriptor, .. } => {
-            given_passes(site, *descriptor, Kind::Any, only(1), test)
-        }
-        Syscall::Sendfd {
-            descriptor,
-            sent,
-            ..
-        } => {
-            let (socket, sent) = ((*descriptor, Kind::End), (*sent, Kind::Any));
-            both_given_pass(site, socket, sent, only(1), test)
-        }
-        Syscall::Lseek { descriptor, .. } => {
-            let given = Interval::new(0, MAX_BYTES as u32);
-            given_passes(site, *descriptor, Kind::Any, given, test)
-        }
-        Syscall::Ftruncate { descriptor, .. }
-        | Syscall::Fsync { descriptor }
-        | Syscall::FcntlSetfl { descriptor, .. } => {
-            given_passes(site, *descriptor, Kind::Any, only(0), test)
-        }
-        Syscall::Fstat { descriptor } => {
-            given_passes(site, *descriptor, Kind::Any, Interval::new(1, 3), test)
-        }
-        Syscall::FcntlGetfl { descriptor } => {
-            given_passes(site, *descriptor, Kind::Any, Interval::new(0, 3), test)
-        }
-        Syscall::Fstatat { descriptor, .. } => {
-            given_passes(site, *descriptor, Kind::Node, Interval::new(1, 2), test)
-        }
-        Syscall::Mkdirat { descriptor, .. } | Syscall::Unlinkat { descriptor, .. } => {
-            given_passes(site, *descriptor, Kind::Node, only(0), test)
-        }
-        Syscall::Renameat {
-            descriptor,
-            target,
-            ..
-        } => {
-            let (from, to) = ((*descriptor, Kind::Node), (*target, Kind::Node));
-            both_given_pass(site, from, to, only(0), test)
-        }
-    }
+    !is_formed(site, call) || passes_by(site, &manner_of(site, call), test)
 }

@@ -9,7 +9,7 @@ ghost use Rattle.transfer.specs.Kept.{TestsEach};
 ghost use Rattle.transfer.specs.Limits.{leaves_known};
 ghost use Rattle.transfer.specs.OutcomeViews.{outcomes_of};
 
-use crate::calls::{call_passes, is_formed};
+use crate::calls::call_passes;
 use crate::demands::demanded;
 use crate::intervals::{equal_part, lower_part, only, other_part, sums, upper_part};
 use crate::outcomes::{Change, Outcome};
@@ -121,7 +121,7 @@ fn plain_successes_pass<T: OutcomeTest>(
         } => return less_pass(site, *register, *value, *target, test),
         Instruction::Halt => return true,
         Instruction::Invoke { call, .. } => {
-            return !is_formed(site, call) || call_passes(site, call, test);
+            return call_passes(site, call, test);
         }
     };
     let change = Change::Register {

@@ -11,7 +11,7 @@ use certificate::{Bound, Interval, ModeBound, Slot};
 use programs::Operand;
 
 /// The lowest free numbers of a bound, at most two, and in order.
-#[derive(Clone, Copy, PartialEq, Eq)]
+#[derive(Clone, Copy)]
 pub enum FreeNumbers {
     None,
     One(u8),
@@ -19,7 +19,7 @@ pub enum FreeNumbers {
 }
 
 /// How many free numbers a call takes.
-#[derive(Clone, Copy, PartialEq, Eq)]
+#[derive(Clone, Copy)]
 pub enum Takes {
     Nothing,
     One,
