@@ -2,7 +2,10 @@
 use Rattle.std.proofs.Common.{◌≡◌, ◌+◌, ℕ, Bool, true, false, List, [], ◌∷◌, ◌++◌, length, map, refl, ap, sym, ◌∙◌, arith, append_assoc, append-nil, length-append}
 use Rattle.std.specs.Prelude.{Option, Some, None, is_some, nat_le, Result, Ok, Err, cond, if◌then◌else◌}
 use Rattle.std.proofs.lemmas.List.{length-map, map-append}
+use Rattle.std.specs.Borrow.{Bor}
 use Rattle.std.specs.Cmp.Lexicographic.{same_text}
+use Rattle.std.specs.Result.{result_and}
+use Rattle.indexmap.specs.IndexMap.{IndexMap}
 use Rattle.rights.specs.Limits.{most_instructions}
 use Rattle.prog_asm.specs.declared.drafts.Draft.{Draft}
 use Rattle.prog_asm.specs.declared.drafts.Step.{Step as StepCode}
@@ -167,3 +170,13 @@ step-appended (Err mistake.Operand) before after step is = is
 step-appended (Err mistake.TwiceLabel) before after step is = is
 step-appended (Err mistake.TooMany) before after step is = ap (nat_le most_instructions) (length-map before step_from) ∙ is
 step-appended (Err mistake.Memory) before after step is = is
+
+-- What is kept behind a label is there if the label is added, and else its mistake.
+pub and-added : {A S : Type 0} (result : Result (Unit {0}) MistakeCode) (before after : IndexMap (Bor (List ℕ)) ℕ S) (label : Option (List ℕ)) (point : ℕ) (given kept : A) →
+    Ok kept ≡ result_and result (Ok given) → LabelAdded result before after label point → AddsLabel before after label point × (kept ≡ given)
+and-added (Ok done) before after label point given kept is added = (added, cc)
+and-added (Err error) before after label point given kept is added = absurd cc
+
+pub and-fails : {A : Type 0} (result : Result (Unit {0}) MistakeCode) (given : A) (error : MistakeCode) → Err error ≡ result_and result (Ok given) → result ≡ Err error
+and-fails (Ok done) given error is = absurd cc
+and-fails (Err other) given error is = let same : other ≡ error = cc in ap Err same

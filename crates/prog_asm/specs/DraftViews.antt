@@ -6,7 +6,8 @@ use Rattle.prog_asm.specs.declared.mistakes.Mistake.TheVariants as mistake
 use Rattle.prog_asm.specs.declared.faults.AsmFault.{AsmFault}
 use Rattle.prog_asm.specs.declared.drafts.Step.{Step as StepCode}
 use Rattle.prog_asm.specs.declared.drafts.Draft.{Draft}
-use Rattle.prog_asm.specs.Assembly.{Mistake, Line, Step, Fault, is_label, is_one_too_many, line_behind, steps_on, steps_of}
+use Rattle.prog_asm.specs.Assembly.{Mistake, Line, Step, Fault, code_from, complete, is_label, is_one_too_many, line_behind, steps_on, steps_of, ◌>>=◌}
+use Rattle.prog_asm.specs.Programs.{Instruction}
 use Rattle.prog_asm.specs.Forms.{Written}
 use Rattle.prog_asm.specs.FaultViews.{FaultIs}
 use Rattle.prog_asm.specs.FormViews.{written_from}
@@ -64,3 +65,7 @@ DraftsLines (Err error) read = FaultIs error read
 abbrev pub below : ℕ → Option ℕ → Option ℕ
 below points None = None
 below points (Some point) = if nat_lt point points then Some point else None
+
+-- the instructions with points in the place of labels, or the first fault
+abbrev pub completed : (List ℕ → Option ℕ) → List Step → Result (List Instruction) Fault
+completed points steps = code_from points steps >>= complete steps

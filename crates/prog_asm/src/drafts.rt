@@ -77,7 +77,8 @@ impl<'t> Draft<'t> {
             → AddsLine result before (Ok (line_from line.entry)) self.new }
     {
         let Line { label, instruction } = line;
-        add_label(&mut self.labels, label, self.steps.len())?;
+        let added = add_label(&mut self.labels, label, self.steps.len());
+        let instruction = added.and(Ok(instruction))?;
         add_step(&mut self.steps, number, instruction)
     }
 

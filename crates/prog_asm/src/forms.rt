@@ -1,7 +1,7 @@
 //! What each instruction wants behind its word. A new instruction is a line of `MNEMONICS` and one of
 //! `Words::written` or `Words::syscall`, or of what these call once its first operand is read.
 
-ghost use Rattle.std.specs.Prelude.{◌≡◌, map};
+ghost use Rattle.std.specs.Prelude.{◌≡◌, Some, map};
 ghost use Rattle.rights.specs.Views.{call_of};
 ghost use Rattle.prog_asm.specs.FormParts.{at_call_at, comparison_at, descriptor_call_at, operand_call_at, path_call_at, register_form_at};
 ghost use Rattle.prog_asm.specs.FormViews.{TakesField, TakesWord, jump_from, mnemonic_from, written_from};
@@ -197,15 +197,15 @@ impl<'w, 't> Words<'w, 't> {
 
     /// The word `dir`, or nothing: whether it is there.
     #[tactic(auto, unfolding(crate::specs::Forms::directory_at))]
-    fn directory(&mut self) -> Result<bool, Mistake>
-        ensures { TakesField (λ directory. directory) result self.new (directory_at self.old) }
+    fn directory(&mut self) -> bool
+        ensures { directory_at self.old ≡ Some (result, self.new) }
     {
         match self.rest {
             [word, rest @ ..] if *word == b"dir".as_slice() => {
                 self.rest = rest;
-                Ok(true)
+                true
             }
-            _ => Ok(false),
+            _ => false,
         }
     }
 
@@ -238,7 +238,7 @@ impl<'w, 't> Words<'w, 't> {
             Call::Unlinkat => Syscall::Unlinkat {
                 descriptor,
                 path,
-                directory: self.directory()?,
+                directory: self.directory(),
             },
             Call::Renameat => Syscall::Renameat {
                 descriptor,
@@ -334,7 +334,7 @@ impl<'w, 't> Words<'w, 't> {
             Call::Mkdir => Syscall::Mkdir { path },
             Call::Unlink => Syscall::Unlink {
                 path,
-                directory: self.directory()?,
+                directory: self.directory(),
             },
             _ => return Err(Mistake::Operand),
         })
