@@ -48,7 +48,7 @@ descriptor_call_at calls.Cap_fcntls_limit descriptor = one commands_at (programs
 descriptor_call_at call descriptor = λ words. path_at words >>= (λ path. at_call_at call descriptor path.0 path.1)
 
 -- the operands of a call behind its path
-unfoldable pub path_call_at : Call → List ℕ → Field Syscall
+abbrev pub path_call_at : Call → List ℕ → Field Syscall
 path_call_at calls.Open path = one flags_at (programs.Open path)
 path_call_at calls.Stat path = nothing (programs.Stat path)
 path_call_at calls.Mkdir path = nothing (programs.Mkdir path)

@@ -5,7 +5,8 @@ ghost use Rattle.std.specs.Prelude.{◌≡◌, Some, map};
 ghost use Rattle.rights.specs.Views.{call_of};
 ghost use Rattle.prog_asm.specs.FormParts.{at_call_at, comparison_at, descriptor_call_at, operand_call_at, path_call_at, register_form_at};
 ghost use Rattle.prog_asm.specs.FormViews.{TakesField, TakesWord, jump_from, mnemonic_from, written_from};
-ghost use Rattle.prog_asm.specs.Forms.{Make, commands_at, directory_at, else_at, flags_at, label_at, led, number_at, operand_at, path_at, register_at, rights_at, syscall_at, whole, written_at, written_of};
+ghost use Rattle.prog_asm.specs.Forms.{Make, commands_at, directory_at, else_at, flags_at, label_at, led, number_at};
+ghost use Rattle.prog_asm.specs.Forms.{operand_at, path_at, register_at, rights_at, syscall_at, whole, written_at, written_of};
 ghost use Rattle.prog_asm.specs.ReadingViews.{ReadsField};
 ghost use Rattle.prog_asm.specs.Views.{instruction_of, operand_of, syscall_of};
 
@@ -321,7 +322,6 @@ impl<'w, 't> Words<'w, 't> {
     }
 
     /// The operands of a call behind its path. A call that does not begin with one is refused.
-    #[tactic(auto, unfolding(crate::specs::FormParts::path_call_at))]
     fn path_call(&mut self, call: Call, path: Path) -> Result<Syscall, Mistake>
         ensures { TakesField syscall_of result self.new (path_call_at (call_of call) path self.old) }
     {
@@ -341,7 +341,7 @@ impl<'w, 't> Words<'w, 't> {
     }
 
     /// The operands of a call.
-    #[tactic(auto, unfolding(crate::specs::Forms::syscall_at, crate::specs::FormParts::descriptor_call_at, crate::specs::FormParts::operand_call_at, crate::specs::FormParts::at_call_at, crate::specs::FormParts::path_call_at))]
+    #[tactic(auto, unfolding(crate::specs::Forms::syscall_at, crate::specs::FormParts::descriptor_call_at, crate::specs::FormParts::operand_call_at, crate::specs::FormParts::at_call_at))]
     fn syscall(&mut self, call: Call) -> Result<Syscall, Mistake>
         ensures { TakesField syscall_of result self.new (syscall_at (call_of call) self.old) }
     {
