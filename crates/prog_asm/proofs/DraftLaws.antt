@@ -1,15 +1,21 @@
 -- A draft, line by line.
 use Rattle.std.proofs.Common.{◌≡◌, ◌+◌, ℕ, Bool, true, false, List, [], ◌∷◌, ◌++◌, length, map, refl, ap, sym, ◌∙◌, arith, append_assoc, append-nil, length-append}
-use Rattle.std.specs.Prelude.{Option, Some, None, is_some, Result, Ok, Err, cond, if◌then◌else◌}
-use Rattle.std.proofs.lemmas.List.{length-map}
+use Rattle.std.specs.Prelude.{Option, Some, None, is_some, nat_le, Result, Ok, Err, cond, if◌then◌else◌}
+use Rattle.std.proofs.lemmas.List.{length-map, map-append}
+use Rattle.std.specs.Borrow.{Bor}
 use Rattle.std.specs.Cmp.Lexicographic.{same_text}
+use Rattle.std.specs.Result.{result_and}
+use Rattle.indexmap.specs.IndexMap.{IndexMap}
+use Rattle.rights.specs.Limits.{most_instructions}
 use Rattle.prog_asm.specs.declared.drafts.Draft.{Draft}
+use Rattle.prog_asm.specs.declared.drafts.Step.{Step as StepCode}
 use Rattle.prog_asm.specs.declared.mistakes.Mistake.{Mistake as MistakeCode}
 use Rattle.prog_asm.specs.declared.mistakes.Mistake.TheVariants as mistake
 use Rattle.programs.specs.Forms.{Written}
 use Rattle.programs.specs.Assembly.{Line, TwiceLabel, TooMany, has_label, is_label, is_one_too_many, is_twice, line_behind, steps_from, steps_of, steps_on}
+use Rattle.prog_asm.specs.FormViews.{written_from}
 use Rattle.prog_asm.specs.LineViews.{AddsLabel, LabelAdded, has_point, point_in}
-use Rattle.prog_asm.specs.DraftViews.{AddsLine, AddsStep, Drafts, StepAdded, labelled_from, step_from}
+use Rattle.prog_asm.specs.DraftViews.{AddsLine, AddsStep, Drafts, IsAppended, StepAdded, labelled_from, step_from}
 use Rattle.prog_asm.specs.ReadingViews.{FailsReading}
 
 length-steps_on : (m n : ℕ) (instruction : Option Written) → length (steps_on m instruction) ≡ length (steps_on n instruction)
@@ -151,3 +157,26 @@ adds-line (Err mistake.TwiceLabel) before line draft after number is drafts labe
 adds-line (Err mistake.TooMany) before line draft after number is drafts label step =
     line_behind-once before line true (is_twice-drafts before draft line.label drafts ∙ label.absent) (ap (λ steps. is_one_too_many (length steps) line.instruction) (sym drafts.steps) ∙ step)
 adds-line (Err mistake.Memory) before line draft after number is drafts label step = tt
+
+-- a line's instruction at the end
+pub step-appended : (result : Result (Unit {0}) MistakeCode) (before after : List StepCode) (step : StepCode) → IsAppended result before after step →
+    StepAdded result (map step_from before) (map step_from after) step.line (Some (written_from step.written))
+step-appended (Ok done) before after step is = record {
+  fits = ap (nat_le most_instructions) (length-map before step_from) ∙ is.0;
+  added = ap (map step_from) is.1 ∙ map-append step_from before (step ∷ []);
+}
+step-appended (Err mistake.Word) before after step is = is
+step-appended (Err mistake.Operand) before after step is = is
+step-appended (Err mistake.TwiceLabel) before after step is = is
+step-appended (Err mistake.TooMany) before after step is = ap (nat_le most_instructions) (length-map before step_from) ∙ is
+step-appended (Err mistake.Memory) before after step is = is
+
+-- What is kept behind a label is there if the label is added, and else its mistake.
+pub and-added : {A S : Type 0} (result : Result (Unit {0}) MistakeCode) (before after : IndexMap (Bor (List ℕ)) ℕ S) (label : Option (List ℕ)) (point : ℕ) (given kept : A) →
+    Ok kept ≡ result_and result (Ok given) → LabelAdded result before after label point → AddsLabel before after label point × (kept ≡ given)
+and-added (Ok done) before after label point given kept is added = (added, cc)
+and-added (Err error) before after label point given kept is added = absurd cc
+
+pub and-fails : {A : Type 0} (result : Result (Unit {0}) MistakeCode) (given : A) (error : MistakeCode) → Err error ≡ result_and result (Ok given) → result ≡ Err error
+and-fails (Ok done) given error is = absurd cc
+and-fails (Err other) given error is = let same : other ≡ error = cc in ap Err same

@@ -11,7 +11,7 @@ use Rattle.programs.specs.Forms.{Written, Alone, Leading, led}
 use Rattle.programs.specs.Assembly.{FallsOff, Fault, Line, Step, code_from, complete, fault, is_label, last_line_number, next_point, placed, placed_at, point_from, point_named}
 use Rattle.programs.specs.Assembly.{program_read, steps_of, steps_on, ◌>>=◌}
 use Rattle.prog_asm.specs.LineViews.{point_in}
-use Rattle.prog_asm.specs.DraftViews.{Drafts, below, labelled_from, step_from}
+use Rattle.prog_asm.specs.DraftViews.{Drafts, below, completed, labelled_from, step_from}
 use Rattle.prog_asm.specs.FaultViews.{FaultIs}
 use Rattle.prog_asm.proofs.DraftLaws.{length-steps_of}
 
@@ -62,15 +62,22 @@ code_from-drafts lines draft drafts =
     (λ name. ap (λ n. below n (point_in draft.labels name)) count ∙ ap (below (length (steps_of lines))) (drafts.labels name) ∙ sym (point_of-labelled lines name))
     (steps_of lines)
 
--- what becomes of the code
-pub program-ends : (lines : List Line) (code : List Instruction) → code_from (point_named lines) (steps_of lines) ≡ Ok code → ends_well code ≡ true → program_read lines ≡ Ok code
-program-ends lines code is ends = ap (λ read. read >>= complete (steps_of lines)) is ∙ ap (λ b. cond b (Ok code) (Err (fault FallsOff (last_line_number (steps_of lines))))) ends
+-- What becomes of a draft is what its lines are read as.
+pub completed-drafts : (lines : List Line) (draft : Draft) → Drafts lines draft →
+    completed (λ name. below (length draft.steps.items) (point_in draft.labels name)) (map step_from draft.steps.items) ≡ program_read lines
+completed-drafts lines draft drafts =
+    ap (λ read. read >>= complete (map step_from draft.steps.items)) (code_from-drafts lines draft drafts)
+    ∙ ap (λ steps. code_from (point_named lines) (steps_of lines) >>= complete steps) drafts.steps
 
-pub program-falls : (lines : List Line) (code : List Instruction) (line : ℕ) → code_from (point_named lines) (steps_of lines) ≡ Ok code →
-    ends_well code ≡ false → line ≡ last_line_number (steps_of lines) → program_read lines ≡ Err (fault FallsOff line)
-program-falls lines code line is ends last =
-    ap (λ read. read >>= complete (steps_of lines)) is
-    ∙ ap (λ b. cond b (Ok code) (Err (fault FallsOff (last_line_number (steps_of lines))))) ends
+-- what becomes of the code
+pub code-ends : (steps : List Step) (read : Result (List Instruction) Fault) (code : List Instruction) → read ≡ Ok code → ends_well code ≡ true → (read >>= complete steps) ≡ Ok code
+code-ends steps read code is ends = ap (λ r. r >>= complete steps) is ∙ ap (λ b. cond b (Ok code) (Err (fault FallsOff (last_line_number steps)))) ends
+
+pub code-falls : (steps : List Step) (read : Result (List Instruction) Fault) (code : List Instruction) (line : ℕ) → read ≡ Ok code →
+    ends_well code ≡ false → line ≡ last_line_number steps → (read >>= complete steps) ≡ Err (fault FallsOff line)
+code-falls steps read code line is ends last =
+    ap (λ r. r >>= complete steps) is
+    ∙ ap (λ b. cond b (Ok code) (Err (fault FallsOff (last_line_number steps)))) ends
     ∙ ap (λ n. Err (fault FallsOff n)) (sym last)
 
 -- a fault is passed on

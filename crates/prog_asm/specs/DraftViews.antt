@@ -1,11 +1,13 @@
 -- What a draft, the code's reading of a text so far, stands for.
-use Rattle.std.specs.Prelude.{◌≡◌, ◌+◌, ℕ, true, false, List, [], ◌∷◌, ◌++◌, length, map, nat_lt, Option, Some, None, Result, Ok, Err, if◌then◌else◌}
+use Rattle.std.specs.Prelude.{◌≡◌, ◌+◌, ℕ, true, false, List, [], ◌∷◌, ◌++◌, length, map, nat_le, nat_lt, Option, Some, None, Result, Ok, Err, if◌then◌else◌}
+use Rattle.rights.specs.Limits.{most_instructions}
 use Rattle.prog_asm.specs.declared.mistakes.Mistake.{Mistake as MistakeCode}
 use Rattle.prog_asm.specs.declared.mistakes.Mistake.TheVariants as mistake
 use Rattle.prog_asm.specs.declared.faults.AsmFault.{AsmFault}
 use Rattle.prog_asm.specs.declared.drafts.Step.{Step as StepCode}
 use Rattle.prog_asm.specs.declared.drafts.Draft.{Draft}
-use Rattle.programs.specs.Assembly.{Mistake, Line, Step, Fault, is_label, is_one_too_many, line_behind, steps_on, steps_of}
+use Rattle.programs.specs.Assembly.{Mistake, Line, Step, Fault, code_from, complete, is_label, is_one_too_many, line_behind, steps_on, steps_of, ◌>>=◌}
+use Rattle.programs.specs.Programs.{Instruction}
 use Rattle.programs.specs.Forms.{Written}
 use Rattle.prog_asm.specs.FaultViews.{FaultIs}
 use Rattle.prog_asm.specs.FormViews.{written_from}
@@ -40,6 +42,15 @@ StepAdded (Err mistake.TwiceLabel) before after number instruction = ⊥
 StepAdded (Err mistake.TooMany) before after number instruction = is_one_too_many (length before) instruction ≡ true
 StepAdded (Err mistake.Memory) before after number instruction = Unit {0}
 
+-- One thing is added at the end, unless there are as many as a program may have instructions.
+abbrev pub IsAppended : {X : Type 0} → Result (Unit {0}) MistakeCode → List X → List X → X → Type 0
+IsAppended (Ok done) before after item = (nat_le most_instructions (length before) ≡ false) × (after ≡ before ++ item ∷ [])
+IsAppended (Err mistake.Word) before after item = ⊥
+IsAppended (Err mistake.Operand) before after item = ⊥
+IsAppended (Err mistake.TwiceLabel) before after item = ⊥
+IsAppended (Err mistake.TooMany) before after item = nat_le most_instructions (length before) ≡ true
+IsAppended (Err mistake.Memory) before after item = Unit {0}
+
 -- The line is added behind these, or has this mistake there.
 abbrev pub AddsLine : Result (Unit {0}) MistakeCode → List Line → Result Line Mistake → Draft → Type 0
 AddsLine (Ok done) before line after = (added : Line) × (line_behind before line ≡ Ok added) × Drafts (before ++ added ∷ []) after
@@ -54,3 +65,7 @@ DraftsLines (Err error) read = FaultIs error read
 abbrev pub below : ℕ → Option ℕ → Option ℕ
 below points None = None
 below points (Some point) = if nat_lt point points then Some point else None
+
+-- the instructions with points in the place of labels, or the first fault
+abbrev pub completed : (List ℕ → Option ℕ) → List Step → Result (List Instruction) Fault
+completed points steps = code_from points steps >>= complete steps

@@ -20,6 +20,15 @@ at_call_at calls.Unlinkat descriptor path = one directory_at (programs.Unlinkat 
 at_call_at calls.Renameat descriptor path = two operand_at path_at (programs.Renameat descriptor path)
 at_call_at call descriptor path = refused
 
+-- the operands of a call behind its descriptor and an operand more
+unfoldable pub operand_call_at : Call → Operand → Operand → Field Syscall
+operand_call_at calls.Write descriptor operand = nothing (programs.Write descriptor operand)
+operand_call_at calls.Sendfd descriptor operand = one operand_at (programs.Sendfd descriptor operand)
+operand_call_at calls.Lseek descriptor operand = nothing (programs.Lseek descriptor operand)
+operand_call_at calls.Ftruncate descriptor operand = nothing (programs.Ftruncate descriptor operand)
+operand_call_at calls.Fcntl_setfl descriptor operand = nothing (programs.Fcntl_setfl descriptor operand)
+operand_call_at call descriptor operand = refused
+
 -- the operands of a call behind its descriptor
 unfoldable pub descriptor_call_at : Call → Operand → Field Syscall
 descriptor_call_at calls.Read descriptor = nothing (programs.Read descriptor)
@@ -38,12 +47,24 @@ descriptor_call_at calls.Cap_rights_limit descriptor = one rights_at (programs.C
 descriptor_call_at calls.Cap_fcntls_limit descriptor = one commands_at (programs.Cap_fcntls_limit descriptor)
 descriptor_call_at call descriptor = λ words. path_at words >>= (λ path. at_call_at call descriptor path.0 path.1)
 
+-- the operands of a call behind its path
+abbrev pub path_call_at : Call → List ℕ → Field Syscall
+path_call_at calls.Open path = one flags_at (programs.Open path)
+path_call_at calls.Stat path = nothing (programs.Stat path)
+path_call_at calls.Mkdir path = nothing (programs.Mkdir path)
+path_call_at calls.Unlink path = one directory_at (programs.Unlink path)
+path_call_at call path = refused
+
+-- the number and the label of a comparison behind its register
+unfoldable pub comparison_at : Mnemonic → ℕ → Field Written
+comparison_at Jeq register = two number_at label_at (λ value name. Leading (If_equal register value) name)
+comparison_at Jlt register = two number_at label_at (λ value name. Leading (If_less register value) name)
+comparison_at mnemonic register = refused
+
 -- the operands of an instruction behind its register
 unfoldable pub register_form_at : Mnemonic → ℕ → Field Written
 register_form_at Set register = one number_at (λ value. Alone (programs.Set register value))
 register_form_at Mov register = one register_at (λ source. Alone (programs.Mov register source))
 register_form_at Add register = one register_at (λ addend. Alone (programs.Add register addend))
 register_form_at In register = nothing (Alone (programs.In register))
-register_form_at Jeq register = two number_at label_at (λ value name. Leading (If_equal register value) name)
-register_form_at Jlt register = two number_at label_at (λ value name. Leading (If_less register value) name)
-register_form_at mnemonic register = refused
+register_form_at mnemonic register = comparison_at mnemonic register

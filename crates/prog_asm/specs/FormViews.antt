@@ -2,13 +2,15 @@
 use Rattle.std.specs.Prelude.{◌≡◌, ℕ, List, [], ◌∷◌, Option, Some, Result, Ok, Err}
 use Rattle.std.specs.Borrow.{Bor}
 use Rattle.rights.specs.Views.{call_of}
+use Rattle.prog_asm.specs.declared.forms.Jump.{Jump as JumpCode}
+use Rattle.prog_asm.specs.declared.forms.Jump.TheVariants as jump
 use Rattle.prog_asm.specs.declared.forms.Written.{Written as WrittenCode}
 use Rattle.prog_asm.specs.declared.forms.Written.TheVariants as written
 use Rattle.prog_asm.specs.declared.mistakes.Mistake.{Mistake as MistakeCode}
 use Rattle.prog_asm.specs.declared.mistakes.Mistake.TheVariants as mistake
 use Rattle.prog_asm.specs.declared.mnemonics.Mnemonic.{Mnemonic as MnemonicCode}
 use Rattle.prog_asm.specs.declared.mnemonics.Mnemonic.TheVariants as mnemonic
-use Rattle.programs.specs.Forms.{Mnemonic, Set, Mov, Add, In, Jmp, Jeq, Jlt, Halt, Make, Always, If_equal, If_less, After_error, Written, Alone, Leading}
+use Rattle.programs.specs.Forms.{Mnemonic, Set, Mov, Add, In, Jmp, Jeq, Jlt, Halt, Make, Jump, Always, If_equal, If_less, After_error, Written, Alone, Leading}
 use Rattle.prog_asm.specs.ReadingViews.{FailsField}
 use Rattle.programs.specs.Programs as programs
 use Rattle.programs.specs.Views.{syscall_of}
@@ -24,16 +26,19 @@ mnemonic_from mnemonic.Jlt = Jlt
 mnemonic_from mnemonic.Halt = Halt
 mnemonic_from (mnemonic.Make call) = Make (call_of call)
 
+abbrev pub jump_from : JumpCode → Jump
+jump_from jump.Always = Always
+jump_from (jump.IfEqual register value) = If_equal register value
+jump_from (jump.IfLess register value) = If_less register value
+jump_from (jump.AfterError call) = After_error (syscall_of call)
+
 unfoldable pub written_from : WrittenCode → Written
 written_from (written.Set register value) = Alone (programs.Set register value)
 written_from (written.Mov register source) = Alone (programs.Mov register source)
 written_from (written.Add register addend) = Alone (programs.Add register addend)
 written_from (written.In register) = Alone (programs.In register)
-written_from (written.Jmp label) = Leading Always label.now
-written_from (written.Jeq register value label) = Leading (If_equal register value) label.now
-written_from (written.Jlt register value label) = Leading (If_less register value) label.now
 written_from written.Halt = Alone programs.Halt
-written_from (written.Invoke call otherwise) = Leading (After_error (syscall_of call)) otherwise.now
+written_from (written.Leading jump label) = Leading (jump_from jump) label.now
 
 -- What is taken is what the field is read as, and these words are left.
 abbrev pub TakesField : {X Y : Type 0} → (X → Y) → Result X MistakeCode → List (List ℕ) → Option (Y × List (List ℕ)) → Type 0

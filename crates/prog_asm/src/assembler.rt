@@ -2,7 +2,7 @@
 
 ghost use Rattle.std.specs.Prelude.{◌≡◌, ◌≤◌, List, length, map, option_map};
 ghost use Rattle.programs.specs.Assembly.{Line, assembly_of, code_from, last_line_number, program_read};
-ghost use Rattle.prog_asm.specs.DraftViews.{Drafts, below, step_from};
+ghost use Rattle.prog_asm.specs.DraftViews.{Drafts, below, completed, step_from};
 ghost use Rattle.prog_asm.specs.FaultViews.{Gives};
 ghost use Rattle.prog_asm.specs.LineViews.{point_in};
 ghost use Rattle.programs.specs.Programs.{ends_well, is_last};
@@ -66,6 +66,26 @@ fn place_all(
     Ok(code)
 }
 
+/// The instructions with points in the place of labels, if nothing goes on past their end, or the first fault.
+fn complete(
+    alloc: Global,
+    labels: &IndexMap<&[u8], usize>,
+    steps: VecDeque<Step<'_>>,
+) -> Result<Vec<Instruction>, AsmFault>
+    requires { length steps.items ≤ 256 }
+    ensures { Gives (λ code. code_of code.items) result
+        (completed (λ name. below (length steps.entry.items) (point_in labels.now name))
+        (map step_from steps.entry.items)) }
+{
+    let last = last_line(&steps);
+    let code = place_all(alloc, labels, steps)?;
+    if ends_well(&code) {
+        Ok(code)
+    } else {
+        Err(AsmFault::FallsOff(last))
+    }
+}
+
 /// The instructions of a draft, or the fault of one whose lines are good.
 fn finish(alloc: Global, draft: Draft<'_>) -> Result<Vec<Instruction>, AsmFault>
     requires { length draft.steps.items ≤ 256 }
@@ -73,13 +93,7 @@ fn finish(alloc: Global, draft: Draft<'_>) -> Result<Vec<Instruction>, AsmFault>
         → Gives (λ code. code_of code.items) result (program_read lines) }
 {
     let Draft { labels, steps } = draft;
-    let last = last_line(&steps);
-    let code = place_all(alloc, &labels, steps)?;
-    if ends_well(&code) {
-        Ok(code)
-    } else {
-        Err(AsmFault::FallsOff(last))
-    }
+    complete(alloc, &labels, steps)
 }
 
 /// Assembles a text: the program that it stands for, or its first fault. (own)

@@ -2,7 +2,7 @@
 
 ghost use Rattle.std.specs.Prelude.{◌≡◌, ◌+◌, Ok, ◌≤◌, [], List, length, map, option_map};
 ghost use Rattle.programs.specs.Assembly.{Line as LineRead, line_read, lines_behind, placed};
-ghost use Rattle.prog_asm.specs.DraftViews.{AddsLine, Drafts, DraftsLines, StepAdded, below, step_from};
+ghost use Rattle.prog_asm.specs.DraftViews.{AddsLine, Drafts, DraftsLines, IsAppended, StepAdded, below, step_from};
 ghost use Rattle.prog_asm.specs.FormViews.{written_from};
 ghost use Rattle.prog_asm.specs.LineViews.{line_from, point_in};
 ghost use Rattle.programs.specs.Lines.{text_lines};
@@ -34,6 +34,17 @@ pub(crate) struct Draft<'t> {
     pub(crate) steps: VecDeque<Step<'t>>,
 }
 
+/// Adds one thing at the end, if there are fewer than a program has instructions.
+fn append<T: Drop>(items: &mut VecDeque<T>, item: T) -> Result<(), Mistake>
+    ensures { IsAppended result items.old.items items.new.items item }
+{
+    if items.len() >= MAX_INSTRUCTIONS {
+        return Err(Mistake::TooMany);
+    }
+    items.push_back(item)?;
+    Ok(())
+}
+
 /// Adds a line's instruction at the end.
 fn add_step<'t>(
     steps: &mut VecDeque<Step<'t>>,
@@ -43,14 +54,10 @@ fn add_step<'t>(
     ensures { StepAdded result (map step_from steps.old.items) (map step_from steps.new.items) line
         (option_map written_from instruction.entry) }
 {
-    let Some(written) = instruction else {
-        return Ok(())
-    };
-    if steps.len() >= MAX_INSTRUCTIONS {
-        return Err(Mistake::TooMany);
+    match instruction {
+        None => Ok(()),
+        Some(written) => append(steps, Step { line, written }),
     }
-    steps.push_back(Step { line, written })?;
-    Ok(())
 }
 
 impl<'t> Draft<'t> {
@@ -70,7 +77,8 @@ impl<'t> Draft<'t> {
             → AddsLine result before (Ok (line_from line.entry)) self.new }
     {
         let Line { label, instruction } = line;
-        add_label(&mut self.labels, label, self.steps.len())?;
+        let added = add_label(&mut self.labels, label, self.steps.len());
+        let instruction = added.and(Ok(instruction))?;
         add_step(&mut self.steps, number, instruction)
     }
 
@@ -119,36 +127,14 @@ pub(crate) fn place(
     ensures { option_map instruction_of result
         ≡ placed (λ name. below points (point_in labels.now name)) (written_from written.entry) }
 {
-    Some(match written {
-        Written::Set { register, value } => Instruction::Set { register, value },
-        Written::Mov { register, source } => Instruction::Mov { register, source },
-        Written::Add { register, addend } => Instruction::Add { register, addend },
-        Written::In { register } => Instruction::In { register },
-        Written::Jmp { label } => Instruction::Jmp {
-            target: target(labels, points, label)?,
-        },
-        Written::Jeq {
-            register,
-            value,
-            label,
-        } => Instruction::Jeq {
-            register,
-            value,
-            target: target(labels, points, label)?,
-        },
-        Written::Jlt {
-            register,
-            value,
-            label,
-        } => Instruction::Jlt {
-            register,
-            value,
-            target: target(labels, points, label)?,
-        },
-        Written::Halt => Instruction::Halt,
-        Written::Invoke { call, otherwise } => Instruction::Invoke {
-            call,
-            otherwise: target(labels, points, otherwise)?,
-        },
-    })
+    match written {
+        Written::Set { register, value } => Some(Instruction::Set { register, value }),
+        Written::Mov { register, source } => Some(Instruction::Mov { register, source }),
+        Written::Add { register, addend } => Some(Instruction::Add { register, addend }),
+        Written::In { register } => Some(Instruction::In { register }),
+        Written::Halt => Some(Instruction::Halt),
+        Written::Leading { jump, label } => {
+            target(labels, points, label).map(|target| jump.led(target))
+        }
+    }
 }

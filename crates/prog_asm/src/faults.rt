@@ -6,32 +6,26 @@ ghost use Rattle.prog_asm.specs.declared.faults.AsmFault.TheVariants as asm;
 
 use crate::mistakes::Mistake;
 use std::alloc::{AllocError, AllocFailed};
+use std::fmt;
 use thiserror::Error;
 
 /// Why a text isn't assembled: the first faulty line, counted from 1, and on it the first of these
 /// that applies; where no line is faulty, a missing label, and then falling off the end. (own)
-#[derive(Clone, Copy, Debug, PartialEq, Eq, Error)]
+#[derive(Clone, Copy, Debug, Error)]
 pub enum AsmFault {
     /// A byte that no word has, a bad name before a colon, or an unknown instruction.
-    #[error("line {0}: no such word")]
     Word(usize),
     /// A wrong operand, a wrong word in a list, or too few or too many operands.
-    #[error("line {0}: a wrong operand")]
     Operand(usize),
     /// A label that no line has, or that no instruction follows.
-    #[error("line {0}: a missing label")]
     NoLabel(usize),
     /// A label that a line before has already.
-    #[error("line {0}: a label for the second time")]
     TwiceLabel(usize),
     /// An instruction behind 256.
-    #[error("line {0}: too many instructions")]
     TooMany(usize),
     /// The last instruction goes on, or there is none (line 1).
-    #[error("line {0}: the program has no end")]
     FallsOff(usize),
     /// A growth was refused.
-    #[error("no memory")]
     Memory,
 }
 
@@ -78,6 +72,28 @@ impl AsmFault {
             | AsmFault::TooMany(line)
             | AsmFault::FallsOff(line) => Some(line),
             AsmFault::Memory => None,
+        }
+    }
+
+    /// What is wrong, in words.
+    fn told(self) -> &'static str {
+        match self {
+            AsmFault::Word(_) => "no such word",
+            AsmFault::Operand(_) => "a wrong operand",
+            AsmFault::NoLabel(_) => "a missing label",
+            AsmFault::TwiceLabel(_) => "a label for the second time",
+            AsmFault::TooMany(_) => "too many instructions",
+            AsmFault::FallsOff(_) => "the program has no end",
+            AsmFault::Memory => "no memory",
+        }
+    }
+}
+
+impl fmt::Display for AsmFault {
+    fn fmt<W: fmt::Write>(&self, f: &mut fmt::Formatter<W>) -> fmt::Result {
+        match self.line() {
+            Some(line) => write!(f, "line {line}: {}", self.told()),
+            None => f.write_str(self.told()),
         }
     }
 }

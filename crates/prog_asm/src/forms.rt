@@ -1,15 +1,16 @@
 //! What each instruction wants behind its word. A new instruction is a line of `MNEMONICS` and one of
 //! `Words::written` or `Words::syscall`, or of what these call once its first operand is read.
 
-ghost use Rattle.std.specs.Prelude.{◌≡◌, map};
+ghost use Rattle.std.specs.Prelude.{◌≡◌, Some, map};
 ghost use Rattle.rights.specs.Views.{call_of};
-ghost use Rattle.prog_asm.specs.FormParts.{at_call_at, descriptor_call_at, register_form_at};
-ghost use Rattle.prog_asm.specs.FormViews.{TakesField, TakesWord, mnemonic_from, written_from};
-ghost use Rattle.programs.specs.Forms.{Make, commands_at, directory_at, else_at, flags_at, label_at, number_at, operand_at, path_at, register_at, rights_at, syscall_at, written_at, written_of};
+ghost use Rattle.prog_asm.specs.FormParts.{at_call_at, comparison_at, descriptor_call_at, operand_call_at, path_call_at, register_form_at};
+ghost use Rattle.prog_asm.specs.FormViews.{TakesField, TakesWord, jump_from, mnemonic_from, written_from};
+ghost use Rattle.programs.specs.Forms.{Make, commands_at, directory_at, else_at, flags_at, label_at, led, number_at};
+ghost use Rattle.programs.specs.Forms.{operand_at, path_at, register_at, rights_at, syscall_at, whole, written_at, written_of};
 ghost use Rattle.prog_asm.specs.ReadingViews.{ReadsField};
-ghost use Rattle.programs.specs.Views.{operand_of, syscall_of};
+ghost use Rattle.programs.specs.Views.{instruction_of, operand_of, syscall_of};
 
-use programs::Syscall;
+use programs::{Instruction, Syscall};
 use crate::mistakes::Mistake;
 use crate::mnemonics::Mnemonic;
 use programs::{Operand, Path, Register};
@@ -19,7 +20,41 @@ use std::alloc::Global;
 use std::marker::Model;
 use texts::is_name;
 
-/// An instruction as it is written: with the name of a label in the place of a point.
+/// An instruction that leads to a label, but for the label.
+#[derive(Drop)]
+pub(crate) enum Jump {
+    Always,
+    IfEqual { register: Register, value: u32 },
+    IfLess { register: Register, value: u32 },
+    AfterError { call: Syscall },
+}
+
+impl Jump {
+    /// The instruction, with the point that it leads to.
+    pub(crate) fn led(self, target: u8) -> Instruction
+        ensures { instruction_of result ≡ led (jump_from self) target }
+    {
+        match self {
+            Jump::Always => Instruction::Jmp { target },
+            Jump::IfEqual { register, value } => Instruction::Jeq {
+                register,
+                value,
+                target,
+            },
+            Jump::IfLess { register, value } => Instruction::Jlt {
+                register,
+                value,
+                target,
+            },
+            Jump::AfterError { call } => Instruction::Invoke {
+                call,
+                otherwise: target,
+            },
+        }
+    }
+}
+
+/// An instruction as it is written: alone, or leading to the label of a name.
 #[derive(Drop)]
 pub(crate) enum Written<'t> {
     Set {
@@ -37,23 +72,10 @@ pub(crate) enum Written<'t> {
     In {
         register: Register,
     },
-    Jmp {
-        label: &'t [u8],
-    },
-    Jeq {
-        register: Register,
-        value: u32,
-        label: &'t [u8],
-    },
-    Jlt {
-        register: Register,
-        value: u32,
-        label: &'t [u8],
-    },
     Halt,
-    Invoke {
-        call: Syscall,
-        otherwise: &'t [u8],
+    Leading {
+        jump: Jump,
+        label: &'t [u8],
     },
 }
 
@@ -90,6 +112,17 @@ impl<'w, 't> Words<'w, 't> {
                 self.rest = rest;
                 Ok(word)
             }
+        }
+    }
+
+    /// What was read, if no word is left.
+    fn whole<T: Drop>(&self, read: T) -> Result<T, Mistake>
+        ensures { ReadsField (λ all. all) result (whole read self.now) }
+    {
+        if self.rest.is_empty() {
+            Ok(read)
+        } else {
+            Err(Mistake::Operand)
         }
     }
 
@@ -165,15 +198,15 @@ impl<'w, 't> Words<'w, 't> {
 
     /// The word `dir`, or nothing: whether it is there.
     #[tactic(auto, unfolding(crate::specs::Forms::directory_at))]
-    fn directory(&mut self) -> Result<bool, Mistake>
-        ensures { TakesField (λ directory. directory) result self.new (directory_at self.old) }
+    fn directory(&mut self) -> bool
+        ensures { directory_at self.old ≡ Some (result, self.new) }
     {
         match self.rest {
             [word, rest @ ..] if *word == b"dir".as_slice() => {
                 self.rest = rest;
-                Ok(true)
+                true
             }
-            _ => Ok(false),
+            _ => false,
         }
     }
 
@@ -206,7 +239,7 @@ impl<'w, 't> Words<'w, 't> {
             Call::Unlinkat => Syscall::Unlinkat {
                 descriptor,
                 path,
-                directory: self.directory()?,
+                directory: self.directory(),
             },
             Call::Renameat => Syscall::Renameat {
                 descriptor,
@@ -218,39 +251,55 @@ impl<'w, 't> Words<'w, 't> {
         })
     }
 
+    /// The operands of a call behind its descriptor and an operand more. A call without these is refused.
+    #[tactic(auto, unfolding(crate::specs::FormParts::operand_call_at))]
+    fn operand_call(
+        &mut self,
+        call: Call,
+        descriptor: Operand,
+        operand: Operand,
+    ) -> Result<Syscall, Mistake>
+        ensures { TakesField syscall_of result self.new
+            (operand_call_at (call_of call) (operand_of descriptor) (operand_of operand) self.old) }
+    {
+        Ok(match call {
+            Call::Write => Syscall::Write {
+                descriptor,
+                value: operand,
+            },
+            Call::Sendfd => Syscall::Sendfd {
+                descriptor,
+                sent: operand,
+                value: self.operand()?,
+            },
+            Call::Lseek => Syscall::Lseek {
+                descriptor,
+                offset: operand,
+            },
+            Call::Ftruncate => Syscall::Ftruncate {
+                descriptor,
+                len: operand,
+            },
+            Call::FcntlSetfl => Syscall::FcntlSetfl {
+                descriptor,
+                flags: operand,
+            },
+            _ => return Err(Mistake::Operand),
+        })
+    }
+
     /// The operands of a call behind its descriptor. A call that has no descriptor is refused.
-    #[tactic(auto, unfolding(crate::specs::FormParts::descriptor_call_at))]
+    #[tactic(auto, unfolding(crate::specs::FormParts::descriptor_call_at, crate::specs::FormParts::operand_call_at))]
     fn descriptor_call(&mut self, call: Call, descriptor: Operand) -> Result<Syscall, Mistake>
         ensures { TakesField syscall_of result self.new
             (descriptor_call_at (call_of call) (operand_of descriptor) self.old) }
     {
         Ok(match call {
             Call::Read => Syscall::Read { descriptor },
-            Call::Write => Syscall::Write {
-                descriptor,
-                value: self.operand()?,
-            },
-            Call::Sendfd => Syscall::Sendfd {
-                descriptor,
-                sent: self.operand()?,
-                value: self.operand()?,
-            },
             Call::Recvfd => Syscall::Recvfd { descriptor },
-            Call::Lseek => Syscall::Lseek {
-                descriptor,
-                offset: self.operand()?,
-            },
-            Call::Ftruncate => Syscall::Ftruncate {
-                descriptor,
-                len: self.operand()?,
-            },
             Call::Fsync => Syscall::Fsync { descriptor },
             Call::Fstat => Syscall::Fstat { descriptor },
             Call::FcntlGetfl => Syscall::FcntlGetfl { descriptor },
-            Call::FcntlSetfl => Syscall::FcntlSetfl {
-                descriptor,
-                flags: self.operand()?,
-            },
             Call::Dup => Syscall::Dup { descriptor },
             Call::Close => Syscall::Close { descriptor },
             Call::CapRightsLimit => Syscall::CapRightsLimit {
@@ -261,6 +310,10 @@ impl<'w, 't> Words<'w, 't> {
                 descriptor,
                 commands: self.commands()?,
             },
+            Call::Write | Call::Sendfd | Call::Lseek | Call::Ftruncate | Call::FcntlSetfl => {
+                let operand = self.operand()?;
+                return self.operand_call(call, descriptor, operand);
+            }
             _ => {
                 let path = self.path()?;
                 return self.at_call(call, descriptor, path);
@@ -268,31 +321,44 @@ impl<'w, 't> Words<'w, 't> {
         })
     }
 
-    /// The operands of a call.
-    #[tactic(auto, unfolding(crate::specs::Forms::syscall_at, crate::specs::FormParts::descriptor_call_at, crate::specs::FormParts::at_call_at))]
-    fn syscall(&mut self, call: Call) -> Result<Syscall, Mistake>
-        ensures { TakesField syscall_of result self.new (syscall_at (call_of call) self.old) }
+    /// The operands of a call behind its path. A call that does not begin with one is refused.
+    fn path_call(&mut self, call: Call, path: Path) -> Result<Syscall, Mistake>
+        ensures { TakesField syscall_of result self.new (path_call_at (call_of call) path self.old) }
     {
         Ok(match call {
             Call::Open => Syscall::Open {
-                path: self.path()?,
+                path,
                 flags: self.flags()?,
             },
-            Call::Stat => Syscall::Stat { path: self.path()? },
-            Call::Mkdir => Syscall::Mkdir { path: self.path()? },
+            Call::Stat => Syscall::Stat { path },
+            Call::Mkdir => Syscall::Mkdir { path },
             Call::Unlink => Syscall::Unlink {
-                path: self.path()?,
-                directory: self.directory()?,
+                path,
+                directory: self.directory(),
             },
-            Call::CapEnter => Syscall::CapEnter,
-            Call::CapGetmode => Syscall::CapGetmode,
-            Call::Socketpair => Syscall::Socketpair,
-            Call::Fork => Syscall::Fork,
+            _ => return Err(Mistake::Operand),
+        })
+    }
+
+    /// The operands of a call.
+    #[tactic(auto, unfolding(crate::specs::Forms::syscall_at, crate::specs::FormParts::descriptor_call_at, crate::specs::FormParts::operand_call_at, crate::specs::FormParts::at_call_at))]
+    fn syscall(&mut self, call: Call) -> Result<Syscall, Mistake>
+        ensures { TakesField syscall_of result self.new (syscall_at (call_of call) self.old) }
+    {
+        match call {
+            Call::CapEnter => Ok(Syscall::CapEnter),
+            Call::CapGetmode => Ok(Syscall::CapGetmode),
+            Call::Socketpair => Ok(Syscall::Socketpair),
+            Call::Fork => Ok(Syscall::Fork),
+            Call::Open | Call::Stat | Call::Mkdir | Call::Unlink => {
+                let path = self.path()?;
+                self.path_call(call, path)
+            }
             _ => {
                 let descriptor = self.operand()?;
-                return self.descriptor_call(call, descriptor);
+                self.descriptor_call(call, descriptor)
             }
-        })
+        }
     }
 
     /// The operands of a call, and where it leads after an error.
@@ -300,10 +366,26 @@ impl<'w, 't> Words<'w, 't> {
     fn invocation(&mut self, call: Call) -> Result<Written<'t>, Mistake>
         ensures { TakesField written_from result self.new (written_at (Make (call_of call)) self.old) }
     {
-        Ok(Written::Invoke {
-            call: self.syscall(call)?,
-            otherwise: self.otherwise()?,
+        let call = self.syscall(call)?;
+        self.otherwise().map(|label| Written::Leading {
+            jump: Jump::AfterError { call },
+            label,
         })
+    }
+
+    /// The number and the label of a comparison behind its register. An instruction that compares nothing is refused.
+    #[tactic(auto, unfolding(crate::specs::FormParts::comparison_at, crate::specs::FormViews::written_from))]
+    fn comparison(&mut self, mnemonic: Mnemonic, register: Register) -> Result<Written<'t>, Mistake>
+        ensures { TakesField written_from result self.new
+            (comparison_at (mnemonic_from mnemonic) register self.old) }
+    {
+        let value = self.number()?;
+        let jump = match mnemonic {
+            Mnemonic::Jeq => Jump::IfEqual { register, value },
+            Mnemonic::Jlt => Jump::IfLess { register, value },
+            _ => return Err(Mistake::Operand),
+        };
+        self.label().map(|label| Written::Leading { jump, label })
     }
 
     /// The operands of an instruction behind its register. One that has no register is refused.
@@ -330,29 +412,23 @@ impl<'w, 't> Words<'w, 't> {
                 addend: self.register()?,
             },
             Mnemonic::In => Written::In { register },
-            Mnemonic::Jeq => Written::Jeq {
-                register,
-                value: self.number()?,
-                label: self.label()?,
-            },
-            Mnemonic::Jlt => Written::Jlt {
-                register,
-                value: self.number()?,
-                label: self.label()?,
-            },
-            _ => return Err(Mistake::Operand),
+            _ => return self.comparison(mnemonic, register),
         })
     }
 
     /// The operands of an instruction.
-    #[tactic(auto, unfolding(crate::specs::Forms::written_at, crate::specs::FormParts::register_form_at, crate::specs::FormViews::written_from))]
+    #[tactic(auto, unfolding(crate::specs::Forms::written_at, crate::specs::FormParts::register_form_at, crate::specs::FormParts::comparison_at, crate::specs::FormViews::written_from))]
     fn written(&mut self, mnemonic: Mnemonic) -> Result<Written<'t>, Mistake>
         ensures { TakesField written_from result self.new (written_at (mnemonic_from mnemonic) self.old) }
     {
         match mnemonic {
-            Mnemonic::Jmp => Ok(Written::Jmp {
-                label: self.label()?,
-            }),
+            Mnemonic::Jmp => {
+                let label = self.label()?;
+                Ok(Written::Leading {
+                    jump: Jump::Always,
+                    label,
+                })
+            }
             Mnemonic::Halt => Ok(Written::Halt),
             Mnemonic::Make(call) => self.invocation(call),
             _ => {
@@ -374,9 +450,5 @@ pub(crate) fn read_written<'t>(
 {
     let mut words = Words::new(alloc, operands);
     let written = words.written(mnemonic)?;
-    if words.rest.is_empty() {
-        Ok(written)
-    } else {
-        Err(Mistake::Operand)
-    }
+    words.whole(written)
 }

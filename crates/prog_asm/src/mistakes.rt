@@ -6,7 +6,7 @@ ghost use Rattle.prog_asm.specs.declared.mistakes.Mistake.TheVariants as mistake
 use std::alloc::{AllocError, AllocFailed};
 
 /// Why a line isn't read.
-#[derive(Clone, Copy, PartialEq, Eq)]
+#[derive(Clone, Copy)]
 pub(crate) enum Mistake {
     /// A byte that no word has, a bad name before a colon, or an unknown instruction.
     Word,

@@ -10,5 +10,6 @@ pub mod ApartLaws
 pub mod NumberLaws
 pub mod Stages
 pub mod EachItem
+pub mod OneByOne
 pub mod Rows
 pub mod PairRows

@@ -14,6 +14,7 @@ use crate::documents::{has_only, integer_at, read_words, text_at, value_at};
 use crate::faults::TaskFault;
 use crate::words::{access, set, side};
 use crate::written::{WrittenDescriptor, WrittenObject};
+use bitflags::Flags;
 use fd_table::{Access, Side};
 use rights::{Fcntls, Rights};
 use std::alloc::Global;
@@ -40,19 +41,26 @@ fn read_access(alloc: Global, value: Option<&Value>) -> Result<Access, TaskFault
     }
 }
 
+/// The set that a list of names stands for.
+fn read_set<F: Flags + Copy>(alloc: Global, value: &Value) -> Result<F, TaskFault>
+    requires { F.exact }
+    ensures { ReadsTask F.set_of result (or_mistake Wrong_field (set_in F.table (view value.now))) }
+{
+    let words = read_words(alloc, value)?;
+    match set(&words) {
+        Some(set) => Ok(set),
+        None => Err(TaskFault::Field),
+    }
+}
+
 /// A descriptor's rights: all, where no list says which. (rights(4))
 fn read_rights(alloc: Global, value: Option<&Value>) -> Result<Rights, TaskFault>
     ensures { ReadsTask (λ rights. rights.0) result
         (or_mistake Wrong_field (read_or all_rights (set_in right_names) (option_map (λ v. view v.now) value.entry))) }
 {
-    let value = match value {
-        Some(value) => value,
-        None => return Ok(Rights::all()),
-    };
-    let words = read_words(alloc, value)?;
-    match set(&words) {
-        Some(rights) => Ok(rights),
-        None => Err(TaskFault::Field),
+    match value {
+        Some(value) => read_set(alloc, value),
+        None => Ok(Rights::all()),
     }
 }
 
@@ -61,14 +69,9 @@ fn read_fcntls(alloc: Global, value: Option<&Value>) -> Result<Fcntls, TaskFault
     ensures { ReadsTask (λ fcntls. fcntls.0) result
         (or_mistake Wrong_field (read_or all_commands (set_in command_names) (option_map (λ v. view v.now) value.entry))) }
 {
-    let value = match value {
-        Some(value) => value,
-        None => return Ok(Fcntls::all()),
-    };
-    let words = read_words(alloc, value)?;
-    match set(&words) {
-        Some(fcntls) => Ok(fcntls),
-        None => Err(TaskFault::Field),
+    match value {
+        Some(value) => read_set(alloc, value),
+        None => Ok(Fcntls::all()),
     }
 }
 

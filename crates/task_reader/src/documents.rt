@@ -3,7 +3,7 @@
 ghost use Rattle.std.specs.Prelude.{◌≡◌, IfErr, IfOk, map, option_map};
 ghost use Rattle.toml.specs.Data.{as_str, get_member};
 ghost use Rattle.toml.specs.View.{array_view, items_view, table_view, view};
-ghost use Rattle.task_reader.specs.Documents.{document_of, each_item, integer_at, is_among, items_at, once, only_keys, text_at, words_in};
+ghost use Rattle.task_reader.specs.Documents.{are_once, document_of, each_item, integer_at, is_among, items_at, once, only_keys, text_at, words_in};
 ghost use Rattle.task_reader.specs.FaultViews.{ReadsTask};
 ghost use Rattle.task_reader.specs.Reading.{Not_toml, Wrong_field, or_mistake};
 ghost use Rattle.task_reader.specs.declared.faults.TaskFault.TheVariants as fault;
@@ -57,6 +57,14 @@ pub(crate) fn words_once<'a>(
         }
     }
     Ok(Some(set))
+}
+
+/// Whether no word is given twice.
+pub(crate) fn are_once(alloc: Global, words: &[&str]) -> Result<bool, TaskFault>
+    ensures once { IfOk result (λ once. once ≡ are_once (map (λ w. w.now) words.now)) }
+    ensures memory { IfErr result (λ error. error ≡ fault.Memory) }
+{
+    Ok(words_once(alloc, words)?.is_some())
 }
 
 /// Whether a table has no keys but these.
@@ -131,8 +139,9 @@ pub(crate) fn read_words<'a>(alloc: Global, value: &'a Value) -> Result<Vec<&'a 
         None => return Err(TaskFault::Field),
     };
     let words = read_texts(alloc, values)?;
-    match words_once(alloc, &words)? {
-        Some(_) => Ok(words),
-        None => Err(TaskFault::Field),
+    if are_once(alloc, &words)? {
+        Ok(words)
+    } else {
+        Err(TaskFault::Field)
     }
 }

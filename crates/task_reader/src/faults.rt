@@ -6,35 +6,28 @@ ghost use Rattle.task_reader.specs.declared.faults.TaskFault.TheVariants as faul
 
 use prog_asm::AsmFault;
 use std::alloc::{AllocError, AllocFailed};
+use std::fmt;
 use thiserror::Error;
 
 /// Why some bytes aren't read as a task. Where more than one of the first seven applies, the first of them is told. (own)
 #[derive(Debug, Drop, Error)]
 pub enum TaskFault {
     /// The bytes are no TOML document.
-    #[error("not a TOML document")]
     NotToml,
     /// A key is missing or is none of a task's, a value is of a wrong type, or a word or a name is wrong or is given twice.
-    #[error("a field is wrong")]
     Field,
     /// A node's path isn't one, is given twice, or comes before its directory.
-    #[error("a node is wrong")]
     Node,
     /// A grant isn't of a directory, or is in another.
-    #[error("a grant is wrong")]
     Grant,
     /// A descriptor's number isn't one or is given twice, its pair isn't one, its path isn't that of a file or directory, or
     /// it is to write a directory.
-    #[error("a descriptor is wrong")]
     Descriptor,
     /// The first program whose text isn't assembled, and why it isn't.
-    #[error("program {program}: {fault}")]
     Asm { program: String, fault: AsmFault },
     /// Something is too long, too many, or a link's target is empty.
-    #[error("past a limit")]
     Limit,
     /// A growth was refused.
-    #[error("no memory")]
     Memory,
 }
 
@@ -68,6 +61,29 @@ impl TaskFault {
             TaskFault::Asm { .. } => "Asm",
             TaskFault::Limit => "Limit",
             TaskFault::Memory => "Memory",
+        }
+    }
+
+    /// What is wrong, in words.
+    fn told(&self) -> &'static str {
+        match self {
+            TaskFault::NotToml => "not a TOML document",
+            TaskFault::Field => "a field is wrong",
+            TaskFault::Node => "a node is wrong",
+            TaskFault::Grant => "a grant is wrong",
+            TaskFault::Descriptor => "a descriptor is wrong",
+            TaskFault::Asm { .. } => "a program is wrong",
+            TaskFault::Limit => "past a limit",
+            TaskFault::Memory => "no memory",
+        }
+    }
+}
+
+impl fmt::Display for TaskFault {
+    fn fmt<W: fmt::Write>(&self, f: &mut fmt::Formatter<W>) -> fmt::Result {
+        match self {
+            TaskFault::Asm { program, fault } => write!(f, "program {program}: {fault}"),
+            _ => f.write_str(self.told()),
         }
     }
 }

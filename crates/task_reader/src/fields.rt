@@ -27,12 +27,14 @@ fn directory(table: &Table) -> Option<WrittenNode<'_>>
     if !has_only(table, &["path", "kind"]) {
         return None;
     }
-    let path = text_at(table, "path")?;
-    Some(WrittenNode {
-        path,
-        kind: Kind::Dir,
-        content: "",
-    })
+    match text_at(table, "path") {
+        Some(path) => Some(WrittenNode {
+            path,
+            kind: Kind::Dir,
+            content: "",
+        }),
+        None => None,
+    }
 }
 
 /// A file, with its content.
@@ -124,9 +126,9 @@ fn program(table: &Table) -> Option<WrittenProgram<'_>>
     if !has_only(table, &["name", "code", "untrusted"]) {
         return None;
     }
-    let untrusted = is_untrusted(value_at(table, "untrusted"))?;
-    match (name_at(table, "name"), text_at(table, "code")) {
-        (Some(name), Some(text)) => Some(WrittenProgram {
+    let untrusted = is_untrusted(value_at(table, "untrusted"));
+    match (name_at(table, "name"), text_at(table, "code"), untrusted) {
+        (Some(name), Some(text), Some(untrusted)) => Some(WrittenProgram {
             name,
             text,
             untrusted,

@@ -96,8 +96,10 @@ fn place_node(tree: &IndexedNodes<'_>, path: &str, access: Access) -> Option<Pla
 fn place_end(pair: i64, side: Side) -> Option<PlacedObject>
     ensures { option_map placed_object result ≡ pair_placed pair (side_seen side) }
 {
-    let pair = number_below(MAX_PAIRS, pair)?;
-    Some(PlacedObject::End { pair, side })
+    match number_below(MAX_PAIRS, pair) {
+        Some(pair) => Some(PlacedObject::End { pair, side }),
+        None => None,
+    }
 }
 
 /// The node or the end that a descriptor is of, if it can be.
@@ -121,12 +123,16 @@ fn place_descriptor(
     ensures { option_map placed_descriptor result
         ≡ descriptor_placed (nodes_of tree.now.nodes.items) (descriptor_seen descriptor.now) }
 {
-    Some(PlacedDescriptor {
-        number: number_below(NUMBERS, descriptor.number)?,
-        object: place_object(tree, &descriptor.object)?,
-        rights: descriptor.rights,
-        fcntls: descriptor.fcntls,
-    })
+    let number = number_below(NUMBERS, descriptor.number);
+    match (number, place_object(tree, &descriptor.object)) {
+        (Some(number), Some(object)) => Some(PlacedDescriptor {
+            number,
+            object,
+            rights: descriptor.rights,
+            fcntls: descriptor.fcntls,
+        }),
+        _ => None,
+    }
 }
 
 /// The descriptors on their nodes and ends, if each can be.

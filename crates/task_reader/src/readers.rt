@@ -1,18 +1,19 @@
 //! The lists of a task's document, and the document as a whole.
 
-ghost use Rattle.std.specs.Prelude.{◌≡◌, false, IfOk, map, option_and_then, option_map};
+ghost use Rattle.std.specs.Prelude.{◌≡◌, false, IfErr, IfOk, map, option_and_then, option_map};
 ghost use Rattle.toml.specs.Data.{get_member};
 ghost use Rattle.toml.specs.View.{items_view, table_view, view};
-ghost use Rattle.task_reader.specs.Documents.{each_item, read_or};
+ghost use Rattle.task_reader.specs.Documents.{are_once, each_item, once, read_or};
 ghost use Rattle.task_reader.specs.FaultViews.{ReadsTask};
 ghost use Rattle.task_reader.specs.Reading.{Wrong_field, or_mistake};
 ghost use Rattle.task_reader.specs.Written.{descriptors_in, listed_starts, mode_written, names_of_grants, names_of_programs, program_place, start_in, written_descriptor};
 ghost use Rattle.task_reader.specs.Written.{written_grant, written_grants, written_node, written_nodes, written_program, written_programs, written_start, written_starts};
 ghost use Rattle.task_reader.specs.Written.{written_task};
 ghost use Rattle.task_reader.specs.WrittenViews.{descriptor_seen, grant_seen, grants_seen, node_seen, nodes_seen, program_seen, programs_seen, start_seen, starts_seen, task_seen};
+ghost use Rattle.task_reader.specs.declared.faults.TaskFault.TheVariants as fault;
 
 use crate::descriptors::written_descriptor;
-use crate::documents::{has_only, items_at, text_at, value_at, words_once};
+use crate::documents::{are_once, has_only, items_at, text_at, value_at, words_once};
 use crate::faults::TaskFault;
 use crate::fields::{written_grant, written_node, written_program};
 use crate::words::{mode, place_among};
@@ -75,6 +76,15 @@ fn grant_names<'a>(
     Ok(names)
 }
 
+/// Whether the name of each grant is given once.
+fn are_grants_once(alloc: Global, grants: &[WrittenGrant<'_>]) -> Result<bool, TaskFault>
+    ensures once { IfOk result (λ once. once ≡ are_once (names_of_grants (grants_seen grants.now))) }
+    ensures memory { IfErr result (λ error. error ≡ fault.Memory) }
+{
+    let names = grant_names(alloc, grants)?;
+    are_once(alloc, &names)
+}
+
 /// A document's grants: each name is given once.
 fn read_grants<'a>(alloc: Global, table: &'a Table) -> Result<Vec<WrittenGrant<'a>>, TaskFault>
     ensures { ReadsTask (λ grants. grants_seen grants.items) result
@@ -85,10 +95,10 @@ fn read_grants<'a>(alloc: Global, table: &'a Table) -> Result<Vec<WrittenGrant<'
         None => return Err(TaskFault::Field),
     };
     let grants = grant_list(alloc, values)?;
-    let names = grant_names(alloc, &grants)?;
-    match words_once(alloc, &names)? {
-        Some(_) => Ok(grants),
-        None => Err(TaskFault::Field),
+    if are_grants_once(alloc, &grants)? {
+        Ok(grants)
+    } else {
+        Err(TaskFault::Field)
     }
 }
 
@@ -131,6 +141,18 @@ fn program_names<'a>(
     Ok(names)
 }
 
+/// The names of some programs as a set, or nothing where one is given twice.
+fn program_set<'a>(
+    alloc: Global,
+    programs: &[WrittenProgram<'a>],
+) -> Result<Option<IndexSet<&'a str>>, TaskFault>
+    ensures once { IfOk result (λ set. option_map (λ s. map (λ n. n.now) s.keys) set ≡ once (names_of_programs (programs_seen programs.now))) }
+    ensures memory { IfErr result (λ error. error ≡ fault.Memory) }
+{
+    let names = program_names(alloc, programs)?;
+    words_once(alloc, &names)
+}
+
 /// A document's programs, with their names: each is given once.
 fn read_programs<'a>(alloc: Global, table: &'a Table) -> Result<NamedPrograms<'a>, TaskFault>
     ensures programs { ReadsTask (λ read. programs_seen read.programs.items) result
@@ -142,8 +164,7 @@ fn read_programs<'a>(alloc: Global, table: &'a Table) -> Result<NamedPrograms<'a
         None => return Err(TaskFault::Field),
     };
     let programs = program_list(alloc, values)?;
-    let list = program_names(alloc, &programs)?;
-    match words_once(alloc, &list)? {
+    match program_set(alloc, &programs)? {
         Some(names) => Ok(NamedPrograms { programs, names }),
         None => Err(TaskFault::Field),
     }

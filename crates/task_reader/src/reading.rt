@@ -1,18 +1,21 @@
 //! TOML documents to tasks.
 
-ghost use Rattle.std.specs.Prelude.{◌≡◌, ◌^◌, ◌<◌, true, IfOk, map};
+ghost use Rattle.std.specs.Prelude.{◌≡◌, ◌^◌, ◌<◌, true, IfOk, Some, map};
 ghost use Rattle.std.specs.List.{list_all};
 ghost use Rattle.toml.specs.Data.{Members};
+ghost use Rattle.toml.specs.View.{table_view};
 ghost use Rattle.task_reader.specs.FaultViews.{ReadsTask};
-ghost use Rattle.task_reader.specs.PlacedViews.{has_near, is_near, is_small, placed_descriptor, placed_object, placed_start, placed_starts};
-ghost use Rattle.task_reader.specs.Reading.{plan_of, task_of};
-ghost use Rattle.task.specs.Views.{first_descriptor_of, first_object_of, start_of, starts_of};
+ghost use Rattle.task_reader.specs.IndexViews.{IsIndex};
+ghost use Rattle.task_reader.specs.PlacedViews.{has_near, is_near, is_small, placed_descriptor, placed_object, placed_start, placed_starts, plan_on};
+ghost use Rattle.task_reader.specs.Reading.{plan_in, plan_of, task_of, tree_of};
+ghost use Rattle.task.specs.Views.{first_descriptor_of, first_object_of, nodes_of, start_of, starts_of};
 ghost use Rattle.task_reader.specs.Written.{written_task};
 ghost use Rattle.task_reader.specs.WrittenViews.{task_seen};
 
 use crate::assembling::assemble_all;
 use crate::documents::read_document;
 use crate::faults::TaskFault;
+use crate::indexes::IndexedNodes;
 use crate::limits::keeps_limits;
 use crate::placed_grants::{check_policy, make_grants};
 use crate::placed_starts::{PlacedDescriptor, PlacedObject, PlacedStart, place_starts};
@@ -20,7 +23,8 @@ use crate::readers::read_written;
 use crate::trees::make_tree;
 use crate::written::WrittenTask;
 use std::alloc::{AllocError, Global};
-use task::{FirstDescriptor, FirstObject, Start, Task};
+use task::{FirstDescriptor, FirstObject, Grant, NamedProgram, Start, Task};
+use toml::Table;
 
 /// What a task's descriptor is of: the tree is so small that its node's number fits.
 fn kept_object(placed: PlacedObject) -> FirstObject
@@ -80,21 +84,56 @@ fn kept_starts(alloc: Global, placed: &[PlacedStart]) -> Result<Vec<Start>, Allo
     Ok(kept)
 }
 
-/// The task that is written in a document.
+/// What a task has beside its tree.
+#[derive(Drop)]
+pub(crate) struct Parts {
+    pub(crate) grants: Vec<Grant>,
+    pub(crate) programs: Vec<NamedProgram>,
+    pub(crate) starts: Vec<Start>,
+}
+
+/// The grants, the programs and the first processes of a task, on its tree.
+fn make_parts(
+    alloc: Global,
+    tree: &IndexedNodes<'_>,
+    written: &WrittenTask<'_>,
+) -> Result<Parts, TaskFault>
+    requires document { (document : Members) × (written_task document ≡ Some (task_seen written.now)) }
+    requires tree { tree_of (task_seen written.now).nodes ≡ Some (nodes_of tree.now.nodes.items) }
+    requires index { IsIndex tree.now.numbers (nodes_of tree.now.nodes.items) }
+    ensures { ReadsTask (plan_on (nodes_of tree.now.nodes.items)) result (plan_of (task_seen written.now)) }
+{
+    check_policy(alloc, tree, &written.grants)?;
+    let placed = place_starts(alloc, tree, &written.starts)?;
+    let programs = assemble_all(alloc, &written.programs)?;
+    if !keeps_limits(written, &tree.nodes) {
+        return Err(TaskFault::Limit);
+    }
+    let grants = make_grants(alloc, tree, &written.grants)?;
+    let starts = kept_starts(alloc, &placed)?;
+    Ok(Parts {
+        grants,
+        programs,
+        starts,
+    })
+}
+
+/// The task that is written.
 fn make_task(alloc: Global, written: &WrittenTask<'_>) -> Result<Task, TaskFault>
     requires { (document : Members) × (written_task document ≡ Some (task_seen written.now)) }
     ensures { ReadsTask (λ task. task) result (plan_of (task_seen written.now)) }
 {
     let tree = make_tree(alloc, &written.nodes)?;
-    check_policy(alloc, &tree, &written.grants)?;
-    let placed = place_starts(alloc, &tree, &written.starts)?;
-    let programs = assemble_all(alloc, &written.programs)?;
-    if !keeps_limits(written, &tree.nodes) {
-        return Err(TaskFault::Limit);
-    }
-    let grants = make_grants(alloc, &tree, &written.grants)?;
-    let starts = kept_starts(alloc, &placed)?;
-    Ok(Task::new(tree.nodes, grants, programs, starts))
+    let parts = make_parts(alloc, &tree, written)?;
+    Ok(Task::new(tree.nodes, parts.grants, parts.programs, parts.starts))
+}
+
+/// The task that is written in a document.
+fn task_in(alloc: Global, document: &Table) -> Result<Task, TaskFault>
+    ensures { ReadsTask (λ task. task) result (plan_in (table_view document.now)) }
+{
+    let written = read_written(alloc, document)?;
+    make_task(alloc, &written)
 }
 
 /// Reads a task from a TOML document. (own; descriptors after open(2), socketpair(2), rights(4) and cap_fcntls_limit(2))
@@ -122,6 +161,5 @@ pub fn read_task(alloc: Global, bytes: &[u8]) -> Result<Task, TaskFault>
     ensures { ReadsTask (λ task. task) result (task_of bytes.now) }
 {
     let document = read_document(alloc, bytes)?;
-    let written = read_written(alloc, &document)?;
-    make_task(alloc, &written)
+    task_in(alloc, &document)
 }

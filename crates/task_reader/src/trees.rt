@@ -1,9 +1,9 @@
 //! The tree that a task's nodes make.
 
-ghost use Rattle.std.specs.Prelude.{◌≡◌, IfOk, option_map};
+ghost use Rattle.std.specs.Prelude.{◌≡◌, IfOk, OnOk, option_map};
 ghost use Rattle.task_reader.specs.FaultViews.{ReadsTask};
 ghost use Rattle.task_reader.specs.IndexViews.{IsIndex};
-ghost use Rattle.task_reader.specs.Reading.{Wrong_node, node_made, or_mistake, tree_of};
+ghost use Rattle.task_reader.specs.Reading.{Wrong_node, node_made, or_mistake, tree_from, tree_of};
 ghost use Rattle.task.specs.Views.{node_of, nodes_of};
 ghost use Rattle.task_reader.specs.WrittenViews.{node_seen, nodes_seen};
 
@@ -37,6 +37,26 @@ fn make_node(
     }))
 }
 
+/// Adds some nodes behind those that are made.
+fn add_nodes<'a>(
+    alloc: Global,
+    tree: &mut IndexedNodes<'a>,
+    written: &[WrittenNode<'a>],
+) -> Result<(), TaskFault>
+    requires { IsIndex tree.old.numbers (nodes_of tree.old.nodes.items) }
+    ensures tree { ReadsTask (λ _. nodes_of tree.new.nodes.items) result
+        (or_mistake Wrong_node (tree_from (nodes_of tree.old.nodes.items) (nodes_seen written.now))) }
+    ensures index { OnOk result (IsIndex tree.new.numbers (nodes_of tree.new.nodes.items)) }
+{
+    for node in written {
+        match make_node(alloc, tree, node)? {
+            Some(made) => add_node(tree, node, made)?,
+            None => return Err(TaskFault::Node),
+        }
+    }
+    Ok(())
+}
+
 /// The tree of some nodes, the root first. (own)
 pub(crate) fn make_tree<'a>(
     alloc: Global,
@@ -46,11 +66,6 @@ pub(crate) fn make_tree<'a>(
     ensures index { IfOk result (λ tree. IsIndex tree.numbers (nodes_of tree.nodes.items)) }
 {
     let mut tree = root_alone(alloc, written.len().saturating_add(1))?;
-    for node in written {
-        match make_node(alloc, &tree, node)? {
-            Some(made) => add_node(&mut tree, node, made)?,
-            None => return Err(TaskFault::Node),
-        }
-    }
+    add_nodes(alloc, &mut tree, written)?;
     Ok(tree)
 }

@@ -1,10 +1,12 @@
-use Rattle.std.proofs.Common.{◌≡◌, ◌+◌, ◌++◌, ◌∷◌, [], ◌≤◌, length, drop, sym, ap, ◌∙◌, arith}
-use Rattle.std.proofs.lemmas.List.{length-append, length-map, map-append}
+use Rattle.std.proofs.Common.{◌≡◌, ◌+◌, ◌++◌, ◌∷◌, [], ◌≤◌, length, drop, sym, ap, subst, ◌∙◌, arith}
+use Rattle.std.proofs.lemmas.List.{drop_all, length-append, length-map, map-append}
+use Rattle.std.proofs.lemmas.Result.{err_from_is_err_and}
 use Rattle.rights.specs.Limits.{most_programs}
 use Rattle.task.specs.Views.{program_of, programs_of}
+use Rattle.task_reader.specs.FaultViews.{FaultIs}
 use Rattle.task_reader.specs.Reading.{all_assembled}
 use Rattle.task_reader.specs.WrittenViews.{programs_seen}
-use Rattle.task_reader.proofs.Passing.{after, few, few-more, few-past}
+use Rattle.task_reader.proofs.Passing.{after, few, few-fails, few-more, few-past, few-whole}
 use Rattle.task_reader.proofs.assembling.assemble_all.Goals.{then-len-lt-MAX_PROGRAMS+in_ok-push, else-len-lt-MAX_PROGRAMS}
 use Rattle.task_reader.proofs.assembling.assemble_all.Goals as goal
 
@@ -37,3 +39,21 @@ loop-program-preserved c =
             (let few_still = c.loop-program.invariant.1 in omega arith),
           )
     ]
+
+pub returns-in_err-assembled : goal.returns-in_err-assembled
+returns-in_err-assembled c =
+    let p = err_from_is_err_and c.from_residual.result c.from_residual.ensures.1 in
+    let error = c.in_err-assembled.field-0.0 in
+    let so_far = programs_of c.loop-program.programs.items in
+    rw (p.1, p.2) (subst (FaultIs error) (sym c.loop-program.invariant.0)
+    (few-fails error c.args.written.now c.loop-program.program-index _ so_far c.loop-program-test.true c.in_err-assembled.ensures))
+
+pub returns : goal.returns
+returns c =
+    let written = c.args.written.now in
+    let programs = c.loop-program.programs.items in
+    let all : drop c.loop-program.program-index written ≡ [] = drop_all _ written c.loop-program-test.false in
+    let short : length (programs_of programs) ≤ most_programs = omega (arith, length-map programs program_of, c.loop-program.invariant.1) in
+    c.loop-program.invariant.0
+    ∙ ap (λ rest. few (after (programs_of programs) (all_assembled (programs_seen rest)))) all
+    ∙ few-whole (programs_of programs) short
