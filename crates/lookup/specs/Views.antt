@@ -62,7 +62,7 @@ path_fault_number fault.TooLong = 5
 path_fault_number fault.BadLast = 6
 path_fault_number fault.Memory = 7
 
--- The error tells the fault; want of memory tells nothing, and may come in place of any other answer.
+-- The error tells the fault; want of memory comes only where there is none.
 abbrev pub Told : Option LookupFault → PathFault → Type 0
 Told fault error = fault ≡ fault_of error
 
