@@ -10,7 +10,7 @@ pub data Verdict : Type 0 where
   Yes : Verdict
   No : (program point rule : ℕ) → Verdict
 
--- A certificate, of either version, is accepted where its expansion meets the rules.
+-- A certificate, of whichever version, is accepted where its expansion meets the rules.
 abbrev pub IsAccepted : Plan → Certificate → Type 0
 IsAccepted plan certificate = MeetsRules plan (expansion plan certificate)
 

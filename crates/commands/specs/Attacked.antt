@@ -10,8 +10,7 @@ use Rattle.rights.specs.Classes.{Initial}
 use Rattle.certificate.specs.Bounds.{Off, Open, Maybe, Three, Ceiling, Certificate}
 use Rattle.kernel.specs.World.{World, Choice}
 use Rattle.kernel.specs.Answers.{Event, IsEvent}
-use Rattle.kernel.specs.Hostile.{Act, Own, Does, IsAct, about}
-use Rattle.kernel.specs.Steps.{step}
+use Rattle.kernel.specs.Hostile.{Act, Own, Does, IsAct, step_as}
 use Rattle.task.specs.Begins.{first_world}
 use Rattle.task.specs.Confined.{IsConfined}
 use Rattle.task.specs.Plans.{NamedProgram, Plan, programs_of_plan}
@@ -102,13 +101,13 @@ AreActs plan w [] choose = Unit {0}
 AreActs plan w ((e, act) ∷ events) choose =
     IsEvent e
     × IsAct (programs_of_plan plan) w e.process act
-    × AreActs plan (step (programs_of_plan plan) (about w e.process act) e (choose 0)).world events (λ n. choose (suc n))
+    × AreActs plan (step_as (programs_of_plan plan) w e act (choose 0)).world events (λ n. choose (suc n))
 
 -- the trace under these numbers
 abbrev pub attack_text : Plan → World → List (Event × Act) → (ℕ → Choice) → List ℕ
 attack_text plan w [] choose = []
 attack_text plan w ((e, act) ∷ events) choose =
-    let s = step (programs_of_plan plan) (about w e.process act) e (choose 0) in
+    let s = step_as (programs_of_plan plan) w e act (choose 0) in
     line_text plan (line_at e s.acted) ++ attack_text plan s.world events (λ n. choose (suc n))
 
 -- The certificate meets the rules, so that the task is confined; and it has a run of these events that shows this text.

@@ -24,7 +24,7 @@ use Rattle.kernel.specs.Answers.{Event, unless, held, at_object, at_number}
 use Rattle.kernel.specs.Calls.{looks, looks_twice, answer}
 use Rattle.kernel.specs.Changes.{files_after, changed}
 use Rattle.kernel.specs.Steps.{Programs, answered, jumped, executed, stepped_at, stepped_by, stepped, step}
-use Rattle.kernel.specs.Hostile.{Act, Own, Does, about}
+use Rattle.kernel.specs.Hostile.{Act, Own, Does, about, step_as}
 use Rattle.kernel.proofs.Samples.{base, joined, reading, described, row_of, world_of, event, choice_at, line_text, program_name, code_of, programs_of}
 
 -- Process 1 is of a marked program and in the mode, and holds `/work` as descriptor 1 besides its end of a pair.
@@ -41,7 +41,7 @@ deed i first point = Does (record { instruction = i; registers = first ∷ repli
 abbrev shown_from : Programs → World → ℕ → List (ℕ × Act) → List ℕ
 shown_from programs w n [] = []
 shown_from programs w n ((p, act) ∷ events) =
-    let s = step programs (about w p act) (event p 0) (choice_at n) in
+    let s = step_as programs w (event p 0) act (choice_at n) in
     line_text program_name p s.acted ++ shown_from programs s.world (n + 1) events
 
 abbrev shown : List ℕ → List ℕ → List (ℕ × Act) → List ℕ

@@ -112,7 +112,7 @@ programs n = Halt ∷ []
 
 made : (p : ℕ) → IsProcessIfMade programs (slice_get (new_process 0 false ∷ []) p)
 unfolding programs
-made zero = record { placed = λ alive. tt; eight = refl; small = small; kept = tt }
+made zero = record { placed = tt; eight = refl; small = small; kept = tt }
   where
     small : (r : ℕ) → FitsRegister (slice_get (new_process 0 false).registers r)
     small zero = omega arith

@@ -15,7 +15,7 @@ use Rattle.kernel.specs.Answers.{Event, TableChange, Same_table, Set_entry, Clea
 use Rattle.kernel.specs.Answers.{Walks}
 use Rattle.kernel.specs.Calls.{answer}
 use Rattle.kernel.specs.Changes.{table_after, queue_after, given, processes_after, files_after, changed}
-use Rattle.kernel.specs.Origins.{Caller, calls, calls_at, calls_by, caller_of, IsMade, ComesFrom, stood, was_made, was_copied, IsSent, QueuedFrom, had_waited, was_sent, origin}
+use Rattle.kernel.specs.Origins.{Caller, calls, calls_at, calls_by, caller_of, IsMade, ComesFrom, stood, was_made, was_copied, IsSent, QueuedFrom, had_waited, was_sent}
 use Rattle.kernel.specs.Steps.{LineResult, Programs, after_deed, next_instruction, register, with_process, halted, failed, answered, jumped, executed, stepped_at, stepped_by, stepped, step}
 use Rattle.kernel.specs.Gains.{StaysIn, GainsNothing, NoRunGains}
 use Rattle.kernel.proofs.Origins.{MayTable, MayQueue, may_table, may_queue}
@@ -66,7 +66,7 @@ module _ (w : World) (p : ℕ) (s : ProcessState) (call : Syscall) (choice : Cho
   abbrev calling : Option Caller
   calling = Some (record { process = p; state = s; call = call })
 
-  makes : (n : ℕ) (d : Descriptor) → IsMade w (record { process = p; state = s; call = call }) n d → ComesFrom w (Some (record { process = p; state = s; call = call })) p n d
+  makes : (n : ℕ) (d : Descriptor) → IsMade w p s n d call → ComesFrom w (Some (record { process = p; state = s; call = call })) p n d
   makes n d is = was_made (record { process = p; state = s; call = call }) refl refl is
 
   copies : call ≡ Fork → (q n : ℕ) → q ≡ length w.processes → IfHeld (ComesFrom w (Some (record { process = p; state = s; call = call })) q n) (w.files.table p n)
@@ -96,7 +96,7 @@ module _ (w : World) (p : ℕ) (s : ProcessState) (call : Syscall) (choice : Cho
       put-cases (λ (row : ℕ → Option Descriptor). IfHeld (ComesFrom w calling q n) (row n)) w.files.table (length w.processes) (w.files.table p) q
       (λ at. copies may q n at) (λ _. entry_stays w calling q n)
 
-  sends : (pair side : ℕ) (o : Option Descriptor) → IfHeld (IsSent w p s (origin call) pair side) o → IfHeld (QueuedFrom w (Some (record { process = p; state = s; call = call })) pair side) o
+  sends : (pair side : ℕ) (o : Option Descriptor) → IfHeld (λ d. IsSent w p s pair side d call) o → IfHeld (QueuedFrom w (Some (record { process = p; state = s; call = call })) pair side) o
   sends pair side None is = tt
   sends pair side (Some d) is = was_sent (record { process = p; state = s; call = call }) refl is
 

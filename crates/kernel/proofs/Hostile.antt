@@ -5,13 +5,15 @@ use Rattle.std.specs.List.{slice_get}
 use Rattle.rights.specs.Limits.{most_processes}
 use Rattle.rights.proofs.Tests.{both_left, both_right}
 use Rattle.process.specs.State.{Deed, ProcessState, Walking, handed_to, is_hostile}
+use Rattle.programs.specs.Programs.{Syscall}
 use Rattle.fd_table.specs.Descriptions.{Descriptor, Message, IfHeld, EachPassed}
 use Rattle.kernel.specs.World.{World, Choice, IsFresh}
 use Rattle.kernel.specs.Answers.{Event}
-use Rattle.kernel.specs.Steps.{Programs, changed_at, handed, step}
-use Rattle.kernel.specs.Origins.{Caller, ComesFrom, QueuedFrom, caller_of, had_waited, stood, was_copied, was_made, was_sent}
+use Rattle.kernel.specs.Steps.{Programs, changed_at, handed}
+use Rattle.kernel.specs.Origins.{Caller, ComesFrom, IsMade, IsSent, QueuedFrom, by_sendfd, had_waited, stood, was_copied, was_duplicated, was_limited, was_limited_in_commands, was_made}
+use Rattle.kernel.specs.Origins.{was_opened, was_opened_beneath, was_paired, was_received, was_sent}
 use Rattle.kernel.specs.Gains.{GainsNothing, KeepsMode, StaysIn}
-use Rattle.kernel.specs.Hostile.{Act, Own, Does, IsAct, IsDeedOf, NextWorldExistsAsWell, NoRunGainsAsWell, NumbersDoNotMatterAsWell, about}
+use Rattle.kernel.specs.Hostile.{Act, Own, Does, IsAct, IsDeedOf, NextWorldExistsAsWell, NoRunGainsAsWell, NumbersDoNotMatterAsWell, about, caller_as, step_as}
 use Rattle.kernel.specs.Renamings.{DiffersInNumbers}
 use Rattle.kernel.specs.Walks.{IsWalker, IsWalkerIfMade}
 use Rattle.kernel.specs.WellFormed.{HasNone, IsDeed, IsProcess, IsProcessIfMade, IsWellFormed}
@@ -151,16 +153,29 @@ module _ (w : World) (p : ℕ) (deed : Deed) where
           changed_at_there (λ b o. StaysIn (slice_get w.processes p) o after → StaysIn (slice_get w.processes p) b after) w.processes p (handed_to deed) q (λ o. λ is. is)
           (λ b. stays_about deed b after)
 
+  -- what is made and sent looks at what is open alone
+  made_about : {q : ℕ} {s : ProcessState} {n : ℕ} {d : Descriptor} {call : Syscall} → IsMade (handed w p deed) q s n d call → IsMade w q s n d call
+  made_about (was_opened free outside all) = was_opened free outside all
+  made_about (was_opened_beneath free within) = was_opened_beneath free within
+  made_about (was_paired free all) = was_paired free all
+  made_about (was_duplicated free within) = was_duplicated free within
+  made_about (was_received free within) = was_received free within
+  made_about (was_limited there within) = was_limited there within
+  made_about (was_limited_in_commands there within) = was_limited_in_commands there within
+
+  sent_about : {q : ℕ} {s : ProcessState} {pair side : ℕ} {d : Descriptor} {call : Syscall} → IsSent (handed w p deed) q s pair side d call → IsSent w q s pair side d call
+  sent_about (by_sendfd through within) = by_sendfd through within
+
   entry_about : (caller : Option Caller) (q n : ℕ) (o : Option Descriptor) → IfHeld (ComesFrom (handed w p deed) caller q n) o → IfHeld (ComesFrom w caller q n) o
   entry_about caller q n None comes = tt
   entry_about caller q n (Some d) (stood is) = stood is
-  entry_about caller q n (Some d) (was_made c calls here made) = was_made c calls here (record { place = made.place; comes = made.comes })
+  entry_about caller q n (Some d) (was_made c calls here made) = was_made c calls here (made_about made)
   entry_about caller q n (Some d) (was_copied c calls forks at is) = was_copied c calls forks (at ∙ changed_length w.processes p (handed_to deed)) is
 
   passed_about : (caller : Option Caller) (pair side : ℕ) (o : Option Descriptor) → IfHeld (QueuedFrom (handed w p deed) caller pair side) o → IfHeld (QueuedFrom w caller pair side) o
   passed_about caller pair side None comes = tt
   passed_about caller pair side (Some d) (had_waited i m there is) = had_waited i m there is
-  passed_about caller pair side (Some d) (was_sent c calls is) = was_sent c calls is
+  passed_about caller pair side (Some d) (was_sent c calls is) = was_sent c calls (sent_about is)
 
   messages_about : (caller : Option Caller) (pair side : ℕ) (messages : List Message) → EachPassed (QueuedFrom (handed w p deed) caller pair side) messages →
       EachPassed (QueuedFrom w caller pair side) messages
@@ -178,7 +193,6 @@ gains_about w p (Does deed) caller next gains = record {
 pub no_run_gains_as_well : NoRunGainsAsWell
 no_run_gains_as_well programs w [] = tt
 no_run_gains_as_well programs w ((e, act) ∷ events) = λ choice fresh. (
-  gains_about w e.process act (caller_of programs (about w e.process act) e) (step programs (about w e.process act) e choice).world
-      (gains_nothing programs (about w e.process act) e choice),
-  no_run_gains_as_well programs (step programs (about w e.process act) e choice).world events,
+  gains_about w e.process act (caller_as programs w e act) (step_as programs w e act choice).world (gains_nothing programs (about w e.process act) e choice),
+  no_run_gains_as_well programs (step_as programs w e act choice).world events,
 )

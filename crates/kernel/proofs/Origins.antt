@@ -1,6 +1,6 @@
 -- What each call makes and sends, and where that comes from.
-use Rattle.std.proofs.Common.{◌≡◌, ℕ, zero, suc, ◌+◌, inl, inr, Bool, true, false, List, [], ◌∷◌, refl, subst, ap, sym, ◌∙◌}
-use Rattle.std.specs.Prelude.{◌-◌, Option, Some, None, is_some, cond}
+use Rattle.std.proofs.Common.{◌≡◌, ℕ, zero, suc, ◌+◌, Bool, true, false, List, [], ◌∷◌, refl, subst, ap, sym, ◌∙◌}
+use Rattle.std.specs.Prelude.{◌-◌, not, Option, Some, None, is_some, cond}
 use Rattle.std.proofs.lemmas.Bool.{cond_both}
 use Rattle.rights.specs.Errors.{Errno, Cause}
 use Rattle.rights.specs.Sets.{all_rights, all_commands}
@@ -21,7 +21,7 @@ use Rattle.kernel.specs.Answers.{Answer, Fails, Waits, Gives, Walks, unless, hel
 use Rattle.kernel.specs.Calls.{looks, looks_twice, answer, opened, opened_as, read_byte, read_end, write_node, sent_end, received, receive_end, stats_at, made_directory}
 use Rattle.kernel.specs.Calls.{unlinks_as, unlinks, renamed_over, renamed_to, renamed_from, pair_at, blocked, in_directory, at_file}
 use Rattle.kernel.proofs.Looking.{any_event, any_one, any_two, fault_any, looks_any, looks_twice_any}
-use Rattle.kernel.specs.Origins.{Caller, front_of, arriving_at, arriving, origin, IsNoWider, IsOwn, IsMade, IsEndOf, IsEnd, IsSent}
+use Rattle.kernel.specs.Origins.{front_of, arriving_at, arriving, IsNoWider, IsMade, was_opened, was_opened_beneath, was_paired, was_duplicated, was_received, was_limited, was_limited_in_commands, IsEndOf, IsEnd, IsSent, by_sendfd}
 
 -- a number that is found free is
 unheld : (o : Option Descriptor) → is_some o ≡ false → o ≡ None
@@ -36,6 +36,10 @@ lowest_unheld (suc count) n row k is =
     (λ taken rest. lowest_unheld count (n + 1) row k rest)
     (λ free here. let same : n ≡ k = cc in subst (λ m. row m ≡ None) same (unheld (row n) free)) is
 
+not_on : (mode : Bool) → not mode ≡ true → mode ≡ false
+not_on true outside = absurd cc
+not_on false outside = refl
+
 within-refl : (d : Descriptor) (o : Option Descriptor) → o ≡ Some d → (description : ℕ) → IsNoWider (descriptor_of description d.rights d.fcntls) o
 within-refl d o is description = subst (IsNoWider (descriptor_of description d.rights d.fcntls)) (sym is) (is_within-refl d.rights, is_within-refl d.fcntls)
 
@@ -43,22 +47,19 @@ within-itself : (d : Descriptor) (o : Option Descriptor) → o ≡ Some d → Is
 within-itself d o is = subst (IsNoWider d) (sym is) (is_within-refl d.rights, is_within-refl d.fcntls)
 
 module _ (w : World) (p : ℕ) (s : ProcessState) where
-  abbrev pub caller : Syscall → Caller
-  caller call = record { process = p; state = s; call = call }
-
   -- What a success of the call may change of the table and of the queues.
   abbrev pub MayTable : Syscall → TableChange → Type 0
   MayTable call Same_table = Unit {0}
-  MayTable call (Set_entry number d) = IsMade w (caller call) number d
+  MayTable call (Set_entry number d) = IsMade w p s number d call
   MayTable call (Clear_entry number) = Unit {0}
-  MayTable call (New_file number n access append rights fcntls) = (description : ℕ) → IsMade w (caller call) number (descriptor_of description rights fcntls)
+  MayTable call (New_file number n access append rights fcntls) = (description : ℕ) → IsMade w p s number (descriptor_of description rights fcntls) call
   MayTable call (New_pair first second class) =
-      (description : ℕ) → IsMade w (caller call) first (descriptor_of description all_rights all_commands) × IsMade w (caller call) second (descriptor_of description all_rights all_commands)
+      (description : ℕ) → IsMade w p s first (descriptor_of description all_rights all_commands) call × IsMade w p s second (descriptor_of description all_rights all_commands) call
   MayTable call New_process = call ≡ Fork
 
   abbrev pub MayQueue : Syscall → QueueChange → Type 0
   MayQueue call Same_queue = Unit {0}
-  MayQueue call (Push pair side m) = IfHeld (IsSent w p s (origin call) pair side) m.passed
+  MayQueue call (Push pair side m) = IfHeld (λ d. IsSent w p s pair side d call) m.passed
   MayQueue call (Pop pair side) = Unit {0}
 
   unfoldable pub Fair : Syscall → Answer → Type 0
@@ -126,7 +127,7 @@ module _ (w : World) (p : ℕ) (s : ProcessState) where
     fair-blocked call nonblock = fair-if call nonblock _ _ (fails call _ _) (waits call)
 
     -- what is opened with these rights and commands, by calls that may make it so
-    module _ (call : Syscall) (rights fcntls : ℕ) (may : (number description : ℕ) → w.files.table p number ≡ None → IsMade w (caller call) number (descriptor_of description rights fcntls)) where
+    module _ (call : Syscall) (rights fcntls : ℕ) (may : (number description : ℕ) → w.files.table p number ≡ None → IsMade w p s number (descriptor_of description rights fcntls) call) where
       fair-opened_as : (f : OpenRequest) (n : ℕ) (kind : Kind) → Fair call (opened_as w p s e f rights fcntls n kind)
       fair-opened_as f n Link = fails call _ _
       fair-opened_as f n Dir =
@@ -149,18 +150,18 @@ module _ (w : World) (p : ℕ) (s : ProcessState) where
     fair-read_end call d pair side (m ∷ messages) = gives call _ _ _ tt tt
 
     -- a message with what it carries
-    fair-sent : (call : Syscall) (d : Descriptor) (pair side : ℕ) (message : Message) → IfHeld (IsSent w p s (origin call) pair side) message.passed →
+    fair-sent : (call : Syscall) (d : Descriptor) (pair side : ℕ) (message : Message) → IfHeld (λ d. IsSent w p s pair side d call) message.passed →
         Fair call (sent_end w p s e d.description pair side message)
     fair-sent call d pair side message sent =
         fair-unless call _ _ _ _ (λ _. fair-if call _ _ _ (gives call _ _ _ tt sent) (fair-blocked call _))
 
     fair-received : (call : Syscall) (pair side number : ℕ) (o : Option Descriptor) →
-        ((d : Descriptor) → o ≡ Some d → IsMade w (caller call) number d) → Fair call (received w p s e pair side number o)
+        ((d : Descriptor) → o ≡ Some d → IsMade w p s number d call) → Fair call (received w p s e pair side number o)
     fair-received call pair side number None may = fails call _ _
     fair-received call pair side number (Some d) may = gives call _ _ _ (may d refl) tt
 
     fair-receive_end : (call : Syscall) (d : Descriptor) (pair side number : ℕ) (messages : List Message) →
-        ((carried : Descriptor) → front_of messages ≡ Some carried → IsMade w (caller call) number carried) →
+        ((carried : Descriptor) → front_of messages ≡ Some carried → IsMade w p s number carried call) →
         Fair call (receive_end w p s e d.description pair side number messages)
     fair-receive_end call d pair side number [] may = fair-unless call _ _ _ _ (λ _. fair-blocked call _)
     fair-receive_end call d pair side number (m ∷ messages) may = fair-received call pair side number m.passed may
@@ -230,10 +231,7 @@ module _ (w : World) (p : ℕ) (s : ProcessState) where
     fair-pair None is = fails Socketpair _ _
     fair-pair (Some first) is =
         fair-number Socketpair _ _ (λ second also. fair-unless Socketpair _ _ _ _ (λ _. gives Socketpair _ _ _
-        (λ k. (record { place = free first (sym is); comes = inr all }, record { place = lowest_unheld (15 - first) (first + 1) (w.files.table p) second also; comes = inr all })) tt))
-      where
-        all : {k : ℕ} → IsOwn s Socketpair (descriptor_of k all_rights all_commands)
-        all = record { makes = refl; rights = refl; fcntls = refl }
+        (λ k. (was_paired (free first (sym is)) (refl, refl), was_paired (lowest_unheld (15 - first) (first + 1) (w.files.table p) second also) (refl, refl))) tt))
 
     -- Every call.
     pub fair : (call : Syscall) → Fair call (answer w p s e call)
@@ -241,11 +239,11 @@ module _ (w : World) (p : ℕ) (s : ProcessState) where
     fair (Open path f) =
         fair-unless (Open path f) _ _ _ _ (λ outside.
         fair-looks (Open path f) _ _ _ _ _ (fair-opened (Open path f) all_rights all_commands
-        (λ number k none. record { place = none; comes = inr (record { makes = outside; rights = refl; fcntls = refl }) }) f path))
+        (λ number k none. was_opened none (not_on s.mode outside) (refl, refl)) f path))
     fair (Openat x path f) =
         fair-held (Openat x path f) _ _ (λ d is. fair-unless (Openat x path f) _ _ _ _ (λ _. fair-directory (Openat x path f) d _ (λ n.
         fair-looks (Openat x path f) _ _ _ _ _
-        (fair-opened (Openat x path f) d.rights d.fcntls (λ number k none. record { place = none; comes = inl (within-refl d _ is k) }) f path))))
+        (fair-opened (Openat x path f) d.rights d.fcntls (λ number k none. was_opened_beneath none (within-refl d _ is k)) f path))))
     fair (Read x) =
         fair-held (Read x) _ _ (λ d is. fair-unless (Read x) _ _ _ _ (λ _. fair-object (Read x) _ _ _
         (λ n access at. fair-unless (Read x) _ _ _ _ (λ _. fair-unless (Read x) _ _ _ _ (λ _. fair-byte (Read x) d _ _)))
@@ -258,12 +256,12 @@ module _ (w : World) (p : ℕ) (s : ProcessState) where
         fair-held (Sendfd x y v) _ _ (λ d is. fair-held (Sendfd x y v) _ _ (λ passed also.
         fair-unless (Sendfd x y v) _ _ _ _ (λ _. fair-object (Sendfd x y v) _ _ _ (λ n access at. fails (Sendfd x y v) _ _)
         (λ pair side class at. fair-sent (Sendfd x y v) d pair side _
-        (subst (λ o. IsEnd w o pair side) (sym is) (subst (λ o. IsEndOf o pair side) (sym at) (refl, refl)), within-itself passed _ also)))))
+        (by_sendfd (subst (λ o. IsEnd w o pair side) (sym is) (subst (λ o. IsEndOf o pair side) (sym at) (refl, refl))) (within-itself passed _ also))))))
     fair (Recvfd x) =
         fair-held (Recvfd x) _ _ (λ d is. fair-unless (Recvfd x) _ _ _ _ (λ _. fair-object (Recvfd x) _ _ _ (λ n access at. fails (Recvfd x) _ _)
         (λ pair side class at. fair-number (Recvfd x) _ _ (λ number none.
         fair-receive_end (Recvfd x) d pair side number (w.files.queue pair (other_side side)) (λ carried here.
-        record { place = free number none; comes = inl (within-itself carried _ (ap (arriving w) is ∙ ap (arriving_at w) at ∙ here)) })))))
+        was_received (free number none) (within-itself carried _ (ap (arriving w) is ∙ ap (arriving_at w) at ∙ here)))))))
     fair (Lseek x v) =
         fair-held (Lseek x v) _ _ (λ d is. fair-unless (Lseek x v) _ _ _ _ (λ _. fair-file (Lseek x v) d _ (λ n access. fair-unless (Lseek x v) _ _ _ _ (λ _. gives (Lseek x v) _ _ _ tt tt))))
     fair (Ftruncate x v) =
@@ -300,16 +298,16 @@ module _ (w : World) (p : ℕ) (s : ProcessState) where
         fair-renamed_from call source _ (λ k. fair-renamed_to call target k to place))))))))
     fair (Dup x) =
         fair-held (Dup x) _ _ (λ d is. fair-number (Dup x) _ _ (λ number none.
-        gives (Dup x) _ _ _ (record { place = free number none; comes = inl (within-itself d _ is) }) tt))
+        gives (Dup x) _ _ _ (was_duplicated (free number none) (within-itself d _ is)) tt))
     fair (Close x) = fair-held (Close x) _ _ (λ d is. gives (Close x) _ _ _ tt tt)
     fair (Cap_rights_limit x rights) =
         fair-held (Cap_rights_limit x rights) _ _ (λ d is. fair-unless (Cap_rights_limit x rights) _ _ _ _ (λ within.
         gives (Cap_rights_limit x rights) _ _ _
-        (record { place = refl; comes = inl (subst (IsNoWider (record d { rights = rights })) (sym is) (within, is_within-refl d.fcntls)) }) tt))
+        (was_limited refl (subst (IsNoWider (record d { rights = rights })) (sym is) (within, is_within-refl d.fcntls))) tt))
     fair (Cap_fcntls_limit x commands) =
         fair-held (Cap_fcntls_limit x commands) _ _ (λ d is. fair-unless (Cap_fcntls_limit x commands) _ _ _ _ (λ within.
         gives (Cap_fcntls_limit x commands) _ _ _
-        (record { place = refl; comes = inl (subst (IsNoWider (record d { fcntls = commands })) (sym is) (is_within-refl d.rights, within)) }) tt))
+        (was_limited_in_commands refl (subst (IsNoWider (record d { fcntls = commands })) (sym is) (is_within-refl d.rights, within))) tt))
     fair Cap_enter = gives Cap_enter _ _ _ tt tt
     fair Cap_getmode = gives Cap_getmode _ _ _ tt tt
     fair Socketpair = fair-pair (lowest_free (w.files.table p)) refl

@@ -116,7 +116,7 @@ pub process_at : (programs : Programs) (s : ProcessState) (r value point : ℕ) 
     IsPoint (slice_get (programs s.program) point) → (s.mode ≡ true → mode ≡ true) →
     IsProcess programs (record s { registers = slice_set s.registers r value; point = point; mode = mode; walk = None })
 process_at programs s r value point mode good small there stays = record {
-  placed = λ alive. there;
+  placed = there;
   eight = length-set s.registers r value ∙ good.eight;
   small = small-set s.registers r value small good.small;
   kept = kept_as programs s (record s { registers = slice_set s.registers r value; point = point; mode = mode; walk = None }) s.kept refl refl stays good.kept;
@@ -125,12 +125,12 @@ process_at programs s r value point mode good small there stays = record {
 -- the process at another point
 pub process_moved : (programs : Programs) (s : ProcessState) (point : ℕ) → IsProcess programs s → IsPoint (slice_get (programs s.program) point) → IsProcess programs (moved_to s point)
 process_moved programs s point good there =
-    record { placed = λ alive. there; eight = good.eight; small = good.small; kept = kept_as programs s (moved_to s point) s.kept refl refl (λ on. on) good.kept }
+    record { placed = there; eight = good.eight; small = good.small; kept = kept_as programs s (moved_to s point) s.kept refl refl (λ on. on) good.kept }
 
 -- the process, ended
 pub process_ended : (programs : Programs) (s : ProcessState) → IsProcess programs s → IsProcess programs (ended s)
 process_ended programs s good =
-    record { placed = λ alive. absurd cc; eight = good.eight; small = good.small; kept = kept_as programs s (ended s) s.kept refl refl (λ on. on) good.kept }
+    record { placed = good.placed; eight = good.eight; small = good.small; kept = kept_as programs s (ended s) s.kept refl refl (λ on. on) good.kept }
 
 -- the process with a register set
 pub process_with : (programs : Programs) (s : ProcessState) (r value : ℕ) → IsProcess programs s → value < 2 ^ 32 → IsProcess programs (record s { registers = slice_set s.registers r value })
@@ -158,7 +158,7 @@ process_walking programs s walk good =
 -- what a deed leaves
 pub process_left : (programs : Programs) (program : ℕ) (deed : Deed) (t : ProcessState) → IsDeed programs program deed → t.program ≡ program → IsProcess programs (left_by deed t)
 process_left programs program deed t is same = record {
-  placed = λ alive. subst (λ n. IsPoint (slice_get (programs n) deed.point)) (sym same) is.placed;
+  placed = subst (λ n. IsPoint (slice_get (programs n) deed.point)) (sym same) is.placed;
   eight = is.eight;
   small = is.small;
   kept = tt;

@@ -105,21 +105,17 @@ abbrev pub NoneMakes : List Syscall → Type 0
 NoneMakes [] = Unit {0}
 NoneMakes (call ∷ calls) = (GainsNothing two_processes 1 (Some (second false call)) (with_at 1 1 wide) → ⊥) × NoneMakes calls
 
--- Copies are made by `fork` alone, and for its child alone: a child of the second process hasn't the first one's table. A dup
--- of the second has no rights of the first's, and no commands that its original hasn't, and is the second's. A limit doesn't
--- widen, and leaves what it narrows where it stood. An `openat` has no more than its directory. An open takes no number that is
--- taken, makes nothing in the mode, and makes all rights and commands. What is received has no more than what the front message
--- carries that the other end has sent, through an end that is open. No message carries what nobody sent, another thing than it
--- did, or more than what was sent, also behind another message; and `sendfd` alone sends, through an end that is open, into that
--- end's queue. The twenty calls that make none make none, `fork` for its caller too. A process that has ended or was never made makes no call, and an instruction that is none makes nothing. Nobody
--- leaves the mode, no child of one in it is outside, and no process vanishes or comes from nowhere.
+-- What no step does, from these worlds to others.
 pub record NothingComesFromElsewhere : Type 0 where
+  -- `fork` alone copies a table, and for its child alone: a child of the second process hasn't the first one's table, and no other process has its
   pub no_other_table : GainsNothing two_processes 1 (Some (second false Fork)) (with_at 2 0 wide) → ⊥
   pub no_other_child : GainsNothing two_processes 1 (Some (second false Fork)) (with_at 3 0 narrow) → ⊥
   pub no_other_copy : GainsNothing two_processes 1 (Some (second false (Dup (Number 0)))) (with_at 2 0 narrow) → ⊥
+  -- a dup is its process's, and has no rights and no commands that its original hasn't
   pub no_dup_for_another : GainsNothing two_processes 1 (Some (second false (Dup (Number 0)))) (with_at 0 1 narrow) → ⊥
   pub no_other_rights : GainsNothing two_processes 1 (Some (second false (Dup (Number 0)))) (with_at 1 1 wide) → ⊥
   pub no_other_commands : GainsNothing two_processes 1 (Some (second false (Dup (Number 0)))) (with_at 1 1 (record narrow { fcntls = all_commands })) → ⊥
+  -- a limit doesn't widen, and leaves what it narrows where it stood
   pub no_wider_limit : GainsNothing two_processes 1 (Some (second false (Cap_rights_limit (Number 0) all_rights))) (with_at 1 0 (record narrow { rights = all_rights })) → ⊥
   pub no_wider_command_limit :
       GainsNothing two_processes 1 (Some (second false (Cap_fcntls_limit (Number 0) all_commands)))
@@ -127,18 +123,23 @@ pub record NothingComesFromElsewhere : Type 0 where
       → ⊥
   pub no_limit_elsewhere : GainsNothing two_processes 1 (Some (second false (Cap_rights_limit (Number 0) read_right))) (with_at 1 1 narrow) → ⊥
   pub no_command_limit_elsewhere : GainsNothing two_processes 1 (Some (second false (Cap_fcntls_limit (Number 0) 0))) (with_at 1 1 narrow) → ⊥
+  -- an `openat` has no more than its directory
   pub no_wider_openat : GainsNothing two_processes 1 (Some (second false opens_in_directory)) (with_at 1 1 wide) → ⊥
+  -- an `open` takes no number that is taken, makes nothing in the mode, and has all rights and commands
   pub no_taken_number : GainsNothing two_processes 1 (Some (second false opens)) (with_at 1 0 wide) → ⊥
   pub no_open_in_the_mode : GainsNothing two_processes 1 (Some (second true opens)) (with_at 1 1 wide) → ⊥
   pub no_open_of_other_rights : GainsNothing two_processes 1 (Some (second false opens)) (with_at 1 1 (record wide { rights = read_right })) → ⊥
   pub no_open_of_other_commands : GainsNothing two_processes 1 (Some (second false opens)) (with_at 1 1 (record wide { fcntls = 0 })) → ⊥
+  -- the twenty calls that make no descriptor of their process make none, `fork` among them
   pub no_making : NoneMakes calls_that_make_none
+  -- what is received has no more than what the front message carries that the other end has sent, through an end that is open
   pub no_wider_receive : GainsNothing (receiving 1) 1 (Some (second false receives)) (with_held (receiving 1) 1 1 wide) → ⊥
   pub no_receive_of_ones_own :
       GainsNothing (receiving 0) 1 (Some (second false receives)) (with_held (receiving 0) 1 1 narrow) → ⊥
   pub no_receive_through_a_file : GainsNothing two_processes 1 (Some (second false receives)) (with_at 1 1 narrow) → ⊥
   pub no_receive_through_nothing :
       GainsNothing (receiving 1) 1 (Some (second false (Recvfd (Number 1)))) (with_held (receiving 1) 1 1 narrow) → ⊥
+  -- a message carries what was sent with it and no more, also behind another message
   pub no_unsent_message : GainsNothing two_processes 1 None (with_message two_processes wide) → ⊥
   pub no_other_message : GainsNothing (with_message two_processes narrow) 1 None (with_message two_processes wide) → ⊥
   pub no_message_behind :
@@ -146,6 +147,7 @@ pub record NothingComesFromElsewhere : Type 0 where
       (with_messages two_processes (carries narrow ∷ carries wide ∷ []))
       → ⊥
   pub no_wider_message : GainsNothing (at_ends 0 0) 1 (Some (second false sends)) (with_message (at_ends 0 0) wide) → ⊥
+  -- `sendfd` alone sends, through an end that is open, into that end's queue
   pub no_other_end : GainsNothing (at_ends 0 1) 1 (Some (second false sends)) (with_message (at_ends 0 1) narrow) → ⊥
   pub no_other_pair : GainsNothing (at_ends 1 0) 1 (Some (second false sends)) (with_message (at_ends 1 0) narrow) → ⊥
   pub no_sending_through_a_file : GainsNothing two_processes 1 (Some (second false sends)) (with_message two_processes narrow) → ⊥
@@ -155,10 +157,12 @@ pub record NothingComesFromElsewhere : Type 0 where
       → ⊥
   pub no_other_sender :
       GainsNothing (at_ends 0 0) 1 (Some (second false (Dup (Number 0)))) (with_message (at_ends 0 0) narrow) → ⊥
+  -- a process that has ended or was never made makes no call, and an instruction that is none makes nothing
   pub no_call_of_the_ended :
       GainsNothing second_ended 1 (caller_of copying second_ended (event_by 1)) (with_held second_ended 1 1 narrow) → ⊥
   pub no_call_of_the_unmade : GainsNothing two_processes 2 (caller_of copying two_processes (event_by 2)) (with_at 2 1 wide) → ⊥
   pub no_call_at_no_call : GainsNothing two_processes 1 (caller_of setting two_processes (event_by 1)) (with_at 1 1 wide) → ⊥
+  -- nobody leaves the mode, no child of one in it is outside, and no process vanishes or comes from nowhere
   pub no_left_mode : GainsNothing (with_modes (true ∷ false ∷ [])) 0 None (with_modes (false ∷ false ∷ [])) → ⊥
   pub no_child_outside : GainsNothing (with_modes (true ∷ [])) 0 (Some (record { process = 0; state = new_process 0 true; call = Fork })) (with_modes (true ∷ false ∷ [])) → ⊥
   pub no_process_vanishes : GainsNothing (with_modes (false ∷ false ∷ [])) 0 None (with_modes (false ∷ [])) → ⊥

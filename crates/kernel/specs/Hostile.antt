@@ -5,8 +5,8 @@ use Rattle.rights.specs.Values.{ProcessNumber}
 use Rattle.process.specs.State.{Deed, ProcessState, is_hostile}
 use Rattle.kernel.specs.World.{World, Choice, IsFresh}
 use Rattle.kernel.specs.Answers.{Event, IsEvent}
-use Rattle.kernel.specs.Steps.{Programs, handed, step}
-use Rattle.kernel.specs.Origins.{caller_of}
+use Rattle.kernel.specs.Steps.{Programs, Stepped, handed, step}
+use Rattle.kernel.specs.Origins.{Caller, caller_of}
 use Rattle.kernel.specs.Gains.{GainsNothing}
 use Rattle.kernel.specs.Runs.{HasNext}
 use Rattle.kernel.specs.Renamings.{DiffersInNumbers, StepsAlike}
@@ -21,6 +21,13 @@ pub data Act : Type 0 where
 abbrev pub about : World → ProcessNumber → Act → World
 about w p Own = w
 about w p (Does deed) = handed w p deed
+
+-- **The hostile step**: the event's process does so; and the call that it makes then.
+abbrev pub step_as : Programs → World → Event → Act → Choice → Stepped
+step_as programs w e act choice = step programs (about w e.process act) e choice
+
+abbrev pub caller_as : Programs → World → Event → Act → Option Caller
+caller_as programs w e act = caller_of programs (about w e.process act) e
 
 -- The deed is one of its process, if that may do one.
 abbrev pub IsDeedOf : Programs → Option ProcessState → Deed → Type 0
@@ -61,8 +68,8 @@ NeverGainsAsWell programs w [] = Unit {0}
 NeverGainsAsWell programs w ((e, act) ∷ events) =
     (choice : Choice)
     → IsFresh w.files choice
-    → GainsNothing w e.process (caller_of programs (about w e.process act) e) (step programs (about w e.process act) e choice).world
-    × NeverGainsAsWell programs (step programs (about w e.process act) e choice).world events
+    → GainsNothing w e.process (caller_as programs w e act) (step_as programs w e act choice).world
+    × NeverGainsAsWell programs (step_as programs w e act choice).world events
 
 abbrev pub NoRunGainsAsWell : Type 0
 NoRunGainsAsWell = (programs : Programs) (w : World) (events : List (Event × Act)) → NeverGainsAsWell programs w events

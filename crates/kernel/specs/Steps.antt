@@ -141,9 +141,6 @@ stepped programs w e choice (Some s) = stepped_by programs w e choice s s.alive
 unfoldable pub step : Programs → World → Event → Choice → Stepped
 step programs w e choice = stepped programs w e choice (slice_get w.processes e.process)
 
--- The same, but that its process does this deed if it may do anything.
+-- The world in which a process is about to do this deed, if it may do anything.
 abbrev pub handed : World → ProcessNumber → Deed → World
 handed w p deed = record w { processes = changed_at w.processes p (handed_to deed) }
-
-abbrev pub step_as : Programs → World → Event → Choice → Deed → Stepped
-step_as programs w e choice deed = step programs (handed w e.process deed) e choice

@@ -78,9 +78,9 @@ abbrev pub IfKept : Programs → ProcessState → Option Deed → Type 0
 IfKept programs s None = Unit {0}
 IfKept programs s (Some deed) = IsKeptDeed programs s deed
 
--- A living process stands at an instruction of its program. It has eight registers of 32 bits.
+-- A process stands at an instruction of its program, also once it has ended. It has eight registers of 32 bits.
 pub record IsProcess (programs : Programs) (s : ProcessState) : Type 0 where
-  pub placed : s.alive ≡ true → IsPoint (slice_get (programs s.program) s.point)
+  pub placed : IsPoint (slice_get (programs s.program) s.point)
   pub eight : length s.registers ≡ register_count
   pub small : (r : ℕ) → FitsRegister (slice_get s.registers r)
   pub kept : IfKept programs s s.kept

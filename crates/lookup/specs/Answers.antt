@@ -1,5 +1,5 @@
 -- What a lookup is asked for, and what it gives.
-use Rattle.std.specs.Prelude.{Bool, true, false, List, [], ◌∷◌}
+use Rattle.std.specs.Prelude.{Bool, true, false, List, [], ◌∷◌, if◌then◌else◌}
 use Rattle.rights.specs.Values.{Name, NodeNumber}
 
 -- Beneath the directory of a descriptor (capsicum(4); open(2), O_RESOLVE_BENEATH), or in all of the tree.
@@ -34,3 +34,7 @@ pub data Finding : Type 0 where
   Found_node : NodeNumber → Finding
   Found_free : NodeNumber → Finding
   Not_found : LookupFault → Finding
+
+-- an absent name is free if it is kept, and else there is no such entry
+abbrev pub absent : Last → List Name → NodeNumber → Finding
+absent last left d = if is_kept last left then Found_free d else Not_found No_entry

@@ -3,10 +3,9 @@
 use Rattle.std.specs.Prelude.{Bool, false, ◌&&◌, not, nat_eq, List, [], ◌∷◌, Option, Some, None, if◌then◌else◌}
 use Rattle.rights.specs.Values.{Name, NodeNumber}
 use Rattle.file_tree.specs.Nodes.{Node, node, child_of, parent_of, is_dir, is_link}
-use Rattle.lookup.specs.Answers.{Way, Beneath, Global, Last, is_kept, Escape, No_entry, Not_dir, Found_node, Not_found}
+use Rattle.lookup.specs.Answers.{Way, Beneath, Global, Last, absent, is_kept, Escape, No_entry, Not_dir, Found_node, Not_found}
 use Rattle.lookup.specs.Paths.{is_dot, is_dot_dot}
 use Rattle.lookup.specs.Steps.{Move, Moves, Meets, Stops, Rules}
-use Rattle.lookup.specs.ByPlaces.{absent}
 
 -- the node that a lookup stands at, and the directories that it walked before, the latest first
 pub record Walked : Type 0 where

@@ -4,7 +4,7 @@ use Rattle.std.specs.Prelude.{ℕ, ◌&&◌, not, List, [], ◌∷◌, Option, S
 use Rattle.rights.specs.Values.{Name, Place, NodeNumber}
 use Rattle.file_tree.specs.Places.{at_name}
 use Rattle.file_tree.specs.Nodes.{Node, node, node_at, is_dir, is_link}
-use Rattle.lookup.specs.Answers.{Way, Beneath, Global, Last, is_kept, Escape, No_entry, Not_dir, Finding, Found_node, Found_free, Not_found}
+use Rattle.lookup.specs.Answers.{Way, Beneath, Global, Last, absent, is_kept, Escape, No_entry, Not_dir, Finding, Found_node, Not_found}
 use Rattle.lookup.specs.Paths.{is_dot, is_dot_dot}
 use Rattle.lookup.specs.Steps.{Move, Moves, Meets, Stops, Rules}
 
@@ -22,10 +22,6 @@ at_start Global = Moves []
 abbrev pub upwards : Way → List Name → Move (List Name)
 upwards way [] = at_start way
 upwards way (name ∷ below) = Moves below
-
--- an absent name is free if it is kept, and else there is no such entry
-abbrev pub absent : Last → List Name → NodeNumber → Finding
-absent last left d = if is_kept last left then Found_free d else Not_found No_entry
 
 -- a node stands there, or none: a link is met unless it is kept, and all else is gone to
 abbrev pub downwards : List Node → Last → List Name → Name → List Name → NodeNumber → Option NodeNumber → Move (List Name)

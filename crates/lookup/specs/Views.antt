@@ -16,10 +16,9 @@ use Rattle.lookup.specs.declared.trail.Meaning.TheVariants as meaning
 use Rattle.file_tree.specs.Nodes.{Node}
 use Rattle.lookup.specs.Leads.{Stand, Next, Goes, Ends, onward}
 use Rattle.lookup.specs.Steps.{Move, Moves, Stops, Rules}
-use Rattle.lookup.specs.ByPlaces.{absent}
 use Rattle.lookup.specs.ByNodes.{Walked, back, by_nodes, in_node, into}
 use Rattle.lookup.specs.Walks.{WalkState, Progress, Done, More, settled_at, IsNear, IsNearFinding}
-use Rattle.lookup.specs.Answers.{Way, Beneath, Global, Last, Follow, Keep, LookupFault, Escape, No_entry, Not_dir, Loop, Too_long, Bad_last, Finding, Found_node, Found_free, Not_found}
+use Rattle.lookup.specs.Answers.{Way, Beneath, Global, Last, absent, Follow, Keep, LookupFault, Escape, No_entry, Not_dir, Loop, Too_long, Bad_last, Finding, Found_node, Found_free, Not_found}
 
 abbrev pub way_of : WayCode → Way
 way_of way.Beneath = Beneath
@@ -62,7 +61,7 @@ path_fault_number fault.TooLong = 5
 path_fault_number fault.BadLast = 6
 path_fault_number fault.Memory = 7
 
--- The error tells the fault; want of memory tells nothing, and may come in place of any other answer.
+-- The error tells the fault; want of memory comes only where there is none.
 abbrev pub Told : Option LookupFault → PathFault → Type 0
 Told fault error = fault ≡ fault_of error
 

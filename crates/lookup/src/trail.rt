@@ -3,10 +3,9 @@
 ghost use Rattle.std.specs.Prelude.{◌≡◌, ◌<◌, ◌^◌, ℕ, List, ◌∷◌, None, length, nat_eq, IfSome, IfOk, IfErr, OnOk};
 ghost use Rattle.file_tree.specs.Nodes.{Node, parent_of};
 ghost use Rattle.file_tree.specs.WellFormed.{IsTree};
-ghost use Rattle.lookup.specs.Answers.{Not_found, is_kept};
+ghost use Rattle.lookup.specs.Answers.{Not_found, absent, is_kept};
 ghost use Rattle.lookup.specs.Leads.{next};
 ghost use Rattle.lookup.specs.Steps.{Rules, Moves, Meets, Stops};
-ghost use Rattle.lookup.specs.ByPlaces.{absent};
 ghost use Rattle.lookup.specs.ByNodes.{Walked, back, from_node, is_holder, no_way_back};
 ghost use Rattle.lookup.specs.Looks.{first_stand, lookup_fault, start_node};
 ghost use Rattle.lookup.specs.Views.{IsMeaningThere, IsSettled, Means, StepsAlong, after_move, after_name, after_node, SameRules, Told, fault_of, last_of, rules_of, stand_of, way_of};

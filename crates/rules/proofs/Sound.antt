@@ -88,7 +88,7 @@ module _ (plan : Plan) (certificate : Certificate) (keeps : KeepsLimits plan) (m
 
       authority : s.marked ≡ true → AuthorityAsked plan certificate s.program
       authority is =
-          let first = first_point (programs_of_plan plan s.program) s.point (process.placed alive) in
+          let first = first_point (programs_of_plan plan s.program) s.point process.placed in
           (first_asked plan certificate s.program (sym by_name ∙ is) first.0 first.1 (meets s.program 0)).authority
 
       after : (i : Instruction) (x : Executed) → Owed plan certificate w e.process s choice inv.classes x → Lawful plan x.world

@@ -66,7 +66,7 @@ module _ (programs : Programs) (w : World) (good : IsWellFormed programs w) (p :
 
   aside_process : IsProcess programs (set_aside s)
   aside_process = record {
-    placed = λ alive. first_point (programs s.program) s.point (is_process.placed lives);
+    placed = first_point (programs s.program) s.point is_process.placed;
     eight = is_process.eight;
     small = is_process.small;
     kept = tt;

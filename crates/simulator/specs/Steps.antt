@@ -8,6 +8,7 @@ use Rattle.kernel.specs.World.{World, Choice, IsFresh}
 use Rattle.kernel.specs.Answers.{Event}
 use Rattle.kernel.specs.Steps.{LineResult, Programs, executed, goes_on, jumped, register, step, stepped, with_register}
 use Rattle.kernel.specs.Alike.{AlikeWorlds}
+use Rattle.kernel.specs.Hostile.{Act, about}
 use Rattle.kernel.specs.Walks.{FitsIfWalking, call_in}
 use Rattle.kernel.specs.WellFormed.{IsWorld, Numbering}
 use Rattle.syscalls.specs.Shows.{Shown, shown}
@@ -19,6 +20,10 @@ pub record StepsMachine (programs : Programs) (w : World) (e : Event) (line : Li
   pub fresh : IsFresh w.files choice
   pub line_is : line ≡ line_at e (step programs w e choice).acted
   pub world_is : AlikeWorlds (step programs w e choice).world next
+
+-- The same of a step in which the event's process does this.
+abbrev pub StepsMachineAs : Programs → World → Event → Act → Line → World → Type 0
+StepsMachineAs programs w e act line next = StepsMachine programs (about w e.process act) e line next
 
 -- The same of an instruction of the event's process.
 pub record Executes (w : World) (e : Event) (i : Instruction) (outcome : LineResult) (effects : List Shown) (next : World) : Type 0 where

@@ -2,7 +2,7 @@
 
 ghost use Rattle.std.specs.Prelude.{◌≡◌, ◌<◌, ◌↔◌, IfOk, IsErrOf, OnErr, OnOk, slice_get, true, false};
 ghost use Rattle.kernel.specs.Renamings.{DiffersInNumbers};
-ghost use Rattle.kernel.specs.Steps.{handed};
+ghost use Rattle.kernel.specs.Hostile.{Does};
 ghost use Rattle.kernel.specs.WellFormed.{IsWellFormed};
 ghost use Rattle.programs.specs.Views.{instruction_of};
 ghost use Rattle.syscalls.specs.Views.{event_of};
@@ -11,7 +11,7 @@ ghost use Rattle.task.specs.Limits.{is_plan};
 ghost use Rattle.task.specs.Plans.{programs_of_plan};
 ghost use Rattle.simulator.specs.Deeds.{may_stand_at};
 ghost use Rattle.simulator.specs.Machines.{machine_world};
-ghost use Rattle.simulator.specs.Steps.{StepsMachine};
+ghost use Rattle.simulator.specs.Steps.{StepsMachine, StepsMachineAs};
 ghost use Rattle.simulator.specs.Views.{line_of};
 
 use crate::lines::Line;
@@ -137,9 +137,8 @@ impl<'a, T: Tree> Machine<'a, T> {
         point: u8,
     ) -> Result<Line, Stop>
         requires { may_stand_at (programs_of_plan self.old.plan) (slice_get self.old.processes event.process) point ≡ true }
-        ensures step { IfOk result (λ line. StepsMachine (programs_of_plan self.old.plan)
-            (handed (machine_world self.old) event.process (record { instruction = instruction_of instruction.now; registers = registers; point = point }))
-            (event_of event) (line_of line) (machine_world self.new)) }
+        ensures step { IfOk result (λ line. StepsMachineAs (programs_of_plan self.old.plan) (machine_world self.old) (event_of event)
+            (Does (record { instruction = instruction_of instruction.now; registers = registers; point = point })) (line_of line) (machine_world self.new)) }
         ensures well_formed { OnOk result (IsWellFormed (programs_of_plan self.new.plan) (machine_world self.new)) }
         ensures plan { self.new.plan ≡ self.old.plan }
         ensures spent { IsErrOf result Stop.Spent ↔ (self.old.spent ≡ true) }

@@ -87,7 +87,7 @@ first_made plan valid (s ∷ starts) good zero =
     let start : is_start plan.nodes (length plan.programs) s ≡ true = both_left _ (list_all (is_start plan.nodes (length plan.programs)) starts) good in
     let below : s.program < length plan.programs = ltb-true _ _ (both_left _ (are_descriptors plan.nodes s.descriptors) start) in
     record {
-      placed = λ _. starts_at_point plan.programs s.program valid below;
+      placed = starts_at_point plan.programs s.program valid below;
       eight = refl;
       small = zeros 8;
       kept = tt;

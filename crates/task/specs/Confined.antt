@@ -5,10 +5,9 @@ use Rattle.std.specs.List.{slice_get}
 use Rattle.process.specs.State.{ProcessState}
 use Rattle.kernel.specs.World.{World, Choice, IsFresh}
 use Rattle.kernel.specs.Answers.{Event, IsEvent}
-use Rattle.kernel.specs.Steps.{Programs, Acted, Stepped, step}
-use Rattle.kernel.specs.Origins.{caller_of}
+use Rattle.kernel.specs.Steps.{Programs, Acted, Stepped}
 use Rattle.kernel.specs.Gains.{GainsNothing}
-use Rattle.kernel.specs.Hostile.{Act, IsAct, about}
+use Rattle.kernel.specs.Hostile.{Act, IsAct, caller_as, step_as}
 use Rattle.task.specs.Plans.{Grant, Plan, none_marked, programs_of_plan}
 use Rattle.task.specs.Limits.{is_plan}
 use Rattle.task.specs.Begins.{first_world}
@@ -25,7 +24,7 @@ IsTrusted (Some s) = s.marked ≡ false
 pub record IsContained (programs : Programs) (grants : List Grant) (w : World) (e : Event) (act : Act) (next : Stepped) : Type 0 where
   pub allowed : IsInMode (slice_get w.processes e.process) → IfSome next.acted (λ (a : Acted). AreAllowed grants a.effects)
   pub unrefused : IsTrusted (slice_get w.processes e.process) → IfSome next.acted (λ (a : Acted). IsUnrefused a.outcome)
-  pub gains : GainsNothing w e.process (caller_of programs (about w e.process act) e) next.world
+  pub gains : GainsNothing w e.process (caller_as programs w e act) next.world
 
 -- Each step of every run of these events from this world is contained, whatever processes of untrusted programs do at them in the
 -- mode, and whatever fresh numbers are chosen.
@@ -36,8 +35,8 @@ Confined programs grants w ((e, act) ∷ events) =
     → IsFresh w.files choice
     → IsEvent e
     → IsAct programs w e.process act
-    → IsContained programs grants w e act (step programs (about w e.process act) e choice)
-    × Confined programs grants (step programs (about w e.process act) e choice).world events
+    → IsContained programs grants w e act (step_as programs w e act choice)
+    × Confined programs grants (step_as programs w e act choice).world events
 
 -- Every run of the task is confined, for every list of events and of what is done at them.
 abbrev pub IsConfined : Plan → Type 0

@@ -140,7 +140,7 @@ fn task_in(alloc: Global, document: &Table) -> Result<Task, TaskFault>
 ///
 /// A document has the lists `node`, `grant`, `program` and `process`, and no other key. A node has `path`, `kind` (`dir`,
 /// `file` or `link`), and a file its `content`, a link its `target`. A grant has `name`, `path` and `ops` (`look`, `read`,
-/// `write`, `create`, `remove`), a program `name` and `code`. A process has `program`, the name of one, `fd`, and `mode`
+/// `write`, `create`, `remove`), a program `name`, `code` and maybe `untrusted` (a truth value, false by default). A process has `program`, the name of one, `fd`, and `mode`
 /// (`free`, which is the default, or `cap`). A descriptor of `fd` has `number`, and maybe `rights` and `fcntls` (all by
 /// default). It is of a node, and has its `path` and maybe `flags` (`read`, the default, and `write`); or of an end of a socket
 /// pair, and has the `pair` and the `side` (`a` or `b`). A path is `/`, or each name after a `/`. The root is there and isn't

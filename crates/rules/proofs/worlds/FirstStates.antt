@@ -218,7 +218,7 @@ module _ (plan : Plan) (certificate : Certificate) (valid : is_plan plan ≡ tru
   inside p start here None made is = tt
   inside p None here (Some s) made is = absurd is
   inside p (Some st) here (Some s) made is = λ alive.
-      let placed : IsPoint (instruction_at plan s.program s.point) = made.placed alive in
+      let placed : IsPoint (instruction_at plan s.program s.point) = made.placed in
       record {
         asked =
             subst (λ (t : ProcessState). LivesBy plan certificate (is_free t) (first_world plan) p t) (sym is)
