@@ -1,6 +1,6 @@
 -- Lines keep a certificate's version, and the flat certificate is of version 2.
 use Rattle.std.proofs.Common.{◌≡◌, Bool, true, false, List, []}
-use Rattle.std.specs.Prelude.{OnOk, Option, Some, None, Result, Ok, Err, if◌then◌else◌}
+use Rattle.std.specs.Prelude.{OnOk, Some, None, Result, Ok, Err, if◌then◌else◌}
 use Rattle.certificate.specs.Bounds.{Two, Certificate}
 use Rattle.certificate.specs.Growths.{grown}
 use Rattle.certificate.specs.GrowthViews.{Grows}

@@ -13,7 +13,7 @@ use certificate::{Bound, Ceiling, Cert, Domain, End as Listed, Held, Line, Name,
 use programs::Instruction;
 use rights::Rights;
 use std::alloc::{AllocError, Global};
-use task::{NamedProgram, Start, Task};
+use task::{Start, Task};
 use transfer::enters_mode;
 
 /// What a program needs in the mode: rights in grants, by their names, and ends in the order of channels.
@@ -185,24 +185,20 @@ fn take_starts(task: &Task, need: &mut Need, program: usize) -> Result<(), Alloc
     take_first(task, need, program, task.starts())
 }
 
-/// The need of a program, if it is marked: nothing yet.
-fn first_need(alloc: Global, program: &NamedProgram) -> Option<Need> {
-    match Name::read(program.name.as_bytes()) {
-        Some(name) if program.untrusted => Some(Need::new(alloc, name)),
-        _ => None,
-    }
-}
-
 /// The marked programs, none of which needs anything yet.
 pub(crate) fn all_needs(alloc: Global, task: &Task) -> Result<Vec<Option<Need>>, AllocError> {
     let mut needs = Vec::new(alloc);
     for program in task.programs() {
-        needs.push(first_need(alloc, program))?;
+        let name = Name::read(program.name.as_bytes());
+        match name {
+            Some(name) if program.untrusted => needs.push(Some(Need::new(alloc, name)))?,
+            _ => needs.push(None)?,
+        }
     }
     Ok(needs)
 }
 
-/// Learns what a marked program needs, by what is known of its points. Whether the need grew.
+/// Learns what a marked program needs, by what is known of its points.
 fn learn_need(
     alloc: Global,
     task: &Task,
@@ -210,33 +206,17 @@ fn learn_need(
     number: usize,
     way: &Way,
     need: &mut Need,
-) -> Result<bool, Refusal> {
+) -> Result<(), Refusal> {
     need.changed = false;
     let Some(program) = task.programs().get(number) else {
-        return Ok(false);
+        return Ok(());
     };
     if take_entered(need, way, program.program.code()).is_err()
         || take_starts(task, need, number).is_err()
     {
         return Err(Refusal::Memory);
     }
-    need.take_received(alloc, channels)?;
-    Ok(need.changed)
-}
-
-/// Learns what a program needs, if it is marked. Whether the need grew.
-fn learn_at(
-    alloc: Global,
-    task: &Task,
-    channels: &mut Channels,
-    number: usize,
-    way: &Way,
-    needs: &mut Vec<Option<Need>>,
-) -> Result<bool, Refusal> {
-    match needs.get_mut(number) {
-        Some(Some(need)) => learn_need(alloc, task, channels, number, way, need),
-        _ => Ok(false),
-    }
+    need.take_received(alloc, channels)
 }
 
 /// Learns what each marked program needs, by what is known of the points. Whether a need or a channel grew.
@@ -249,8 +229,9 @@ pub(crate) fn learn_needs(
 ) -> Result<bool, Refusal> {
     let mut any = false;
     for (number, way) in ways.iter().enumerate() {
-        if learn_at(alloc, task, channels, number, way, needs)? {
-            any = true;
+        if let Some(Some(need)) = needs.get_mut(number) {
+            learn_need(alloc, task, channels, number, way, need)?;
+            any = any || need.changed;
         }
     }
     Ok(any || channels.changed)

@@ -184,20 +184,14 @@ fn constant_of(instruction: &Instruction) -> Option<u32> {
     }
 }
 
-/// Adds a value, with the numbers beside it.
-fn push_near(constants: &mut Vec<u32>, value: u32) -> Result<(), AllocError> {
-    constants.push(value)?;
-    constants.push(value.saturating_sub(1))?;
-    constants.push(value.saturating_add(1))?;
-    Ok(())
-}
-
 /// The constants of a program, with the numbers beside them, rising, each once.
 fn constants_of(alloc: Global, code: &[Instruction]) -> Result<Vec<u32>, AllocError> {
     let mut constants = Vec::new(alloc);
     for instruction in code {
         if let Some(value) = constant_of(instruction) {
-            push_near(&mut constants, value)?;
+            constants.push(value)?;
+            constants.push(value.saturating_sub(1))?;
+            constants.push(value.saturating_add(1))?;
         }
     }
     constants.sort_unstable();
