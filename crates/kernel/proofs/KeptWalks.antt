@@ -63,6 +63,7 @@ module _ (t u : List Node) (objects later : ℕ → Object) (row new : ℕ → O
     text = is.text;
     opened = opened_later (walk.stand.spot.current ∷ walk.stand.spot.before) is.opened;
     left = is.left;
+    few = is.few;
   }
 
   object_later : (o : Object) → IsDirectoryOf t o → IsDirectoryOf u o

@@ -1,14 +1,17 @@
 -- A lookup that is under way stays so from event to event, whatever becomes of the tree in between; and what it finds.
-use Rattle.std.proofs.Common.{◌≡◌, ℕ, ◌<◌, zero, suc, List, [], ◌∷◌, ◌++◌, Bool, true, false, Option, Some, None, length, ap, subst, sym, ◌∙◌, refl, arith}
-use Rattle.std.specs.Prelude.{not, ◌&&◌}
+use Rattle.std.proofs.Common.{◌≡◌, ℕ, ◌+◌, ◌<◌, ◌≤◌, zero, suc, List, [], ◌∷◌, ◌++◌, Bool, true, false, Option, Some, None, length, ap, subst, sym, ◌∙◌, refl, arith}
+use Rattle.std.specs.Prelude.{not, nat_le, ◌&&◌}
+use Rattle.std.proofs.lemmas.Bool.{cond_both, leb-false}
+use Rattle.rights.specs.Limits.{most_links}
 use Rattle.file_tree.specs.Places.{at_name, is_file_name, path_components}
 use Rattle.file_tree.specs.Nodes.{Dir, Node, node, child_of, parent_of, is_dir, is_link}
 use Rattle.file_tree.specs.WellFormed.{IsTree}
 use Rattle.file_tree.proofs.NodeLaws.{linked_there}
 use Rattle.file_tree.proofs.TreeLaws.{child_is, child_parent, parent_is}
-use Rattle.lookup.specs.Answers.{Way, Beneath, Global, Last, Follow, Keep, LookupFault, Finding, Found_node, Found_free, Not_found, is_kept}
+use Rattle.lookup.specs.Answers.{Way, Beneath, Global, Last, Follow, Keep, LookupFault, Loop, Finding, Found_node, Found_free, Not_found, is_kept}
 use Rattle.lookup.specs.Paths.{has_path_bytes, is_bad_last, is_dot, is_dot_dot, is_unkept, last_component, last_or, path_fault}
-use Rattle.lookup.specs.Leads.{Stand, Next, Goes, Ends, next}
+use Rattle.lookup.specs.Leads.{Stand, Next, Goes, Ends, followed_from, next, next_from, onward}
+use Rattle.lookup.specs.Steps.{Move, Moves, Meets, Stops, Rules, target_spot}
 use Rattle.lookup.specs.ByNodes.{Walked, by_nodes, from_node}
 use Rattle.lookup.specs.Looks.{is_start_gone, lookup_fault, start_node}
 use Rattle.lookup.specs.Promises.{HasName, IsFindingThere, IsFollowed, IsUnderName}
@@ -192,9 +195,9 @@ module _ (t : List Node) (path : List ℕ) (way : Way) (last : Last) (tree : IsT
   }
 
   stood_under_way : (walk : WalkState) → walk.way ≡ way → walk.last ≡ last → (left : List (List ℕ)) → walk.stand.left ≡ left → HasNamesLeft path last left → Stood walk.stand.spot left →
-      IsUnderWay t path way last walk
-  stood_under_way walk way_is last_is [] is has h = absurd has
-  stood_under_way walk way_is last_is (name ∷ left) is has h = record { same_way = way_is; same_last = last_is; text = text; opened = h.0; left = rw is h.1 }
+      walk.stand.followed ≤ most_links → IsUnderWay t path way last walk
+  stood_under_way walk way_is last_is [] is has h few = absurd has
+  stood_under_way walk way_is last_is (name ∷ left) is has h few = record { same_way = way_is; same_last = last_is; text = text; opened = h.0; left = rw is h.1; few = few }
 
 -- an event that leaves names keeps the rules
 record KeepsRules (walk after : WalkState) : Type 0 where
@@ -219,14 +222,50 @@ more_keeps t walk after = by_next (next (by_nodes t walk.way walk.last) walk.sta
     by_next (Goes stand) event = by_left stand stand.left refl event
     by_next (Ends finding) event = absurd cc
 
+-- no name leads on by a 33rd link
+abbrev IfFew : {Spot : Type 0} → Next Spot → Type 0
+IfFew (Goes stand) = stand.followed ≤ most_links
+IfFew (Ends finding) = Unit {0}
+
+next_few : {Spot : Type 0} (rules : Rules Spot) (spot : Spot) (left : List (List ℕ)) (followed : ℕ) → followed ≤ most_links → IfFew (next_from rules spot left followed)
+next_few rules spot [] followed few = tt
+next_few {Spot} rules spot (name ∷ left) followed few = by_move (rules.component spot name left)
+  where
+    by_spot : (names : List (List ℕ)) (so_far : ℕ) (o : Option Spot) → so_far ≤ most_links → IfFew (followed_from names so_far o)
+    by_spot names so_far None few = tt
+    by_spot names so_far (Some to) few = few
+
+    by_move : (move : Move Spot) → IfFew (onward rules spot left followed move)
+    by_move (Moves to) = few
+    by_move (Stops answer) = tt
+    by_move (Meets target) =
+        cond_both (nat_le most_links followed) (Ends (Not_found Loop)) (followed_from (path_components target ++ left) (followed + 1) (target_spot rules spot target)) IfFew
+        (λ many. tt)
+        (λ below. let less : followed < most_links = leb-false most_links followed below in
+        by_spot (path_components target ++ left) (followed + 1) (target_spot rules spot target) (omega (arith, less)))
+
+more_few : (t : List Node) (walk after : WalkState) → walk.stand.followed ≤ most_links → handled t walk ≡ More after → after.stand.followed ≤ most_links
+unfolding handled
+more_few t walk after few =
+    by_next (next (by_nodes t walk.way walk.last) walk.stand) (next_few (by_nodes t walk.way walk.last) walk.stand.spot walk.stand.left walk.stand.followed few)
+  where
+    by_left : (stand : Stand Walked) (left : List (List ℕ)) → stand.followed ≤ most_links → settled_at walk stand left ≡ More after → after.stand.followed ≤ most_links
+    by_left stand [] fine event = absurd cc
+    by_left stand (name ∷ left) fine event =
+        let same : record walk { stand = stand } ≡ after = cc in subst (λ (v : WalkState). v.stand.followed ≤ most_links) same fine
+
+    by_next : (n : Next Walked) → IfFew n → settled walk n ≡ More after → after.stand.followed ≤ most_links
+    by_next (Goes stand) fine event = by_left stand stand.left fine event
+    by_next (Ends finding) fine event = absurd cc
+
 module _ (t : List Node) (path : List ℕ) (way : Way) (last : Last) (tree : IsTree t) where
   stood_names : (text : path_fault path way last ≡ None) (at : Walked) (left : List (List ℕ)) → IsSome left → Stood t path way last tree text at left → HasNamesLeft path last left
   stood_names text at [] some h = absurd some
   stood_names text at (name ∷ left) some h = h.1
 
   progress_sure : (text : path_fault path way last ≡ None) (walk : WalkState) → walk.way ≡ way → walk.last ≡ last →
-      Stood t path way last tree text walk.stand.spot walk.stand.left → IsSureProgress t path way last (handled t walk)
-  progress_sure text walk way_is last_is h =
+      Stood t path way last tree text walk.stand.spot walk.stand.left → walk.stand.followed ≤ most_links → IsSureProgress t path way last (handled t walk)
+  progress_sure text walk way_is last_is h few =
       by_event (handled t walk) refl (handled_good t way last _ _ _ (stood_handles t path way last tree text) walk way_is last_is h)
     where
       by_event : (event : Progress) → handled t walk ≡ event → IsGoodProgress t way last _ _ _ (stood_handles t path way last tree text) event → IsSureProgress t path way last event
@@ -234,7 +273,7 @@ module _ (t : List Node) (path : List ℕ) (way : Way) (last : Last) (tree : IsT
       by_event (More after) is good =
           let kept = more_keeps t walk after is in
           stood_under_way t path way last tree text after (kept.0.same_way ∙ way_is) (kept.0.same_last ∙ last_is) after.stand.left refl
-          (stood_names text after.stand.spot after.stand.left kept.1 good) good
+          (stood_names text after.stand.spot after.stand.left kept.1 good) good (more_few t walk after few is)
 
   under_way_stood : (walk : WalkState) (is : IsUnderWay t path way last walk) → Stood t path way last tree is.text walk.stand.spot walk.stand.left
   under_way_stood walk is = by_left walk.stand.left is.left
@@ -245,7 +284,7 @@ module _ (t : List Node) (path : List ℕ) (way : Way) (last : Last) (tree : IsT
 
   -- A lookup that is under way finds what is sure, or stays under way.
   pub under_way_sure : (walk : WalkState) → IsUnderWay t path way last walk → IsSureProgress t path way last (handled t walk)
-  under_way_sure walk is = progress_sure is.text walk is.same_way is.same_last (under_way_stood walk is)
+  under_way_sure walk is = progress_sure is.text walk is.same_way is.same_last (under_way_stood walk is) is.few
 
   pub sure_fault : (fault : LookupFault) → Sure t path last (Not_found fault)
   sure_fault fault = record { there = tt; vacant = tt; named = λ keep. tt; followed = λ follow. tt }
@@ -285,6 +324,7 @@ module _ (t : List Node) (path : List ℕ) (way : Way) (last : Last) (tree : IsT
       text = good.0;
       opened = (start_opened way, tt);
       left = some_names (path_components path) refl;
+      few = omega arith;
     }
       where
         good : (path_fault path way last ≡ None) × (is_start_gone t start way ≡ false)
@@ -303,5 +343,5 @@ module _ (t : List Node) (path : List ℕ) (way : Way) (last : Last) (tree : IsT
             IsSureProgress t path way last (unless_faulty fault (handled t (begun start path way last)))
         by_fault None none =
             let good = no_fault t start path way last none in
-            progress_sure good.0 (begun start path way last) refl refl (begun_stood good.0 good.1)
+            progress_sure good.0 (begun start path way last) refl refl (begun_stood good.0 good.1) (omega arith)
         by_fault (Some fault) is = sure_fault fault

@@ -1,5 +1,6 @@
 -- What holds of a lookup of a path between its events, whatever others have made of the tree. (own)
-use Rattle.std.specs.Prelude.{◌≡◌, false, List, [], ◌∷◌, None}
+use Rattle.std.specs.Prelude.{◌≡◌, ◌≤◌, false, List, [], ◌∷◌, None}
+use Rattle.rights.specs.Limits.{most_links}
 use Rattle.rights.specs.Values.{Name, NodeNumber, PathText}
 use Rattle.file_tree.specs.Nodes.{Node, node, is_link}
 use Rattle.lookup.specs.Answers.{Way, Last, Keep}
@@ -22,3 +23,4 @@ pub record IsUnderWay (t : List Node) (path : PathText) (way : Way) (last : Last
   pub text : path_fault path way last ≡ None
   pub opened : AreOpened t (walk.stand.spot.current ∷ walk.stand.spot.before)
   pub left : HasNamesLeft path last walk.stand.left
+  pub few : walk.stand.followed ≤ most_links
