@@ -380,12 +380,13 @@ impl<'w, 't> Words<'w, 't> {
             (comparison_at (mnemonic_from mnemonic) register self.old) }
     {
         let value = self.number()?;
+        let label = self.label()?;
         let jump = match mnemonic {
             Mnemonic::Jeq => Jump::IfEqual { register, value },
             Mnemonic::Jlt => Jump::IfLess { register, value },
             _ => return Err(Mistake::Operand),
         };
-        self.label().map(|label| Written::Leading { jump, label })
+        Ok(Written::Leading { jump, label })
     }
 
     /// The operands of an instruction behind its register. One that has no register is refused.

@@ -55,7 +55,10 @@ fn set<F: Flags + Copy>(word: &[u8]) -> Option<F>
                 return None;
             }
         }
-        set = set.union(named(F::flags(), first)?);
+        match named(F::flags(), first) {
+            Some(more) => set = set.union(more),
+            None => return None,
+        }
         let Some(behind) = behind else {
             return Some(set);
         };

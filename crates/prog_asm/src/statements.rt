@@ -1,7 +1,7 @@
 //! A line by itself: a label, an instruction, both or neither.
 
 ghost use Rattle.std.specs.Prelude.{◌≡◌, map, option_map};
-ghost use Rattle.programs.specs.Assembly.{instruction_in, line_read, line_read_of};
+ghost use Rattle.programs.specs.Assembly.{instruction_in, line_read, line_read_of, with_label};
 ghost use Rattle.prog_asm.specs.FormViews.{written_from};
 ghost use Rattle.prog_asm.specs.LineViews.{line_from};
 ghost use Rattle.prog_asm.specs.ReadingViews.{ReadsAssembly};
@@ -29,10 +29,25 @@ fn instruction_in<'t>(alloc: Global, words: &[&'t [u8]]) -> Result<Option<Writte
     match words {
         [] => Ok(None),
         [word, operands @ ..] => {
-            let mnemonic = mnemonic_of(word).ok_or(Mistake::Word)?;
+            let Some(mnemonic) = mnemonic_of(word) else {
+                return Err(Mistake::Word);
+            };
             Ok(Some(read_written(alloc, mnemonic, operands)?))
         }
     }
+}
+
+/// The line with this label, and with the instruction that words stand for.
+fn with_label<'t>(
+    alloc: Global,
+    label: Option<&'t [u8]>,
+    words: &[&'t [u8]],
+) -> Result<Line<'t>, Mistake>
+    ensures { ReadsAssembly line_from result (with_label (option_map (λ name. name.now) label.entry)
+        (instruction_in (map (λ word. word.now) words.now))) }
+{
+    let instruction = instruction_in(alloc, words)?;
+    Ok(Line { label, instruction })
 }
 
 /// The line that words stand for. A first word that ends with a colon is a label.
@@ -45,18 +60,12 @@ fn line_of_words<'t>(alloc: Global, words: &[&'t [u8]]) -> Result<Line<'t>, Mist
             instruction: None,
         }),
         [first, rest @ ..] => match before_last(first, b':') {
-            None => Ok(Line {
-                label: None,
-                instruction: instruction_in(alloc, words)?,
-            }),
+            None => with_label(alloc, None, words),
             Some(name) => {
                 if !is_name(name) {
                     return Err(Mistake::Word);
                 }
-                Ok(Line {
-                    label: Some(name),
-                    instruction: instruction_in(alloc, rest)?,
-                })
+                with_label(alloc, Some(name), rest)
             }
         },
     }

@@ -1,4 +1,4 @@
-use Rattle.std.proofs.Common.{◌≡◌, List, None, Some, map, option_map, refl, ap, sym, ◌∙◌}
+use Rattle.std.proofs.Common.{map, refl, ap, sym, ◌∙◌}
 use Rattle.task.specs.Views.{nodes_of}
 use Rattle.file_tree.specs.Views.{names_of}
 use Rattle.task_reader.specs.ApartViews.{granted_places}

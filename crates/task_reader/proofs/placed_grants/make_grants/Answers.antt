@@ -1,4 +1,4 @@
-use Rattle.std.proofs.Common.{◌≡◌, List, None, Some, map, option_map, refl, ap, sym, ◌∙◌}
+use Rattle.std.proofs.Common.{map, option_map, refl, ap, sym, ◌∙◌}
 use Rattle.task.specs.Views.{grant_of, nodes_of}
 use Rattle.task_reader.specs.Reading.{Wrong_grant, grant_placed, grants_placed, or_mistake}
 use Rattle.task_reader.specs.WrittenViews.{grant_seen}

@@ -1,4 +1,4 @@
-use Rattle.std.proofs.Common.{◌≡◌, List, None, Some, map, option_map, refl, ap, sym, ◌∙◌}
+use Rattle.std.proofs.Common.{map, refl, sym}
 use Rattle.task.specs.Views.{nodes_of}
 use Rattle.task_reader.specs.PlacedViews.{placed_descriptor}
 use Rattle.task_reader.specs.Reading.{descriptor_placed, descriptors_placed}

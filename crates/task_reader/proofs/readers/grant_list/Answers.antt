@@ -1,4 +1,4 @@
-use Rattle.std.proofs.Common.{◌≡◌, List, None, Some, map, refl, ap, sym, ◌∙◌}
+use Rattle.std.proofs.Common.{◌≡◌, None, Some, refl, ap, sym, ◌∙◌}
 use Rattle.std.proofs.lemmas.Result.{err_from_is_err_and}
 use Rattle.toml.specs.View.{items_view, view}
 use Rattle.toml.specs.declared.value.Value.{Value}

@@ -10,21 +10,20 @@ use Rattle.task.specs.Limits.{is_plan}
 use Rattle.task_reader.specs.ApartViews.{first_assembled}
 use Rattle.task_reader.specs.FaultViews.{FaultIs}
 use Rattle.task_reader.specs.PlacedViews.{is_small, placed_starts}
-use Rattle.task_reader.specs.Reading.{Wrong_node, Wrong_grant, Wrong_descriptor, or_mistake, tree_of, policy_of, grants_placed, starts_placed, all_assembled, keeps_limits, plan_of}
+use Rattle.task_reader.specs.Reading.{Wrong_grant, Wrong_descriptor, or_mistake, tree_of, policy_of, grants_placed, starts_placed, all_assembled, keeps_limits, plan_of}
 use Rattle.task_reader.specs.Written.{WrittenTask}
-use Rattle.task_reader.specs.declared.written.WrittenNode.{WrittenNode as NodeCode}
 use Rattle.task_reader.specs.declared.written.WrittenGrant.{WrittenGrant as GrantCode}
 use Rattle.task_reader.specs.declared.written.WrittenProgram.{WrittenProgram as ProgramCode}
 use Rattle.task_reader.specs.declared.written.WrittenStart.{WrittenStart as StartCode}
 use Rattle.task_reader.specs.declared.written.WrittenTask.{WrittenTask as TaskCode}
 use Rattle.task.specs.Views.{nodes_of, grants_of, programs_of, starts_of}
-use Rattle.task_reader.specs.WrittenViews.{nodes_seen, grants_seen, programs_seen, starts_seen, task_seen}
+use Rattle.task_reader.specs.WrittenViews.{grants_seen, programs_seen, starts_seen, task_seen}
 use Rattle.task_reader.proofs.ApartLaws.{checked-policy}
 use Rattle.task_reader.proofs.EachItem.{some_from}
 use Rattle.task_reader.proofs.Passing.{fault-before, fault-never}
 use Rattle.task_reader.proofs.WrittenLaws.{some-equal, task-written}
 use Rattle.task_reader.proofs.ValidPlans.{all-kept, ok-then, plan-valid}
-use Rattle.task_reader.proofs.Stages.{fails-tree, fails-grants, fails-starts, fails-programs, past-limit, reads-plan, plan-small}
+use Rattle.task_reader.proofs.Stages.{fails-grants, fails-starts, fails-programs, past-limit, reads-plan, plan-small}
 use Rattle.task_reader.proofs.reading.make_parts.Goals as goal
 
 -- what each stage made, of the written task

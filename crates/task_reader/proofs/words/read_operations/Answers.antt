@@ -1,4 +1,4 @@
-use Rattle.std.proofs.Common.{◌≡◌, List, None, Some, map, option_map, refl, ap, sym, ◌∙◌, Bor, ℕ}
+use Rattle.std.proofs.Common.{List, map, refl, ap, sym, Bor, ℕ}
 use Rattle.rights.specs.Views.{operation_of}
 use Rattle.task_reader.specs.Reading.{Wrong_field, or_mistake}
 use Rattle.task_reader.specs.Written.{operation_named, operations_named}
