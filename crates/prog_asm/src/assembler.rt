@@ -10,9 +10,8 @@ ghost use Rattle.programs.specs.Views.{code_of, instruction_of};
 
 use crate::drafts::{Draft, Step, place, read_lines};
 use crate::faults::AsmFault;
-use programs::Instruction;
-use programs::Program;
 use indexmap::IndexMap;
+use programs::{Instruction, Program};
 use std::alloc::Global;
 use std::collections::VecDeque;
 

@@ -10,11 +10,11 @@ ghost use Rattle.programs.specs.Views.{instruction_of};
 
 use crate::faults::{AsmFault, fault_at};
 use crate::forms::Written;
-use programs::Instruction;
 use crate::labels::{add_label, point_of};
 use crate::mistakes::Mistake;
 use crate::statements::{Line, read_line};
 use indexmap::IndexMap;
+use programs::Instruction;
 use rights::limits::MAX_INSTRUCTIONS;
 use std::alloc::Global;
 use std::collections::VecDeque;

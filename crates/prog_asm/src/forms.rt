@@ -10,11 +10,10 @@ ghost use Rattle.programs.specs.Forms.{operand_at, path_at, register_at, rights_
 ghost use Rattle.prog_asm.specs.ReadingViews.{ReadsField};
 ghost use Rattle.programs.specs.Views.{instruction_of, operand_of, syscall_of};
 
-use programs::{Instruction, Syscall};
 use crate::mistakes::Mistake;
 use crate::mnemonics::Mnemonic;
-use programs::{Operand, Path, Register};
 use crate::{fields, lists};
+use programs::{Instruction, Operand, Path, Register, Syscall};
 use rights::{Call, Fcntls, OpenFlags, Rights};
 use std::alloc::Global;
 use std::marker::Model;
