@@ -11,7 +11,7 @@ use thiserror::Error;
 
 /// Why a text isn't assembled: the first faulty line, counted from 1, and on it the first of these
 /// that applies; where no line is faulty, a missing label, and then falling off the end. (own)
-#[derive(Clone, Copy, Debug, Error)]
+#[derive(Clone, Copy, Debug, PartialEq, Eq, Error)]
 pub enum AsmFault {
     /// A byte that no word has, a bad name before a colon, or an unknown instruction.
     Word(usize),
