@@ -9,9 +9,9 @@ ghost use Rattle.task.specs.Views.{first_descriptor_of, first_object_of, nodes_o
 use crate::base::times;
 use fd_table::{Access, Side};
 use file_tree::Kind;
+use instruction_set::{Instruction, Program};
 use link_tree::LinkTree;
 use prog_asm::assemble;
-use programs::{Instruction, Program};
 use rights::{Cause, Errno, Fcntls, Rights};
 use simulator::{Line, LineResult, Machine};
 use std::alloc::{AllocError, Global};

@@ -1,8 +1,8 @@
 //! What no clause says: that texts are assembled where memory is there, each instruction once, and what faults are called.
 //! What other texts come to is rows over the definitions, by computation.
 
+use instruction_set::{Instruction, Path, Register, is_valid_path};
 use prog_asm::{AsmFault, assemble};
-use programs::{Instruction, Path, Register, is_valid_path};
 use std::test::Fail;
 
 #[test]

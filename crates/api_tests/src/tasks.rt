@@ -4,7 +4,7 @@
 use crate::base::BASE;
 use fd_table::{Access, Side};
 use file_tree::Kind;
-use programs::Instruction;
+use instruction_set::Instruction;
 use rights::{Fcntls, Op, Rights};
 use std::alloc::Global;
 use std::process::Abort;

@@ -4,7 +4,7 @@ use Rattle.std.specs.Prelude.{◌&&◌, ◌||◌, not, take, drop, Option}
 use Rattle.certificate.specs.Bounds.{Authority, Bound, Certificate, bound_at}
 use Rattle.certificate.specs.Growth.{IsCertificate}
 use Rattle.certificate.specs.Views.{bound_of}
-use Rattle.programs.specs.Programs.{Instruction, Set, Mov, Add, In, Jmp, Jeq, Jlt, Halt, Invoke}
+use Rattle.instruction_set.specs.Programs.{Instruction, Set, Mov, Add, In, Jmp, Jeq, Jlt, Halt, Invoke}
 use Rattle.task.specs.Limits.{is_plan}
 use Rattle.task.specs.Plans.{Plan, is_marked, program_name, programs_of_plan}
 use Rattle.rules.specs.Authority.{authority_at, keeps_ceilings, keeps_moves, keeps_received, keeps_sent}

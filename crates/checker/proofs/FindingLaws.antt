@@ -6,7 +6,7 @@ use Rattle.std.proofs.lemmas.List.Elements.{Contains-append_left, Contains-appen
 use Rattle.std.proofs.lemmas.Option.{slice_get_past}
 use Rattle.certificate.specs.Bounds.{Bound, Certificate, bound_at}
 use Rattle.kernel.proofs.Fresh.{lt_or_le}
-use Rattle.programs.specs.Programs.{Instruction}
+use Rattle.instruction_set.specs.Programs.{Instruction}
 use Rattle.task.specs.Plans.{Plan, code_in, program_name, programs_of_plan}
 use Rattle.rules.specs.Points.{instruction_at}
 use Rattle.rules.specs.Rules.{Test, least_broken}

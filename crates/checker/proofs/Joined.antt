@@ -2,7 +2,7 @@
 use Rattle.std.proofs.Common.{◌≡◌, ℕ, Bool, true, false, List, [], ◌∷◌, ◌++◌, Some, None, sym, ◌∙◌, refl, cond}
 use Rattle.std.specs.Prelude.{not, ◌&&◌, ◌||◌}
 use Rattle.certificate.specs.Views.{bound_of}
-use Rattle.programs.specs.Programs.{Instruction, Set, Mov, Add, In, Jmp, Jeq, Jlt, Halt, Invoke}
+use Rattle.instruction_set.specs.Programs.{Instruction, Set, Mov, Add, In, Jmp, Jeq, Jlt, Halt, Invoke}
 use Rattle.rules.specs.Outcomes.{error_outcomes}
 use Rattle.rules.specs.Slots.{may_be_on}
 use Rattle.rules.specs.Rules.{Test, tests, least_broken, starts_within, all_within, all_there}

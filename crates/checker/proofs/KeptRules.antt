@@ -5,7 +5,7 @@ use Rattle.std.specs.List.{list_all}
 use Rattle.certificate.specs.Bounds.{Certificate}
 use Rattle.certificate.specs.Views.{bound_of}
 use Rattle.certificate.proofs.Growing.{and_left, and_right, both_true}
-use Rattle.programs.specs.Programs.{Syscall}
+use Rattle.instruction_set.specs.Programs.{Syscall}
 use Rattle.task.specs.Plans.{Plan}
 use Rattle.rules.specs.Channels.{all_have_channels, keeps_channel_bound}
 use Rattle.rules.specs.Demands.{demands, keeps_beneath, keeps_numbers, keeps_single}

@@ -3,9 +3,9 @@ use Rattle.std.proofs.Common.{◌≡◌, ℕ, true, List, ap, sym, ◌∙◌}
 use Rattle.std.specs.Prelude.{Option, Some, None, IfSome, option_map}
 use Rattle.std.specs.List.{list_all, slice_get}
 use Rattle.rights.proofs.Lists.{list_all-slice_get}
-use Rattle.programs.specs.declared.instructions.Instruction.{Instruction as InstructionCode}
-use Rattle.programs.specs.Views.{code_of}
-use Rattle.programs.specs.Programs.{Instruction, is_program}
+use Rattle.instruction_set.specs.declared.instructions.Instruction.{Instruction as InstructionCode}
+use Rattle.instruction_set.specs.Views.{code_of}
+use Rattle.instruction_set.specs.Programs.{Instruction, is_program}
 use Rattle.transfer.specs.Limits.{leaves_known}
 use Rattle.transfer.proofs.Known.{program_known}
 

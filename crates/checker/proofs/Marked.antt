@@ -2,7 +2,7 @@
 use Rattle.std.proofs.Common.{◌≡◌, ◌∙◌, ap, sym, ℕ, Bool, true, false, List, refl, Some, None}
 use Rattle.std.specs.Prelude.{◌==◌, ◌&&◌, ◌||◌, not}
 use Rattle.certificate.specs.Bounds.{Bound, Authority, Certificate}
-use Rattle.programs.specs.Programs.{Instruction}
+use Rattle.instruction_set.specs.Programs.{Instruction}
 use Rattle.task.specs.Plans.{Plan, is_marked, program_name}
 use Rattle.rules.specs.Authority.{authority_at, keeps_ceilings, keeps_moves, keeps_received, keeps_sent}
 use Rattle.rules.specs.Expansions.{expansion}

@@ -6,7 +6,7 @@ use Rattle.rights.specs.Limits.{most_programs}
 use Rattle.rights.proofs.Lists.{list_all-slice_get}
 use Rattle.rights.proofs.Tests.{both_left, both_right}
 use Rattle.texts.specs.Names.{is_name}
-use Rattle.programs.specs.Programs.{is_program}
+use Rattle.instruction_set.specs.Programs.{is_program}
 use Rattle.task.specs.Plans.{NamedProgram, Plan, code_in, name_in, program_name}
 use Rattle.task.specs.Limits.{is_tree, are_grants, is_program_named, are_named_apart, all_apart, are_programs, are_starts, is_plan}
 use Rattle.rules.specs.Points.{instruction_at}

@@ -9,7 +9,7 @@ use Rattle.std.proofs.lemmas.Bool.{leb-true}
 use Rattle.std.proofs.lemmas.Option.{slice_get_past, slice_get_read, slice_get-map}
 use Rattle.rights.proofs.Tests.{both_left}
 use Rattle.certificate.specs.Bounds.{Certificate, bound_at}
-use Rattle.programs.specs.Programs.{Instruction, is_program, is_instruction, ends_well}
+use Rattle.instruction_set.specs.Programs.{Instruction, is_program, is_instruction, ends_well}
 use Rattle.task.specs.declared.programs.NamedProgram.{NamedProgram as NamedProgramCode}
 use Rattle.task.specs.Plans.{Plan, code_in, programs_of_plan}
 use Rattle.task.specs.Views.{program_of, programs_of}

@@ -4,7 +4,7 @@ use Rattle.std.specs.Prelude.{◌&&◌, Bool, false, Option, Some, None, if◌th
 use Rattle.std.specs.List.{slice_get}
 use Rattle.certificate.specs.Bounds.{Bound, Certificate, bound_at}
 use Rattle.certificate.specs.Growth.{IsCertificate}
-use Rattle.programs.specs.Programs.{Instruction}
+use Rattle.instruction_set.specs.Programs.{Instruction}
 use Rattle.task.specs.Plans.{NamedProgram, Plan, code_in, program_name, programs_of_plan}
 use Rattle.task.specs.Limits.{is_plan}
 use Rattle.rules.specs.Carrying.{carried_on}

@@ -2,7 +2,7 @@
 use Rattle.std.specs.Prelude.{◌≡◌, ◌↔◌, ℕ, zero, suc, List, [], ◌∷◌, ◌++◌, length, Option, Some, None, if◌then◌else◌}
 use Rattle.std.specs.List.{Contains}
 use Rattle.certificate.specs.Bounds.{Bound, Certificate, bound_at}
-use Rattle.programs.specs.Programs.{Instruction}
+use Rattle.instruction_set.specs.Programs.{Instruction}
 use Rattle.task.specs.Plans.{Plan, program_name, programs_of_plan}
 use Rattle.rules.specs.Points.{instruction_at}
 use Rattle.rules.specs.Rules.{Test, tests, tests_without}

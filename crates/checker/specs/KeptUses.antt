@@ -2,7 +2,7 @@
 use Rattle.std.specs.Prelude.{◌&&◌, ◌||◌, not, Bool, Option, is_some}
 use Rattle.std.specs.List.{list_all}
 use Rattle.certificate.specs.Bounds.{Bound, Certificate}
-use Rattle.programs.specs.Programs.{Syscall}
+use Rattle.instruction_set.specs.Programs.{Syscall}
 use Rattle.task.specs.Plans.{Plan}
 use Rattle.rules.specs.Channels.{all_have_channels, keeps_channel_bound}
 use Rattle.rules.specs.Demands.{demands, keeps_beneath, keeps_numbers, keeps_single}

@@ -4,7 +4,7 @@ use Rattle.std.specs.List.{slice_get}
 use Rattle.certificate.specs.Bounds.{Certificate}
 use Rattle.certificate.specs.Views.{bound_of, name_of}
 use Rattle.certificate.specs.declared.bounds.Bound.{Bound as BoundCode}
-use Rattle.programs.specs.Programs.{Syscall, Instruction, Invoke}
+use Rattle.instruction_set.specs.Programs.{Syscall, Instruction, Invoke}
 use Rattle.rules.specs.Expansions.{carried_to, code_named, expansion}
 use Rattle.rules.specs.Outcomes.{Outcome, successes_in}
 use Rattle.rules.specs.Rules.{Test, mark_tests, tests}

@@ -5,7 +5,7 @@ ghost use Rattle.certificate.specs.Bounds.{bound_at};
 ghost use Rattle.certificate.specs.Views.{bound_of, name_of};
 ghost use Rattle.checker.specs.KeptUses.{arrives};
 ghost use Rattle.checker.specs.SiteViews.{CarriesOn, SiteHas, expansion_at, site_name, expanded_successes};
-ghost use Rattle.programs.specs.Views.{instruction_of};
+ghost use Rattle.instruction_set.specs.Views.{instruction_of};
 ghost use Rattle.rules.specs.Expansions.{bound_met};
 ghost use Rattle.rules.specs.Outcomes.{error_outcomes};
 ghost use Rattle.rules.specs.Rules.{all_there, all_within, within_if_there};
@@ -14,7 +14,7 @@ ghost use Rattle.transfer.specs.OutcomeViews.{outcome_of};
 ghost use Rattle.transfer.specs.Limits.{leaves_known};
 
 use certificate::{Bound, Cert, Name};
-use programs::Instruction;
+use instruction_set::Instruction;
 use transfer::{Outcome, OutcomeTest, Site, failure, successes_pass};
 
 /// The bounds that the outcomes of a point meet: those that are given, and at the next point what is carried on to it.

@@ -4,7 +4,7 @@ ghost use Rattle.std.specs.Prelude.{◌≡◌, ◌+◌, ℕ, IfSome, None, drop,
 ghost use Rattle.certificate.specs.Views.{bound_of, name_of};
 ghost use Rattle.checker.specs.KeptUses.{keeps_call_rules};
 ghost use Rattle.checker.specs.SiteViews.{CarriesOn, SiteHas, call_tests, call_tests_of, expansion_at, marks_at, tests_at};
-ghost use Rattle.programs.specs.Views.{instruction_of, syscall_of};
+ghost use Rattle.instruction_set.specs.Views.{instruction_of, syscall_of};
 ghost use Rattle.rules.specs.Expansions.{carried_to, expansion};
 ghost use Rattle.rules.specs.Points.{instruction_at};
 ghost use Rattle.rules.specs.Rules.{least_broken};
@@ -24,7 +24,7 @@ use crate::uses::{
     NamesKnown, WorksOnKnown, in_the_mode,
 };
 use certificate::{Bound, Cert, Name};
-use programs::{Instruction, Syscall};
+use instruction_set::{Instruction, Syscall};
 use task::Task;
 use transfer::{
     Site, all_have_channels, all_uses_pass, demanded, keeps_beneath, keeps_numbers, keeps_single,

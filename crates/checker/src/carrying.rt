@@ -3,14 +3,14 @@
 ghost use Rattle.std.specs.Prelude.{◌≡◌, option_map, true};
 ghost use Rattle.std.specs.List.{list_all};
 ghost use Rattle.certificate.specs.Views.{bound_of, name_of};
-ghost use Rattle.programs.specs.Views.{code_of};
+ghost use Rattle.instruction_set.specs.Views.{code_of};
 ghost use Rattle.certificate.specs.Bounds.{bound_at};
 ghost use Rattle.rules.specs.Expansions.{carried_past, code_named, or_carried};
 ghost use Rattle.transfer.specs.Limits.{leaves_known};
 
 use crate::points::{instruction_in, may_carry};
 use certificate::{Bound, Cert, Name};
-use programs::Instruction;
+use instruction_set::Instruction;
 use task::Task;
 use transfer::{Site, carried_on};
 

@@ -6,7 +6,7 @@ ghost use Rattle.certificate.specs.Views.{bound_of, name_of};
 ghost use Rattle.checker.specs.FindingViews.{broken_rule_of, test_of};
 ghost use Rattle.checker.specs.Findings.{findings, findings_before, findings_in, tests_there};
 ghost use Rattle.checker.specs.SiteViews.{CarriesOn, SiteHas, call_tests_of, tests_at};
-ghost use Rattle.programs.specs.Views.{code_of, instruction_of};
+ghost use Rattle.instruction_set.specs.Views.{code_of, instruction_of};
 ghost use Rattle.rules.specs.Expansions.{carried_to, expansion};
 ghost use Rattle.rules.specs.Rules.{tests_without};
 ghost use Rattle.task.specs.Plans.{program_name, programs_of_plan};
@@ -20,7 +20,7 @@ use crate::rule_tests::{
     tests_without_bound,
 };
 use certificate::{Bound, Cert, Name};
-use programs::Instruction;
+use instruction_set::Instruction;
 use std::alloc::{AllocError, Global};
 use task::Task;
 use transfer::Site;

@@ -4,7 +4,7 @@ ghost use Rattle.std.specs.Prelude.{◌≡◌, ◌==◌, ◌&&◌, ◌||◌, not
 ghost use Rattle.certificate.specs.Views.{bound_of, name_of};
 ghost use Rattle.checker.specs.AllowanceViews.{allowance_of};
 ghost use Rattle.checker.specs.SiteViews.{marks_at};
-ghost use Rattle.programs.specs.Views.{instruction_of};
+ghost use Rattle.instruction_set.specs.Views.{instruction_of};
 ghost use Rattle.rules.specs.Authority.{authority_at};
 ghost use Rattle.rules.specs.Expansions.{expansion};
 ghost use Rattle.rules.specs.Rules.{authority_tests, enters_within, is_asked_first, is_started, least_broken, starts_in_authority, tests_without};
@@ -17,7 +17,7 @@ use crate::allowances::{
 };
 use crate::starts::is_started;
 use certificate::{Bound, Cert, Name};
-use programs::Instruction;
+use instruction_set::Instruction;
 use task::{Task, is_marked};
 use transfer::{Site, enters_mode, may_be_on};
 

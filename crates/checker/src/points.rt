@@ -5,12 +5,12 @@ ghost use Rattle.std.specs.List.{list_all, list_any, slice_get};
 ghost use Rattle.certificate.specs.Views.{version_of};
 ghost use Rattle.rules.specs.Expansions.{code_named, is_named, may_carry, names_point};
 ghost use Rattle.rules.specs.Points.{instruction_at};
-ghost use Rattle.programs.specs.Views.{code_of, instruction_of};
+ghost use Rattle.instruction_set.specs.Views.{code_of, instruction_of};
 ghost use Rattle.task.specs.Views.{programs_of};
 ghost use Rattle.transfer.specs.Limits.{leaves_known};
 
 use certificate::Version;
-use programs::Instruction;
+use instruction_set::Instruction;
 use task::{NamedProgram, Task};
 
 /// The instruction at a point of this code, if it is there.

@@ -4,7 +4,7 @@ ghost use Rattle.std.specs.Prelude.{◌≡◌, ◌&&◌, ◌||◌, drop, map, no
 ghost use Rattle.certificate.specs.Views.{bound_of, name_of};
 ghost use Rattle.checker.specs.FindingViews.{test_of};
 ghost use Rattle.checker.specs.SiteViews.{CarriesOn, SiteHas, call_tests, expanded_successes, expansion_at, site_name, tests_at};
-ghost use Rattle.programs.specs.Views.{instruction_of, syscall_of};
+ghost use Rattle.instruction_set.specs.Views.{instruction_of, syscall_of};
 ghost use Rattle.rules.specs.Expansions.{expansion};
 ghost use Rattle.rules.specs.Outcomes.{error_outcomes};
 ghost use Rattle.rules.specs.Rules.{all_there, authority_tests, tests_without};
@@ -23,7 +23,7 @@ use crate::uses::{
     NamesKnown, WorksOnKnown, in_the_mode,
 };
 use certificate::{Bound, Cert, Name};
-use programs::{Instruction, Syscall};
+use instruction_set::{Instruction, Syscall};
 use task::Task;
 use transfer::{
     Site, all_have_channels, all_uses_pass, demanded, keeps_beneath, keeps_numbers, keeps_single,

@@ -5,8 +5,8 @@ ghost use Rattle.std.specs.List.{list_all};
 ghost use Rattle.rights.specs.Views.{operation_of};
 ghost use Rattle.certificate.specs.Order.{held_within};
 ghost use Rattle.certificate.specs.Views.{bound_of, held_of, target_of};
-ghost use Rattle.programs.specs.Programs.{Invoke};
-ghost use Rattle.programs.specs.Views.{operand_of, syscall_of};
+ghost use Rattle.instruction_set.specs.Programs.{Invoke};
+ghost use Rattle.instruction_set.specs.Views.{operand_of, syscall_of};
 ghost use Rattle.rules.specs.Expansions.{expansion};
 ghost use Rattle.rules.specs.Channels.{keeps_channel_bound, sends_into};
 ghost use Rattle.rules.specs.Rules.{in_the_mode, is_known, keeps_commands, keeps_limit, keeps_policy, keeps_rights, moves_within, names_known, same_grant, target_lists, works_on_known};
@@ -15,7 +15,7 @@ ghost use Rattle.rules.specs.Slots.{slots_in};
 ghost use Rattle.transfer.specs.Views.{operation_list};
 
 use certificate::{Bound, Cert, Domain, Held, Target};
-use programs::{Operand, Syscall};
+use instruction_set::{Operand, Syscall};
 use rights::Op;
 use task::{Task, grant_lists};
 use transfer::{

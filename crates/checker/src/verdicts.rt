@@ -2,7 +2,7 @@
 
 ghost use Rattle.std.specs.Prelude.{◌≡◌, ◌<◌, ◌≤◌, ℕ, None, Some, MatchOption, length, true};
 ghost use Rattle.std.specs.List.{list_all};
-ghost use Rattle.programs.specs.Views.{code_of};
+ghost use Rattle.instruction_set.specs.Views.{code_of};
 ghost use Rattle.rules.specs.Expansions.{expansion};
 ghost use Rattle.rules.specs.Verdicts.{found_at};
 ghost use Rattle.checker.specs.Verdicts.{IsVerdict, Yes};
@@ -15,7 +15,7 @@ ghost use Rattle.transfer.specs.Limits.{leaves_known};
 use crate::broken::{found_at, name_at};
 use crate::carrying::carried_past;
 use certificate::Cert;
-use programs::Instruction;
+use instruction_set::Instruction;
 use task::Task;
 
 /// What the checker answers.

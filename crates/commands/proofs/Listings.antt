@@ -8,7 +8,7 @@ use Rattle.rights.specs.Sets.{is_within}
 use Rattle.texts.specs.Parts.{joined}
 use Rattle.certificate.specs.Bounds.{Slot, Certificate, bound_at}
 use Rattle.certificate_text.specs.Pieces.{in_order}
-use Rattle.programs.specs.Programs.{Instruction}
+use Rattle.instruction_set.specs.Programs.{Instruction}
 use Rattle.task.specs.Plans.{Grant, NamedProgram}
 use Rattle.rules.specs.Authority.{authority_at, ceiling_in}
 use Rattle.commands.specs.Reports.{ceiling_line, grant_line, names_in, own_names, parted, point_lines, rights_there, rights_text}

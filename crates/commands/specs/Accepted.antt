@@ -5,7 +5,7 @@ use Rattle.rights.specs.Sets.{all_rights, all_commands}
 use Rattle.rights.specs.Opens.{OpenRequest, open_request}
 use Rattle.rights.specs.Operations.{Operation, Look, Read as Reads, Write as Writes, Create as Creates, Remove as Removes}
 use Rattle.file_tree.specs.Nodes.{Kind, File, Dir, Link, Node}
-use Rattle.programs.specs.Programs.{Instruction, Halt, Invoke, Jmp, Jeq, Number, Cap_enter, Openat, Read, Renameat, Sendfd, Recvfd, Fork, Cap_rights_limit}
+use Rattle.instruction_set.specs.Programs.{Instruction, Halt, Invoke, Jmp, Jeq, Number, Cap_enter, Openat, Read, Renameat, Sendfd, Recvfd, Fork, Cap_rights_limit}
 use Rattle.certificate.specs.Bounds.{ModeBound, Off, On, Held, Slot, Open, Maybe, Bound, with_interval, PointBound, One, Certificate}
 use Rattle.kernel.specs.Answers.{Event}
 use Rattle.kernel.specs.Steps.{Acted}

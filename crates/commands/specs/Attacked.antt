@@ -5,7 +5,7 @@ use Rattle.rights.specs.Values.{Name}
 use Rattle.rights.specs.Limits.{register_count}
 use Rattle.rights.specs.Opens.{open_request}
 use Rattle.rights.specs.Operations.{Look, Read as Reads}
-use Rattle.programs.specs.Programs.{Syscall, Halt, Invoke, Number, Cap_enter, Cap_rights_limit, Close, Fork, Open as Opens, Openat, Recvfd, Sendfd, Stat, Unlinkat}
+use Rattle.instruction_set.specs.Programs.{Syscall, Halt, Invoke, Number, Cap_enter, Cap_rights_limit, Close, Fork, Open as Opens, Openat, Recvfd, Sendfd, Stat, Unlinkat}
 use Rattle.rights.specs.Classes.{Initial}
 use Rattle.certificate.specs.Bounds.{Off, Open, Maybe, Three, Ceiling, Certificate}
 use Rattle.kernel.specs.World.{World, Choice}

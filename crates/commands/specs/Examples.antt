@@ -3,7 +3,7 @@
 use Rattle.std.specs.Prelude.{◌≡◌, ℕ, zero, suc, true, false, List, [], ◌∷◌, codes, Option}
 use Rattle.rights.specs.Sets.{all_rights, all_commands, seek_right}
 use Rattle.rights.specs.Operations.{Look, Read as Reads}
-use Rattle.programs.specs.Programs.{Instruction, Jeq, Halt, Invoke, Cap_enter, Read, Number}
+use Rattle.instruction_set.specs.Programs.{Instruction, Jeq, Halt, Invoke, Cap_enter, Read, Number}
 use Rattle.kernel.specs.Answers.{Event}
 use Rattle.kernel.specs.Steps.{Acted}
 use Rattle.task.specs.Breaches.{small_tree}

@@ -4,7 +4,7 @@ use Rattle.task_reader.specs.declared.faults.TaskFault.{TaskFault}
 use Rattle.task_reader.specs.declared.faults.TaskFault.TheVariants as task
 use Rattle.task_reader.specs.FaultViews.{text_fault}
 use Rattle.task_reader.specs.Reading.{Not_toml, Wrong_field, Wrong_node, Wrong_grant, Wrong_descriptor, Wrong_program, Past_limit}
-use Rattle.programs.specs.Assembly as assembly
+use Rattle.instruction_set.specs.Assembly as assembly
 use Rattle.simulator.specs.declared.schedule.ScheduleFault.{ScheduleFault}
 use Rattle.simulator.specs.declared.schedule.ScheduleFault.TheVariants as schedule
 use Rattle.simulator.specs.Schedules.{Faulty, Too_many}

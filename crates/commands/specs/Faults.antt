@@ -1,7 +1,7 @@
 -- Why the program doesn't do what its words say, and how it tells that. (own)
 use Rattle.std.specs.Prelude.{◌++◌, ℕ, List, codes}
 use Rattle.std.specs.Fmt.{decimal}
-use Rattle.programs.specs.Assembly as assembly
+use Rattle.instruction_set.specs.Assembly as assembly
 use Rattle.certificate_text.specs.Faults as certificates
 use Rattle.simulator.specs.Schedules as schedules
 use Rattle.task_reader.specs.Reading as tasks

@@ -3,7 +3,7 @@ use Rattle.std.specs.Prelude.{true, false, [], ◌∷◌, codes}
 use Rattle.rights.specs.Sets.{all_commands}
 use Rattle.certificate.specs.Bounds.{One, Three, Certificate, Held, In_grant, Off, Open, with_slot}
 use Rattle.certificate.specs.Growth.{open_bound}
-use Rattle.programs.specs.Programs.{Halt}
+use Rattle.instruction_set.specs.Programs.{Halt}
 use Rattle.task.specs.Breaches.{small_tree}
 use Rattle.task.specs.Plans.{On_node, Plan, unmarked}
 use Rattle.commands.specs.Examples.{work_grant}

@@ -12,7 +12,7 @@ use Rattle.certificate_text.specs.Pieces.{in_order}
 use Rattle.checker.specs.Verdicts.{Verdict, Yes, No, IsVerdict}
 use Rattle.rules.specs.Authority.{authority_at, ceiling_in}
 use Rattle.rules.specs.Expansions.{expansion}
-use Rattle.programs.specs.Programs.{Instruction}
+use Rattle.instruction_set.specs.Programs.{Instruction}
 use Rattle.task.specs.Plans.{Grant, NamedProgram, Plan, none_marked}
 use Rattle.task.specs.Confined.{IsConfined}
 use Rattle.task.specs.Sandboxed.{IsSandboxed}

@@ -10,7 +10,7 @@ ghost use Rattle.task.specs.Views.{grants_of, nodes_of, starts_of};
 
 use fd_table::Access;
 use file_tree::Kind;
-use programs::{Instruction, Operand, Program, Syscall};
+use instruction_set::{Instruction, Operand, Program, Syscall};
 use rights::{Fcntls, Op, Rights};
 use std::alloc::{AllocError, Global};
 use task::{FirstDescriptor, FirstObject, Grant, NamedProgram, Start, Task, TaskNode};

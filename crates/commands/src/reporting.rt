@@ -14,13 +14,13 @@ ghost use Rattle.commands.specs.Reports.{report_text, rights_there, rights_text}
 ghost use Rattle.rules.specs.Authority.{authority_at, ceiling_in};
 ghost use Rattle.rules.specs.Expansions.{expansion};
 ghost use Rattle.task.specs.Views.{grant_of, grants_of, program_of, programs_of};
-ghost use Rattle.programs.specs.Views.{code_of};
+ghost use Rattle.instruction_set.specs.Views.{code_of};
 
 use crate::judging::{status_of_verdict, text_of_verdict};
 use bitflags::{Flag, Flags};
 use certificate::{Bound, Cert, Slot, Target};
 use checker::{Verdict, ceiling_at, check, expand, is_expanded};
-use programs::Instruction;
+use instruction_set::Instruction;
 use rights::{Out, Rights, Stop, write_all};
 use std::alloc::Global;
 use task::{Grant, NamedProgram, Task};

@@ -3,7 +3,7 @@ use Rattle.std.proofs.Common.{◌≡◌, ◌≢◌, ◌<◌, ◌≤◌, ℕ, fal
 use Rattle.std.specs.Prelude.{Option, Some, None, Result, Ok}
 use Rattle.commands.specs.Faults.{Fault, Refused, No_memory, No_output, fault_status}
 use Rattle.commands.specs.Served.{is_done_status}
-use Rattle.programs.specs.Assembly as assembly
+use Rattle.instruction_set.specs.Assembly as assembly
 use Rattle.task_reader.specs.declared.faults.TaskFault.{TaskFault}
 use Rattle.task_reader.specs.declared.faults.TaskFault.TheVariants as code
 use Rattle.task_reader.specs.FaultViews.{FaultIs, IsProgramFault, text_fault}

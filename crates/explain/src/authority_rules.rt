@@ -6,7 +6,7 @@ use crate::starting::add_object;
 use certificate::{Bound, Channel, Class, Domain, Held, Name, Side, Slot, Target};
 use checker::allowances::{is_widest, may_come, may_hold_all, may_start_with, stays_in};
 use checker::{Allowance, BrokenRule, allowance_at, ceiling_at};
-use programs::{Instruction, Syscall};
+use instruction_set::{Instruction, Syscall};
 use task::{Grant, Start};
 use task_text::Page;
 use task_text::Piece::{Bytes, Number, Text};

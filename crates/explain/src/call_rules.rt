@@ -6,7 +6,7 @@ use crate::naming::{
 use crate::scenes::{Scene, short};
 use crate::uses::{OpenSlot, Use, open_slot};
 use certificate::{Bound, Domain, Held, Name, Slot, Target};
-use programs::{Operand, Syscall};
+use instruction_set::{Operand, Syscall};
 use rights::Op;
 use rights::limits::MAX_DESCRIPTORS;
 use task::grant_lists;

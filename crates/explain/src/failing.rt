@@ -9,7 +9,7 @@ use crate::refusing::add_findings;
 use crate::scenes::{Scene, short};
 use crate::starting::add_object;
 use checker::{BrokenRule, all_findings, expand};
-use programs::{Instruction, Syscall};
+use instruction_set::{Instruction, Syscall};
 use rights::Memory;
 use searcher::{reached, search};
 use std::alloc::Global;

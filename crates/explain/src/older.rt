@@ -3,7 +3,7 @@
 use crate::scenes::short;
 use certificate::{Cert, Version};
 use checker::is_named;
-use programs::Instruction;
+use instruction_set::Instruction;
 use std::alloc::{AllocError, Global};
 use task::Task;
 use task_text::Page;

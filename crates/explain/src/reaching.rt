@@ -1,7 +1,7 @@
 //! Where instructions lead by the text of a program alone, and what the calls need that come from there on.
 
 use certificate::{Bound, Domain, Target};
-use programs::{Instruction, Operand, Syscall};
+use instruction_set::{Instruction, Operand, Syscall};
 use rights::Rights;
 use std::alloc::{AllocError, Global};
 use transfer::{Need, Passed, Through, needed, operand_interval};

@@ -5,7 +5,7 @@ use crate::reaching::{points_reached, rights_used};
 use crate::scenes::{Scene, short};
 use crate::uses::open_slot;
 use certificate::{Bound, Domain, Target};
-use programs::{Instruction, Operand};
+use instruction_set::{Instruction, Operand};
 use rights::Rights;
 use rights::limits::MAX_DESCRIPTORS;
 use std::alloc::{AllocError, Global};

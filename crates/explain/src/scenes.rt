@@ -2,7 +2,7 @@
 
 use certificate::{Bound, Cert, Name};
 use checker::instruction_at;
-use programs::Instruction;
+use instruction_set::Instruction;
 use task::Task;
 use task_text::Piece::{Bytes, Number, Text};
 use task_text::{Page, ProgramText, Written};

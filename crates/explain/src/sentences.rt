@@ -7,7 +7,7 @@ use crate::scenes::{Scene, Spot};
 use crate::starting::add_start;
 use certificate::Domain;
 use checker::BrokenRule;
-use programs::Instruction;
+use instruction_set::Instruction;
 use std::alloc::{AllocError, Global};
 use task_text::Page;
 use task_text::Piece::{Bytes, Number, Text};

@@ -1,7 +1,7 @@
 //! The slots that an operand may name, and what a call needs of them.
 
 use certificate::{Bound, Held};
-use programs::Operand;
+use instruction_set::Operand;
 use transfer::{Need, operand_interval};
 
 /// A slot that may be open.

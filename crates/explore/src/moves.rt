@@ -2,7 +2,7 @@
 
 use crate::runners::{Runner, instruction_of};
 use fd_table::Object;
-use programs::{Instruction, Operand, Syscall};
+use instruction_set::{Instruction, Operand, Syscall};
 use rights::Memory;
 use rights::limits::{MAX_DESCRIPTORS, MAX_PROCESSES};
 use std::alloc::Global;

@@ -4,7 +4,7 @@ use Rattle.std.specs.Prelude.{Option, Some, None}
 use Rattle.std.specs.List.{slice_get}
 use Rattle.rights.specs.Limits.{most_bytes, most_messages}
 use Rattle.process.specs.State.{ProcessState}
-use Rattle.programs.specs.Programs.{Syscall}
+use Rattle.instruction_set.specs.Programs.{Syscall}
 use Rattle.fd_table.specs.Descriptions.{Object, At_node, At_end, State, Descriptor, Message, IfHeld}
 use Rattle.fd_table.specs.OpenFiles.{OpenFiles, Alike, SameDescriptions, IsOther, AreOther, IsUnnamed, IsUnused, is_open}
 use Rattle.fd_table.specs.OpenFiles as open_files

@@ -16,7 +16,7 @@ use Rattle.lookup.specs.Paths.{last_component, path_fault}
 use Rattle.lookup.specs.ByNodes.{by_nodes}
 use Rattle.lookup.specs.Looks.{lookup_fault}
 use Rattle.lookup.specs.Walks.{first_handled, handled}
-use Rattle.programs.specs.Programs.{Number, Open, Openat, Read, Write, Sendfd, Recvfd, Lseek, Ftruncate, Fsync, Fcntl_setfl}
+use Rattle.instruction_set.specs.Programs.{Number, Open, Openat, Read, Write, Sendfd, Recvfd, Lseek, Ftruncate, Fsync, Fcntl_setfl}
 use Rattle.fd_table.specs.Descriptions.{At_node, descriptor_of}
 use Rattle.fd_table.specs.OpenFiles.{any_below, lowest_from}
 use Rattle.kernel.specs.Answers.{Pop, Fails, Gives, same, gives, unless, held, at_object, at_number}

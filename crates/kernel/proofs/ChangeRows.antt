@@ -10,9 +10,9 @@ use Rattle.lookup.specs.Paths.{last_component, path_fault}
 use Rattle.lookup.specs.ByNodes.{by_nodes}
 use Rattle.lookup.specs.Looks.{lookup_fault}
 use Rattle.lookup.specs.Walks.{first_handled, handled}
-use Rattle.programs.specs.Programs.{Halt, Invoke, Stat, Cap_enter, Fork}
-use Rattle.programs.specs.Forms.{written_at, syscall_at, register_at, number_at, operand_at, path_at, flags_at, rights_at, commands_at, label_at, directory_at, else_at}
-use Rattle.programs.specs.Assembly.{assembly_of, line_read}
+use Rattle.instruction_set.specs.Programs.{Halt, Invoke, Stat, Cap_enter, Fork}
+use Rattle.instruction_set.specs.Forms.{written_at, syscall_at, register_at, number_at, operand_at, path_at, flags_at, rights_at, commands_at, label_at, directory_at, else_at}
+use Rattle.instruction_set.specs.Assembly.{assembly_of, line_read}
 use Rattle.fd_table.specs.OpenFiles.{any_below, lowest_from}
 use Rattle.kernel.specs.Answers.{unless, held, at_object, at_number}
 use Rattle.kernel.specs.Calls.{looks, looks_twice, answer}

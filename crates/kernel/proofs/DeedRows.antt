@@ -14,9 +14,9 @@ use Rattle.lookup.specs.ByNodes.{by_nodes}
 use Rattle.lookup.specs.Looks.{lookup_fault}
 use Rattle.lookup.specs.Walks.{first_handled, handled}
 use Rattle.process.specs.State.{Deed, ProcessState, new_process}
-use Rattle.programs.specs.Programs.{Instruction, Number, Register, Set, Mov, Jmp, Halt, Invoke, Open, Openat, Recvfd, Dup, Socketpair, Fork}
-use Rattle.programs.specs.Forms.{written_at, syscall_at, register_at, number_at, operand_at, path_at, flags_at, rights_at, commands_at, label_at, directory_at, else_at}
-use Rattle.programs.specs.Assembly.{assembly_of, line_read}
+use Rattle.instruction_set.specs.Programs.{Instruction, Number, Register, Set, Mov, Jmp, Halt, Invoke, Open, Openat, Recvfd, Dup, Socketpair, Fork}
+use Rattle.instruction_set.specs.Forms.{written_at, syscall_at, register_at, number_at, operand_at, path_at, flags_at, rights_at, commands_at, label_at, directory_at, else_at}
+use Rattle.instruction_set.specs.Assembly.{assembly_of, line_read}
 use Rattle.fd_table.specs.Descriptions.{At_end, Made_at, Made_by, Object}
 use Rattle.fd_table.specs.OpenFiles.{any_below, lowest_from}
 use Rattle.kernel.specs.World.{World}

@@ -7,7 +7,7 @@ use Rattle.rights.proofs.Subsets.{is_within-refl}
 use Rattle.file_tree.specs.Refusals.{new_tree}
 use Rattle.file_tree.proofs.NewTree.{new_is_tree}
 use Rattle.process.specs.State.{new_process}
-use Rattle.programs.specs.Programs.{Halt}
+use Rattle.instruction_set.specs.Programs.{Halt}
 use Rattle.fd_table.specs.Descriptions.{Initial, Object, At_node, At_end, Descriptor, Message, new_state, descriptor_of, IfHeld}
 use Rattle.kernel.specs.World.{World}
 use Rattle.kernel.specs.Steps.{Programs}

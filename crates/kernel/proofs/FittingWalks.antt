@@ -4,7 +4,7 @@ use Rattle.file_tree.specs.Nodes.{Node}
 use Rattle.lookup.specs.Answers.{Beneath, Global, Last, Keep}
 use Rattle.lookup.specs.UnderWay.{IsUnderWay}
 use Rattle.process.specs.State.{ProcessState, Walking, One, Two}
-use Rattle.programs.specs.Programs.{Operand, Syscall}
+use Rattle.instruction_set.specs.Programs.{Operand, Syscall}
 use Rattle.fd_table.specs.Descriptions.{Object, Descriptor}
 use Rattle.kernel.specs.Walks.{FitsIfWalking, From_directories, From_directory, From_root, IfOne, IfTwo, IsDirectory, No_path, lookups_of}
 use Rattle.kernel.specs.Answers.{value_of}

@@ -6,7 +6,7 @@ use Rattle.std.proofs.lemmas.Bool.{and_parts}
 use Rattle.std.proofs.Math.Decide.{ℕ_discrete}
 use Rattle.rights.specs.Sets.{is_within, all_rights, all_commands, read_right}
 use Rattle.process.specs.State.{ProcessState, new_process}
-use Rattle.programs.specs.Programs.{Syscall, Number, Open, Openat, Sendfd, Recvfd, Dup, Cap_rights_limit, Cap_fcntls_limit, Socketpair, Fork}
+use Rattle.instruction_set.specs.Programs.{Syscall, Number, Open, Openat, Sendfd, Recvfd, Dup, Cap_rights_limit, Cap_fcntls_limit, Socketpair, Fork}
 use Rattle.fd_table.specs.Descriptions.{Descriptor, Message}
 use Rattle.kernel.specs.World.{World}
 use Rattle.kernel.specs.Origins.{Caller, ComesFrom, stood, was_made, was_copied, IsMade, was_opened, was_opened_beneath, was_paired, was_duplicated, was_received, was_limited, was_limited_in_commands, IsSent, by_sendfd, QueuedFrom, had_waited, was_sent}

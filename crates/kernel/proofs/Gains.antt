@@ -8,7 +8,7 @@ use Rattle.rights.specs.Maps.{put, put2}
 use Rattle.rights.proofs.Changes.{put-cases}
 use Rattle.rights.proofs.Lists.{slice_get-set_cases}
 use Rattle.process.specs.State.{Deed, ProcessState, ended, forked, left_by}
-use Rattle.programs.specs.Programs.{Syscall, Fork, Instruction, Set, Mov, Add, In, Jmp, Jeq, Jlt, Halt, Invoke}
+use Rattle.instruction_set.specs.Programs.{Syscall, Fork, Instruction, Set, Mov, Add, In, Jmp, Jeq, Jlt, Halt, Invoke}
 use Rattle.fd_table.specs.Descriptions.{Descriptor, Message, descriptor_of, IfHeld, EachPassed}
 use Rattle.kernel.specs.World.{World, Choice}
 use Rattle.kernel.specs.Answers.{Event, TableChange, Same_table, Set_entry, Clear_entry, New_file, New_pair, New_process, QueueChange, Same_queue, Push, Pop, Change, Answer, Fails, Waits, Gives}

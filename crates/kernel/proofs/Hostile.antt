@@ -5,7 +5,7 @@ use Rattle.std.specs.List.{slice_get}
 use Rattle.rights.specs.Limits.{most_processes}
 use Rattle.rights.proofs.Tests.{both_left, both_right}
 use Rattle.process.specs.State.{Deed, ProcessState, Walking, handed_to, is_hostile}
-use Rattle.programs.specs.Programs.{Syscall}
+use Rattle.instruction_set.specs.Programs.{Syscall}
 use Rattle.fd_table.specs.Descriptions.{Descriptor, Message, IfHeld, EachPassed}
 use Rattle.kernel.specs.World.{World, Choice, IsFresh}
 use Rattle.kernel.specs.Answers.{Event}

@@ -14,7 +14,7 @@ use Rattle.rights.proofs.Lists.{slice_get-set_cases}
 use Rattle.rights.proofs.Tests.{both_left, both_right}
 use Rattle.file_tree.specs.Nodes.{Node}
 use Rattle.process.specs.State.{Deed, ProcessState, ended, forked, left_by, moved_to}
-use Rattle.programs.specs.Programs.{Instruction, Set, Mov, Add, In, Jmp, Jeq, Jlt, Halt, Invoke, Syscall, is_register, is_syscall}
+use Rattle.instruction_set.specs.Programs.{Instruction, Set, Mov, Add, In, Jmp, Jeq, Jlt, Halt, Invoke, Syscall, is_register, is_syscall}
 use Rattle.fd_table.specs.Descriptions.{Descriptor, descriptor_of, IfHeld}
 use Rattle.kernel.specs.World.{World, Choice, IsFresh}
 use Rattle.kernel.specs.Answers.{Event, TableChange, Same_table, Set_entry, Clear_entry, New_file, New_pair, New_process, Change, Answer, Fails, Waits, Gives, Walks, IsEvent}

@@ -10,7 +10,7 @@ use Rattle.lookup.specs.Answers.{Way, Last}
 use Rattle.lookup.specs.UnderWay.{AreOpened, IsUnderWay}
 use Rattle.lookup.specs.Walks.{WalkState}
 use Rattle.process.specs.State.{ProcessState, Walking, One, Two, ended, forked}
-use Rattle.programs.specs.Programs.{Instruction, Operand, Syscall}
+use Rattle.instruction_set.specs.Programs.{Instruction, Operand, Syscall}
 use Rattle.fd_table.specs.Descriptions.{At_node, At_end, Object, Descriptor, IfHeld}
 use Rattle.fd_table.specs.OpenFiles as open_files
 use Rattle.fd_table.specs.OpenFiles.{OpenFiles, Alike}

@@ -9,7 +9,7 @@ use Rattle.rights.specs.Maps.{put}
 use Rattle.lookup.specs.Answers.{Beneath, Follow}
 use Rattle.lookup.specs.Walks.{begun}
 use Rattle.process.specs.State.{One, new_process}
-use Rattle.programs.specs.Programs.{Number, Syscall, Fstatat, Renameat, Invoke, called}
+use Rattle.instruction_set.specs.Programs.{Number, Syscall, Fstatat, Renameat, Invoke, called}
 use Rattle.fd_table.specs.Descriptions.{Descriptor}
 use Rattle.kernel.specs.World.{World}
 use Rattle.kernel.specs.Answers.{Fails, held, unless}

@@ -14,8 +14,8 @@ use Rattle.file_tree.specs.Nodes.{Kind, Dir, File, Link, is_dir, node}
 use Rattle.lookup.specs.Answers.{Way, Beneath, Last, Follow, Keep, LookupFault, Escape, No_entry, Not_dir, Loop, Too_long, Bad_last, Finding, Found_node, Found_free, Not_found}
 use Rattle.lookup.specs.Walks.{first_handled, handled}
 use Rattle.process.specs.State.{Deed, ProcessState, Walking, One, Two, ended, forked, left_by}
-use Rattle.programs.specs.Programs.{Instruction, Set, Mov, Add, In, Jmp, Jeq, Jlt, Halt, Invoke, Operand, called}
-use Rattle.programs.specs.Programs.{Syscall, Open, Openat, Fstatat, Stat, Mkdirat, Mkdir, Unlinkat, Unlink, Renameat}
+use Rattle.instruction_set.specs.Programs.{Instruction, Set, Mov, Add, In, Jmp, Jeq, Jlt, Halt, Invoke, Operand, called}
+use Rattle.instruction_set.specs.Programs.{Syscall, Open, Openat, Fstatat, Stat, Mkdirat, Mkdir, Unlinkat, Unlink, Renameat}
 use Rattle.fd_table.specs.Descriptions.{Object, At_node, At_end, Descriptor}
 use Rattle.kernel.specs.World.{World, Choice}
 use Rattle.kernel.specs.Answers.{Event, AreEvents, TableChange, Same_table, Set_entry, Clear_entry, New_file, New_pair, New_process, Answer, Fails, Waits, Gives, Walks, unless, held, at_object}

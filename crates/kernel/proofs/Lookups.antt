@@ -13,7 +13,7 @@ use Rattle.file_tree.proofs.KeptByCreate.{names_kept}
 use Rattle.lookup.specs.Paths.{last_component, has_path_bytes}
 use Rattle.lookup.specs.Paths as paths
 use Rattle.lookup.specs.Promises.{HasName}
-use Rattle.programs.specs.Programs.{is_path, is_path_byte}
+use Rattle.instruction_set.specs.Programs.{is_path, is_path_byte}
 use Rattle.kernel.specs.Answers.{Move}
 use Rattle.kernel.specs.Changes.{tree_after}
 use Rattle.kernel.proofs.Trees.{moved_is_tree}

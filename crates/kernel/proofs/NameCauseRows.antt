@@ -17,8 +17,8 @@ use Rattle.lookup.specs.ByNodes.{by_nodes}
 use Rattle.lookup.specs.Looks.{lookup_fault}
 use Rattle.lookup.specs.Walks.{first_handled, handled}
 use Rattle.process.specs.State.{Two}
-use Rattle.programs.specs.Programs.{Number, Fstatat, Stat, Mkdirat, Mkdir, Unlinkat, Unlink}
-use Rattle.programs.specs.Programs.{Renameat, Dup, Socketpair, Fork}
+use Rattle.instruction_set.specs.Programs.{Number, Fstatat, Stat, Mkdirat, Mkdir, Unlinkat, Unlink}
+use Rattle.instruction_set.specs.Programs.{Renameat, Dup, Socketpair, Fork}
 use Rattle.fd_table.specs.OpenFiles.{any_below, lowest_from}
 use Rattle.kernel.specs.Answers.{Fails, gives, unless, held, at_object, at_number}
 use Rattle.kernel.specs.Calls.{looks, looks_twice, answer}

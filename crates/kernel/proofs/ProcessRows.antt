@@ -12,7 +12,7 @@ use Rattle.lookup.specs.Paths.{last_component, path_fault}
 use Rattle.lookup.specs.ByNodes.{by_nodes}
 use Rattle.lookup.specs.Looks.{lookup_fault}
 use Rattle.lookup.specs.Walks.{first_handled, handled}
-use Rattle.programs.specs.Programs.{Number, Jmp, Jeq, Halt, Invoke, Open, Openat, Read, Write, Sendfd, Recvfd, Fstat, Dup, Close, Cap_rights_limit, Cap_enter, Socketpair, Fork}
+use Rattle.instruction_set.specs.Programs.{Number, Jmp, Jeq, Halt, Invoke, Open, Openat, Read, Write, Sendfd, Recvfd, Fstat, Dup, Close, Cap_rights_limit, Cap_enter, Socketpair, Fork}
 use Rattle.fd_table.specs.OpenFiles.{any_below, lowest_from}
 use Rattle.kernel.specs.Answers.{unless, held, at_object, at_number}
 use Rattle.kernel.specs.Calls.{looks, looks_twice, answer}

@@ -12,8 +12,8 @@ use Rattle.lookup.specs.Answers as lookups
 use Rattle.lookup.specs.Looks.{lookup_fault}
 use Rattle.lookup.specs.Walks.{WalkState, Progress, Done, More, begun, first_handled, handled}
 use Rattle.process.specs.State.{ProcessState, Walking, One, Two}
-use Rattle.programs.specs.Programs.{Syscall, Open, Openat, Read, Write, Sendfd, Recvfd, Lseek, Ftruncate, Fsync, Fstat, Fcntl_getfl, Fcntl_setfl, Fstatat, Stat, Mkdirat, Mkdir}
-use Rattle.programs.specs.Programs.{Unlinkat, Unlink, Renameat, Dup, Close, Cap_rights_limit, Cap_fcntls_limit, Cap_enter, Cap_getmode, Socketpair, Fork}
+use Rattle.instruction_set.specs.Programs.{Syscall, Open, Openat, Read, Write, Sendfd, Recvfd, Lseek, Ftruncate, Fsync, Fstat, Fcntl_getfl, Fcntl_setfl, Fstatat, Stat, Mkdirat, Mkdir}
+use Rattle.instruction_set.specs.Programs.{Unlinkat, Unlink, Renameat, Dup, Close, Cap_rights_limit, Cap_fcntls_limit, Cap_enter, Cap_getmode, Socketpair, Fork}
 use Rattle.fd_table.specs.Descriptions.{Access, Object, At_node, At_end, State, Descriptor, Message, other_side, status_number, with_status, IfHeld}
 use Rattle.fd_table.specs.OpenFiles.{OpenFiles, is_open, lowest_from, lowest_free}
 use Rattle.kernel.specs.World.{World}

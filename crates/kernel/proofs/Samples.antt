@@ -10,8 +10,8 @@ use Rattle.file_tree.specs.Places.{place_text}
 use Rattle.file_tree.specs.Nodes.{File, Dir, Link, Node}
 use Rattle.file_tree.specs.Refusals.{new_tree, created}
 use Rattle.process.specs.State.{ProcessState, new_process}
-use Rattle.programs.specs.Programs.{Instruction}
-use Rattle.programs.specs.Assembly.{Fault}
+use Rattle.instruction_set.specs.Programs.{Instruction}
+use Rattle.instruction_set.specs.Assembly.{Fault}
 use Rattle.fd_table.specs.Descriptions.{Object, At_node, At_end, Initial, Descriptor, new_state}
 use Rattle.kernel.specs.World.{World, Choice}
 use Rattle.kernel.specs.Answers.{Event, Effect}

@@ -5,7 +5,7 @@ use Rattle.std.specs.List.{slice_get}
 use Rattle.rights.specs.Maps.{put}
 use Rattle.rights.proofs.Changes.{put-cases, put-both}
 use Rattle.process.specs.State.{Deed, ProcessState}
-use Rattle.programs.specs.Programs.{Instruction, Set, Mov, Add, In, Jmp, Jeq, Jlt, Halt, Invoke}
+use Rattle.instruction_set.specs.Programs.{Instruction, Set, Mov, Add, In, Jmp, Jeq, Jlt, Halt, Invoke}
 use Rattle.fd_table.specs.Descriptions.{Descriptor, Message, IfHeld}
 use Rattle.fd_table.specs.OpenFiles.{OpenFiles, is_open}
 use Rattle.kernel.specs.World.{World, Choice}

@@ -1,7 +1,7 @@
 -- Worlds of which one says what the other says of all that is named. (own)
 use Rattle.std.specs.Prelude.{◌≡◌, ℕ}
 use Rattle.process.specs.State.{ProcessState}
-use Rattle.programs.specs.Programs.{Syscall}
+use Rattle.instruction_set.specs.Programs.{Syscall}
 use Rattle.fd_table.specs.OpenFiles.{Alike}
 use Rattle.kernel.specs.World.{World, Choice, IsFresh}
 use Rattle.kernel.specs.Answers.{Event, IsEvent}

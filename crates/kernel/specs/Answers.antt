@@ -9,7 +9,7 @@ use Rattle.rights.specs.Operations.{Operation}
 use Rattle.file_tree.specs.Nodes.{Kind}
 use Rattle.lookup.specs.Answers.{LookupFault, Escape, No_entry, Not_dir, Loop, Too_long, Bad_last}
 use Rattle.process.specs.State.{Walking, ProcessState}
-use Rattle.programs.specs.Programs.{Operand, Register, Number}
+use Rattle.instruction_set.specs.Programs.{Operand, Register, Number}
 use Rattle.fd_table.specs.Descriptions.{Access, PairClass, Object, At_node, At_end, State, Descriptor, Message}
 
 -- One event is one step of one process: its number, the byte that it may be given, and whether

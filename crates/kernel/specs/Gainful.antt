@@ -5,8 +5,8 @@ use Rattle.rights.specs.Maps.{put2}
 use Rattle.rights.specs.Opens.{open_request}
 use Rattle.rights.specs.Sets.{all_rights, all_commands, read_right}
 use Rattle.process.specs.State.{new_process}
-use Rattle.programs.specs.Programs.{Syscall, Number, Open, Openat, Read, Write, Sendfd, Recvfd, Lseek, Ftruncate, Fsync, Fstat, Fcntl_getfl, Fcntl_setfl, Fstatat, Stat, Mkdirat}
-use Rattle.programs.specs.Programs.{Mkdir, Unlinkat, Unlink, Renameat, Dup, Close, Cap_rights_limit, Cap_fcntls_limit, Cap_enter, Cap_getmode, Fork, Set, Halt, Invoke}
+use Rattle.instruction_set.specs.Programs.{Syscall, Number, Open, Openat, Read, Write, Sendfd, Recvfd, Lseek, Ftruncate, Fsync, Fstat, Fcntl_getfl, Fcntl_setfl, Fstatat, Stat, Mkdirat}
+use Rattle.instruction_set.specs.Programs.{Mkdir, Unlinkat, Unlink, Renameat, Dup, Close, Cap_rights_limit, Cap_fcntls_limit, Cap_enter, Cap_getmode, Fork, Set, Halt, Invoke}
 use Rattle.fd_table.specs.Descriptions.{Initial, At_node, At_end, Descriptor, Message, descriptor_of, message_of, new_state}
 use Rattle.kernel.specs.World.{World}
 use Rattle.kernel.specs.Answers.{Event}

@@ -7,7 +7,7 @@ use Rattle.rights.specs.Errors.{Cause, CapMode, BadDescriptor, MissingRight, Kin
 use Rattle.rights.specs.Needs.{Second, needs_of}
 use Rattle.rights.specs.Sets.{is_within}
 use Rattle.process.specs.State.{ProcessState, Walking}
-use Rattle.programs.specs.Programs.{Syscall, Renameat, called}
+use Rattle.instruction_set.specs.Programs.{Syscall, Renameat, called}
 use Rattle.fd_table.specs.Descriptions.{Descriptor}
 use Rattle.kernel.specs.World.{World, Choice, IsFresh}
 use Rattle.kernel.specs.Answers.{Event, AreEvents, Answer, Fails, Waits, Gives, Walks, value_of}

@@ -6,7 +6,7 @@ use Rattle.rights.specs.Values.{PathText, RightSet, CommandSet, DescriptorNumber
 use Rattle.rights.specs.Opens.{OpenRequest}
 use Rattle.rights.specs.Sets.{is_within, all_rights, all_commands}
 use Rattle.process.specs.State.{ProcessState}
-use Rattle.programs.specs.Programs.{Operand, Syscall, Open, Openat, Sendfd, Recvfd, Dup, Cap_rights_limit, Cap_fcntls_limit, Socketpair, Fork, Instruction}
+use Rattle.instruction_set.specs.Programs.{Operand, Syscall, Open, Openat, Sendfd, Recvfd, Dup, Cap_rights_limit, Cap_fcntls_limit, Socketpair, Fork, Instruction}
 use Rattle.fd_table.specs.Descriptions.{Object, At_node, At_end, Descriptor, Message, other_side}
 use Rattle.kernel.specs.World.{World}
 use Rattle.kernel.specs.Answers.{Event, value_of}

@@ -5,7 +5,7 @@ use Rattle.rights.specs.Values.{ProcessNumber}
 use Rattle.rights.specs.Errors.{Errno, errno_number, Cause}
 use Rattle.rights.specs.Maps.{put}
 use Rattle.process.specs.State.{Deed, ProcessState, ended, handed_to, left_by, moved_to}
-use Rattle.programs.specs.Programs.{Instruction, Set, Mov, Add, In, Jmp, Jeq, Jlt, Halt, Invoke}
+use Rattle.instruction_set.specs.Programs.{Instruction, Set, Mov, Add, In, Jmp, Jeq, Jlt, Halt, Invoke}
 use Rattle.kernel.specs.World.{World, Choice}
 use Rattle.kernel.specs.Answers.{Event, Effect, Answer, Fails, Waits, Gives, Walks}
 use Rattle.kernel.specs.Calls.{answer}

@@ -7,7 +7,7 @@ use Rattle.lookup.specs.Answers.{Beneath, Global, Last, Follow, Keep}
 use Rattle.lookup.specs.UnderWay.{IsUnderWay}
 use Rattle.lookup.specs.Walks.{WalkState}
 use Rattle.process.specs.State.{ProcessState, Walking, One, Two}
-use Rattle.programs.specs.Programs.{Instruction, Invoke, Operand, Syscall, Open, Openat, Fstatat, Stat, Mkdirat, Mkdir, Unlinkat, Unlink, Renameat, is_path}
+use Rattle.instruction_set.specs.Programs.{Instruction, Invoke, Operand, Syscall, Open, Openat, Fstatat, Stat, Mkdirat, Mkdir, Unlinkat, Unlink, Renameat, is_path}
 use Rattle.fd_table.specs.Descriptions.{Object, At_node, At_end, Descriptor}
 use Rattle.kernel.specs.Answers.{value_of}
 use Rattle.kernel.specs.Calls.{last_if}

@@ -6,7 +6,7 @@ use Rattle.file_tree.specs.Nodes.{Node, node, is_link}
 use Rattle.rights.specs.Limits.{most_bytes, most_messages, most_processes, most_descriptors, register_count}
 use Rattle.file_tree.specs.WellFormed.{IsTree}
 use Rattle.process.specs.State.{Deed, ProcessState}
-use Rattle.programs.specs.Programs.{Instruction, Syscall, is_program}
+use Rattle.instruction_set.specs.Programs.{Instruction, Syscall, is_program}
 use Rattle.fd_table.specs.Descriptions.{PairClass, Object, At_node, At_end, State, Descriptor, Message, IfHeld}
 use Rattle.kernel.specs.World.{World}
 use Rattle.kernel.specs.Steps.{Programs}

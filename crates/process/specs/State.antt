@@ -2,7 +2,7 @@
 use Rattle.std.specs.Prelude.{ℕ, Bool, true, false, not, ◌&&◌, List, replicate, slice_set, Option, Some, None, is_some, if◌then◌else◌}
 use Rattle.rights.specs.Limits.{register_count}
 use Rattle.lookup.specs.Walks.{WalkState}
-use Rattle.programs.specs.Programs.{Instruction}
+use Rattle.instruction_set.specs.Programs.{Instruction}
 
 -- The lookups that a call has under way between its events: of its path, or of the two paths of a rename.
 pub data Walking : Type 0 where

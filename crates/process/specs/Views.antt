@@ -1,6 +1,6 @@
 -- What the values of the code stand for.
 use Rattle.std.specs.Prelude.{Option, Some, None, option_map}
-use Rattle.programs.specs.Views.{instruction_of}
+use Rattle.instruction_set.specs.Views.{instruction_of}
 use Rattle.process.specs.declared.deeds.Deed.{Deed as DeedCode}
 use Rattle.process.specs.declared.walking.Walking.{Walking as WalkingCode}
 use Rattle.process.specs.declared.walking.Walking.TheVariants as walking

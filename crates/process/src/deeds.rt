@@ -1,6 +1,6 @@
 //! What a process is made to do that doesn't follow its program.
 
-use programs::Instruction;
+use instruction_set::Instruction;
 use rights::limits::REGISTERS;
 
 /// An instruction, whatever the program has at the process's point, with the registers and the point that the process has

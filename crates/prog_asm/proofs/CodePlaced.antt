@@ -1,8 +1,8 @@
 -- The instructions that are placed, one after another.
 use Rattle.std.proofs.Common.{◌≡◌, ℕ, List, [], ◌∷◌, ◌++◌, refl, ap, sym, ◌∙◌, append_assoc}
 use Rattle.std.specs.Prelude.{Option, Some, Result, Ok, Err}
-use Rattle.programs.specs.Programs.{Instruction}
-use Rattle.programs.specs.Assembly.{Fault, Step, code_from, placed, placed_at, ◌>>=◌}
+use Rattle.instruction_set.specs.Programs.{Instruction}
+use Rattle.instruction_set.specs.Assembly.{Fault, Step, code_from, placed, placed_at, ◌>>=◌}
 
 -- instructions, and then what comes of the rest
 abbrev pub behind : List Instruction → Result (List Instruction) Fault → Result (List Instruction) Fault

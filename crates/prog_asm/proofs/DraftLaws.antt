@@ -11,8 +11,8 @@ use Rattle.prog_asm.specs.declared.drafts.Draft.{Draft}
 use Rattle.prog_asm.specs.declared.drafts.Step.{Step as StepCode}
 use Rattle.prog_asm.specs.declared.mistakes.Mistake.{Mistake as MistakeCode}
 use Rattle.prog_asm.specs.declared.mistakes.Mistake.TheVariants as mistake
-use Rattle.programs.specs.Forms.{Written}
-use Rattle.programs.specs.Assembly.{Line, TwiceLabel, TooMany, has_label, is_label, is_one_too_many, is_twice, line_behind, steps_from, steps_of, steps_on}
+use Rattle.instruction_set.specs.Forms.{Written}
+use Rattle.instruction_set.specs.Assembly.{Line, TwiceLabel, TooMany, has_label, is_label, is_one_too_many, is_twice, line_behind, steps_from, steps_of, steps_on}
 use Rattle.prog_asm.specs.FormViews.{written_from}
 use Rattle.prog_asm.specs.LineViews.{AddsLabel, LabelAdded, has_point, point_in}
 use Rattle.prog_asm.specs.DraftViews.{AddsLine, AddsStep, Drafts, IsAppended, StepAdded, labelled_from, step_from}

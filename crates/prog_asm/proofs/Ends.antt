@@ -2,7 +2,7 @@
 use Rattle.std.proofs.Common.{◌≡◌, ℕ, suc, ◌-◌, ◌<◌, Bool, true, false, List, [], ◌∷◌, ◌++◌, length, get_or, take, refl, ap, sym, ◌∙◌, arith, eq-eqb, take-suc, take_all}
 use Rattle.std.specs.Prelude.{Some, None, option_map, cond, ◌==◌}
 use Rattle.std.proofs.lemmas.Bool.{ne_eqb}
-use Rattle.programs.specs.Fields.{before_last}
+use Rattle.instruction_set.specs.Fields.{before_last}
 
 before_last-append : (byte b : ℕ) (front : List ℕ) → before_last byte (front ++ b ∷ []) ≡ cond (b == byte) (Some front) None
 before_last-append byte b [] = refl

@@ -13,13 +13,13 @@ use Rattle.rights.specs.Sets.{is_within, all_rights, all_commands, right_names, 
 use Rattle.texts.specs.Bytes.{comma}
 use Rattle.texts.specs.Parts.{parts}
 use Rattle.texts.specs.Numbers.{at_most, number_of}
-use Rattle.programs.specs.Programs.{Instruction, Operand, Register, Number, Syscall, is_instruction, is_operand, is_path, is_register, is_syscall, is_value}
-use Rattle.programs.specs.Programs as programs
-use Rattle.programs.specs.Fields.{before_last, read_commands, read_flags, is_word_among, set_of_word, read_rights, union_from, operand_from, read_operand, path_in, read_path}
-use Rattle.programs.specs.Fields.{read_register, request_of, set_of, flag_names, valid_request, read_value}
-use Rattle.programs.specs.Forms.{Field, Always, If_equal, If_less, After_error, Mnemonic, Set, Mov, Add, In, Jmp, Jeq, Jlt, Halt, Make, Written, Alone, Leading, commands_at}
-use Rattle.programs.specs.Forms.{directory_at, else_at, flags_at, four, label_at, led, nothing, number_at, one, operand_at, path_at, register_at, rights_at, syscall_at, three, two}
-use Rattle.programs.specs.Forms.{whole, word_at, written_at, written_of, ◌>>=◌}
+use Rattle.instruction_set.specs.Programs.{Instruction, Operand, Register, Number, Syscall, is_instruction, is_operand, is_path, is_register, is_syscall, is_value}
+use Rattle.instruction_set.specs.Programs as programs
+use Rattle.instruction_set.specs.Fields.{before_last, read_commands, read_flags, is_word_among, set_of_word, read_rights, union_from, operand_from, read_operand, path_in, read_path}
+use Rattle.instruction_set.specs.Fields.{read_register, request_of, set_of, flag_names, valid_request, read_value}
+use Rattle.instruction_set.specs.Forms.{Field, Always, If_equal, If_less, After_error, Mnemonic, Set, Mov, Add, In, Jmp, Jeq, Jlt, Halt, Make, Written, Alone, Leading, commands_at}
+use Rattle.instruction_set.specs.Forms.{directory_at, else_at, flags_at, four, label_at, led, nothing, number_at, one, operand_at, path_at, register_at, rights_at, syscall_at, three, two}
+use Rattle.instruction_set.specs.Forms.{whole, word_at, written_at, written_of, ◌>>=◌}
 
 -- what is read fulfils this
 abbrev pub Gives : {A : Type 0} → Field A → (A → Type 0) → Type 0

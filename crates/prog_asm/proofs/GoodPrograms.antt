@@ -6,14 +6,14 @@ use Rattle.std.proofs.lemmas.Bool.{le-leb, leb-false}
 use Rattle.std.proofs.lemmas.List.{length-map}
 use Rattle.prog_asm.specs.declared.drafts.Draft.{Draft}
 use Rattle.prog_asm.specs.declared.faults.AsmFault.{AsmFault}
-use Rattle.programs.specs.Programs.{Instruction, ends_well, is_instruction, is_program}
-use Rattle.programs.specs.Lines.{has_stray, text_lines, uncommented, quoted_words}
+use Rattle.instruction_set.specs.Programs.{Instruction, ends_well, is_instruction, is_program}
+use Rattle.instruction_set.specs.Lines.{has_stray, text_lines, uncommented, quoted_words}
 use Rattle.texts.specs.Names.{is_name}
-use Rattle.programs.specs.Fields.{before_last}
-use Rattle.programs.specs.Forms.{Mnemonic, Written, Alone, Leading, led, mnemonic_of, written_of}
-use Rattle.programs.specs.Assembly.{Fault, FallsOff, Line, Mistake, Step, TooMany, TwiceLabel, Word, assembly_of, code_from, complete, fault, instruction_in, is_one_too_many}
-use Rattle.programs.specs.Assembly.{is_twice, labelled, last_line_number, line_behind, line_read, line_of_code, line_read_of, line_with, lines_behind, told_at, operands_read}
-use Rattle.programs.specs.Assembly.{placed, placed_at, point_named, program_read, read_as, steps_of, steps_on, with_label, ◌>>=◌}
+use Rattle.instruction_set.specs.Fields.{before_last}
+use Rattle.instruction_set.specs.Forms.{Mnemonic, Written, Alone, Leading, led, mnemonic_of, written_of}
+use Rattle.instruction_set.specs.Assembly.{Fault, FallsOff, Line, Mistake, Step, TooMany, TwiceLabel, Word, assembly_of, code_from, complete, fault, instruction_in, is_one_too_many}
+use Rattle.instruction_set.specs.Assembly.{is_twice, labelled, last_line_number, line_behind, line_read, line_of_code, line_read_of, line_with, lines_behind, told_at, operands_read}
+use Rattle.instruction_set.specs.Assembly.{placed, placed_at, point_named, program_read, read_as, steps_of, steps_on, with_label, ◌>>=◌}
 use Rattle.prog_asm.specs.DraftViews.{Drafts, below, labelled_from, step_from}
 use Rattle.prog_asm.specs.FaultViews.{FaultIs}
 use Rattle.prog_asm.proofs.DraftLaws.{steps_of-append}

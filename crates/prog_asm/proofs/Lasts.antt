@@ -1,7 +1,7 @@
 -- The last of a list, and the lines of instructions.
 use Rattle.std.proofs.Common.{◌≡◌, ◌-◌, ◌<◌, suc, List, [], ◌∷◌, length, get_or, map, refl, ap, sym, ◌∙◌, arith}
-use Rattle.programs.specs.Programs.{Instruction, ends_well, is_last}
-use Rattle.programs.specs.Assembly.{Step, last_line_number}
+use Rattle.instruction_set.specs.Programs.{Instruction, ends_well, is_last}
+use Rattle.instruction_set.specs.Assembly.{Step, last_line_number}
 
 at_next : {A : Type 0} (x y : A) (xs : List A) (d : A) → get_or (x ∷ y ∷ xs) (length (x ∷ y ∷ xs) - 1) d ≡ get_or (y ∷ xs) (length (y ∷ xs) - 1) d
 at_next x y xs d = let next : length (x ∷ y ∷ xs) - 1 ≡ suc (length (y ∷ xs) - 1) = omega arith in ap (λ n. get_or (x ∷ y ∷ xs) n d) next

@@ -4,8 +4,8 @@ use Rattle.std.specs.Prelude.{Result, Ok}
 use Rattle.texts.specs.Lines.{Line as TextLine, lines_of as all_lines}
 use Rattle.texts.proofs.LineLaws.{texts-of}
 use Rattle.prog_asm.specs.declared.drafts.Draft.{Draft}
-use Rattle.programs.specs.Lines.{text_lines}
-use Rattle.programs.specs.Assembly.{Line, Mistake, line_read, lines_behind, told_at, ◌>>=◌}
+use Rattle.instruction_set.specs.Lines.{text_lines}
+use Rattle.instruction_set.specs.Assembly.{Line, Mistake, line_read, lines_behind, told_at, ◌>>=◌}
 use Rattle.prog_asm.specs.DraftViews.{AddsLine, Drafts}
 
 -- So many lines are read, the draft is theirs, and these are left.

@@ -6,10 +6,10 @@ use Rattle.std.proofs.lemmas.List.{length-map}
 use Rattle.prog_asm.specs.declared.drafts.Draft.{Draft}
 use Rattle.prog_asm.specs.declared.faults.AsmFault.{AsmFault}
 use Rattle.prog_asm.specs.declared.faults.AsmFault.TheVariants as asm
-use Rattle.programs.specs.Programs.{Instruction, ends_well}
-use Rattle.programs.specs.Forms.{Written, Alone, Leading, led}
-use Rattle.programs.specs.Assembly.{FallsOff, Fault, Line, Step, code_from, complete, fault, is_label, last_line_number, next_point, placed, placed_at, point_from, point_named}
-use Rattle.programs.specs.Assembly.{program_read, steps_of, steps_on, ◌>>=◌}
+use Rattle.instruction_set.specs.Programs.{Instruction, ends_well}
+use Rattle.instruction_set.specs.Forms.{Written, Alone, Leading, led}
+use Rattle.instruction_set.specs.Assembly.{FallsOff, Fault, Line, Step, code_from, complete, fault, is_label, last_line_number, next_point, placed, placed_at, point_from, point_named}
+use Rattle.instruction_set.specs.Assembly.{program_read, steps_of, steps_on, ◌>>=◌}
 use Rattle.prog_asm.specs.LineViews.{point_in}
 use Rattle.prog_asm.specs.DraftViews.{Drafts, below, completed, labelled_from, step_from}
 use Rattle.prog_asm.specs.FaultViews.{FaultIs}

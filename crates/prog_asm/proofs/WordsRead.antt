@@ -4,7 +4,7 @@ use Rattle.std.proofs.Common.{length-drop, length-take-le, drop-cons}
 use Rattle.std.specs.Prelude.{cond, not, ◌&&◌, slice_range}
 use Rattle.std.proofs.Math.Seq.{take-suc}
 use Rattle.std.proofs.lemmas.List.{get_or-drop}
-use Rattle.programs.specs.Lines.{word_ended, is_blank, quoted_behind, words_from}
+use Rattle.instruction_set.specs.Lines.{word_ended, is_blank, quoted_behind, words_from}
 
 -- The words so far, the word that has begun, and what is left.
 pub record WordsSoFar (line : List ℕ) (words : List (List ℕ)) (quoted : Bool) (start at : ℕ) : Type 0 where

@@ -6,9 +6,9 @@ use Rattle.prog_asm.specs.declared.mistakes.Mistake.TheVariants as mistake
 use Rattle.prog_asm.specs.declared.faults.AsmFault.{AsmFault}
 use Rattle.prog_asm.specs.declared.drafts.Step.{Step as StepCode}
 use Rattle.prog_asm.specs.declared.drafts.Draft.{Draft}
-use Rattle.programs.specs.Assembly.{Mistake, Line, Step, Fault, code_from, complete, is_label, is_one_too_many, line_behind, steps_on, steps_of, ◌>>=◌}
-use Rattle.programs.specs.Programs.{Instruction}
-use Rattle.programs.specs.Forms.{Written}
+use Rattle.instruction_set.specs.Assembly.{Mistake, Line, Step, Fault, code_from, complete, is_label, is_one_too_many, line_behind, steps_on, steps_of, ◌>>=◌}
+use Rattle.instruction_set.specs.Programs.{Instruction}
+use Rattle.instruction_set.specs.Forms.{Written}
 use Rattle.prog_asm.specs.FaultViews.{FaultIs}
 use Rattle.prog_asm.specs.FormViews.{written_from}
 use Rattle.prog_asm.specs.LineViews.{point_in}

@@ -4,8 +4,8 @@ use Rattle.prog_asm.specs.declared.faults.AsmFault.{AsmFault}
 use Rattle.prog_asm.specs.declared.faults.AsmFault.TheVariants as asm
 use Rattle.prog_asm.specs.declared.mistakes.Mistake.{Mistake}
 use Rattle.prog_asm.specs.declared.mistakes.Mistake.TheVariants as mistake
-use Rattle.programs.specs.Assembly.{Fault, fault, mistake_number}
-use Rattle.programs.specs.Assembly as assembly
+use Rattle.instruction_set.specs.Assembly.{Fault, fault, mistake_number}
+use Rattle.instruction_set.specs.Assembly as assembly
 
 abbrev pub fault_number : AsmFault → ℕ
 fault_number (asm.Word line) = mistake_number assembly.Word

@@ -2,10 +2,10 @@
 use Rattle.std.specs.Prelude.{ℕ, List, None}
 use Rattle.rights.specs.Calls.{Call}
 use Rattle.rights.specs.Calls as calls
-use Rattle.programs.specs.Programs.{Operand, Syscall}
-use Rattle.programs.specs.Programs as programs
-use Rattle.programs.specs.Forms.{Field, Mnemonic, Set, Mov, Add, In, Jeq, Jlt, Written, Alone, Leading, If_equal, If_less, commands_at, directory_at, flags_at, label_at, nothing}
-use Rattle.programs.specs.Forms.{number_at, one, operand_at, path_at, register_at, rights_at, two, ◌>>=◌}
+use Rattle.instruction_set.specs.Programs.{Operand, Syscall}
+use Rattle.instruction_set.specs.Programs as programs
+use Rattle.instruction_set.specs.Forms.{Field, Mnemonic, Set, Mov, Add, In, Jeq, Jlt, Written, Alone, Leading, If_equal, If_less, commands_at, directory_at, flags_at, label_at, nothing}
+use Rattle.instruction_set.specs.Forms.{number_at, one, operand_at, path_at, register_at, rights_at, two, ◌>>=◌}
 
 -- what nothing stands for
 abbrev pub refused : {A : Type 0} → Field A

@@ -10,10 +10,10 @@ use Rattle.prog_asm.specs.declared.mistakes.Mistake.{Mistake as MistakeCode}
 use Rattle.prog_asm.specs.declared.mistakes.Mistake.TheVariants as mistake
 use Rattle.prog_asm.specs.declared.mnemonics.Mnemonic.{Mnemonic as MnemonicCode}
 use Rattle.prog_asm.specs.declared.mnemonics.Mnemonic.TheVariants as mnemonic
-use Rattle.programs.specs.Forms.{Mnemonic, Set, Mov, Add, In, Jmp, Jeq, Jlt, Halt, Make, Jump, Always, If_equal, If_less, After_error, Written, Alone, Leading}
+use Rattle.instruction_set.specs.Forms.{Mnemonic, Set, Mov, Add, In, Jmp, Jeq, Jlt, Halt, Make, Jump, Always, If_equal, If_less, After_error, Written, Alone, Leading}
 use Rattle.prog_asm.specs.ReadingViews.{FailsField}
-use Rattle.programs.specs.Programs as programs
-use Rattle.programs.specs.Views.{syscall_of}
+use Rattle.instruction_set.specs.Programs as programs
+use Rattle.instruction_set.specs.Views.{syscall_of}
 
 abbrev pub mnemonic_from : MnemonicCode → Mnemonic
 mnemonic_from mnemonic.Set = Set

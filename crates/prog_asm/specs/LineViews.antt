@@ -6,7 +6,7 @@ use Rattle.indexmap.specs.IndexMap.{IndexMap, get_by}
 use Rattle.prog_asm.specs.declared.mistakes.Mistake.{Mistake as MistakeCode}
 use Rattle.prog_asm.specs.declared.mistakes.Mistake.TheVariants as mistake
 use Rattle.prog_asm.specs.declared.statements.Line.{Line as LineCode}
-use Rattle.programs.specs.Assembly.{Line, is_label}
+use Rattle.instruction_set.specs.Assembly.{Line, is_label}
 use Rattle.prog_asm.specs.FormViews.{written_from}
 
 abbrev pub line_from : LineCode → Line

@@ -2,8 +2,8 @@
 use Rattle.std.specs.Prelude.{◌≡◌, Option, Some, None, Result, Ok, Err}
 use Rattle.prog_asm.specs.declared.mistakes.Mistake.{Mistake as MistakeCode}
 use Rattle.prog_asm.specs.declared.mistakes.Mistake.TheVariants as code
-use Rattle.programs.specs.Assembly.{Mistake}
-use Rattle.programs.specs.Assembly as assembly
+use Rattle.instruction_set.specs.Assembly.{Mistake}
+use Rattle.instruction_set.specs.Assembly as assembly
 
 -- A field is what it is read as. Where it is not read, it is a wrong operand.
 abbrev pub FailsField : {Y : Type 0} → MistakeCode → Option Y → Type 0

@@ -1,17 +1,17 @@
 //! Texts to programs.
 
 ghost use Rattle.std.specs.Prelude.{◌≡◌, ◌≤◌, List, length, map, option_map};
-ghost use Rattle.programs.specs.Assembly.{Line, assembly_of, code_from, last_line_number, program_read};
+ghost use Rattle.instruction_set.specs.Assembly.{Line, assembly_of, code_from, last_line_number, program_read};
 ghost use Rattle.prog_asm.specs.DraftViews.{Drafts, below, completed, step_from};
 ghost use Rattle.prog_asm.specs.FaultViews.{Gives};
 ghost use Rattle.prog_asm.specs.LineViews.{point_in};
-ghost use Rattle.programs.specs.Programs.{ends_well, is_last};
-ghost use Rattle.programs.specs.Views.{code_of, instruction_of};
+ghost use Rattle.instruction_set.specs.Programs.{ends_well, is_last};
+ghost use Rattle.instruction_set.specs.Views.{code_of, instruction_of};
 
 use crate::drafts::{Draft, Step, place, read_lines};
 use crate::faults::AsmFault;
 use indexmap::IndexMap;
-use programs::{Instruction, Program};
+use instruction_set::{Instruction, Program};
 use std::alloc::Global;
 use std::collections::VecDeque;
 

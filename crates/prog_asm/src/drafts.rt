@@ -1,12 +1,12 @@
 //! A text that is read line by line, before labels are points.
 
 ghost use Rattle.std.specs.Prelude.{◌≡◌, ◌+◌, Ok, ◌≤◌, [], List, length, map, option_map};
-ghost use Rattle.programs.specs.Assembly.{Line as LineRead, line_read, lines_behind, placed};
+ghost use Rattle.instruction_set.specs.Assembly.{Line as LineRead, line_read, lines_behind, placed};
 ghost use Rattle.prog_asm.specs.DraftViews.{AddsLine, Drafts, DraftsLines, IsAppended, StepAdded, below, step_from};
 ghost use Rattle.prog_asm.specs.FormViews.{written_from};
 ghost use Rattle.prog_asm.specs.LineViews.{line_from, point_in};
-ghost use Rattle.programs.specs.Lines.{text_lines};
-ghost use Rattle.programs.specs.Views.{instruction_of};
+ghost use Rattle.instruction_set.specs.Lines.{text_lines};
+ghost use Rattle.instruction_set.specs.Views.{instruction_of};
 
 use crate::faults::{AsmFault, fault_at};
 use crate::forms::Written;
@@ -14,7 +14,7 @@ use crate::labels::{add_label, point_of};
 use crate::mistakes::Mistake;
 use crate::statements::{Line, read_line};
 use indexmap::IndexMap;
-use programs::Instruction;
+use instruction_set::Instruction;
 use rights::limits::MAX_INSTRUCTIONS;
 use std::alloc::Global;
 use std::collections::VecDeque;

@@ -1,12 +1,12 @@
 //! What a word of a line can stand for.
 
 ghost use Rattle.std.specs.Prelude.{◌≡◌, option_map};
-ghost use Rattle.programs.specs.Fields.{before_last, read_operand as operand_in, read_path, read_register, read_value};
+ghost use Rattle.instruction_set.specs.Fields.{before_last, read_operand as operand_in, read_path, read_register, read_value};
 ghost use Rattle.prog_asm.specs.ReadingViews.{ReadsField};
-ghost use Rattle.programs.specs.Views.{operand_of};
+ghost use Rattle.instruction_set.specs.Views.{operand_of};
 
 use crate::mistakes::Mistake;
-use programs::{Operand, Path, Register, is_valid_path};
+use instruction_set::{Operand, Path, Register, is_valid_path};
 use std::alloc::Global;
 use texts::number_up_to;
 

@@ -15,4 +15,4 @@ mod statements;
 
 pub use assembler::assemble;
 pub use faults::AsmFault;
-pub use programs::{Instruction, Operand, Path, Program, Register, Syscall, is_valid_path};
+pub use instruction_set::{Instruction, Operand, Path, Program, Register, Syscall, is_valid_path};

@@ -1,7 +1,7 @@
 //! A line's comment and words.
 
 ghost use Rattle.std.specs.Prelude.{◌≡◌, map, IfOk};
-ghost use Rattle.programs.specs.Lines.{has_stray, is_blank, is_word_byte, quoted_behind, uncommented, quoted_words};
+ghost use Rattle.instruction_set.specs.Lines.{has_stray, is_blank, is_word_byte, quoted_behind, uncommented, quoted_words};
 
 use std::alloc::{AllocFailed, Global};
 

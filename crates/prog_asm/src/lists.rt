@@ -1,7 +1,7 @@
 //! Lists of words: rights, fcntl commands and flags.
 
 ghost use Rattle.std.specs.Prelude.{⊤, ◌≡◌, map, option_map};
-ghost use Rattle.programs.specs.Fields.{read_commands, flag_names, read_flags, is_word_among, set_of_word, read_rights, set_of as set_in};
+ghost use Rattle.instruction_set.specs.Fields.{read_commands, flag_names, read_flags, is_word_among, set_of_word, read_rights, set_of as set_in};
 ghost use Rattle.texts.specs.Parts.{parts};
 
 use bitflags::{Flag, Flags};

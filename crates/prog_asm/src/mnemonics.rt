@@ -2,7 +2,7 @@
 
 ghost use Rattle.std.specs.Prelude.{◌≡◌, map, option_map};
 ghost use Rattle.prog_asm.specs.FormViews.{mnemonic_from};
-ghost use Rattle.programs.specs.Forms.{mnemonic_among, mnemonic_name, mnemonic_of};
+ghost use Rattle.instruction_set.specs.Forms.{mnemonic_among, mnemonic_name, mnemonic_of};
 
 use rights::Call;
 

@@ -1,7 +1,7 @@
 //! A line by itself: a label, an instruction, both or neither.
 
 ghost use Rattle.std.specs.Prelude.{◌≡◌, map, option_map};
-ghost use Rattle.programs.specs.Assembly.{instruction_in, line_read, line_read_of, with_label};
+ghost use Rattle.instruction_set.specs.Assembly.{instruction_in, line_read, line_read_of, with_label};
 ghost use Rattle.prog_asm.specs.FormViews.{written_from};
 ghost use Rattle.prog_asm.specs.LineViews.{line_from};
 ghost use Rattle.prog_asm.specs.ReadingViews.{ReadsAssembly};

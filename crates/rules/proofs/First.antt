@@ -5,7 +5,7 @@ use Rattle.std.specs.List.{slice_get}
 use Rattle.std.proofs.lemmas.Option.{slice_get_past}
 use Rattle.kernel.proofs.Fresh.{lt_or_le}
 use Rattle.certificate.specs.Bounds.{Certificate, bound_at}
-use Rattle.programs.specs.Programs.{Instruction}
+use Rattle.instruction_set.specs.Programs.{Instruction}
 use Rattle.task.specs.Plans.{NamedProgram, Plan, code_in, program_name}
 use Rattle.rules.specs.Points.{instruction_at}
 use Rattle.rules.specs.Verdicts.{found_with, found_at, found_or, first_of_points, first_of_programs, first_found, IsFirst, FirstIsFound}

@@ -7,7 +7,7 @@ use Rattle.std.specs.Cmp.Derive.{both_true}
 use Rattle.rights.proofs.Tests.{both_left, both_right}
 use Rattle.process.specs.State.{Deed, ProcessState, handed_to}
 use Rattle.certificate.specs.Bounds.{Certificate}
-use Rattle.programs.specs.Programs.{Instruction, Cap_enter, Invoke}
+use Rattle.instruction_set.specs.Programs.{Instruction, Cap_enter, Invoke}
 use Rattle.kernel.specs.World.{World, Choice, IsFresh}
 use Rattle.kernel.specs.Answers.{Event, IsEvent}
 use Rattle.kernel.specs.Hostile.{Act, Own, Does, IsAct, about}

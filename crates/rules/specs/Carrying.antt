@@ -3,7 +3,7 @@ use Rattle.std.specs.Prelude.{◌==◌, ◌+◌, ◌++◌, ℕ, List, [], ◌∷
 use Rattle.rights.specs.Values.{Name}
 use Rattle.certificate.specs.Bounds.{Bound, Certificate}
 use Rattle.certificate.specs.Joins.{bound_join}
-use Rattle.programs.specs.Programs.{Instruction}
+use Rattle.instruction_set.specs.Programs.{Instruction}
 use Rattle.task.specs.Plans.{Plan}
 use Rattle.rules.specs.Outcomes.{Outcome, successes_in, error_outcomes}
 

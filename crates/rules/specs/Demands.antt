@@ -2,8 +2,8 @@
 -- capability mode is of capsicum(4) and cap_enter(2))
 use Rattle.std.specs.Prelude.{◌&&◌, not, ℕ, Bool, true, false, Option, Some, None, is_some}
 use Rattle.certificate.specs.Bounds.{Bound}
-use Rattle.programs.specs.Programs.{Operand, Syscall, Open, Openat, Read, Write, Sendfd, Recvfd, Lseek, Ftruncate, Fsync, Fstat, Fcntl_getfl, Fcntl_setfl, Fstatat, Stat, Mkdirat}
-use Rattle.programs.specs.Programs.{Mkdir, Unlinkat, Unlink, Renameat, Dup, Close, Cap_rights_limit, Cap_fcntls_limit, Cap_enter, Cap_getmode, Socketpair, Fork}
+use Rattle.instruction_set.specs.Programs.{Operand, Syscall, Open, Openat, Read, Write, Sendfd, Recvfd, Lseek, Ftruncate, Fsync, Fstat, Fcntl_getfl, Fcntl_setfl, Fstatat, Stat, Mkdirat}
+use Rattle.instruction_set.specs.Programs.{Mkdir, Unlinkat, Unlink, Renameat, Dup, Close, Cap_rights_limit, Cap_fcntls_limit, Cap_enter, Cap_getmode, Socketpair, Fork}
 use Rattle.rules.specs.Slots.{may_be_on, operand_interval, is_single, free_numbers}
 
 pub record Demands : Type 0 where

@@ -8,7 +8,7 @@ use Rattle.rights.specs.Limits.{most_instructions}
 use Rattle.certificate.specs.Bounds.{Bound, PointBound, Version, One, Two, Three, Certificate, bound_at}
 use Rattle.certificate.specs.Growth.{IsCertificate}
 use Rattle.certificate.specs.Growths.{IsGrown}
-use Rattle.programs.specs.Programs.{Instruction, Set, Mov, Add, In, Jmp, Jeq, Jlt, Halt, Invoke}
+use Rattle.instruction_set.specs.Programs.{Instruction, Set, Mov, Add, In, Jmp, Jeq, Jlt, Halt, Invoke}
 use Rattle.task.specs.Limits.{is_plan}
 use Rattle.task.specs.Plans.{NamedProgram, Plan}
 use Rattle.rules.specs.Carrying.{carried_on}

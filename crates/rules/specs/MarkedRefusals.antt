@@ -5,7 +5,7 @@ use Rattle.rights.specs.Sets.{all_commands, lookup_right, read_right, write_righ
 use Rattle.rights.specs.Classes.{Initial}
 use Rattle.rights.specs.Operations.{Look, Read as Reads, Create as Creates, Remove as Removes}
 use Rattle.file_tree.specs.Nodes.{Dir}
-use Rattle.programs.specs.Programs.{Number, Cap_enter, Dup, Instruction, Halt, Invoke}
+use Rattle.instruction_set.specs.Programs.{Number, Cap_enter, Dup, Instruction, Halt, Invoke}
 use Rattle.certificate.specs.Bounds.{Off, On, Either, Target, In_grant, Any_node, Held, Slot, Bound, ChannelBound, Ceiling, End, Three}
 use Rattle.certificate.specs.Bounds as bounds
 use Rattle.task.specs.Plans.{FirstObject, On_node, On_end, FirstDescriptor, Plan, unmarked}

@@ -8,8 +8,8 @@ use Rattle.rights.specs.Opens.{OpenRequest, open_request}
 use Rattle.rights.specs.Needs.{First, Second, needs_of}
 use Rattle.rights.specs.Operations.{Operation}
 use Rattle.rights.specs.Operations as operations
-use Rattle.programs.specs.Programs.{Operand, Syscall, Open, Openat, Read, Write, Sendfd, Recvfd, Lseek, Ftruncate, Fsync, Fstat, Fcntl_getfl, Fcntl_setfl, Fstatat, Stat, Mkdirat}
-use Rattle.programs.specs.Programs.{Mkdir, Unlinkat, Unlink, Renameat, Dup, Close, Cap_rights_limit, Cap_fcntls_limit, Cap_enter, Cap_getmode, Socketpair, Fork, called}
+use Rattle.instruction_set.specs.Programs.{Operand, Syscall, Open, Openat, Read, Write, Sendfd, Recvfd, Lseek, Ftruncate, Fsync, Fstat, Fcntl_getfl, Fcntl_setfl, Fstatat, Stat, Mkdirat}
+use Rattle.instruction_set.specs.Programs.{Mkdir, Unlinkat, Unlink, Renameat, Dup, Close, Cap_rights_limit, Cap_fcntls_limit, Cap_enter, Cap_getmode, Socketpair, Fork, called}
 
 -- the slot of an operand is sent, or something is received
 pub data Passed : Type 0 where

@@ -11,9 +11,9 @@ use Rattle.file_tree.specs.Places.{place_text}
 use Rattle.fd_table.specs.Descriptions.{other_side}
 use Rattle.certificate.specs.Bounds.{ModeBound, Off, On, Either, Interval, interval, with_interval, Target, In_grant, Any_node, Socket, Unknown, Held, Closed, with_slot, Bound, Certificate}
 use Rattle.certificate.specs.Bounds as bounds
-use Rattle.programs.specs.Programs.{Operand, Syscall, Open, Openat, Read, Write, Sendfd, Recvfd, Lseek, Ftruncate, Fsync, Fstat, Fcntl_getfl, Fcntl_setfl, Fstatat, Stat, Mkdirat}
-use Rattle.programs.specs.Programs.{Mkdir, Unlinkat, Unlink, Renameat, Dup, Close, Cap_rights_limit, Cap_fcntls_limit, Cap_enter, Cap_getmode, Socketpair, Fork, Instruction, Set}
-use Rattle.programs.specs.Programs.{Mov, Add, In, Jmp, Jeq, Jlt, Halt, Invoke}
+use Rattle.instruction_set.specs.Programs.{Operand, Syscall, Open, Openat, Read, Write, Sendfd, Recvfd, Lseek, Ftruncate, Fsync, Fstat, Fcntl_getfl, Fcntl_setfl, Fstatat, Stat, Mkdirat}
+use Rattle.instruction_set.specs.Programs.{Mkdir, Unlinkat, Unlink, Renameat, Dup, Close, Cap_rights_limit, Cap_fcntls_limit, Cap_enter, Cap_getmode, Socketpair, Fork, Instruction, Set}
+use Rattle.instruction_set.specs.Programs.{Mov, Add, In, Jmp, Jeq, Jlt, Halt, Invoke}
 use Rattle.task.specs.Plans.{Grant, Plan, is_marked}
 use Rattle.rules.specs.Intervals.{only, sums, equal_part, other_part, lower_part, upper_part}
 use Rattle.rules.specs.Slots.{OpenSlot, slots_in, free_numbers}

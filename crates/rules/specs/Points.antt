@@ -1,7 +1,7 @@
 -- The points of a task's programs.
 use Rattle.std.specs.Prelude.{ℕ, Option}
 use Rattle.std.specs.List.{slice_get}
-use Rattle.programs.specs.Programs.{Instruction}
+use Rattle.instruction_set.specs.Programs.{Instruction}
 use Rattle.task.specs.Plans.{Plan, programs_of_plan}
 
 -- A program is given by its place in the task.

@@ -3,7 +3,7 @@ use Rattle.std.specs.Prelude.{◌++◌, ◌-◌, ℕ, false, List, [], ◌∷◌
 use Rattle.rights.specs.Limits.{most_descriptors}
 use Rattle.rights.specs.Classes.{Initial}
 use Rattle.rights.specs.Operations.{Look, Read as Reads, Create as Creates}
-use Rattle.programs.specs.Programs.{Syscall, Instruction, Halt, Invoke}
+use Rattle.instruction_set.specs.Programs.{Syscall, Instruction, Halt, Invoke}
 use Rattle.certificate.specs.Bounds.{ModeBound, Off, Either, Target, In_grant, Any_node, Socket, Held, Slot, Closed, Maybe, Bound, PointBound, ChannelBound, One, Certificate}
 use Rattle.certificate.specs.Bounds as bounds
 use Rattle.certificate.specs.Growth.{copies, open_bound}

@@ -2,7 +2,7 @@
 use Rattle.std.specs.Prelude.{◌≡◌, true, false, [], ◌∷◌, codes, Some, None}
 use Rattle.rights.specs.Sets.{all_rights, all_commands, getfl_command, setfl_command, lookup_right, read_right}
 use Rattle.rights.specs.Opens.{OpenRequest, open_request}
-use Rattle.programs.specs.Programs.{Register, Number, Open, Openat, Read, Sendfd, Recvfd, Fcntl_getfl, Mkdirat, Mkdir, Renameat, Close, Cap_rights_limit, Cap_enter, Dup, Halt, Invoke}
+use Rattle.instruction_set.specs.Programs.{Register, Number, Open, Openat, Read, Sendfd, Recvfd, Fcntl_getfl, Mkdirat, Mkdir, Renameat, Close, Cap_rights_limit, Cap_enter, Dup, Halt, Invoke}
 use Rattle.certificate.specs.Bounds.{Off, On, Either, Closed, Open as Opened, Maybe}
 use Rattle.rules.specs.Probes.{bound_of_slots, loosest, in_work, in_log, any_node, side_a, side_b, with_least, channel, plain_probe, probed, probe, probe_over, broken}
 

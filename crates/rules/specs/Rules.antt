@@ -12,7 +12,7 @@ use Rattle.file_tree.specs.Nodes.{Node, node}
 use Rattle.certificate.specs.Bounds.{Target, In_grant, Any_node, Socket, Unknown, Bound, Authority, Certificate, bound_at}
 use Rattle.certificate.specs.Order.{bound_within}
 use Rattle.certificate.specs.Describes.{Subject, Node_at, End_of, Seen, describes}
-use Rattle.programs.specs.Programs.{Syscall, Instruction, Invoke}
+use Rattle.instruction_set.specs.Programs.{Syscall, Instruction, Invoke}
 use Rattle.task.specs.Plans.{Grant, FirstObject, On_node, On_end, FirstDescriptor, Start, Plan, program_name, is_marked}
 use Rattle.task.specs.Policies.{grant_holds, grant_lists}
 use Rattle.task.specs.Begins.{with_number}

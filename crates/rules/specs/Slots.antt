@@ -3,7 +3,7 @@
 use Rattle.std.specs.Prelude.{◌+◌, ◌==◌, ◌&&◌, ℕ, zero, suc, Bool, true, false, nat_le, List, [], ◌∷◌, ◌++◌, Option, Some, None, option_map, if◌then◌else◌}
 use Rattle.rights.specs.Values.{DescriptorNumber}
 use Rattle.certificate.specs.Bounds.{ModeBound, Off, On, Either, Interval, interval, Held, Slot, Closed, Open, Maybe, held_in, Bound}
-use Rattle.programs.specs.Programs.{Operand, Register, Number}
+use Rattle.instruction_set.specs.Programs.{Operand, Register, Number}
 use Rattle.rules.specs.Intervals.{only}
 
 -- the mode is on or either

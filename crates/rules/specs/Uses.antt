@@ -1,7 +1,7 @@
 -- Which slots a call goes through, and what it needs of each. (own)
 use Rattle.std.specs.Prelude.{◌++◌, List, [], map, Option, Some, None}
 use Rattle.certificate.specs.Bounds.{Bound}
-use Rattle.programs.specs.Programs.{Operand, Syscall}
+use Rattle.instruction_set.specs.Programs.{Operand, Syscall}
 use Rattle.rules.specs.Slots.{OpenSlot, slots_in}
 use Rattle.rules.specs.Needs.{Passed, Nothing, Sent, Received, Need, Through, Needs, needs}
 

@@ -1,7 +1,7 @@
 -- Whether a certificate meets the rules, and else where it breaks one first. (own)
 use Rattle.std.specs.Prelude.{◌≡◌, ◌<◌, ◌+◌, ℕ, true, List, [], ◌∷◌, Option, Some, None}
 use Rattle.certificate.specs.Bounds.{Bound, Certificate, bound_at}
-use Rattle.programs.specs.Programs.{Instruction}
+use Rattle.instruction_set.specs.Programs.{Instruction}
 use Rattle.task.specs.Plans.{NamedProgram, Plan, program_name, none_marked}
 use Rattle.task.specs.Limits.{is_plan}
 use Rattle.task.specs.Confined.{IsConfined}

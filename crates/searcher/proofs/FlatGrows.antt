@@ -16,7 +16,7 @@ use Rattle.rights.specs.Limits.{most_programs}
 use Rattle.file_tree.specs.Nodes.{Node, node}
 use Rattle.file_tree.specs.Places.{begins}
 use Rattle.texts.specs.Names.{is_name}
-use Rattle.programs.specs.Programs.{Instruction, ends_well, is_instruction, is_program}
+use Rattle.instruction_set.specs.Programs.{Instruction, ends_well, is_instruction, is_program}
 use Rattle.task.specs.Plans.{FirstDescriptor, FirstObject, On_node, On_end, Grant, NamedProgram, Start, Plan, code_in}
 use Rattle.task.specs.Limits.{all_apart, is_tree, are_grants, is_program_named, are_named_apart, is_start, are_descriptors, are_programs, are_starts, is_plan}
 use Rattle.certificate.specs.Bounds.{ModeBound, Target, In_grant, Slot, Open, Bound, PointBound, Two, Certificate}

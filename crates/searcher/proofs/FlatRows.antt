@@ -3,7 +3,7 @@ use Rattle.std.proofs.Common.{◌≡◌, refl, ℕ, true, false, List, [], ◌�
 use Rattle.std.specs.Prelude.{codes, Some, None}
 use Rattle.rights.specs.Sets.{all_rights, all_commands, seek_right}
 use Rattle.rights.specs.Operations.{Look, Read as Reads}
-use Rattle.programs.specs.Programs.{Instruction, Halt, Invoke, Cap_enter, Read, Number}
+use Rattle.instruction_set.specs.Programs.{Instruction, Halt, Invoke, Cap_enter, Read, Number}
 use Rattle.task.specs.Breaches.{small_tree}
 use Rattle.task.specs.Plans.{On_node, NamedProgram, Plan, Start, unmarked}
 use Rattle.certificate.specs.Bounds.{On, Either, In_grant, Slot, Closed, Bound, PointBound, Two, Certificate, bound_in, full_interval}

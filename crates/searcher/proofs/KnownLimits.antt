@@ -4,8 +4,8 @@ use Rattle.std.specs.List.{list_all, slice_index_or}
 use Rattle.std.specs.Option.{option_map}
 use Rattle.std.proofs.lemmas.Option.{slice_get_read, slice_get-map}
 use Rattle.rights.proofs.Lists.{list_all-slice_get}
-use Rattle.programs.specs.declared.instructions.Instruction.{Instruction as InstructionCode}
-use Rattle.programs.specs.Views.{code_of, instruction_of}
+use Rattle.instruction_set.specs.declared.instructions.Instruction.{Instruction as InstructionCode}
+use Rattle.instruction_set.specs.Views.{code_of, instruction_of}
 use Rattle.transfer.specs.Limits.{leaves_known}
 
 pub known_at : (code : List InstructionCode) (point : ℕ) (i : InstructionCode) → list_all leaves_known (code_of code) ≡ true

@@ -21,7 +21,7 @@ use Rattle.certificate.proofs.Distinct.{behind-append}
 use Rattle.certificate.proofs.Last.{above_blocks-last, may_bound_slot-last}
 use Rattle.certificate.specs.Growths.{grown, grown_behind, grown_by, then_grown}
 use Rattle.searcher.specs.Flat.{points_from}
-use Rattle.programs.specs.Programs.{Instruction}
+use Rattle.instruction_set.specs.Programs.{Instruction}
 
 -- a certificate without channels
 abbrev pub of_points : List PointBound → Certificate

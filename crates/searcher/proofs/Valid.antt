@@ -6,7 +6,7 @@ use Rattle.rights.specs.Limits.{most_processes, most_programs}
 use Rattle.std.proofs.lemmas.Bool.{ltb-true}
 use Rattle.rights.proofs.Tests.{both_left, both_right}
 use Rattle.texts.specs.Names.{is_name}
-use Rattle.programs.specs.Programs.{is_program}
+use Rattle.instruction_set.specs.Programs.{is_program}
 use Rattle.task.specs.Plans.{NamedProgram, Start, Plan, name_in, program_name}
 use Rattle.task.specs.Limits.{is_tree, are_grants, is_program_named, are_named_apart, all_apart, is_start, are_descriptors, are_programs, are_starts, is_plan}
 

@@ -9,7 +9,7 @@ use Rattle.file_tree.specs.Places.{begins}
 use Rattle.certificate.specs.Bounds.{ModeBound, Off, On, Either, Target, In_grant, Any_node, Socket, Held, Bound, PointBound, Two, Certificate, with_slot}
 use Rattle.certificate.specs.Bounds as bounds
 use Rattle.certificate.specs.Growth.{name_order, open_bound}
-use Rattle.programs.specs.Programs.{Instruction}
+use Rattle.instruction_set.specs.Programs.{Instruction}
 use Rattle.task.specs.Plans.{Grant, FirstObject, On_node, On_end, FirstDescriptor, Start, Plan, program_name, programs_of_plan, none_marked}
 use Rattle.task.specs.Limits.{all_apart}
 use Rattle.rules.specs.Outcomes.{enters_mode}

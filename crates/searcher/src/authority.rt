@@ -10,7 +10,7 @@ use crate::channels::{Channels, End};
 use crate::rounds::first_bound;
 use crate::spots::{Spot, Way};
 use certificate::{Bound, Ceiling, Cert, Domain, End as Listed, Held, Line, Name, Refusal, Target};
-use programs::Instruction;
+use instruction_set::Instruction;
 use rights::Rights;
 use std::alloc::{AllocError, Global};
 use task::{Start, Task};

@@ -6,7 +6,7 @@ use certificate::{
     Bound, Cert, Channel, Class, Domain, Held, Interval, Refusal, Side, Target, Version,
     push_channels,
 };
-use programs::{Instruction, Operand, Syscall};
+use instruction_set::{Instruction, Operand, Syscall};
 use std::alloc::{AllocError, Global};
 use std::cmp::Ordering;
 use transfer::{operand_interval, unknown_held};

@@ -6,7 +6,7 @@ ghost use Rattle.certificate.specs.Views.{bound_of, held_of, mode_of, name_of, s
 ghost use Rattle.fd_table.specs.Views.{side_seen};
 ghost use Rattle.file_tree.specs.Nodes.{node};
 ghost use Rattle.file_tree.specs.Views.{names_of};
-ghost use Rattle.programs.specs.Views.{code_of, instruction_of, syscall_of};
+ghost use Rattle.instruction_set.specs.Views.{code_of, instruction_of, syscall_of};
 ghost use Rattle.task.specs.Limits.{is_descriptor, is_object, is_start};
 ghost use Rattle.task.specs.Plans.{programs_of_plan};
 ghost use Rattle.task.specs.Views.{first_descriptor_of, first_object_of, grants_of, nodes_of, start_of, starts_of};
@@ -22,7 +22,7 @@ use certificate::{
     Target, Version, push_block,
 };
 use file_tree::is_front;
-use programs::Instruction;
+use instruction_set::Instruction;
 use std::alloc::{AllocError, Global};
 use task::{FirstDescriptor, FirstObject, Grant, Start, Task, TaskNode, none_marked};
 use transfer::enters_mode;

@@ -2,7 +2,7 @@
 
 ghost use Rattle.std.specs.Prelude.{◌≡◌, length, map, true};
 ghost use Rattle.std.specs.List.{list_all};
-ghost use Rattle.programs.specs.Views.{code_of, instruction_of};
+ghost use Rattle.instruction_set.specs.Views.{code_of, instruction_of};
 ghost use Rattle.task.specs.Limits.{is_start};
 ghost use Rattle.task.specs.Views.{start_of, starts_of};
 ghost use Rattle.transfer.specs.Limits.{leaves_known};
@@ -11,7 +11,7 @@ use crate::channels::Channels;
 use crate::flat::with_first;
 use crate::spots::Way;
 use certificate::{Bound, Interval, ModeBound, Name, Refusal, Slot};
-use programs::{Instruction, Syscall};
+use instruction_set::{Instruction, Syscall};
 use rights::limits::{MAX_DESCRIPTORS, MAX_INSTRUCTIONS, REGISTERS};
 use std::alloc::{AllocError, Global};
 use task::{Start, Task};

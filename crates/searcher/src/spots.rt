@@ -8,7 +8,7 @@ ghost use Rattle.transfer.specs.OutcomeViews.{outcome_of};
 ghost use Rattle.searcher.specs.SpotViews.{lies_in};
 
 use certificate::{Bound, Domain, Interval, Name};
-use programs::Instruction;
+use instruction_set::Instruction;
 use rights::limits::REGISTERS;
 use std::alloc::{AllocError, Global};
 use transfer::{Outcome, OutcomeTest};

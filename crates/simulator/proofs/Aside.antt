@@ -8,9 +8,9 @@ use Rattle.rights.specs.Errors.{Errno, EAGAIN, ENFILE, EMFILE}
 use Rattle.rights.specs.Errors as errors
 use Rattle.rights.specs.Limits.{most_descriptors, most_processes}
 use Rattle.process.specs.State.{Deed, ProcessState, Walking, ended, forked, left_by}
-use Rattle.programs.specs.Programs.{Instruction, Set, Mov, Add, In, Jmp, Jeq, Jlt, Halt, Invoke, Syscall, Open, Openat, Read, Write, Sendfd, Recvfd, Lseek, Ftruncate, Fsync, Fstat}
-use Rattle.programs.specs.Programs.{Fcntl_getfl, Fcntl_setfl, Fstatat, Stat, Mkdirat, Mkdir, Unlinkat, Unlink, Renameat, Dup, Close, Cap_rights_limit, Cap_fcntls_limit, Cap_enter}
-use Rattle.programs.specs.Programs.{Cap_getmode, Socketpair, Fork}
+use Rattle.instruction_set.specs.Programs.{Instruction, Set, Mov, Add, In, Jmp, Jeq, Jlt, Halt, Invoke, Syscall, Open, Openat, Read, Write, Sendfd, Recvfd, Lseek, Ftruncate, Fsync, Fstat}
+use Rattle.instruction_set.specs.Programs.{Fcntl_getfl, Fcntl_setfl, Fstatat, Stat, Mkdirat, Mkdir, Unlinkat, Unlink, Renameat, Dup, Close, Cap_rights_limit, Cap_fcntls_limit, Cap_enter}
+use Rattle.instruction_set.specs.Programs.{Cap_getmode, Socketpair, Fork}
 use Rattle.fd_table.specs.Descriptions.{PairClass, Made_at, Made_by}
 use Rattle.kernel.specs.World.{World, Choice}
 use Rattle.kernel.specs.Answers.{Event, TableChange, Same_table, Set_entry, Clear_entry, New_file, New_pair, New_process, Change, Answer, Fails, Waits, Gives, Walks, at_number, same, unless}

@@ -8,7 +8,7 @@ use Rattle.std.proofs.lemmas.Option.{slice_get_within}
 use Rattle.rights.specs.Limits.{most_processes, register_count}
 use Rattle.rights.proofs.Lists.{slice_get-set_cases}
 use Rattle.process.specs.State.{Deed, ProcessState, handed_to, is_hostile, left_by}
-use Rattle.programs.specs.Programs.{Instruction, Set, Mov, Add, In, Jmp, Jeq, Jlt, Halt, Invoke}
+use Rattle.instruction_set.specs.Programs.{Instruction, Set, Mov, Add, In, Jmp, Jeq, Jlt, Halt, Invoke}
 use Rattle.fd_table.specs.OpenFiles.{Alike}
 use Rattle.kernel.specs.World.{World, Choice}
 use Rattle.kernel.specs.Alike.{AlikeWorlds}

@@ -9,7 +9,7 @@ use Rattle.std.proofs.lemmas.List.{set-get_or}
 use Rattle.std.proofs.lemmas.Option.{slice_get_within, get_or_from_slice_get, slice_get-get_or}
 use Rattle.rights.proofs.Tests.{both_left}
 use Rattle.process.specs.State.{ProcessState}
-use Rattle.programs.specs.Programs.{Instruction, Set, Mov, Add, In, Jmp, Jeq, Jlt, Halt, Invoke, is_instruction, is_last}
+use Rattle.instruction_set.specs.Programs.{Instruction, Set, Mov, Add, In, Jmp, Jeq, Jlt, Halt, Invoke, is_instruction, is_last}
 use Rattle.kernel.specs.World.{World, Choice, IsFresh}
 use Rattle.kernel.specs.Answers.{Event}
 use Rattle.kernel.specs.Steps.{Done, Ended, Executed, Halted, LineResult, Programs, Stepped, after_deed, executed, halted, next_instruction, plain, step, stepped, stepped_at, stepped_by}

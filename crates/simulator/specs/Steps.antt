@@ -3,7 +3,7 @@ use Rattle.std.specs.Prelude.{◌≡◌, ◌%◌, ◌+◌, ◌==◌, ◌^◌, �
 use Rattle.std.specs.List.{slice_get}
 use Rattle.std.specs.Option.{option_map}
 use Rattle.process.specs.State.{ProcessState, moved_to}
-use Rattle.programs.specs.Programs.{Instruction, Set, Mov, Add, In, Jmp, Jeq, Jlt, Halt, Invoke}
+use Rattle.instruction_set.specs.Programs.{Instruction, Set, Mov, Add, In, Jmp, Jeq, Jlt, Halt, Invoke}
 use Rattle.kernel.specs.World.{World, Choice, IsFresh}
 use Rattle.kernel.specs.Answers.{Event}
 use Rattle.kernel.specs.Steps.{LineResult, Programs, executed, goes_on, jumped, register, step, stepped, with_register}

@@ -1,13 +1,13 @@
 //! What an instruction does to its process.
 
 ghost use Rattle.std.specs.Prelude.{◌≡◌, ◌<◌, ◌+◌, ◌==◌, slice_set, true, false};
-ghost use Rattle.programs.specs.Views.{instruction_of};
+ghost use Rattle.instruction_set.specs.Views.{instruction_of};
 ghost use Rattle.kernel.specs.Steps as steps;
 ghost use Rattle.simulator.specs.Steps.{NeedsNext, acted_on, action};
 ghost use Rattle.simulator.specs.Views.{action_of};
 
+use instruction_set::{Instruction, Register};
 use process::Process;
-use programs::{Instruction, Register};
 
 /// What an instruction does.
 #[derive(Clone, Copy)]

@@ -4,7 +4,7 @@ ghost use Rattle.std.specs.Prelude.{◌≡◌, ◌<◌, ◌↔◌, IfOk, IsErrOf
 ghost use Rattle.kernel.specs.Renamings.{DiffersInNumbers};
 ghost use Rattle.kernel.specs.Hostile.{Does};
 ghost use Rattle.kernel.specs.WellFormed.{IsWellFormed};
-ghost use Rattle.programs.specs.Views.{instruction_of};
+ghost use Rattle.instruction_set.specs.Views.{instruction_of};
 ghost use Rattle.syscalls.specs.Views.{event_of};
 ghost use Rattle.task.specs.Begins.{first_world};
 ghost use Rattle.task.specs.Limits.{is_plan};
@@ -19,8 +19,8 @@ use crate::starting::first_world;
 use crate::steps::{may_stand_at, step_world, step_world_as};
 use fd_table::Files;
 use file_tree::Tree;
+use instruction_set::Instruction;
 use process::Process;
-use programs::Instruction;
 use rights::Stop;
 use rights::limits::REGISTERS;
 use std::alloc::Global;

@@ -17,7 +17,7 @@ use Rattle.syscalls.specs.declared.outcomes.Besides.TheVariants as besides
 use Rattle.syscalls.specs.declared.outcomes.Success.{Success}
 use Rattle.syscalls.specs.declared.outcomes.Refusal.{Refusal}
 use Rattle.syscalls.specs.declared.outcomes.Refusal.TheVariants as refusal
-use Rattle.programs.specs.Programs.{Syscall}
+use Rattle.instruction_set.specs.Programs.{Syscall}
 use Rattle.kernel.specs.World.{World, Choice, IsFresh}
 use Rattle.kernel.specs.Answers.{Event, TreeChange, TableChange, Same_table, Set_entry, Clear_entry, New_file, New_pair, New_process, QueueChange, StateChange, Change, Fails, Waits, Walks}
 use Rattle.kernel.specs.Calls.{answer}

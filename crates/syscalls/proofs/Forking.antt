@@ -7,7 +7,7 @@ use Rattle.process.specs.State.{ProcessState}
 use Rattle.file_tree.specs.Nodes.{Node}
 use Rattle.fd_table.specs.OpenFiles.{OpenFiles, Alike}
 use Rattle.fd_table.specs.Filled.{with_row}
-use Rattle.programs.specs.Programs.{Fork}
+use Rattle.instruction_set.specs.Programs.{Fork}
 use Rattle.kernel.specs.World.{World}
 use Rattle.kernel.specs.Answers.{Event, Fails, Gives, same, New_process}
 use Rattle.kernel.specs.Calls.{answer}

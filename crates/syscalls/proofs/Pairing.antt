@@ -7,7 +7,7 @@ use Rattle.file_tree.specs.Nodes.{Node}
 use Rattle.fd_table.specs.Descriptions.{PairClass}
 use Rattle.fd_table.specs.OpenFiles.{OpenFiles, lowest_free, lowest_from}
 use Rattle.fd_table.specs.Filled.{Entry, IsFreeAt, Pairs}
-use Rattle.programs.specs.Programs.{Socketpair}
+use Rattle.instruction_set.specs.Programs.{Socketpair}
 use Rattle.kernel.specs.World.{World}
 use Rattle.kernel.specs.Answers.{Event, Answer, Fails, Gives, same, New_pair, at_number}
 use Rattle.kernel.specs.Calls.{answer, own_class, pair_at, unrefused}

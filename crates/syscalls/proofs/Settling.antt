@@ -9,7 +9,7 @@ use Rattle.process.specs.Views.{walking_of}
 use Rattle.file_tree.specs.Nodes.{Node}
 use Rattle.fd_table.specs.Descriptions.{Descriptor}
 use Rattle.fd_table.specs.OpenFiles.{OpenFiles}
-use Rattle.programs.specs.Programs.{Syscall}
+use Rattle.instruction_set.specs.Programs.{Syscall}
 use Rattle.rights.specs.Views.{errno_of, cause_of}
 use Rattle.kernel.specs.World.{World}
 use Rattle.kernel.specs.Answers.{Event, Waits}

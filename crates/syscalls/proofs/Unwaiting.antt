@@ -7,7 +7,7 @@ use Rattle.file_tree.specs.Nodes.{Kind, File, Dir, Link, node}
 use Rattle.lookup.specs.Answers.{Way, Last, LookupFault, Finding, Found_node, Found_free, Not_found}
 use Rattle.lookup.specs.Walks.{first_handled, handled}
 use Rattle.process.specs.State.{ProcessState, Walking, One, Two}
-use Rattle.programs.specs.Programs.{Syscall, Open, Openat, Fstatat, Stat, Mkdirat, Mkdir, Unlinkat, Unlink, Renameat}
+use Rattle.instruction_set.specs.Programs.{Syscall, Open, Openat, Fstatat, Stat, Mkdirat, Mkdir, Unlinkat, Unlink, Renameat}
 use Rattle.fd_table.specs.Descriptions.{Access, Object, At_node, At_end, Descriptor}
 use Rattle.kernel.specs.World.{World}
 use Rattle.kernel.specs.Answers.{Event, Effect, Change, Answer, Fails, Waits, Gives, Walks, unless, held, at_object, at_number, lookup_fails}

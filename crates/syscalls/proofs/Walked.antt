@@ -14,9 +14,9 @@ use Rattle.process.specs.State.{ProcessState, One, Two}
 use Rattle.process.specs.Views.{walking_in}
 use Rattle.process.specs.declared.walking.Walking.{Walking}
 use Rattle.process.specs.declared.walking.Walking.TheVariants as walking
-use Rattle.programs.specs.Paths.{has_path}
-use Rattle.programs.specs.Programs.{Syscall}
-use Rattle.programs.specs.Programs as programs
+use Rattle.instruction_set.specs.Paths.{has_path}
+use Rattle.instruction_set.specs.Programs.{Syscall}
+use Rattle.instruction_set.specs.Programs as programs
 use Rattle.fd_table.specs.OpenFiles.{OpenFiles}
 use Rattle.kernel.specs.World.{World}
 use Rattle.kernel.specs.Answers.{Answer, Event, lookup_fails}

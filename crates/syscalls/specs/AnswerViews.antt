@@ -29,7 +29,7 @@ use Rattle.syscalls.specs.declared.outcomes.Success.{Success}
 use Rattle.syscalls.specs.declared.outcomes.Refusal.{Refusal}
 use Rattle.syscalls.specs.declared.outcomes.Refusal.TheVariants as refusal
 use Rattle.fd_table.specs.Views.{access_seen, side_seen}
-use Rattle.programs.specs.Programs.{Syscall, Read, Write, Lseek, Ftruncate, Fsync, Fstat, called}
+use Rattle.instruction_set.specs.Programs.{Syscall, Read, Write, Lseek, Ftruncate, Fsync, Fstat, called}
 use Rattle.kernel.specs.Calls.{answer, lost, no_request, renamed_from}
 use Rattle.syscalls.specs.declared.paths.Beneath.{Beneath}
 use Rattle.syscalls.specs.declared.lookups.Both.{Both}

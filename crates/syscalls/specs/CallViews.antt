@@ -3,7 +3,7 @@ use Rattle.std.specs.Prelude.{◌≡◌, ℕ, List, [], map, slice_set, Some, Re
 use Rattle.rights.specs.Errors.{Errno, Cause}
 use Rattle.rights.specs.Views.{errno_of, cause_of}
 use Rattle.process.specs.State.{ProcessState}
-use Rattle.programs.specs.Programs.{Syscall}
+use Rattle.instruction_set.specs.Programs.{Syscall}
 use Rattle.kernel.specs.World.{World, Choice, IsFresh}
 use Rattle.kernel.specs.Answers.{Event}
 use Rattle.kernel.specs.Calls.{answer}

@@ -2,7 +2,7 @@
 use Rattle.std.specs.Prelude.{◌≡◌, ◌+◌, ◌<◌, ℕ, List, Some}
 use Rattle.std.specs.List.{slice_get}
 use Rattle.process.specs.State.{ProcessState}
-use Rattle.programs.specs.Programs.{Instruction, Invoke, Syscall}
+use Rattle.instruction_set.specs.Programs.{Instruction, Invoke, Syscall}
 use Rattle.kernel.specs.World.{World}
 use Rattle.kernel.specs.Answers.{Event}
 use Rattle.kernel.specs.Steps.{LineResult, Programs}

@@ -4,8 +4,8 @@ ghost use Rattle.std.specs.Prelude.{◌≡◌, ◌<◌, ℕ, List, None, Some, f
 ghost use Rattle.file_tree.specs.Nodes.{Node};
 ghost use Rattle.process.specs.Views.{walking_in};
 ghost use Rattle.fd_table.specs.Kept.{open_files};
-ghost use Rattle.programs.specs.Paths.{has_path};
-ghost use Rattle.programs.specs.Views.{syscall_of};
+ghost use Rattle.instruction_set.specs.Paths.{has_path};
+ghost use Rattle.instruction_set.specs.Views.{syscall_of};
 ghost use Rattle.kernel.specs.Walks.{FitsIfWalking};
 ghost use Rattle.syscalls.specs.AnswerViews.{HasNumbers, IsIdle, IsReady, Performs, state_with, works_on_node};
 
@@ -23,8 +23,8 @@ use crate::processes::{enter_mode, fork, get_mode};
 use crate::sockets::{make_pair, receive_descriptor, send_descriptor};
 use fd_table::Files;
 use file_tree::Tree;
+use instruction_set::Syscall;
 use process::Walking;
-use programs::Syscall;
 use std::alloc::Global;
 
 /// What a call answers that works on what is open alone, and does to it: it has no path, and works on no node. No process is changed or

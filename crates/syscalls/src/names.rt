@@ -9,7 +9,7 @@ ghost use Rattle.file_tree.specs.WellFormed.{IsTree};
 ghost use Rattle.fd_table.specs.Descriptions.{Descriptor};
 ghost use Rattle.lookup.specs.Promises.{HasName, IsFindingThere, IsFreeName, IsUnderName, MayBeMade};
 ghost use Rattle.lookup.specs.Views.{found_of};
-ghost use Rattle.programs.specs.Programs.{Syscall, is_path};
+ghost use Rattle.instruction_set.specs.Programs.{Syscall, is_path};
 ghost use Rattle.kernel.specs.Calls as model;
 ghost use Rattle.kernel.specs.Calls.{kind_number, made_directory, stats, stats_at, unlinks};
 ghost use Rattle.syscalls.specs.AnswerViews.{MayReplace, OnTree};

@@ -10,7 +10,7 @@ ghost use Rattle.fd_table.specs.Kept.{open_files};
 ghost use Rattle.fd_table.specs.OpenFiles as open_state;
 ghost use Rattle.lookup.specs.Promises.{IsFindingThere, IsFreeName, MayBeMade};
 ghost use Rattle.lookup.specs.Views.{found_of};
-ghost use Rattle.programs.specs.Programs.{is_path};
+ghost use Rattle.instruction_set.specs.Programs.{is_path};
 ghost use Rattle.kernel.specs.Answers as answers;
 ghost use Rattle.kernel.specs.Calls as model;
 ghost use Rattle.kernel.specs.Changes.{tree_after};

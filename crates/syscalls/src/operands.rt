@@ -8,7 +8,7 @@ ghost use Rattle.file_tree.specs.Nodes.{File, Node, is_link, node};
 ghost use Rattle.fd_table.specs.Filled.{IsNamed};
 ghost use Rattle.fd_table.specs.Kept.{open_files};
 ghost use Rattle.fd_table.specs.Views.{object_seen};
-ghost use Rattle.programs.specs.Views.{operand_of};
+ghost use Rattle.instruction_set.specs.Views.{operand_of};
 ghost use Rattle.kernel.specs.Answers as answers;
 ghost use Rattle.kernel.specs.Calls.{at_file, in_directory};
 ghost use Rattle.syscalls.specs.AnswerViews.{HasNumbers, IsReached, IsReady, IsReadyDescription, IsTarget, Passes, PassesIn, held_seen, need, node_seen, number_seen, opened_seen, reached_seen};
@@ -17,8 +17,8 @@ use crate::names::is_directory;
 use crate::outcomes::Refusal;
 use fd_table::{Access, DescriptionId, End, Files, Object};
 use file_tree::{Kind, NodeId, Tree};
+use instruction_set::Operand;
 use process::Process;
-use programs::Operand;
 use rights::{Call, Cause, Errno, Fcntls, OpenFlags, Position, Rights, needs};
 
 /// Who calls: the process, its number, how many processes were made, and whether the kernel refuses at this event.

@@ -12,9 +12,9 @@ ghost use Rattle.lookup.specs.Promises.{IsFreeName, IsFindingThere, IsUnderName,
 ghost use Rattle.lookup.specs.UnderWay.{IsUnderWay};
 ghost use Rattle.lookup.specs.Views.{found_of, last_of};
 ghost use Rattle.process.specs.Views.{walking_in};
-ghost use Rattle.programs.specs.Programs as programs;
-ghost use Rattle.programs.specs.Programs.{Syscall, is_path};
-ghost use Rattle.programs.specs.Views.{operand_of};
+ghost use Rattle.instruction_set.specs.Programs as programs;
+ghost use Rattle.instruction_set.specs.Programs.{Syscall, is_path};
+ghost use Rattle.instruction_set.specs.Views.{operand_of};
 ghost use Rattle.rights.specs.Calls as calls;
 ghost use Rattle.rights.specs.Errors.{ECAPMODE, CapMode};
 ghost use Rattle.rights.specs.Needs.{First, needs_of};
@@ -33,9 +33,9 @@ use crate::operands::{
 use crate::outcomes::{Refusal, Success};
 use fd_table::{DescriptionId, Files};
 use file_tree::{NodeId, Tree};
+use instruction_set::Operand;
 use lookup::{Found, Last, Way};
 use process::Walking;
-use programs::Operand;
 use rights::{Call, Cause, Errno, Fcntls, OpenFlags, Position, Rights, needs};
 use std::alloc::Global;
 

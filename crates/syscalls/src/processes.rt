@@ -5,7 +5,7 @@ ghost use Rattle.file_tree.specs.Nodes.{Node};
 ghost use Rattle.fd_table.specs.Descriptions.{bit_of};
 ghost use Rattle.fd_table.specs.Kept.{open_files};
 ghost use Rattle.fd_table.specs.OpenFiles.{OpenFiles};
-ghost use Rattle.programs.specs.Programs as programs;
+ghost use Rattle.instruction_set.specs.Programs as programs;
 ghost use Rattle.syscalls.specs.AnswerViews.{Calls, IsIdle, Performs};
 ghost use Rattle.syscalls.specs.declared.operands.Caller.{Caller as CallerSeen};
 

@@ -10,7 +10,7 @@ use Rattle.lookup.specs.Paths.{last_component, path_fault}
 use Rattle.lookup.specs.ByNodes.{by_nodes}
 use Rattle.lookup.specs.Looks.{lookup_fault}
 use Rattle.lookup.specs.Walks.{first_handled, handled}
-use Rattle.programs.specs.Programs.{Invoke, Mkdirat, Number, Recvfd, Sendfd, Syscall}
+use Rattle.instruction_set.specs.Programs.{Invoke, Mkdirat, Number, Recvfd, Sendfd, Syscall}
 use Rattle.fd_table.specs.OpenFiles.{any_below, lowest_from}
 use Rattle.kernel.specs.World.{World, Choice, IsFresh}
 use Rattle.kernel.specs.Answers.{Event, unless, held, at_object, at_number}

@@ -6,7 +6,7 @@ use Rattle.std.proofs.lemmas.Bool.{ltb-true, leb-true}
 use Rattle.std.proofs.Math.ListN.{length-map}
 use Rattle.rights.proofs.Tests.{both_left, both_right}
 use Rattle.texts.specs.Names.{is_name}
-use Rattle.programs.specs.Programs.{Instruction, is_program, is_instruction, ends_well}
+use Rattle.instruction_set.specs.Programs.{Instruction, is_program, is_instruction, ends_well}
 use Rattle.fd_table.specs.Descriptions.{Descriptor}
 use Rattle.rights.specs.Limits.{most_processes, most_programs}
 use Rattle.fd_table.specs.Descriptions.{Object}

@@ -10,7 +10,7 @@ use Rattle.rights.proofs.Tests.{both_left, both_right, either_one, not_true}
 use Rattle.file_tree.specs.Places.{begins, above}
 use Rattle.file_tree.specs.Nodes.{Kind, Dir, Link, Node, node, is_dir, is_link, stands_at}
 use Rattle.file_tree.specs.WellFormed.{has_directory, is_within_limits}
-use Rattle.programs.specs.Programs.{is_program}
+use Rattle.instruction_set.specs.Programs.{is_program}
 use Rattle.texts.specs.Bytes.{is_lower, is_digit}
 use Rattle.texts.specs.Names.{is_name, is_name_byte}
 use Rattle.fd_table.specs.Descriptions.{Access}

@@ -6,7 +6,7 @@ use Rattle.rights.specs.Operations.{Look, Read, Write, Create}
 use Rattle.file_tree.specs.Places.{is_file_name, is_target}
 use Rattle.file_tree.specs.Refusals.{created}
 use Rattle.file_tree.specs.WellFormed.{is_within_limits}
-use Rattle.programs.specs.Programs.{Halt}
+use Rattle.instruction_set.specs.Programs.{Halt}
 use Rattle.fd_table.specs.Descriptions.{Initial, At_node, At_end, descriptor_of}
 use Rattle.fd_table.specs.OpenFiles.{any_below, is_open}
 use Rattle.kernel.proofs.Samples.{base}

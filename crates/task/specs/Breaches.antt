@@ -4,7 +4,7 @@ use Rattle.rights.specs.Opens.{open_request}
 use Rattle.rights.specs.Operations.{Operation, Look, Read as Reads, Remove as Removes}
 use Rattle.rights.specs.Sets.{all_rights, all_commands, seek_right}
 use Rattle.file_tree.specs.Nodes.{Node, File, Dir}
-use Rattle.programs.specs.Programs.{Syscall, Halt, Invoke, Cap_enter, Open, Read, Write, Renameat, Number}
+use Rattle.instruction_set.specs.Programs.{Syscall, Halt, Invoke, Cap_enter, Open, Read, Write, Renameat, Number}
 use Rattle.kernel.specs.Steps.{Done, Stepped}
 use Rattle.kernel.specs.Gainful.{wide, two_processes, with_at, setting, event_by}
 use Rattle.task.specs.Plans.{On_node, Plan, unmarked}

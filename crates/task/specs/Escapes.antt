@@ -2,7 +2,7 @@
 use Rattle.std.specs.Prelude.{◌+◌, ℕ, true, false, List, [], ◌∷◌, codes}
 use Rattle.rights.specs.Operations.{Look, Read as Reads}
 use Rattle.rights.specs.Sets.{all_rights, all_commands, lookup_right, mkdirat_right, seek_right}
-use Rattle.programs.specs.Programs.{Instruction, Halt, Invoke, Read, Recvfd, Sendfd, Number}
+use Rattle.instruction_set.specs.Programs.{Instruction, Halt, Invoke, Read, Recvfd, Sendfd, Number}
 use Rattle.task.specs.Breaches.{small_tree}
 use Rattle.task.specs.Plans.{FirstDescriptor, FirstObject, On_node, On_end, Plan, unmarked}
 use Rattle.task.specs.Confined.{IsConfined}

@@ -7,7 +7,7 @@ use Rattle.file_tree.specs.Places.{begins, is_file_name}
 use Rattle.file_tree.specs.Nodes.{Dir, Link, Node, node}
 use Rattle.file_tree.specs.Refusals.{created, create_fault}
 use Rattle.file_tree.specs.WellFormed.{IsTree, has_directory, is_content}
-use Rattle.programs.specs.Programs.{is_program}
+use Rattle.instruction_set.specs.Programs.{is_program}
 use Rattle.fd_table.specs.Descriptions.{Access}
 use Rattle.task.specs.Plans.{Grant, NamedProgram, FirstObject, On_node, On_end, FirstDescriptor, Start, Plan, programs_of_plan}
 use Rattle.task.specs.Limits.{is_plan}

@@ -8,7 +8,7 @@ use Rattle.file_tree.specs.Places.{begins, above}
 use Rattle.file_tree.specs.Nodes.{Node, node, is_dir, is_link, stands_at}
 use Rattle.rights.specs.Limits.{most_nodes, most_processes, most_programs, most_grants, most_descriptors, most_pairs}
 use Rattle.file_tree.specs.WellFormed.{has_directory, is_within_limits}
-use Rattle.programs.specs.Programs.{is_program}
+use Rattle.instruction_set.specs.Programs.{is_program}
 use Rattle.fd_table.specs.Descriptions.{Access}
 use Rattle.task.specs.Plans.{Grant, NamedProgram, FirstObject, On_node, On_end, FirstDescriptor, Start, Plan}
 

@@ -6,7 +6,7 @@ use Rattle.std.specs.Str.{bytes_eq}
 use Rattle.rights.specs.Values.{Name, Place, NodeNumber, DescriptorNumber, PairNumber, SideNumber, RightSet, CommandSet}
 use Rattle.rights.specs.Operations.{Operation}
 use Rattle.file_tree.specs.Nodes.{Node}
-use Rattle.programs.specs.Programs.{Instruction}
+use Rattle.instruction_set.specs.Programs.{Instruction}
 use Rattle.fd_table.specs.Descriptions.{Access}
 
 -- A grant allows operations at a directory's place and at everything beneath it.

@@ -5,7 +5,7 @@ ghost use Rattle.std.specs.List.{list_all};
 ghost use Rattle.task.specs.Plans.{NamedProgram as NamedProgramSeen, is_marked};
 ghost use Rattle.task.specs.Views.{programs_of};
 
-use programs::Program;
+use instruction_set::Program;
 
 /// A program, and its name.
 #[derive(Drop)]

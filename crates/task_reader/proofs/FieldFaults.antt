@@ -6,7 +6,7 @@ use Rattle.task_reader.specs.Documents.{only_keys, read_or}
 use Rattle.task_reader.specs.Written.{access_in, descriptor_in, descriptor_with, object_written, path_written, path_keys, path_with, reading, set_in, WrittenObject, WrittenNode}
 use Rattle.task_reader.specs.Written.{WrittenGrant, WrittenProgram, WrittenStart, task_with, written_nodes, written_grants, written_programs, written_starts, written_task}
 use Rattle.std.specs.Prelude.{option_and_then}
-use Rattle.programs.specs.Assembly.{Fault}
+use Rattle.instruction_set.specs.Assembly.{Fault}
 use Rattle.task_reader.specs.declared.faults.TaskFault.{TaskFault}
 use Rattle.task_reader.specs.declared.faults.TaskFault.TheVariants as code
 use Rattle.task_reader.specs.Reading.{Mistake, Wrong_field, or_mistake}

@@ -6,9 +6,9 @@ use Rattle.file_tree.specs.Places.{is_file_name, is_target}
 use Rattle.file_tree.specs.Nodes.{node_at}
 use Rattle.file_tree.specs.Refusals.{new_tree}
 use Rattle.file_tree.specs.WellFormed.{is_within_limits}
-use Rattle.programs.specs.Programs.{Halt}
-use Rattle.programs.specs.Forms as forms
-use Rattle.programs.specs.Assembly.{assembly_of, line_read}
+use Rattle.instruction_set.specs.Programs.{Halt}
+use Rattle.instruction_set.specs.Forms as forms
+use Rattle.instruction_set.specs.Assembly.{assembly_of, line_read}
 use Rattle.toml.specs.Data.{Data, string, integer, array, table, Members, no_members, member}
 use Rattle.task.specs.Plans.{On_node, On_end, FirstDescriptor, Start, Plan, plan_with, unmarked}
 use Rattle.task_reader.specs.Written.{written_task}

@@ -5,8 +5,8 @@ use Rattle.std.proofs.lemmas.List.{drop_more, take-append-le, take_all}
 use Rattle.rights.specs.Limits.{most_programs}
 use Rattle.prog_asm.specs.declared.faults.AsmFault.{AsmFault}
 use Rattle.prog_asm.specs.declared.faults.AsmFault.TheVariants as asm
-use Rattle.programs.specs.Programs.{Instruction}
-use Rattle.programs.specs.Assembly.{Fault}
+use Rattle.instruction_set.specs.Programs.{Instruction}
+use Rattle.instruction_set.specs.Assembly.{Fault}
 use Rattle.prog_asm.specs.FaultViews as texts
 use Rattle.task_reader.specs.declared.faults.TaskFault.{TaskFault}
 use Rattle.task_reader.specs.declared.faults.TaskFault.TheVariants as code

@@ -8,10 +8,10 @@ use Rattle.file_tree.specs.Places.{is_file_name, is_target}
 use Rattle.file_tree.specs.Nodes.{node_at}
 use Rattle.file_tree.specs.Refusals.{created}
 use Rattle.file_tree.specs.WellFormed.{is_within_limits}
-use Rattle.programs.specs.Programs.{Halt, Invoke, Fork, Number}
-use Rattle.programs.specs.Programs as programs
-use Rattle.programs.specs.Forms as forms
-use Rattle.programs.specs.Assembly.{assembly_of, line_read, fault, Word, FallsOff}
+use Rattle.instruction_set.specs.Programs.{Halt, Invoke, Fork, Number}
+use Rattle.instruction_set.specs.Programs as programs
+use Rattle.instruction_set.specs.Forms as forms
+use Rattle.instruction_set.specs.Assembly.{assembly_of, line_read, fault, Word, FallsOff}
 use Rattle.kernel.proofs.Samples.{base}
 use Rattle.toml.specs.Data.{Data, string, integer, boolean, array, table, Members, no_members, member}
 use Rattle.toml.proofs.OnLiterals.{toml_on_literals}

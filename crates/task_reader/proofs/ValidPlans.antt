@@ -14,8 +14,8 @@ use Rattle.file_tree.specs.Nodes.{Dir, Node, stands_at}
 use Rattle.rights.specs.Limits.{most_nodes, most_processes, most_grants, most_programs, most_descriptors, most_pairs}
 use Rattle.file_tree.specs.Refusals.{new_tree}
 use Rattle.file_tree.specs.WellFormed.{has_directory, is_within_limits}
-use Rattle.programs.specs.Programs.{Instruction}
-use Rattle.programs.specs.Assembly.{Fault, assembly_of}
+use Rattle.instruction_set.specs.Programs.{Instruction}
+use Rattle.instruction_set.specs.Assembly.{Fault, assembly_of}
 use Rattle.prog_asm.proofs.GoodPrograms.{assembly-good}
 use Rattle.toml.specs.Data.{Members}
 use Rattle.task.specs.Plans.{Grant, NamedProgram, FirstObject, On_node, On_end, FirstDescriptor, Start, Plan}

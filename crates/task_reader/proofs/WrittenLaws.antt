@@ -12,7 +12,7 @@ use Rattle.rights.proofs.Subsets.{is_within-or}
 use Rattle.rights.proofs.Tests.{both_left, both_right}
 use Rattle.fd_table.specs.Descriptions.{Access}
 use Rattle.texts.specs.Names.{is_name}
-use Rattle.programs.specs.Fields.{set_of_word}
+use Rattle.instruction_set.specs.Fields.{set_of_word}
 use Rattle.toml.specs.Data.{Data, Items, no_items, item, Members, get_member, as_table}
 use Rattle.task_reader.specs.Documents.{are_once, each_item, words_in, read_or, only_keys, text_at, integer_at, items_at}
 use Rattle.task_reader.specs.Written.{WrittenNode, WrittenGrant, WrittenProgram, WrittenObject, By_path, By_pair, WrittenDescriptor, WrittenStart, WrittenTask, grant_in}

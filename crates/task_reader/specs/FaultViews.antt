@@ -3,8 +3,8 @@
 use Rattle.std.specs.Prelude.{◌≡◌, ℕ, List, Option, Some, None, Result, Ok, Err, IsOk, codes, string_bytes}
 use Rattle.prog_asm.specs.declared.faults.AsmFault.{AsmFault}
 use Rattle.prog_asm.specs.declared.faults.AsmFault.TheVariants as asm
-use Rattle.programs.specs.Assembly.{Fault, fault}
-use Rattle.programs.specs.Assembly as assembly
+use Rattle.instruction_set.specs.Assembly.{Fault, fault}
+use Rattle.instruction_set.specs.Assembly as assembly
 use Rattle.task_reader.specs.declared.faults.TaskFault.{TaskFault}
 use Rattle.task_reader.specs.declared.faults.TaskFault.TheVariants as code
 use Rattle.task_reader.specs.Reading.{Mistake, Not_toml, Wrong_field, Wrong_node, Wrong_grant, Wrong_descriptor, Wrong_program, Past_limit}

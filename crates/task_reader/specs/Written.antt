@@ -8,7 +8,7 @@ use Rattle.rights.specs.OperationLists.{operation_name}
 use Rattle.file_tree.specs.Nodes.{Kind, File, Dir, Link}
 use Rattle.fd_table.specs.Descriptions.{Access}
 use Rattle.texts.specs.Names.{is_name}
-use Rattle.programs.specs.Fields.{set_of_word}
+use Rattle.instruction_set.specs.Fields.{set_of_word}
 use Rattle.toml.specs.Data.{Data, Members, get_member, as_str, as_bool, as_table}
 use Rattle.task_reader.specs.Documents.{is_among, are_once, only_keys, text_at, integer_at, items_at, each_item, words_in, read_or}
 

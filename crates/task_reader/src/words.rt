@@ -5,7 +5,7 @@ ghost use Rattle.std.specs.List.{list_all};
 ghost use Rattle.rights.specs.Sets.{command_names, right_names};
 ghost use Rattle.rights.specs.Views.{operation_of};
 ghost use Rattle.fd_table.specs.Views.{access_seen, side_seen};
-ghost use Rattle.programs.specs.Fields.{set_of_word};
+ghost use Rattle.instruction_set.specs.Fields.{set_of_word};
 ghost use Rattle.task_reader.specs.FaultViews.{ReadsTask};
 ghost use Rattle.task_reader.specs.Reading.{Wrong_field, or_mistake};
 ghost use Rattle.task_reader.specs.Written.{access_named, is_flag, mode_named, operation_named, operations_named, place_among, set_named, side_named};

@@ -6,7 +6,7 @@ use Rattle.std.specs.List.{list_all}
 use Rattle.rights.specs.Limits.{most_instructions}
 use Rattle.rights.specs.Sets.{is_within, all_rights, all_commands}
 use Rattle.rights.proofs.Tests.{both_left, both_right}
-use Rattle.programs.specs.Programs.{Syscall, Cap_rights_limit, Cap_fcntls_limit, Instruction, Invoke, is_operand, is_syscall, is_instruction, ends_well, is_program}
+use Rattle.instruction_set.specs.Programs.{Syscall, Cap_rights_limit, Cap_fcntls_limit, Instruction, Invoke, is_operand, is_syscall, is_instruction, ends_well, is_program}
 use Rattle.transfer.specs.Limits.{has_known_limit, leaves_known}
 
 known_call : (call : Syscall) → is_syscall call ≡ true → has_known_limit call ≡ true

@@ -4,7 +4,7 @@ use Rattle.std.specs.Prelude.{◌&&◌}
 use Rattle.std.specs.List.{list_all}
 use Rattle.std.proofs.lemmas.List.Folds.{list_all-append}
 use Rattle.certificate.specs.Bounds.{Bound}
-use Rattle.programs.specs.Programs.{Syscall}
+use Rattle.instruction_set.specs.Programs.{Syscall}
 use Rattle.rules.specs.Needs.{Needs, needs}
 use Rattle.rules.specs.Uses.{Use, uses_through, uses_of, uses}
 

@@ -3,7 +3,7 @@ use Rattle.std.specs.Prelude.{Bool, true, List, [], if◌then◌else◌}
 use Rattle.std.specs.List.{flat_map}
 use Rattle.certificate.specs.Bounds.{Interval, Target}
 use Rattle.certificate.specs.Views.{bound_of, name_of}
-use Rattle.programs.specs.Programs.{Operand}
+use Rattle.instruction_set.specs.Programs.{Operand}
 use Rattle.rules.specs.Slots.{OpenSlot, slots_in}
 use Rattle.rules.specs.Outcomes.{Outcome, may_be_end, may_be_node, leads_on}
 use Rattle.transfer.specs.declared.successes.Site.{Site}

@@ -2,8 +2,8 @@
 use Rattle.std.specs.Prelude.{List}
 use Rattle.std.specs.List.{flat_map}
 use Rattle.certificate.specs.Views.{bound_of, held_of, interval_of}
-use Rattle.programs.specs.Programs.{Cap_enter, Fork, Socketpair}
-use Rattle.programs.specs.Views.{operand_of}
+use Rattle.instruction_set.specs.Programs.{Cap_enter, Fork, Socketpair}
+use Rattle.instruction_set.specs.Views.{operand_of}
 use Rattle.rules.specs.Slots.{slots_in}
 use Rattle.rules.specs.Outcomes.{Outcome}
 use Rattle.transfer.specs.declared.calls.Manner.{Manner}

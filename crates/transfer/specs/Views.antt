@@ -3,7 +3,7 @@ use Rattle.std.specs.Prelude.{ℕ, List, [], ◌∷◌, ◌++◌, Option, Some, 
 use Rattle.rights.specs.Operations.{Operation}
 use Rattle.rights.specs.Views.{operation_of}
 use Rattle.rights.specs.declared.operations.Op.{Op as OpCode}
-use Rattle.programs.specs.Views.{operand_of}
+use Rattle.instruction_set.specs.Views.{operand_of}
 use Rattle.rules.specs.Demands.{Demands}
 use Rattle.rules.specs.Needs.{Need, Passed, Sent, Received, Through, Needs}
 use Rattle.rules.specs.Needs as needs

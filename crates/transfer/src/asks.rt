@@ -4,7 +4,7 @@ ghost use Rattle.std.specs.Prelude.{◌≡◌, ◌+◌, ◌≤◌, Bool, length,
 ghost use Rattle.std.specs.List.{list_all};
 ghost use Rattle.certificate.specs.Bounds.{Bound as BoundSeen, held_in};
 ghost use Rattle.certificate.specs.Views.{bound_of, held_of, interval_of, slot_of};
-ghost use Rattle.programs.specs.Views.{operand_of, syscall_of};
+ghost use Rattle.instruction_set.specs.Views.{operand_of, syscall_of};
 ghost use Rattle.rules.specs.Slots.{OpenSlot, slots_from, slots_in};
 ghost use Rattle.rules.specs.Uses.{Use, named_slots, use_of, uses, uses_of, uses_through};
 ghost use Rattle.transfer.specs.Tested.{slot_at};
@@ -13,7 +13,7 @@ ghost use Rattle.transfer.specs.Views.{need_of, needs_in, through_of};
 use crate::slots::{holds_number, operand_interval};
 use crate::uses::{Need, Needs, Through, needed};
 use certificate::{Bound, Held, Interval, Slot};
-use programs::{Operand, Syscall};
+use instruction_set::{Operand, Syscall};
 
 /// A test of a slot that may be open.
 pub trait SlotTest {

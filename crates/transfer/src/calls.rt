@@ -2,8 +2,8 @@
 
 ghost use Rattle.std.specs.Prelude.{◌≡◌, ◌-◌, true};
 ghost use Rattle.certificate.specs.Views.{bound_of, held_of, interval_of, mode_of, side_of};
-ghost use Rattle.programs.specs.Programs.{Cap_enter, Fork, Socketpair};
-ghost use Rattle.programs.specs.Views.{syscall_of};
+ghost use Rattle.instruction_set.specs.Programs.{Cap_enter, Fork, Socketpair};
+ghost use Rattle.instruction_set.specs.Views.{syscall_of};
 ghost use Rattle.rules.specs.Outcomes.{is_formed, is_surely_on, mode_interval};
 ghost use Rattle.transfer.specs.CallViews.{call_at, end_at, invoked_at, pair_made};
 ghost use Rattle.transfer.specs.Kept.{TestsEach};
@@ -21,7 +21,7 @@ use crate::targets::{all_held, target_of_path};
 use certificate::{
     Bound, Class, FcntlsRange, Held, Interval, ModeBound, RightsRange, Side, Slot, Target,
 };
-use programs::{Operand, Syscall};
+use instruction_set::{Operand, Syscall};
 use rights::limits::{MAX_BYTES, MAX_PROCESSES};
 
 /// Whether a process is surely in capability mode.

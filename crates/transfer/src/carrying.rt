@@ -2,7 +2,7 @@
 
 ghost use Rattle.std.specs.Prelude.{◌≡◌, Some, true, option_map};
 ghost use Rattle.certificate.specs.Views.{bound_of};
-ghost use Rattle.programs.specs.Views.{instruction_of};
+ghost use Rattle.instruction_set.specs.Views.{instruction_of};
 ghost use Rattle.transfer.specs.CallViews.{carried_at};
 ghost use Rattle.transfer.specs.Limits.{leaves_known};
 
@@ -10,7 +10,7 @@ use crate::instructions::{failure, successes_pass};
 use crate::outcomes::Outcome;
 use crate::successes::{OutcomeTest, Site};
 use certificate::{Bound, Domain};
-use programs::Instruction;
+use instruction_set::Instruction;
 
 /// A test that all outcomes pass, and that joins those that go to its point.
 #[derive(Clone, Copy)]

@@ -3,14 +3,14 @@
 ghost use Rattle.std.specs.Prelude.{◌≡◌, option_map};
 ghost use Rattle.fd_table.specs.Descriptions.{other_side};
 ghost use Rattle.certificate.specs.Views.{bound_of, channel_of, channels_of, class_of, side_of, target_of};
-ghost use Rattle.programs.specs.Views.{syscall_of};
+ghost use Rattle.instruction_set.specs.Views.{syscall_of};
 ghost use Rattle.rules.specs.Channels.{all_have_channels, channel_at, has_channel, line_in, receives_known, sends_known};
 ghost use Rattle.rules.specs.Uses.{uses};
 
 use crate::asks::{UseTest, all_uses_pass};
 use crate::uses::{Need, Passed};
 use certificate::{Bound, Cert, Channel, Class, Held, Side, Target};
-use programs::Syscall;
+use instruction_set::Syscall;
 
 /// The other side of a pair. (own)
 pub fn other(side: Side) -> Side

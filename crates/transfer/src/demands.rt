@@ -2,13 +2,13 @@
 
 ghost use Rattle.std.specs.Prelude.{◌≡◌, option_map};
 ghost use Rattle.certificate.specs.Views.{bound_of};
-ghost use Rattle.programs.specs.Views.{operand_of, syscall_of};
+ghost use Rattle.instruction_set.specs.Views.{operand_of, syscall_of};
 ghost use Rattle.rules.specs.Demands.{demands, keeps_beneath, keeps_numbers, keeps_single, single_operand};
 ghost use Rattle.transfer.specs.Views.{demands_of};
 
 use crate::slots::{Takes, free_numbers, is_single, may_be_on, operand_interval};
 use certificate::Bound;
-use programs::{Operand, Syscall};
+use instruction_set::{Operand, Syscall};
 
 /// What a call asks as a whole. (own)
 #[derive(Clone, Copy)]

@@ -4,7 +4,7 @@
 ghost use Rattle.std.specs.Prelude.{◌≡◌, not, true};
 ghost use Rattle.std.specs.List.{list_all};
 ghost use Rattle.certificate.specs.Views.{bound_of, interval_of, target_of};
-ghost use Rattle.programs.specs.Views.{operand_of};
+ghost use Rattle.instruction_set.specs.Views.{operand_of};
 ghost use Rattle.rules.specs.Slots.{slots_in};
 ghost use Rattle.transfer.specs.GivenViews.{both_given, given_at, may_be, stays};
 ghost use Rattle.transfer.specs.Kept.{TestsEach};
@@ -14,7 +14,7 @@ use crate::outcomes::Change;
 use crate::successes::{OutcomeTest, Site, next_passes};
 use crate::targets::{may_be_end, may_be_node};
 use certificate::{Bound, Held, Interval, Target};
-use programs::Operand;
+use instruction_set::Operand;
 
 /// What a slot may have to be of.
 #[derive(Clone, Copy)]

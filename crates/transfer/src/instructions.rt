@@ -2,7 +2,7 @@
 
 ghost use Rattle.std.specs.Prelude.{◌≡◌, true, option_map};
 ghost use Rattle.certificate.specs.Views.{bound_of, interval_of};
-ghost use Rattle.programs.specs.Views.{instruction_of};
+ghost use Rattle.instruction_set.specs.Views.{instruction_of};
 ghost use Rattle.rules.specs.Outcomes.{enters_mode, equal_outcomes, error_outcomes, less_outcomes, outcomes_in};
 ghost use Rattle.transfer.specs.CallViews.{plain_successes_at, successes_at};
 ghost use Rattle.transfer.specs.Kept.{TestsEach};
@@ -15,7 +15,7 @@ use crate::intervals::{equal_part, lower_part, only, other_part, sums, upper_par
 use crate::outcomes::{Change, Outcome};
 use crate::successes::{OutcomeTest, Site, next_passes};
 use certificate::{Bound, Interval};
-use programs::{Instruction, Register, Syscall};
+use instruction_set::{Instruction, Register, Syscall};
 use task::is_marked;
 
 /// Whether a point passes with a register in an interval, if there is one.

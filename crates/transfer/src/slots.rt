@@ -2,13 +2,13 @@
 
 ghost use Rattle.std.specs.Prelude.{◌≡◌, ◌+◌, ◌≤◌, ◌∷◌, length, map, option_map, IfSome};
 ghost use Rattle.certificate.specs.Views.{bound_of, interval_of, mode_of, slot_of};
-ghost use Rattle.programs.specs.Views.{operand_of};
+ghost use Rattle.instruction_set.specs.Views.{operand_of};
 ghost use Rattle.rules.specs.Slots.{free_from, free_numbers, holds_number, is_single, may_be_on, operand_interval};
 ghost use Rattle.transfer.specs.Views.{count_of, free_of};
 
 use crate::intervals::only;
 use certificate::{Bound, Interval, ModeBound, Slot};
-use programs::Operand;
+use instruction_set::Operand;
 
 /// The lowest free numbers of a bound, at most two, and in order.
 #[derive(Clone, Copy)]

@@ -4,7 +4,7 @@ ghost use Rattle.std.specs.Prelude.{◌≡◌, ◌+◌, ◌≤◌, ℕ, Bool, Op
 ghost use Rattle.std.specs.List.{flat_map};
 ghost use Rattle.certificate.specs.Bounds.{Bound as BoundSeen, with_interval, with_slot};
 ghost use Rattle.certificate.specs.Views.{bound_of, held_of, interval_of, slot_of, target_of};
-ghost use Rattle.programs.specs.Views.{operand_of};
+ghost use Rattle.instruction_set.specs.Views.{operand_of};
 ghost use Rattle.rules.specs.Outcomes.{Outcome as OutcomeSeen, outcome_to};
 ghost use Rattle.rules.specs.Intervals.{only};
 ghost use Rattle.rules.specs.Slots.{slots_from, slots_in};
@@ -19,7 +19,7 @@ use crate::outcomes::{Change, Outcome};
 use crate::slots::{FreeNumbers, Takes, free_numbers, holds_number, operand_interval};
 use crate::targets::{beneath_target, unknown_held, with_target};
 use certificate::{Bound, Cert, FcntlsRange, Held, Interval, Name, RightsRange, Slot, Target};
-use programs::Operand;
+use instruction_set::Operand;
 use task::Task;
 
 /// A test of outcomes. It may keep what it learns of each, but what passes stays the same. It may join those that go to a

@@ -3,12 +3,12 @@
 ghost use Rattle.std.specs.Prelude.{◌≡◌, ◌∷◌, [], Some, false, option_map, true};
 ghost use Rattle.rights.specs.Operations.{Remove};
 ghost use Rattle.rights.specs.Views.{operation_of};
-ghost use Rattle.programs.specs.Views.{operand_of, syscall_of};
+ghost use Rattle.instruction_set.specs.Views.{operand_of, syscall_of};
 ghost use Rattle.rights.specs.Opens.{open_request};
 ghost use Rattle.rules.specs.Needs.{Received, Sent, first_rights, flags_in, moving_to, needs, through_none, no_need, through_one, open_operations, operation_if};
 ghost use Rattle.transfer.specs.Views.{need_of, needs_in, operation_list, through_of};
 
-use programs::{Operand, Syscall};
+use instruction_set::{Operand, Syscall};
 use rights::{Call, Fcntls, Op, OpenFlags, Position, Rights};
 
 /// What a call does with descriptors and the channel of a socket.

@@ -17,7 +17,7 @@ use Rattle.certificate.specs.Bounds.{Certificate}
 use Rattle.certificate.specs.Describes.{interval_describes}
 use Rattle.fd_table.specs.Descriptions.{Access, At_node, Descriptor, Message, other_side, with_status}
 use Rattle.fd_table.specs.OpenFiles.{is_open}
-use Rattle.programs.specs.Programs.{Operand, Read, Write, Lseek, Ftruncate, Fstat, Fcntl_setfl, Invoke}
+use Rattle.instruction_set.specs.Programs.{Operand, Read, Write, Lseek, Ftruncate, Fstat, Fcntl_setfl, Invoke}
 use Rattle.kernel.specs.World.{World, Choice}
 use Rattle.kernel.specs.Answers.{Event, Same_tree, Fill, Same_queue, Push, Pop, Same_state, Set_state, Gives, same, gives, value_of}
 use Rattle.kernel.specs.Calls.{answer, blocked, kind_number, write_offset, read_byte, read_node, read_end, write_node, sent_end}

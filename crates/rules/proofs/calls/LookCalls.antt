@@ -10,7 +10,7 @@ use Rattle.certificate.specs.Describes.{interval_describes}
 use Rattle.fd_table.specs.Descriptions.{Access, At_node, Descriptor}
 use Rattle.lookup.specs.Answers.{Follow, Found_node, Found_free, Not_found}
 use Rattle.lookup.specs.Answers as lookups
-use Rattle.programs.specs.Programs.{Operand, Fstatat, Stat, Invoke}
+use Rattle.instruction_set.specs.Programs.{Operand, Fstatat, Stat, Invoke}
 use Rattle.kernel.specs.World.{World, Choice}
 use Rattle.kernel.specs.Answers.{Event, Same_tree, Same_queue, Same_state}
 use Rattle.kernel.specs.Calls.{answer, kind_number, stats_at}

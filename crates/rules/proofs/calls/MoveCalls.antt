@@ -15,7 +15,7 @@ use Rattle.fd_table.specs.Descriptions.{Access, At_node, Descriptor}
 use Rattle.lookup.specs.Answers.{Keep, Found_node, Found_free, Not_found}
 use Rattle.lookup.specs.Answers as lookups
 use Rattle.lookup.specs.Paths.{last_component}
-use Rattle.programs.specs.Programs.{Operand, Renameat, Invoke, called}
+use Rattle.instruction_set.specs.Programs.{Operand, Renameat, Invoke, called}
 use Rattle.kernel.specs.World.{World, Choice}
 use Rattle.kernel.specs.Answers.{Event, Effect, Answer, Same_tree, Move, Same_queue, Same_state, Gives, gives, granted, value_of}
 use Rattle.kernel.specs.Calls.{no_request, answer, moves, renamed_free, renamed_over, renamed_to, renamed_from}

@@ -14,7 +14,7 @@ use Rattle.fd_table.specs.Descriptions.{Access, At_node, Descriptor}
 use Rattle.lookup.specs.Answers.{Keep, Found_node, Found_free, Not_found}
 use Rattle.lookup.specs.Answers as lookups
 use Rattle.lookup.specs.Paths.{last_component}
-use Rattle.programs.specs.Programs.{Operand, Syscall, Mkdirat, Mkdir, Unlinkat, Unlink, Invoke}
+use Rattle.instruction_set.specs.Programs.{Operand, Syscall, Mkdirat, Mkdir, Unlinkat, Unlink, Invoke}
 use Rattle.kernel.specs.World.{World, Choice}
 use Rattle.kernel.specs.Answers.{Event, Answer, Make, Remove, Same_queue, Same_state}
 use Rattle.kernel.specs.Calls.{answer, made_directory, unlinks_as, unlinks}

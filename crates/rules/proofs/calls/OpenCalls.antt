@@ -15,7 +15,7 @@ use Rattle.lookup.specs.Promises.{IsFollowed}
 use Rattle.process.specs.State.{ProcessState}
 use Rattle.fd_table.specs.Descriptions.{Access}
 use Rattle.fd_table.specs.OpenFiles.{lowest_free}
-use Rattle.programs.specs.Programs.{Operand, Syscall, Open, Openat, Invoke}
+use Rattle.instruction_set.specs.Programs.{Operand, Syscall, Open, Openat, Invoke}
 use Rattle.certificate.specs.Bounds.{with_slot, Certificate}
 use Rattle.certificate.specs.Bounds as slots
 use Rattle.certificate.specs.Describes.{Seen, Node_at, held_describes, target_describes}

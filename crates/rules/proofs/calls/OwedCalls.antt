@@ -5,7 +5,7 @@ use Rattle.std.specs.Prelude.{◌&&◌, ◌||◌, slice_set, Option, Some, None}
 use Rattle.rights.specs.Errors.{Errno, Cause, EBADF, BadDescriptor, EMFILE, Full}
 use Rattle.process.specs.State.{ProcessState}
 use Rattle.fd_table.specs.Descriptions.{PairClass, Access, Object, At_node, At_end, Descriptor}
-use Rattle.programs.specs.Programs.{Syscall, Instruction, Invoke}
+use Rattle.instruction_set.specs.Programs.{Syscall, Instruction, Invoke}
 use Rattle.certificate.specs.Bounds.{Interval, with_interval, Bound, Certificate}
 use Rattle.certificate.specs.Describes.{interval_describes}
 use Rattle.kernel.specs.World.{World, Choice}

@@ -3,7 +3,7 @@ use Rattle.std.proofs.Common.{◌≡◌, ℕ, true, false, List, length, refl, s
 use Rattle.std.specs.Prelude.{◌&&◌, ◌||◌, slice_set, Some}
 use Rattle.process.specs.State.{ProcessState, forked}
 use Rattle.fd_table.specs.Descriptions.{Descriptor, IfHeld}
-use Rattle.programs.specs.Programs.{Syscall, Invoke}
+use Rattle.instruction_set.specs.Programs.{Syscall, Invoke}
 use Rattle.certificate.specs.Bounds.{Interval, with_interval, Bound, Certificate}
 use Rattle.certificate.specs.Describes.{interval_describes}
 use Rattle.kernel.specs.World.{World, Choice}

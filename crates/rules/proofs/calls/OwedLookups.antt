@@ -8,7 +8,7 @@ use Rattle.lookup.specs.Answers as lookups
 use Rattle.lookup.specs.Walks.{WalkState}
 use Rattle.lookup.proofs.PlaceLaws.{directory_kind, no_directory_link}
 use Rattle.process.specs.State.{ProcessState, Walking, One, Two}
-use Rattle.programs.specs.Programs.{Operand, Syscall, Invoke}
+use Rattle.instruction_set.specs.Programs.{Operand, Syscall, Invoke}
 use Rattle.fd_table.specs.Descriptions.{Access, At_node, Descriptor}
 use Rattle.certificate.specs.Bounds.{Certificate}
 use Rattle.kernel.specs.World.{World, Choice}

@@ -12,7 +12,7 @@ use Rattle.certificate.specs.Bounds.{Certificate}
 use Rattle.certificate.specs.Describes.{Node_at, target_describes}
 use Rattle.fd_table.specs.Descriptions.{Access, At_node, Descriptor, IfHeld}
 use Rattle.lookup.specs.Answers.{LookupFault, Escape, No_entry, Not_dir, Loop, Too_long, Bad_last}
-use Rattle.programs.specs.Programs.{Operand, Syscall, Invoke}
+use Rattle.instruction_set.specs.Programs.{Operand, Syscall, Invoke}
 use Rattle.kernel.specs.World.{World, Choice}
 use Rattle.kernel.specs.Answers.{Event, Answer, does, granted, through, lookup_fails, value_of}
 use Rattle.kernel.specs.Calls.{outside_mode, unrefused, in_directory, at_file, blocked}

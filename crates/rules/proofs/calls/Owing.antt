@@ -8,7 +8,7 @@ use Rattle.rights.proofs.Changes.{put-cases}
 use Rattle.rights.proofs.Lists.{slice_get-set_same, slice_get-set_cases}
 use Rattle.process.specs.State.{ProcessState, ended}
 use Rattle.fd_table.specs.Descriptions.{PairClass, Descriptor, IfHeld}
-use Rattle.programs.specs.Programs.{Instruction}
+use Rattle.instruction_set.specs.Programs.{Instruction}
 use Rattle.certificate.specs.Bounds.{Certificate}
 use Rattle.kernel.specs.World.{World, Choice}
 use Rattle.kernel.specs.Answers.{QueueChange, Same_queue, Fails, Waits}

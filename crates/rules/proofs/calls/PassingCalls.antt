@@ -10,7 +10,7 @@ use Rattle.rights.specs.Classes as classes
 use Rattle.process.specs.State.{ProcessState, forked}
 use Rattle.fd_table.specs.Descriptions.{PairClass, Initial, Made_at, Made_by, At_end, Descriptor, Message, IfHeld, other_side}
 use Rattle.fd_table.specs.OpenFiles.{lowest_from, lowest_free}
-use Rattle.programs.specs.Programs.{Operand, Syscall, Sendfd, Recvfd, Socketpair, Fork, Invoke}
+use Rattle.instruction_set.specs.Programs.{Operand, Syscall, Sendfd, Recvfd, Socketpair, Fork, Invoke}
 use Rattle.certificate.specs.Bounds.{with_interval, Socket, Held, with_slot, Bound, Certificate}
 use Rattle.certificate.specs.Bounds as slots
 use Rattle.certificate.specs.Describes.{End_of, Seen, Holds, held_describes, interval_describes}

@@ -4,7 +4,7 @@ use Rattle.std.specs.Prelude.{◌&&◌, ◌||◌}
 use Rattle.std.specs.Option.{option_map}
 use Rattle.process.specs.State.{ProcessState}
 use Rattle.fd_table.specs.Descriptions.{State, status_number, bit_of}
-use Rattle.programs.specs.Programs.{Operand, Fsync, Fcntl_getfl, Cap_enter, Cap_getmode, Invoke}
+use Rattle.instruction_set.specs.Programs.{Operand, Fsync, Fcntl_getfl, Cap_enter, Cap_getmode, Invoke}
 use Rattle.certificate.specs.Bounds.{ModeBound, Off, On, Either, Certificate}
 use Rattle.certificate.specs.Describes.{interval_describes, mode_describes}
 use Rattle.kernel.specs.World.{World, Choice}

@@ -4,7 +4,7 @@ use Rattle.std.specs.Option.{option_map}
 use Rattle.process.specs.State.{ProcessState}
 use Rattle.fd_table.specs.Descriptions.{Descriptor}
 use Rattle.fd_table.specs.OpenFiles.{lowest_free}
-use Rattle.programs.specs.Programs.{Operand, Syscall, Dup, Close, Cap_rights_limit, Cap_fcntls_limit, Invoke}
+use Rattle.instruction_set.specs.Programs.{Operand, Syscall, Dup, Close, Cap_rights_limit, Cap_fcntls_limit, Invoke}
 use Rattle.certificate.specs.Bounds.{Interval, Held, Closed, with_slot, Bound, Certificate}
 use Rattle.certificate.specs.Bounds as slots
 use Rattle.certificate.specs.Describes.{interval_describes, held_describes}

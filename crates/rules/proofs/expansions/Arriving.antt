@@ -12,7 +12,7 @@ use Rattle.certificate.specs.Lines.{Line, Begins_block, Bounds_register, Bounds_
 use Rattle.certificate.specs.Growth.{IsCertificate, begins, grows, on_last, with_line}
 use Rattle.certificate.proofs.Growing.{both_true, taken-back}
 use Rattle.std.proofs.lemmas.List.Folds.{list_all-append}
-use Rattle.programs.specs.Programs.{Instruction, ends_well, is_instruction, is_program}
+use Rattle.instruction_set.specs.Programs.{Instruction, ends_well, is_instruction, is_program}
 use Rattle.task.specs.Plans.{NamedProgram, Plan, code_in, name_in, program_name, programs_of_plan}
 use Rattle.task.specs.Limits as limits
 use Rattle.task.specs.Limits.{all_apart, are_named_apart, are_grants, are_programs, are_starts, is_plan, is_tree}

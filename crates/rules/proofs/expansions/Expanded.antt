@@ -8,7 +8,7 @@ use Rattle.std.proofs.lemmas.Bool.Decides.{nat_tests}
 use Rattle.rights.proofs.Words.{same_bytes}
 use Rattle.certificate.specs.Bounds.{Bound, PointBound, Version, One, Two, Three, Certificate, bound_in, bound_at}
 use Rattle.rights.specs.Limits.{most_instructions}
-use Rattle.programs.specs.Programs.{Instruction}
+use Rattle.instruction_set.specs.Programs.{Instruction}
 use Rattle.task.specs.Plans.{Plan}
 use Rattle.rules.specs.Carrying.{carried_on}
 use Rattle.rules.specs.Expansions.{or_carried, bound_with, bound_there, with_bound, is_named, code_named, may_carry, carried_by, carried_past, carried_to, points_along}

@@ -9,9 +9,9 @@ use Rattle.certificate.specs.Bounds.{On, Target, In_grant, Any_node, Socket, Unk
 use Rattle.certificate.specs.Bounds as bounds
 use Rattle.certificate.proofs.Growing.{both_true}
 use Rattle.fd_table.specs.Descriptions.{other_side}
-use Rattle.programs.specs.Programs.{Operand, Syscall, Open, Openat, Read, Write, Sendfd, Recvfd, Lseek, Ftruncate, Fsync, Fstat, Fcntl_getfl, Fcntl_setfl, Fstatat, Stat, Mkdirat}
-use Rattle.programs.specs.Programs.{Mkdir, Unlinkat, Unlink, Renameat, Dup, Close, Cap_rights_limit, Cap_fcntls_limit, Cap_enter, Cap_getmode, Socketpair, Fork, Instruction, Set}
-use Rattle.programs.specs.Programs.{Mov, Add, In, Jmp, Jeq, Jlt, Halt, Invoke}
+use Rattle.instruction_set.specs.Programs.{Operand, Syscall, Open, Openat, Read, Write, Sendfd, Recvfd, Lseek, Ftruncate, Fsync, Fstat, Fcntl_getfl, Fcntl_setfl, Fstatat, Stat, Mkdirat}
+use Rattle.instruction_set.specs.Programs.{Mkdir, Unlinkat, Unlink, Renameat, Dup, Close, Cap_rights_limit, Cap_fcntls_limit, Cap_enter, Cap_getmode, Socketpair, Fork, Instruction, Set}
+use Rattle.instruction_set.specs.Programs.{Mov, Add, In, Jmp, Jeq, Jlt, Halt, Invoke}
 use Rattle.task.specs.Plans.{Grant}
 use Rattle.rules.specs.Intervals.{only, sums, equal_part, other_part, lower_part, upper_part}
 use Rattle.rules.specs.Slots.{OpenSlot, slots_in, free_numbers}

@@ -12,7 +12,7 @@ use Rattle.certificate.proofs.Fits.{is_fit, is_fit_point}
 use Rattle.certificate.proofs.Growing.{and_left, and_right, both_true}
 use Rattle.certificate.proofs.Makes.{Fits, makes_itself}
 use Rattle.certificate.proofs.Whole.{fits_itself}
-use Rattle.programs.specs.Programs.{Instruction}
+use Rattle.instruction_set.specs.Programs.{Instruction}
 use Rattle.task.specs.Plans.{Plan}
 use Rattle.rules.specs.Carrying.{carried_on}
 use Rattle.rules.specs.Outcomes.{is_followed, successes_in}

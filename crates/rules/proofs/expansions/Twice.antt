@@ -9,7 +9,7 @@ use Rattle.rights.specs.Limits.{most_instructions}
 use Rattle.certificate.specs.Bounds.{Bound, PointBound, Version, One, Two, Three, Certificate, bound_in, bound_at}
 use Rattle.certificate.specs.Growth.{IsCertificate}
 use Rattle.certificate.proofs.Growing.{and_left, and_right, both_true}
-use Rattle.programs.specs.Programs.{Instruction}
+use Rattle.instruction_set.specs.Programs.{Instruction}
 use Rattle.task.specs.Plans.{Plan}
 use Rattle.rules.specs.Outcomes.{error_outcomes}
 use Rattle.rules.specs.Carrying.{joined_at}

@@ -9,7 +9,7 @@ use Rattle.lookup.specs.ByNodes.{Walked}
 use Rattle.lookup.specs.Walks.{WalkState}
 use Rattle.lookup.proofs.UnderWay.{there_if_opened}
 use Rattle.process.specs.State.{ProcessState, Walking, One, Two}
-use Rattle.programs.specs.Programs.{Syscall}
+use Rattle.instruction_set.specs.Programs.{Syscall}
 use Rattle.fd_table.specs.Descriptions.{Access, Object, At_node, Descriptor}
 use Rattle.kernel.specs.Answers.{value_of}
 use Rattle.kernel.specs.Walks.{Lookups, No_path, From_root, From_directory, From_directories, lookups_of, under_way}

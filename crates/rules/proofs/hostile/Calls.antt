@@ -14,8 +14,8 @@ use Rattle.lookup.specs.Answers.{Keep, Follow, Found_node, Found_free, Not_found
 use Rattle.lookup.specs.Answers as lookups
 use Rattle.lookup.specs.Paths.{last_component}
 use Rattle.process.specs.State.{ProcessState}
-use Rattle.programs.specs.Programs.{Operand, Syscall, Open, Openat, Read, Write, Sendfd, Recvfd, Lseek, Ftruncate, Fsync, Fstat, Fcntl_getfl, Fcntl_setfl, Fstatat, Stat, Mkdirat, Mkdir}
-use Rattle.programs.specs.Programs.{Unlinkat, Unlink, Renameat, Dup, Close, Cap_rights_limit, Cap_fcntls_limit, Cap_enter, Cap_getmode, Socketpair, Fork, called}
+use Rattle.instruction_set.specs.Programs.{Operand, Syscall, Open, Openat, Read, Write, Sendfd, Recvfd, Lseek, Ftruncate, Fsync, Fstat, Fcntl_getfl, Fcntl_setfl, Fstatat, Stat, Mkdirat, Mkdir}
+use Rattle.instruction_set.specs.Programs.{Unlinkat, Unlink, Renameat, Dup, Close, Cap_rights_limit, Cap_fcntls_limit, Cap_enter, Cap_getmode, Socketpair, Fork, called}
 use Rattle.fd_table.specs.Descriptions.{Access, At_node, Descriptor, other_side}
 use Rattle.fd_table.specs.OpenFiles.{lowest_free}
 use Rattle.certificate.specs.Bounds.{Certificate}

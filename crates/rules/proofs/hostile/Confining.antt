@@ -8,7 +8,7 @@ use Rattle.file_tree.specs.Nodes.{node, is_dir, is_file}
 use Rattle.file_tree.specs.WellFormed.{IsTree}
 use Rattle.lookup.specs.Answers.{LookupFault}
 use Rattle.process.specs.State.{ProcessState, Walking}
-use Rattle.programs.specs.Programs.{Operand, Syscall}
+use Rattle.instruction_set.specs.Programs.{Operand, Syscall}
 use Rattle.fd_table.specs.Descriptions.{PairClass, Made_by, Access, Object, At_node, At_end, Descriptor, Message, IfHeld}
 use Rattle.certificate.specs.Bounds.{Authority, Certificate}
 use Rattle.kernel.specs.World.{World, Choice}

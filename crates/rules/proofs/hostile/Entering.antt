@@ -6,8 +6,8 @@ use Rattle.std.specs.Option.{option_map}
 use Rattle.std.specs.Cmp.Derive.{both_true}
 use Rattle.rights.proofs.Tests.{both_left, both_right}
 use Rattle.process.specs.State.{ProcessState}
-use Rattle.programs.specs.Programs.{Instruction, Set, Mov, Add, In, Jmp, Jeq, Jlt, Halt, Invoke, Open, Openat, Read, Write, Sendfd, Recvfd, Lseek, Ftruncate, Fsync, Fstat, Fcntl_getfl}
-use Rattle.programs.specs.Programs.{Fcntl_setfl, Fstatat, Stat, Mkdirat, Mkdir, Unlinkat, Unlink, Renameat, Dup, Close, Cap_rights_limit, Cap_fcntls_limit, Cap_enter, Cap_getmode, Socketpair, Fork}
+use Rattle.instruction_set.specs.Programs.{Instruction, Set, Mov, Add, In, Jmp, Jeq, Jlt, Halt, Invoke, Open, Openat, Read, Write, Sendfd, Recvfd, Lseek, Ftruncate, Fsync, Fstat, Fcntl_getfl}
+use Rattle.instruction_set.specs.Programs.{Fcntl_setfl, Fstatat, Stat, Mkdirat, Mkdir, Unlinkat, Unlink, Renameat, Dup, Close, Cap_rights_limit, Cap_fcntls_limit, Cap_enter, Cap_getmode, Socketpair, Fork}
 use Rattle.fd_table.specs.Descriptions.{Descriptor, IfHeld}
 use Rattle.certificate.specs.Bounds.{Authority, Bound, Certificate, Closed, Maybe, Open as Open_slot, Slot, slot}
 use Rattle.certificate.specs.Describes.{Seen, slot_describes}

@@ -6,7 +6,7 @@ use Rattle.std.specs.List.{slice_get}
 use Rattle.std.proofs.lemmas.Option.{slice_get_within}
 use Rattle.rights.specs.Sets.{all_rights, all_commands}
 use Rattle.process.specs.State.{Deed, ProcessState, Walking, forked, left_by}
-use Rattle.programs.specs.Programs.{Instruction, Set, Mov, Add, In, Jmp, Jeq, Jlt, Halt, Invoke, Syscall}
+use Rattle.instruction_set.specs.Programs.{Instruction, Set, Mov, Add, In, Jmp, Jeq, Jlt, Halt, Invoke, Syscall}
 use Rattle.fd_table.specs.Descriptions.{PairClass, Initial, Made_at, Made_by, Object, At_node, At_end, Descriptor, descriptor_of, IfHeld}
 use Rattle.certificate.specs.Bounds.{Certificate}
 use Rattle.kernel.specs.World.{World, Choice}

@@ -3,8 +3,8 @@ use Rattle.std.proofs.Common.{◌≡◌, ℕ, Bool, List, inl, inr, refl}
 use Rattle.std.specs.Prelude.{◌-◌, Option, Some}
 use Rattle.rights.specs.Limits.{most_bytes, most_processes}
 use Rattle.process.specs.State.{ProcessState}
-use Rattle.programs.specs.Programs.{Operand, Read, Write, Lseek, Ftruncate, Fsync, Fstat, Fcntl_getfl, Fcntl_setfl, Fstatat, Stat, Mkdirat, Mkdir, Unlinkat, Unlink, Cap_enter}
-use Rattle.programs.specs.Programs.{Cap_getmode, Fork, Invoke}
+use Rattle.instruction_set.specs.Programs.{Operand, Read, Write, Lseek, Ftruncate, Fsync, Fstat, Fcntl_getfl, Fcntl_setfl, Fstatat, Stat, Mkdirat, Mkdir, Unlinkat, Unlink, Cap_enter}
+use Rattle.instruction_set.specs.Programs.{Cap_getmode, Fork, Invoke}
 use Rattle.kernel.specs.Answers.{value_of}
 use Rattle.task.specs.Plans.{Plan}
 use Rattle.certificate.specs.Bounds.{On, Certificate}

@@ -3,7 +3,7 @@ use Rattle.std.proofs.Common.{◌≡◌, ℕ, Bool, true, false, refl, sym, ◌�
 use Rattle.std.specs.Prelude.{Option, not}
 use Rattle.rights.specs.Errors.{Errno, errno_number}
 use Rattle.process.specs.State.{ProcessState}
-use Rattle.programs.specs.Programs.{Syscall, Invoke}
+use Rattle.instruction_set.specs.Programs.{Syscall, Invoke}
 use Rattle.kernel.specs.Steps.{failed}
 use Rattle.task.specs.Plans.{Plan}
 use Rattle.task.specs.Policies.{grant_holds}

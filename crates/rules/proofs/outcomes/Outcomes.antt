@@ -8,7 +8,7 @@ use Rattle.rights.specs.Classes.{Class}
 use Rattle.rights.proofs.Subsets.{is_within-refl, is_within-none}
 use Rattle.file_tree.specs.Places.{place_text}
 use Rattle.process.specs.State.{ProcessState}
-use Rattle.programs.specs.Programs.{Operand, Syscall, Invoke}
+use Rattle.instruction_set.specs.Programs.{Operand, Syscall, Invoke}
 use Rattle.kernel.specs.Answers.{value_of}
 use Rattle.task.specs.Plans.{Grant, Plan, program_name}
 use Rattle.task.specs.Policies.{grant_holds}

@@ -4,7 +4,7 @@ use Rattle.std.specs.Prelude.{◌&&◌, ◌||◌, not, Option, Some, None, cond,
 use Rattle.rights.proofs.Tests.{both_left, both_right, not_true}
 use Rattle.certificate.specs.Bounds.{Bound, Certificate, bound_at}
 use Rattle.certificate.specs.Order.{bound_within}
-use Rattle.programs.specs.Programs.{Instruction}
+use Rattle.instruction_set.specs.Programs.{Instruction}
 use Rattle.task.specs.Plans.{Plan, program_name}
 use Rattle.rules.specs.Points.{instruction_at}
 use Rattle.rules.specs.Uses.{uses}

@@ -7,7 +7,7 @@ use Rattle.rights.specs.Operations.{Operation}
 use Rattle.rights.proofs.Tests.{both_left, both_right, not_true}
 use Rattle.certificate.specs.Bounds.{ModeBound, Off, On, Either, with_interval, Bound, Certificate}
 use Rattle.certificate.specs.Describes.{mode_describes}
-use Rattle.programs.specs.Programs.{Syscall, Invoke}
+use Rattle.instruction_set.specs.Programs.{Syscall, Invoke}
 use Rattle.task.specs.Plans.{Grant, Plan, program_name}
 use Rattle.rules.specs.Slots.{OpenSlot, may_be_on}
 use Rattle.rules.specs.Uses.{Use, uses}

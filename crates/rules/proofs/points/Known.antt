@@ -26,7 +26,7 @@ use Rattle.rules.proofs.Members.{Among, each_of}
 use Rattle.rules.proofs.points.Stands.{Stands, Gone, gone}
 use Rattle.rules.proofs.points.Uses.{Used, Through, first_use, through, through_second}
 use Rattle.process.specs.State.{ProcessState}
-use Rattle.programs.specs.Programs.{Operand, Sendfd, Renameat, Invoke}
+use Rattle.instruction_set.specs.Programs.{Operand, Sendfd, Renameat, Invoke}
 use Rattle.kernel.specs.Answers.{value_of}
 
 -- ## Nodes

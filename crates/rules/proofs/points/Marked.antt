@@ -8,7 +8,7 @@ use Rattle.std.proofs.lemmas.Bool.{eq-eqb}
 use Rattle.rights.proofs.Tests.{both_left, both_right, not_true}
 use Rattle.rights.proofs.Words.{same_bytes}
 use Rattle.certificate.specs.Bounds.{Authority, Bound, Certificate, bound_at}
-use Rattle.programs.specs.Programs.{Instruction}
+use Rattle.instruction_set.specs.Programs.{Instruction}
 use Rattle.task.specs.KeptLimits.{KeepsPrograms}
 use Rattle.task.specs.Plans.{NamedProgram, Plan, marked_in, name_in, is_marked, program_name}
 use Rattle.rules.specs.Authority.{authority_at, keeps_ceilings, keeps_moves, keeps_received, keeps_sent, may_start_all}

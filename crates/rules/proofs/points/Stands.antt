@@ -3,7 +3,7 @@
 use Rattle.std.proofs.Common.{◌≡◌, ℕ, zero, suc, ◌+◌, ◌≤◌, Bool, true, false, List, [], ◌∷◌, ◌++◌, inl, refl, arith, sym, ◌∙◌, subst}
 use Rattle.std.specs.Prelude.{Option, Some, None, cond}
 use Rattle.process.specs.State.{ProcessState}
-use Rattle.programs.specs.Programs.{Operand, Register, Number, Instruction}
+use Rattle.instruction_set.specs.Programs.{Operand, Register, Number, Instruction}
 use Rattle.kernel.specs.Answers.{value_of}
 use Rattle.task.specs.Plans.{Plan, program_name}
 use Rattle.task.specs.Policies.{grant_holds}

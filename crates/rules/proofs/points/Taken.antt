@@ -5,7 +5,7 @@ use Rattle.rights.specs.Limits.{most_descriptors}
 use Rattle.process.specs.State.{ProcessState}
 use Rattle.fd_table.specs.Descriptions.{Descriptor}
 use Rattle.fd_table.specs.OpenFiles.{lowest_from, lowest_free}
-use Rattle.programs.specs.Programs.{Syscall, Invoke}
+use Rattle.instruction_set.specs.Programs.{Syscall, Invoke}
 use Rattle.task.specs.Plans.{Plan}
 use Rattle.task.specs.Policies.{grant_holds}
 use Rattle.certificate.specs.Bounds.{Certificate}

@@ -6,7 +6,7 @@ use Rattle.rights.specs.Needs.{Second, needs_of}
 use Rattle.rights.specs.Operations.{Operation}
 use Rattle.rights.proofs.Subsets.{is_within-trans}
 use Rattle.process.specs.State.{ProcessState}
-use Rattle.programs.specs.Programs.{Operand, Syscall, Renameat, Invoke, called}
+use Rattle.instruction_set.specs.Programs.{Operand, Syscall, Renameat, Invoke, called}
 use Rattle.kernel.specs.Answers.{value_of}
 use Rattle.kernel.specs.Calls.{no_request}
 use Rattle.task.specs.Plans.{Plan}

@@ -4,7 +4,7 @@ use Rattle.std.specs.Prelude.{ℕ, List, codes, Some, None}
 use Rattle.certificate.specs.Bounds.{Off, On, Bound, with_interval, PointBound, ChannelBound, Two, Certificate, bound_in}
 use Rattle.file_tree.specs.Refusals.{created}
 use Rattle.kernel.proofs.Samples.{base}
-use Rattle.programs.specs.Programs.{Instruction, Set, Jmp, Jeq, Halt, Invoke, Fork}
+use Rattle.instruction_set.specs.Programs.{Instruction, Set, Jmp, Jeq, Halt, Invoke, Fork}
 use Rattle.task.specs.Policies.{grant_named}
 use Rattle.rules.specs.Intervals.{only}
 use Rattle.rules.specs.Slots.{slots_in, free_numbers}

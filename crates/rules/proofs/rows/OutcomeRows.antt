@@ -3,9 +3,9 @@ use Rattle.std.proofs.Common.{◌≡◌, [], ◌∷◌, refl}
 use Rattle.std.specs.Prelude.{◌++◌, ◌-◌, ℕ, true, false, List, map, codes, Some, None}
 use Rattle.rights.specs.Classes.{Made_at}
 use Rattle.rights.specs.Opens.{OpenRequest, open_request}
-use Rattle.programs.specs.Programs.{Register, Number, Syscall, Open, Openat, Read, Write, Sendfd, Recvfd, Lseek, Ftruncate, Fsync, Fstat, Fcntl_getfl, Fcntl_setfl, Fstatat, Stat}
-use Rattle.programs.specs.Programs.{Mkdirat, Mkdir, Unlinkat, Unlink, Renameat, Dup, Close, Cap_rights_limit, Cap_fcntls_limit, Cap_enter, Cap_getmode, Socketpair, Fork}
-use Rattle.programs.specs.Programs.{Instruction, Set, Mov, Add, In, Jmp, Jeq, Jlt, Halt, Invoke}
+use Rattle.instruction_set.specs.Programs.{Register, Number, Syscall, Open, Openat, Read, Write, Sendfd, Recvfd, Lseek, Ftruncate, Fsync, Fstat, Fcntl_getfl, Fcntl_setfl, Fstatat, Stat}
+use Rattle.instruction_set.specs.Programs.{Mkdirat, Mkdir, Unlinkat, Unlink, Renameat, Dup, Close, Cap_rights_limit, Cap_fcntls_limit, Cap_enter, Cap_getmode, Socketpair, Fork}
+use Rattle.instruction_set.specs.Programs.{Instruction, Set, Mov, Add, In, Jmp, Jeq, Jlt, Halt, Invoke}
 use Rattle.certificate.specs.Bounds.{ModeBound, Off, On, Either, Interval, full_interval, with_interval, Any_node, Socket, Held, Slot, Closed, Maybe, with_slot, Bound, ChannelBound}
 use Rattle.certificate.specs.Growth.{copies}
 use Rattle.rules.specs.Intervals.{only}

@@ -4,7 +4,7 @@ use Rattle.rights.specs.Sets.{all_rights, all_commands}
 use Rattle.rights.specs.Classes.{Initial}
 use Rattle.rights.specs.Opens.{OpenRequest, open_request}
 use Rattle.rights.specs.Operations.{Operation, Look, Read as Reads, Write as Writes, Create as Creates, Remove as Removes}
-use Rattle.programs.specs.Programs.{Instruction, Halt, Invoke, Jmp, Jeq, Number, Cap_enter, Open, Openat, Read, Renameat, Sendfd, Recvfd, Fork, Cap_rights_limit}
+use Rattle.instruction_set.specs.Programs.{Instruction, Halt, Invoke, Jmp, Jeq, Number, Cap_enter, Open, Openat, Read, Renameat, Sendfd, Recvfd, Fork, Cap_rights_limit}
 use Rattle.certificate.specs.Bounds.{ModeBound, Off, On, In_grant, Any_node, Socket, Held, Slot, Maybe, Bound, with_interval, PointBound, ChannelBound, One, Certificate}
 use Rattle.certificate.specs.Bounds as bounds
 use Rattle.kernel.proofs.Samples.{base}

@@ -2,8 +2,8 @@
 use Rattle.std.proofs.Common.{◌≡◌, [], ◌∷◌, refl}
 use Rattle.std.specs.Prelude.{ℕ, true, false, List, map, codes, Option, Some, None}
 use Rattle.rights.specs.Opens.{OpenRequest, open_request}
-use Rattle.programs.specs.Programs.{Register, Number, Syscall, Lseek, Open, Openat, Read, Sendfd, Recvfd, Mkdirat, Mkdir, Unlink, Renameat, Dup, Close, Cap_rights_limit}
-use Rattle.programs.specs.Programs.{Cap_fcntls_limit, Cap_enter, Socketpair, Jeq, Jlt, Jmp, Halt, Invoke}
+use Rattle.instruction_set.specs.Programs.{Register, Number, Syscall, Lseek, Open, Openat, Read, Sendfd, Recvfd, Mkdirat, Mkdir, Unlink, Renameat, Dup, Close, Cap_rights_limit}
+use Rattle.instruction_set.specs.Programs.{Cap_fcntls_limit, Cap_enter, Socketpair, Jeq, Jlt, Jmp, Halt, Invoke}
 use Rattle.certificate.specs.Bounds.{Off, On, Held, Closed, Maybe, Interval, with_interval, Bound, bound_in}
 use Rattle.task.specs.Policies.{grant_named}
 use Rattle.rules.specs.Intervals.{only}

@@ -5,9 +5,9 @@ use Rattle.std.specs.Prelude.{ℕ, ◌++◌, ◌-◌, true, false, List, map, co
 use Rattle.rights.specs.Sets.{all_rights, all_commands, lookup_right, read_right, getfl_command, setfl_command}
 use Rattle.rights.specs.Opens.{OpenRequest, open_request}
 use Rattle.rights.specs.Operations.{Operation, Create as Creates, Remove as Removes}
-use Rattle.programs.specs.Programs.{Invoke, Operand, Register, Number, Syscall, Open, Openat, Read, Write, Sendfd, Recvfd, Lseek, Ftruncate, Fsync, Fstat, Fcntl_getfl, Fcntl_setfl}
-use Rattle.programs.specs.Programs.{Fstatat, Stat, Mkdirat, Mkdir, Unlinkat, Unlink, Renameat, Dup, Close, Cap_rights_limit, Cap_fcntls_limit, Cap_enter, Cap_getmode, Socketpair}
-use Rattle.programs.specs.Programs.{Fork}
+use Rattle.instruction_set.specs.Programs.{Invoke, Operand, Register, Number, Syscall, Open, Openat, Read, Write, Sendfd, Recvfd, Lseek, Ftruncate, Fsync, Fstat, Fcntl_getfl, Fcntl_setfl}
+use Rattle.instruction_set.specs.Programs.{Fstatat, Stat, Mkdirat, Mkdir, Unlinkat, Unlink, Renameat, Dup, Close, Cap_rights_limit, Cap_fcntls_limit, Cap_enter, Cap_getmode, Socketpair}
+use Rattle.instruction_set.specs.Programs.{Fork}
 use Rattle.certificate.specs.Bounds.{Off, On, Either, Held, bound_in}
 use Rattle.certificate.specs.Growth.{copies}
 use Rattle.task.specs.Policies.{grant_named}

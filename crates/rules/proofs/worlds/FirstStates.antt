@@ -16,7 +16,7 @@ use Rattle.process.specs.State.{ProcessState}
 use Rattle.certificate.specs.Bounds.{Authority, Bound, Certificate, bound_at}
 use Rattle.certificate.specs.Describes.{Seen, describes}
 use Rattle.fd_table.specs.Descriptions.{Object, At_node, At_end, Descriptor, IfHeld, EachPassed}
-use Rattle.programs.specs.Programs.{Instruction}
+use Rattle.instruction_set.specs.Programs.{Instruction}
 use Rattle.kernel.specs.World.{World}
 use Rattle.kernel.specs.WellFormed.{Numbering, IsObject, IsDescriptor, IsProcessIfMade, IsPoint, IsWellFormed}
 use Rattle.kernel.proofs.Marks.{AreMarkedAs}

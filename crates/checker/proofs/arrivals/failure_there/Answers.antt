@@ -2,7 +2,7 @@ use Rattle.std.proofs.Common.{◌≡◌, ◌+◌, [], ◌∷◌, ap, sym, ◌∙
 use Rattle.std.specs.Prelude.{Bool, option_map, is_some}
 use Rattle.std.specs.List.{list_all}
 use Rattle.certificate.specs.Views.{bound_of, name_of}
-use Rattle.programs.specs.Views.{instruction_of}
+use Rattle.instruction_set.specs.Views.{instruction_of}
 use Rattle.rules.specs.Expansions.{bound_met}
 use Rattle.rules.specs.Outcomes.{Outcome, error_outcomes}
 use Rattle.rules.proofs.expansions.Arriving.{errors_there}

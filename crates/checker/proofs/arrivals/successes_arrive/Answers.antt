@@ -3,7 +3,7 @@ use Rattle.std.specs.Prelude.{Option, is_some, option_map}
 use Rattle.std.specs.List.{list_all}
 use Rattle.certificate.specs.Bounds.{Bound}
 use Rattle.certificate.specs.Views.{bound_of, name_of}
-use Rattle.programs.specs.Views.{instruction_of}
+use Rattle.instruction_set.specs.Views.{instruction_of}
 use Rattle.rules.specs.Expansions.{bound_met}
 use Rattle.rules.specs.Outcomes.{Outcome}
 use Rattle.rules.specs.Rules.{all_there, all_within, within_if_there}

@@ -1,5 +1,5 @@
 use Rattle.std.proofs.Common.{◌∙◌, sym}
-use Rattle.programs.specs.Views.{syscall_of}
+use Rattle.instruction_set.specs.Views.{syscall_of}
 use Rattle.checker.proofs.KeptRules.{none_broken}
 use Rattle.checker.proofs.broken.broken_in_call.Goals as goal
 

@@ -1,5 +1,5 @@
 use Rattle.std.proofs.Common.{◌≡◌, ◌∙◌, true, false, refl, sym}
-use Rattle.programs.specs.Views.{instruction_of}
+use Rattle.instruction_set.specs.Views.{instruction_of}
 use Rattle.checker.proofs.Joined.{all_met, call_breaks, last_breaks, marks_break}
 use Rattle.checker.proofs.broken.broken_in_turn.Goals as goal
 use Rattle.checker.proofs.broken.broken_in_turn.Goals.{then-successes_there, else-successes_there}

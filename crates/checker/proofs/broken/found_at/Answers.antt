@@ -1,7 +1,7 @@
 use Rattle.std.proofs.Common.{◌∙◌, ap, sym}
 use Rattle.std.specs.Prelude.{Some, None, option_map}
 use Rattle.certificate.specs.Views.{bound_of, name_of}
-use Rattle.programs.specs.Views.{instruction_of}
+use Rattle.instruction_set.specs.Views.{instruction_of}
 use Rattle.rules.specs.Verdicts.{found_with}
 use Rattle.checker.proofs.Standing.{found_is, stands}
 use Rattle.checker.proofs.broken.found_at.Goals as goal

@@ -1,5 +1,5 @@
 use Rattle.std.proofs.Common.{◌≡◌, ◌∙◌, true, refl, sym}
-use Rattle.programs.specs.Views.{instruction_of}
+use Rattle.instruction_set.specs.Views.{instruction_of}
 use Rattle.checker.proofs.Joined.{all_met, marks_break}
 use Rattle.checker.proofs.broken.keeps_first.Goals as goal
 

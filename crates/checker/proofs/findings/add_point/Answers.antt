@@ -2,7 +2,7 @@ use Rattle.std.proofs.Common.{◌∙◌, ◌++◌, Some, None, map, append-nil, 
 use Rattle.std.specs.Prelude.{option_map}
 use Rattle.std.proofs.lemmas.Result.{on_ok_weaker}
 use Rattle.certificate.specs.Views.{bound_of, name_of}
-use Rattle.programs.specs.Views.{instruction_of}
+use Rattle.instruction_set.specs.Views.{instruction_of}
 use Rattle.rules.specs.Expansions.{expansion}
 use Rattle.checker.specs.FindingViews.{broken_rule_of}
 use Rattle.checker.specs.Findings.{findings_in, tests_with}

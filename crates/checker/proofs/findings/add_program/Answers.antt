@@ -2,7 +2,7 @@ use Rattle.std.proofs.Common.{◌≡◌, ◌∙◌, ◌++◌, ◌+◌, length, m
 use Rattle.std.specs.Prelude.{IfSome, option_map}
 use Rattle.task.specs.Plans.{program_name}
 use Rattle.certificate.specs.Views.{bound_of, name_of}
-use Rattle.programs.specs.Views.{code_of}
+use Rattle.instruction_set.specs.Views.{code_of}
 use Rattle.rules.specs.Expansions.{carried_to, expansion}
 use Rattle.checker.specs.FindingViews.{broken_rule_of}
 use Rattle.checker.specs.Findings.{findings_before}

@@ -1,6 +1,6 @@
 use Rattle.std.proofs.Common.{◌∙◌, ◌++◌, map, ap, sym}
 use Rattle.std.proofs.lemmas.Result.{on_ok_weaker}
-use Rattle.programs.specs.Views.{instruction_of}
+use Rattle.instruction_set.specs.Views.{instruction_of}
 use Rattle.checker.specs.FindingViews.{broken_rule_of}
 use Rattle.checker.proofs.Apart.{added, after_four, parts}
 use Rattle.checker.proofs.findings.add_with.Goals as goal

@@ -1,7 +1,7 @@
 use Rattle.std.proofs.Common.{◌∙◌, sym}
 use Rattle.certificate.specs.Views.{bound_of, name_of}
 use Rattle.checker.specs.AllowanceViews.{allowance_of}
-use Rattle.programs.specs.Views.{instruction_of}
+use Rattle.instruction_set.specs.Views.{instruction_of}
 use Rattle.checker.proofs.Marked.{told_17, told_18, told_later}
 use Rattle.checker.proofs.marks.broken_by_marks.Goals as goal
 

@@ -1,6 +1,6 @@
 use Rattle.std.proofs.Common.{ap, ◌∙◌}
 use Rattle.std.specs.List.{slice_get}
-use Rattle.programs.specs.Views.{instruction_of}
+use Rattle.instruction_set.specs.Views.{instruction_of}
 use Rattle.checker.proofs.KnownLimits.{known_there}
 use Rattle.checker.proofs.points.instruction_at.Goals as goal
 

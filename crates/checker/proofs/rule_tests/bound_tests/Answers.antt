@@ -1,5 +1,5 @@
 use Rattle.checker.specs.AllowanceViews.{allowance_of}
-use Rattle.programs.specs.Views.{instruction_of}
+use Rattle.instruction_set.specs.Views.{instruction_of}
 use Rattle.checker.proofs.Apart.{bound_kept}
 use Rattle.checker.proofs.rule_tests.bound_tests.Goals as goal
 

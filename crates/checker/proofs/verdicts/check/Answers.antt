@@ -1,7 +1,7 @@
 use Rattle.std.proofs.Common.{◌≡◌, ℕ, ◌+◌, ◌<◌, ◌≤◌, ◌⊎◌, inl, inr, arith, ap, sym, ◌∙◌, subst, length}
 use Rattle.std.specs.Prelude.{None, true}
 use Rattle.std.proofs.Math.ListN.{length-map}
-use Rattle.programs.specs.Views.{instruction_of}
+use Rattle.instruction_set.specs.Views.{instruction_of}
 use Rattle.kernel.proofs.Fresh.{lt_or_le}
 use Rattle.rules.specs.Expansions.{expansion}
 use Rattle.rules.specs.Verdicts.{MeetsRules, found_at}

@@ -2,7 +2,7 @@ use Rattle.std.proofs.Common.{◌≡◌, ◌+◌, ◌<◌, ◌≤◌, ◌⊎◌,
 use Rattle.std.specs.Prelude.{None, option_map}
 use Rattle.kernel.proofs.Fresh.{lt_or_le}
 use Rattle.certificate.specs.Views.{bound_of, name_of}
-use Rattle.programs.specs.Views.{code_of}
+use Rattle.instruction_set.specs.Views.{code_of}
 use Rattle.rules.specs.Expansions.{carried_to, expansion}
 use Rattle.rules.specs.Verdicts.{found_at}
 use Rattle.checker.proofs.PastEnds.{no_instruction}

@@ -1,11 +1,11 @@
 use Rattle.std.proofs.Common.{map}
-use Rattle.programs.specs.Views.{instruction_of}
+use Rattle.instruction_set.specs.Views.{instruction_of}
 use Rattle.commands.proofs.Listings.{lines_at}
 use Rattle.task.specs.Views.{grants_of}
 use Rattle.certificate_text.specs.Pieces.{in_order}
 use Rattle.certificate_text.proofs.Loops.{loop-end, loop-failed, loop-next}
 use Rattle.certificate_text.proofs.Written.{passed_on}
-use Rattle.programs.specs.declared.instructions.Instruction.TheVariants.{Halt}
+use Rattle.instruction_set.specs.declared.instructions.Instruction.TheVariants.{Halt}
 use Rattle.commands.proofs.Listings.{same-at}
 use Rattle.std.specs.List.{slice_index_or}
 use Rattle.commands.proofs.reporting.write_points.Goals as goal

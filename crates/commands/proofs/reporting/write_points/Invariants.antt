@@ -1,5 +1,5 @@
 use Rattle.std.proofs.Common.{drop, map}
-use Rattle.programs.specs.Views.{instruction_of}
+use Rattle.instruction_set.specs.Views.{instruction_of}
 use Rattle.commands.proofs.Listings.{lines_at}
 use Rattle.task.specs.Views.{grants_of}
 use Rattle.certificate_text.specs.Pieces.{in_order}

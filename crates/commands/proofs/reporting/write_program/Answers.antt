@@ -1,7 +1,7 @@
 use Rattle.std.proofs.Common.{◌++◌, [], List, ℕ, ap}
 use Rattle.std.specs.Prelude.{if◌then◌else◌}
 use Rattle.certificate_text.proofs.Written.{passed_on, written-as, written-both, written-front}
-use Rattle.programs.specs.Views.{code_of}
+use Rattle.instruction_set.specs.Views.{code_of}
 use Rattle.task.specs.Views.{grants_of, program_of}
 use Rattle.commands.specs.Reports.{ceiling_lines}
 use Rattle.commands.proofs.Listings.{points-as}

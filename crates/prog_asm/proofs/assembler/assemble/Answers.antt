@@ -1,10 +1,10 @@
 use Rattle.std.proofs.Common.{◌≡◌, [], ap, sym, ◌∙◌, subst}
 use Rattle.std.specs.Prelude.{Ok}
 use Rattle.std.proofs.lemmas.Result.{err_from_is_err_and}
-use Rattle.programs.specs.Lines.{text_lines}
-use Rattle.programs.specs.Assembly.{assembly_of, lines_behind}
+use Rattle.instruction_set.specs.Lines.{text_lines}
+use Rattle.instruction_set.specs.Assembly.{assembly_of, lines_behind}
 use Rattle.prog_asm.specs.FaultViews.{FaultIs}
-use Rattle.programs.specs.Views.{code_of}
+use Rattle.instruction_set.specs.Views.{code_of}
 use Rattle.prog_asm.proofs.GoodPrograms.{assembly-fault, assembly-good, assembly-lines, draft-few}
 use Rattle.prog_asm.proofs.assembler.assemble.Goals as goal
 

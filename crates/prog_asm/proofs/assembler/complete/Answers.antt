@@ -1,11 +1,11 @@
 use Rattle.std.proofs.Common.{ℕ, List, length, map, ap, sym, ◌∙◌}
 use Rattle.std.specs.Prelude.{Option}
 use Rattle.std.proofs.lemmas.Result.{err_from_is_err_and}
-use Rattle.programs.specs.Assembly.{code_from, complete as complete_code}
+use Rattle.instruction_set.specs.Assembly.{code_from, complete as complete_code}
 use Rattle.prog_asm.specs.DraftViews.{below, step_from}
 use Rattle.prog_asm.specs.LineViews.{point_in}
-use Rattle.programs.specs.Programs.{ends_well}
-use Rattle.programs.specs.Views.{code_of}
+use Rattle.instruction_set.specs.Programs.{ends_well}
+use Rattle.instruction_set.specs.Views.{code_of}
 use Rattle.prog_asm.proofs.Points.{code-ends, code-falls, fault-passes}
 use Rattle.prog_asm.proofs.assembler.complete.Goals as goal
 

@@ -1,6 +1,6 @@
 use Rattle.std.proofs.Common.{ap, sym, ◌∙◌}
-use Rattle.programs.specs.Programs.{is_last}
-use Rattle.programs.specs.Views.{instruction_of}
+use Rattle.instruction_set.specs.Programs.{is_last}
+use Rattle.instruction_set.specs.Views.{instruction_of}
 use Rattle.prog_asm.proofs.Lasts.{ends_well-last}
 use Rattle.prog_asm.proofs.assembler.ends_well.Goals as goal
 

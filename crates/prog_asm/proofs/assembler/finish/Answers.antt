@@ -1,6 +1,6 @@
 use Rattle.std.proofs.Common.{subst}
 use Rattle.prog_asm.specs.FaultViews.{Gives}
-use Rattle.programs.specs.Views.{code_of}
+use Rattle.instruction_set.specs.Views.{code_of}
 use Rattle.prog_asm.proofs.Points.{completed-drafts}
 use Rattle.prog_asm.proofs.assembler.finish.Goals as goal
 

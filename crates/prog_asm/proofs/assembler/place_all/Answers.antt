@@ -1,10 +1,10 @@
 use Rattle.std.proofs.Common.{◌≡◌, ◌∷◌, ℕ, List, map, ap, sym, ◌∙◌}
 use Rattle.std.specs.Prelude.{Option, Some, option_map}
 use Rattle.std.proofs.lemmas.List.{map-append}
-use Rattle.programs.specs.Assembly.{code_from, placed}
+use Rattle.instruction_set.specs.Assembly.{code_from, placed}
 use Rattle.prog_asm.specs.DraftViews.{below, step_from}
 use Rattle.prog_asm.specs.LineViews.{point_in}
-use Rattle.programs.specs.Views.{code_of, instruction_of}
+use Rattle.instruction_set.specs.Views.{code_of, instruction_of}
 use Rattle.prog_asm.proofs.CodePlaced.{behind, behind-placed}
 use Rattle.prog_asm.proofs.assembler.place_all.Goals as goal
 

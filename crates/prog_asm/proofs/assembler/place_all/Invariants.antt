@@ -1,8 +1,8 @@
 use Rattle.std.proofs.Common.{◌≡◌, length, map}
-use Rattle.programs.specs.Assembly.{code_from}
+use Rattle.instruction_set.specs.Assembly.{code_from}
 use Rattle.prog_asm.specs.DraftViews.{below, step_from}
 use Rattle.prog_asm.specs.LineViews.{point_in}
-use Rattle.programs.specs.Views.{code_of}
+use Rattle.instruction_set.specs.Views.{code_of}
 use Rattle.prog_asm.proofs.CodePlaced.{behind}
 use Rattle.prog_asm.proofs.assembler.place_all.Given as goal
 

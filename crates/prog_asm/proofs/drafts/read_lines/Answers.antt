@@ -1,7 +1,7 @@
 use Rattle.std.proofs.Common.{◌≡◌, ◌+◌, ◌<◌, ◌^◌, ◌∷◌, length, ap, sym, subst, ◌∙◌, arith, inl}
 use Rattle.std.specs.Iterator.Adapters.{enumerate_source, enumerate_count}
 use Rattle.texts.specs.LineViews.{line_of}
-use Rattle.programs.specs.Assembly.{line_read as read_line}
+use Rattle.instruction_set.specs.Assembly.{line_read as read_line}
 use Rattle.prog_asm.specs.DraftViews.{AddsLine}
 use Rattle.prog_asm.proofs.LinesRead.{LinesSoFar, none-read, one-read}
 use Rattle.prog_asm.proofs.drafts.read_lines.Goals as goal

@@ -1,6 +1,6 @@
 use Rattle.std.proofs.Common.{◌≡◌, take, drop, ◌++◌}
 use Rattle.std.specs.Prelude.{false}
-use Rattle.programs.specs.Lines.{uncommented_from}
+use Rattle.instruction_set.specs.Lines.{uncommented_from}
 use Rattle.prog_asm.proofs.lines.before_comment.Given as goal
 
 -- what is before the comment so far, and what is left

@@ -1,6 +1,6 @@
 use Rattle.std.proofs.Common.{◌≡◌, drop}
 use Rattle.std.specs.Prelude.{false}
-use Rattle.programs.specs.Lines.{has_stray_from}
+use Rattle.instruction_set.specs.Lines.{has_stray_from}
 use Rattle.prog_asm.proofs.lines.has_stray.Given as goal
 
 -- what is left decides it

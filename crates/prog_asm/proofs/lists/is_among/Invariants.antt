@@ -1,6 +1,6 @@
 use Rattle.std.proofs.Common.{◌≡◌, length}
 use Rattle.texts.specs.Parts.{parts}
-use Rattle.programs.specs.Fields.{is_word_among}
+use Rattle.instruction_set.specs.Fields.{is_word_among}
 use Rattle.prog_asm.proofs.lists.is_among.Given as goal
 
 -- what is left decides it

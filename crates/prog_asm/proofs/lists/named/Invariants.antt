@@ -1,5 +1,5 @@
 use Rattle.std.proofs.Common.{◌≡◌, map, drop}
-use Rattle.programs.specs.Fields.{set_of_word}
+use Rattle.instruction_set.specs.Fields.{set_of_word}
 use Rattle.prog_asm.proofs.lists.named.Given as goal
 
 -- the rows that are left decide it

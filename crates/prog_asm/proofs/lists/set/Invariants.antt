@@ -1,6 +1,6 @@
 use Rattle.std.proofs.Common.{◌≡◌, length}
 use Rattle.texts.specs.Parts.{parts}
-use Rattle.programs.specs.Fields.{union_from}
+use Rattle.instruction_set.specs.Fields.{union_from}
 use Rattle.prog_asm.proofs.lists.set.Given as goal
 
 -- the set so far, and then what is left

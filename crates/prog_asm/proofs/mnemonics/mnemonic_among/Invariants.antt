@@ -1,5 +1,5 @@
 use Rattle.std.proofs.Common.{◌≡◌, map, drop}
-use Rattle.programs.specs.Forms.{mnemonic_among}
+use Rattle.instruction_set.specs.Forms.{mnemonic_among}
 use Rattle.prog_asm.specs.FormViews.{mnemonic_from}
 use Rattle.prog_asm.proofs.mnemonics.mnemonic_among.Given as goal
 

@@ -1,8 +1,8 @@
 use Rattle.std.proofs.Common.{◌≡◌, ◌<◌, ◌≤◌, ◌∙◌, List, length, ap, sym, arith, vec_len}
 use Rattle.std.specs.Prelude.{Some}
 use Rattle.process.specs.State.{Deed, ProcessState, handed_to}
-use Rattle.programs.specs.Programs.{Instruction}
-use Rattle.programs.specs.Views.{instruction_of}
+use Rattle.instruction_set.specs.Programs.{Instruction}
+use Rattle.instruction_set.specs.Views.{instruction_of}
 use Rattle.kernel.specs.World.{World}
 use Rattle.syscalls.specs.Views.{world_of}
 use Rattle.simulator.proofs.Aside.{changed_past}

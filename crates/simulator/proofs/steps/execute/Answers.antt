@@ -5,7 +5,7 @@ use Rattle.fd_table.specs.Kept.{open_files}
 use Rattle.process.specs.State.{ProcessState}
 use Rattle.kernel.specs.Alike.{AlikeWorlds}
 use Rattle.kernel.specs.Steps.{halted}
-use Rattle.programs.specs.Views.{instruction_of}
+use Rattle.instruction_set.specs.Views.{instruction_of}
 use Rattle.syscalls.specs.CallViews.{result_of as outcome_of}
 use Rattle.syscalls.specs.MayCall.{CallComes, MayInvoke}
 use Rattle.syscalls.specs.Views.{effects_of, event_of, world_of, world_with}

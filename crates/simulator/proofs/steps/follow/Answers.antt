@@ -1,7 +1,7 @@
 use Rattle.std.proofs.Common.{◌∙◌, List, ap, sym}
 use Rattle.std.specs.List.{slice_get}
 use Rattle.process.specs.State.{ProcessState}
-use Rattle.programs.specs.Views.{instruction_of}
+use Rattle.instruction_set.specs.Views.{instruction_of}
 use Rattle.syscalls.specs.Views.{effects_of, event_of, world_of}
 use Rattle.task.specs.Plans.{NamedProgram, code_in, programs_of_plan}
 use Rattle.task.proofs.FirstWorlds.{first_well_formed}

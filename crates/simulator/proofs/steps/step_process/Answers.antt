@@ -4,7 +4,7 @@ use Rattle.fd_table.specs.Kept.{open_files}
 use Rattle.process.specs.State.{ProcessState}
 use Rattle.process.specs.Views.{deed_of}
 use Rattle.kernel.specs.World.{World}
-use Rattle.programs.specs.Views.{instruction_of}
+use Rattle.instruction_set.specs.Views.{instruction_of}
 use Rattle.syscalls.specs.Views.{effects_of, event_of, world_of, world_with}
 use Rattle.task.specs.Plans.{programs_of_plan}
 use Rattle.simulator.specs.Deeds.{finished}

@@ -2,7 +2,7 @@ use Rattle.std.proofs.Common.{◌≡◌, ℕ, true, length, sym, subst}
 use Rattle.std.specs.Prelude.{IfOk, OnOk, Ok, Err, Result, Some}
 use Rattle.std.specs.List.{slice_get}
 use Rattle.rights.specs.Limits.{register_count}
-use Rattle.programs.specs.Views.{instruction_of}
+use Rattle.instruction_set.specs.Views.{instruction_of}
 use Rattle.process.specs.State.{Deed}
 use Rattle.kernel.specs.Answers.{Event, IsEvent}
 use Rattle.kernel.specs.Hostile.{Does}

@@ -1,6 +1,6 @@
 use Rattle.std.proofs.Common.{sym, subst, refl}
 use Rattle.fd_table.specs.Kept.{open_files}
-use Rattle.programs.specs.Views.{operand_of}
+use Rattle.instruction_set.specs.Views.{operand_of}
 use Rattle.kernel.specs.Answers.{value_of}
 use Rattle.kernel.specs.Calls.{answer, seeks}
 use Rattle.syscalls.specs.AnswerViews.{Meets}

@@ -3,7 +3,7 @@ use Rattle.std.specs.Prelude.{not}
 use Rattle.file_tree.specs.Nodes.{node}
 use Rattle.file_tree.specs.Changes.{written}
 use Rattle.fd_table.specs.Kept.{open_files}
-use Rattle.programs.specs.Views.{operand_of}
+use Rattle.instruction_set.specs.Views.{operand_of}
 use Rattle.kernel.specs.Answers.{Fill, value_of}
 use Rattle.kernel.specs.Calls.{write_at}
 use Rattle.syscalls.specs.AnswerViews.{Succeeds}

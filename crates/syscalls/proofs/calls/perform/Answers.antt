@@ -3,8 +3,8 @@ use Rattle.fd_table.specs.Kept.{open_files}
 use Rattle.lookup.specs.Answers.{Beneath, Follow, Global, Keep}
 use Rattle.lookup.specs.UnderWay.{IsUnderWay}
 use Rattle.process.specs.Views.{walking_in}
-use Rattle.programs.specs.Paths.{has_path}
-use Rattle.programs.specs.Views.{operand_of, syscall_of}
+use Rattle.instruction_set.specs.Paths.{has_path}
+use Rattle.instruction_set.specs.Views.{operand_of, syscall_of}
 use Rattle.kernel.specs.Calls.{last_if}
 use Rattle.kernel.specs.Walks.{IfOne, IfTwo, lookups_of}
 use Rattle.kernel.proofs.FittingWalks.{both_under, directory_under, none_under, root_under}

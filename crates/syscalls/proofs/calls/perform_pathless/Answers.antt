@@ -1,7 +1,7 @@
 use Rattle.std.proofs.Common.{ap}
 use Rattle.fd_table.specs.Kept.{open_files}
-use Rattle.programs.specs.Programs as programs
-use Rattle.programs.specs.Views.{operand_of, syscall_of}
+use Rattle.instruction_set.specs.Programs as programs
+use Rattle.instruction_set.specs.Views.{operand_of, syscall_of}
 use Rattle.syscalls.proofs.Walked.{performs_as}
 use Rattle.syscalls.proofs.calls.perform_pathless.Goals as goal
 

@@ -7,7 +7,7 @@ use Rattle.fd_table.specs.Kept.{open_files}
 use Rattle.kernel.specs.Answers.{Set_entry, value_of}
 use Rattle.kernel.specs.Calls.{answer}
 use Rattle.kernel.specs.Changes.{files_after}
-use Rattle.programs.specs.Views.{operand_of}
+use Rattle.instruction_set.specs.Views.{operand_of}
 use Rattle.syscalls.specs.Views.{world_with, effects_of}
 use Rattle.syscalls.proofs.Finding.{refused_alone}
 use Rattle.syscalls.proofs.Tests.{passes, fails}

@@ -5,7 +5,7 @@ use Rattle.file_tree.specs.Places.{at_name}
 use Rattle.lookup.specs.Promises.{IsFindingThere, IsUnderName}
 use Rattle.lookup.specs.Views.{found_of}
 use Rattle.rights.specs.Needs.{Second, needs_of}
-use Rattle.programs.specs.Programs.{called}
+use Rattle.instruction_set.specs.Programs.{called}
 use Rattle.kernel.specs.Answers.{gives, granted}
 use Rattle.kernel.specs.Calls.{renamed_free, renamed_over, no_request}
 use Rattle.syscalls.specs.AnswerViews.{Meets}

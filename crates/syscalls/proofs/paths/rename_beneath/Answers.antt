@@ -2,8 +2,8 @@ use Rattle.std.proofs.Common.{sym, subst, refl, ap, ◌∙◌}
 use Rattle.rights.specs.Sets.{is_within}
 use Rattle.fd_table.specs.Kept.{open_files}
 use Rattle.kernel.specs.Calls.{answer, renamed_to}
-use Rattle.programs.specs.Programs.{Renameat}
-use Rattle.programs.specs.Views.{operand_of}
+use Rattle.instruction_set.specs.Programs.{Renameat}
+use Rattle.instruction_set.specs.Views.{operand_of}
 use Rattle.syscalls.specs.AnswerViews.{Meets, Refuses, held_seen, state_with}
 use Rattle.syscalls.specs.Views.{world_with}
 use Rattle.syscalls.proofs.Finding.{refused_alone}

@@ -3,7 +3,7 @@ use Rattle.std.specs.Prelude.{None}
 use Rattle.fd_table.specs.Kept.{open_files}
 use Rattle.process.specs.State.{ProcessState}
 use Rattle.process.specs.Views.{walking_in}
-use Rattle.programs.specs.Views.{syscall_of}
+use Rattle.instruction_set.specs.Views.{syscall_of}
 use Rattle.kernel.specs.Calls.{answer}
 use Rattle.syscalls.specs.AnswerViews.{Meets}
 use Rattle.syscalls.specs.CallViews.{Comes, Settles, result_of}

@@ -1,5 +1,5 @@
 use Rattle.certificate.specs.Views.{bound_of}
-use Rattle.programs.specs.Views.{syscall_of}
+use Rattle.instruction_set.specs.Views.{syscall_of}
 use Rattle.transfer.specs.Views.{needs_in}
 use Rattle.transfer.proofs.UseTests.{first_passes, first_fails}
 use Rattle.transfer.proofs.asks.all_uses_pass.Goals as goal

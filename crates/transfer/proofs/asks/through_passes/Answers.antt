@@ -1,7 +1,7 @@
 use Rattle.std.proofs.Common.{sym, ◌∙◌}
 use Rattle.std.proofs.lemmas.List.Folds.{list_all-map}
 use Rattle.certificate.specs.Views.{bound_of}
-use Rattle.programs.specs.Views.{operand_of}
+use Rattle.instruction_set.specs.Views.{operand_of}
 use Rattle.rules.specs.Slots.{slots_in}
 use Rattle.rules.specs.Uses.{use_of}
 use Rattle.transfer.specs.Views.{need_of}

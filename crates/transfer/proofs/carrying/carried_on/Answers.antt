@@ -1,6 +1,6 @@
 use Rattle.std.proofs.Common.{◌+◌, Some, [], ◌∷◌, option_map, refl}
 use Rattle.certificate.specs.Views.{bound_of}
-use Rattle.programs.specs.Views.{instruction_of}
+use Rattle.instruction_set.specs.Views.{instruction_of}
 use Rattle.rules.specs.Outcomes.{error_outcomes}
 use Rattle.transfer.specs.CallViews.{successes_at}
 use Rattle.transfer.specs.OutcomeViews.{outcome_of}

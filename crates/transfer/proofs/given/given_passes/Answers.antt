@@ -1,6 +1,6 @@
 use Rattle.std.proofs.Common.{refl}
 use Rattle.certificate.specs.Views.{bound_of, interval_of}
-use Rattle.programs.specs.Views.{operand_of}
+use Rattle.instruction_set.specs.Views.{operand_of}
 use Rattle.rules.specs.Slots.{OpenSlot, slots_in}
 use Rattle.transfer.specs.GivenViews.{may_be, stays}
 use Rattle.transfer.proofs.Keeping.{one_settles, none_kept, some_kept}

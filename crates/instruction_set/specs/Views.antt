@@ -1,13 +1,13 @@
 -- What the values of the code stand for.
 use Rattle.std.specs.Prelude.{List, map}
-use Rattle.programs.specs.declared.operands.Operand.{Operand as OperandCode}
-use Rattle.programs.specs.declared.operands.Operand.TheVariants as operand
-use Rattle.programs.specs.declared.instructions.Syscall.{Syscall as SyscallCode}
-use Rattle.programs.specs.declared.instructions.Syscall.TheVariants as call
-use Rattle.programs.specs.declared.instructions.Instruction.{Instruction as InstructionCode}
-use Rattle.programs.specs.declared.instructions.Instruction.TheVariants as instruction
-use Rattle.programs.specs.Programs.{Operand, Syscall, Instruction}
-use Rattle.programs.specs.Programs as programs
+use Rattle.instruction_set.specs.declared.operands.Operand.{Operand as OperandCode}
+use Rattle.instruction_set.specs.declared.operands.Operand.TheVariants as operand
+use Rattle.instruction_set.specs.declared.instructions.Syscall.{Syscall as SyscallCode}
+use Rattle.instruction_set.specs.declared.instructions.Syscall.TheVariants as call
+use Rattle.instruction_set.specs.declared.instructions.Instruction.{Instruction as InstructionCode}
+use Rattle.instruction_set.specs.declared.instructions.Instruction.TheVariants as instruction
+use Rattle.instruction_set.specs.Programs.{Operand, Syscall, Instruction}
+use Rattle.instruction_set.specs.Programs as programs
 
 abbrev pub operand_of : OperandCode → Operand
 operand_of (operand.Register register) = programs.Register register

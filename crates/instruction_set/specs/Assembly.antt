@@ -4,10 +4,10 @@ use Rattle.std.specs.Str.{bytes_eq}
 use Rattle.texts.specs.Bytes.{colon}
 use Rattle.rights.specs.Limits.{most_instructions}
 use Rattle.texts.specs.Names.{is_name}
-use Rattle.programs.specs.Programs.{Instruction, ends_well}
-use Rattle.programs.specs.Lines.{text_lines, uncommented, has_stray, quoted_words}
-use Rattle.programs.specs.Fields.{before_last}
-use Rattle.programs.specs.Forms.{Mnemonic, mnemonic_of, Written, Alone, Leading, led, written_of}
+use Rattle.instruction_set.specs.Programs.{Instruction, ends_well}
+use Rattle.instruction_set.specs.Lines.{text_lines, uncommented, has_stray, quoted_words}
+use Rattle.instruction_set.specs.Fields.{before_last}
+use Rattle.instruction_set.specs.Forms.{Mnemonic, mnemonic_of, Written, Alone, Leading, led, written_of}
 
 -- What can be wrong. On a line the first of these that applies is told.
 pub data Mistake : Type 0 where

@@ -1,8 +1,8 @@
 //! Copies of instructions, for who has to keep one.
 
 ghost use Rattle.std.specs.Prelude.{◌≡◌, IfOk, false};
-ghost use Rattle.programs.specs.Paths.{has_path};
-ghost use Rattle.programs.specs.Views.{instruction_of, syscall_of};
+ghost use Rattle.instruction_set.specs.Paths.{has_path};
+ghost use Rattle.instruction_set.specs.Views.{instruction_of, syscall_of};
 
 use crate::instructions::{Instruction, Syscall};
 use crate::operands::Path;

@@ -2,7 +2,7 @@
 
 ghost use Rattle.std.specs.Prelude.{◌≡◌, ◌<◌, ◌↔◌, true, IsSome, IfSome, IsTrue, nat_lt};
 ghost use Rattle.std.specs.List.{list_all};
-ghost use Rattle.programs.specs.Programs.{is_path, is_path_byte};
+ghost use Rattle.instruction_set.specs.Programs.{is_path, is_path_byte};
 
 use rights::limits::REGISTERS;
 use std::marker::Model;
@@ -82,7 +82,7 @@ pub struct Path {
 
 impl Model for Path {
     ghost use Rattle.std.specs.Prelude.{◌≡◌, ℕ, List, true};
-    ghost use Rattle.programs.specs.Programs.{is_path};
+    ghost use Rattle.instruction_set.specs.Programs.{is_path};
 
     ghost Value = { List ℕ };
 

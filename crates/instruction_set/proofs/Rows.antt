@@ -2,10 +2,10 @@
 use Rattle.std.proofs.Common.{◌≡◌, ℕ, zero, suc, List, [], ◌∷◌, ◌++◌, codes, refl}
 use Rattle.std.specs.Prelude.{true, false, Ok, Err}
 use Rattle.rights.specs.Opens.{OpenRequest, open_request}
-use Rattle.programs.specs.Programs.{Mov, Add, In, Jmp, Jeq, Jlt, Halt, Invoke, Open, Openat, Read, Cap_enter, Stat, Unlinkat, Renameat, Close, Cap_rights_limit, Cap_fcntls_limit}
-use Rattle.programs.specs.Programs.{Sendfd, Recvfd, Socketpair, Fork, Number, Register}
-use Rattle.programs.specs.Forms.{written_at, syscall_at, register_at, number_at, operand_at, path_at, flags_at, rights_at, commands_at, label_at, directory_at, else_at}
-use Rattle.programs.specs.Assembly.{assembly_of, line_read, fault, Word, Operand, NoLabel, TwiceLabel, TooMany, FallsOff}
+use Rattle.instruction_set.specs.Programs.{Mov, Add, In, Jmp, Jeq, Jlt, Halt, Invoke, Open, Openat, Read, Cap_enter, Stat, Unlinkat, Renameat, Close, Cap_rights_limit, Cap_fcntls_limit}
+use Rattle.instruction_set.specs.Programs.{Sendfd, Recvfd, Socketpair, Fork, Number, Register}
+use Rattle.instruction_set.specs.Forms.{written_at, syscall_at, register_at, number_at, operand_at, path_at, flags_at, rights_at, commands_at, label_at, directory_at, else_at}
+use Rattle.instruction_set.specs.Assembly.{assembly_of, line_read, fault, Word, Operand, NoLabel, TwiceLabel, TooMany, FallsOff}
 
 abbrev read_only : OpenRequest
 read_only = open_request true false false false false

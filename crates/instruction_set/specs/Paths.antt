@@ -1,6 +1,6 @@
 -- Which calls have paths. (own)
 use Rattle.std.specs.Prelude.{Bool, true, false}
-use Rattle.programs.specs.Programs.{Syscall, Open, Openat, Fstatat, Stat, Mkdirat, Mkdir, Unlinkat, Unlink, Renameat}
+use Rattle.instruction_set.specs.Programs.{Syscall, Open, Openat, Fstatat, Stat, Mkdirat, Mkdir, Unlinkat, Unlink, Renameat}
 
 -- one path, or two of them
 abbrev pub has_path : Syscall → Bool

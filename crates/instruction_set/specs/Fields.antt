@@ -7,7 +7,7 @@ use Rattle.rights.specs.Sets.{is_within, right_names, command_names}
 use Rattle.texts.specs.Names.{is_name}
 use Rattle.texts.specs.Numbers.{at_most, number_of}
 use Rattle.texts.specs.Parts.{parts}
-use Rattle.programs.specs.Programs.{Operand, Register, Number, is_path}
+use Rattle.instruction_set.specs.Programs.{Operand, Register, Number, is_path}
 
 -- a label's name
 abbrev pub read_name : List ℕ → Option (List ℕ)

@@ -1,6 +1,6 @@
 use Rattle.std.proofs.Common.{◌≡◌, drop}
-use Rattle.programs.specs.Programs.{is_path}
-use Rattle.programs.proofs.operands.is_valid_path.Given as goal
+use Rattle.instruction_set.specs.Programs.{is_path}
+use Rattle.instruction_set.proofs.operands.is_valid_path.Given as goal
 
 -- what is left decides it
 abbrev pub invariant-loop-byte : goal.invariant-loop-byte

@@ -5,9 +5,9 @@ use Rattle.std.specs.Str.{bytes_eq}
 use Rattle.rights.specs.Calls.{Call, call_name}
 use Rattle.rights.specs.Calls as calls
 use Rattle.rights.specs.Opens.{OpenRequest}
-use Rattle.programs.specs.Programs.{Operand, Syscall, Instruction}
-use Rattle.programs.specs.Programs as programs
-use Rattle.programs.specs.Fields.{read_name, read_value, read_register, read_operand, read_path, read_rights, read_commands, read_flags}
+use Rattle.instruction_set.specs.Programs.{Operand, Syscall, Instruction}
+use Rattle.instruction_set.specs.Programs as programs
+use Rattle.instruction_set.specs.Fields.{read_name, read_value, read_register, read_operand, read_path, read_rights, read_commands, read_flags}
 
 -- the word that an instruction begins with
 pub data Mnemonic : Type 0 where

@@ -2,8 +2,8 @@
 
 ghost use Rattle.std.specs.Prelude.{◌≡◌};
 ghost use Rattle.rights.specs.Views.{call_of};
-ghost use Rattle.programs.specs.Programs.{called};
-ghost use Rattle.programs.specs.Views.{syscall_of};
+ghost use Rattle.instruction_set.specs.Programs.{called};
+ghost use Rattle.instruction_set.specs.Views.{syscall_of};
 
 use crate::operands::{Operand, Path, Register};
 use rights::{Call, Fcntls, OpenFlags, Rights};

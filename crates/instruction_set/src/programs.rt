@@ -1,8 +1,8 @@
 //! Programs as values.
 
 ghost use Rattle.std.specs.Prelude.{◌≡◌, ◌<◌, ◌≤◌, true, length, slice_get, option_map};
-ghost use Rattle.programs.specs.Programs.{is_program};
-ghost use Rattle.programs.specs.Views.{code_of, instruction_of};
+ghost use Rattle.instruction_set.specs.Programs.{is_program};
+ghost use Rattle.instruction_set.specs.Views.{code_of, instruction_of};
 
 use crate::instructions::Instruction;
 use std::marker::Model;
@@ -17,11 +17,11 @@ pub struct Program {
 
 impl Model for Program {
     ghost use Rattle.std.specs.Prelude.{◌≡◌, List, true};
-    ghost use Rattle.programs.specs.Programs.{Instruction, is_program};
+    ghost use Rattle.instruction_set.specs.Programs.{Instruction, is_program};
 
     ghost Value = { List Instruction };
 
-    ghost use Rattle.programs.specs.Views.{code_of};
+    ghost use Rattle.instruction_set.specs.Views.{code_of};
 
     ghost view = { λ p. code_of p.code.items };
 
