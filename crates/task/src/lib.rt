@@ -10,8 +10,8 @@ pub mod starts;
 pub mod tasks;
 
 pub use grants::Grant;
-pub use instruction_set::{NamedProgram, is_marked, none_marked};
 pub use nodes::TaskNode;
 pub use policies::{grant_holds, grant_lists, grant_named};
+pub use programs::{NamedProgram, is_marked, none_marked};
 pub use starts::{FirstDescriptor, FirstObject, Start};
 pub use tasks::Task;
