@@ -126,7 +126,7 @@ impl<'w, 't> Words<'w, 't> {
     }
 
     /// A register.
-    #[tactic(auto, unfolding(crate::specs::Forms::register_at))]
+    #[tactic(auto, unfolding(instruction_set::specs::Forms::register_at))]
     fn register(&mut self) -> Result<Register, Mistake>
         ensures { TakesField (λ register. register) result self.new (register_at self.old) }
     {
@@ -134,7 +134,7 @@ impl<'w, 't> Words<'w, 't> {
     }
 
     /// A number.
-    #[tactic(auto, unfolding(crate::specs::Forms::number_at))]
+    #[tactic(auto, unfolding(instruction_set::specs::Forms::number_at))]
     fn number(&mut self) -> Result<u32, Mistake>
         ensures { TakesField (λ number. number) result self.new (number_at self.old) }
     {
@@ -142,7 +142,7 @@ impl<'w, 't> Words<'w, 't> {
     }
 
     /// A register or a number.
-    #[tactic(auto, unfolding(crate::specs::Forms::operand_at))]
+    #[tactic(auto, unfolding(instruction_set::specs::Forms::operand_at))]
     fn operand(&mut self) -> Result<Operand, Mistake>
         ensures { TakesField operand_of result self.new (operand_at self.old) }
     {
@@ -150,7 +150,7 @@ impl<'w, 't> Words<'w, 't> {
     }
 
     /// A path in double quotes.
-    #[tactic(auto, unfolding(crate::specs::Forms::path_at))]
+    #[tactic(auto, unfolding(instruction_set::specs::Forms::path_at))]
     fn path(&mut self) -> Result<Path, Mistake>
         ensures { TakesField (λ path. path) result self.new (path_at self.old) }
     {
@@ -159,7 +159,7 @@ impl<'w, 't> Words<'w, 't> {
     }
 
     /// The flags of an open.
-    #[tactic(auto, unfolding(crate::specs::Forms::flags_at))]
+    #[tactic(auto, unfolding(instruction_set::specs::Forms::flags_at))]
     fn flags(&mut self) -> Result<OpenFlags, Mistake>
         ensures { TakesField (λ flags. flags) result self.new (flags_at self.old) }
     {
@@ -167,7 +167,7 @@ impl<'w, 't> Words<'w, 't> {
     }
 
     /// A list of rights.
-    #[tactic(auto, unfolding(crate::specs::Forms::rights_at))]
+    #[tactic(auto, unfolding(instruction_set::specs::Forms::rights_at))]
     fn rights(&mut self) -> Result<Rights, Mistake>
         ensures { TakesField (λ rights. rights.0) result self.new (rights_at self.old) }
     {
@@ -175,7 +175,7 @@ impl<'w, 't> Words<'w, 't> {
     }
 
     /// A list of fcntl commands.
-    #[tactic(auto, unfolding(crate::specs::Forms::commands_at))]
+    #[tactic(auto, unfolding(instruction_set::specs::Forms::commands_at))]
     fn commands(&mut self) -> Result<Fcntls, Mistake>
         ensures { TakesField (λ commands. commands.0) result self.new (commands_at self.old) }
     {
@@ -183,7 +183,7 @@ impl<'w, 't> Words<'w, 't> {
     }
 
     /// The name of a label.
-    #[tactic(auto, unfolding(crate::specs::Forms::label_at))]
+    #[tactic(auto, unfolding(instruction_set::specs::Forms::label_at))]
     fn label(&mut self) -> Result<&'t [u8], Mistake>
         ensures { TakesField (λ name. name.now) result self.new (label_at self.old) }
     {
@@ -196,7 +196,7 @@ impl<'w, 't> Words<'w, 't> {
     }
 
     /// The word `dir`, or nothing: whether it is there.
-    #[tactic(auto, unfolding(crate::specs::Forms::directory_at))]
+    #[tactic(auto, unfolding(instruction_set::specs::Forms::directory_at))]
     fn directory(&mut self) -> bool
         ensures { directory_at self.old ≡ Some (result, self.new) }
     {
@@ -210,7 +210,7 @@ impl<'w, 't> Words<'w, 't> {
     }
 
     /// The word `else` and a label.
-    #[tactic(auto, unfolding(crate::specs::Forms::else_at))]
+    #[tactic(auto, unfolding(instruction_set::specs::Forms::else_at))]
     fn otherwise(&mut self) -> Result<&'t [u8], Mistake>
         ensures { TakesField (λ name. name.now) result self.new (else_at self.old) }
     {
@@ -340,7 +340,7 @@ impl<'w, 't> Words<'w, 't> {
     }
 
     /// The operands of a call.
-    #[tactic(auto, unfolding(crate::specs::Forms::syscall_at, crate::specs::FormParts::descriptor_call_at, crate::specs::FormParts::operand_call_at, crate::specs::FormParts::at_call_at))]
+    #[tactic(auto, unfolding(instruction_set::specs::Forms::syscall_at, crate::specs::FormParts::descriptor_call_at, crate::specs::FormParts::operand_call_at, crate::specs::FormParts::at_call_at))]
     fn syscall(&mut self, call: Call) -> Result<Syscall, Mistake>
         ensures { TakesField syscall_of result self.new (syscall_at (call_of call) self.old) }
     {
@@ -361,7 +361,7 @@ impl<'w, 't> Words<'w, 't> {
     }
 
     /// The operands of a call, and where it leads after an error.
-    #[tactic(auto, unfolding(crate::specs::Forms::written_at, crate::specs::FormViews::written_from))]
+    #[tactic(auto, unfolding(instruction_set::specs::Forms::written_at, crate::specs::FormViews::written_from))]
     fn invocation(&mut self, call: Call) -> Result<Written<'t>, Mistake>
         ensures { TakesField written_from result self.new (written_at (Make (call_of call)) self.old) }
     {
@@ -417,7 +417,7 @@ impl<'w, 't> Words<'w, 't> {
     }
 
     /// The operands of an instruction.
-    #[tactic(auto, unfolding(crate::specs::Forms::written_at, crate::specs::FormParts::register_form_at, crate::specs::FormParts::comparison_at, crate::specs::FormViews::written_from))]
+    #[tactic(auto, unfolding(instruction_set::specs::Forms::written_at, crate::specs::FormParts::register_form_at, crate::specs::FormParts::comparison_at, crate::specs::FormViews::written_from))]
     fn written(&mut self, mnemonic: Mnemonic) -> Result<Written<'t>, Mistake>
         ensures { TakesField written_from result self.new (written_at (mnemonic_from mnemonic) self.old) }
     {

@@ -72,7 +72,7 @@ fn line_of_words<'t>(alloc: Global, words: &[&'t [u8]]) -> Result<Line<'t>, Mist
 }
 
 /// The line that a text stands for.
-#[tactic(auto, unfolding(crate::specs::Assembly::line_read))]
+#[tactic(auto, unfolding(instruction_set::specs::Assembly::line_read))]
 pub(crate) fn read_line<'t>(alloc: Global, text: &'t [u8]) -> Result<Line<'t>, Mistake>
     ensures { ReadsAssembly line_from result (line_read text.now) }
 {
