@@ -2,7 +2,7 @@ pub mod CallViews
 pub mod GivenViews
 pub mod Kept
 pub mod Limits
-pub mod Manners
+pub mod MannerViews
 pub mod OutcomeViews
 pub mod SiteViews
 pub mod Tested

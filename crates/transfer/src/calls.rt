@@ -8,7 +8,7 @@ ghost use Rattle.rules.specs.Outcomes.{is_formed, is_surely_on, mode_interval};
 ghost use Rattle.transfer.specs.CallViews.{call_at, end_at, invoked_at, pair_made};
 ghost use Rattle.transfer.specs.Kept.{TestsEach};
 ghost use Rattle.transfer.specs.Limits.{has_known_limit};
-ghost use Rattle.transfer.specs.Manners.{led_by};
+ghost use Rattle.transfer.specs.MannerViews.{led_by};
 
 use crate::channels::all_have_channels;
 use crate::demands::{demanded, keeps_single};
