@@ -75,14 +75,12 @@ ORIGINS = "kernel/specs/Origins.antt", [
 ]
 
 GAINS = "kernel/specs/Gains.antt", [
-    ("KeepsMode, a process that vanishes", "KeepsMode s None = ⊥", "KeepsMode s None = Unit {0}", INSTANCES),
-    ("KeepsMode, the mode", "KeepsMode s (Some t) = s.mode ≡ true → t.mode ≡ true",
-        "KeepsMode s (Some t) = s.mode ≡ true → true ≡ true",
+    ("StaysIn.still, a process that vanishes", "(t : ProcessState) × (after ≡ Some t) ×", "(t : ProcessState) × (after ≡ after) ×", INSTANCES),
+    ("StaysIn.still, the mode", "(after ≡ Some t) × (s.mode ≡ true → t.mode ≡ true)", "(after ≡ Some t) × (s.mode ≡ true → true ≡ true)",
         INSTANCES),
-    ("StaysIn, a process that was made", "= KeepsMode s after", "= Unit {0}", INSTANCES),
-    ("StaysIn, a process from nowhere", "StaysIn None None (Some t) = ⊥", "StaysIn None None (Some t) = Unit {0}", INSTANCES),
-    ("StaysIn, a child", "StaysIn (Some s) None (Some t) = s.mode ≡ true → t.mode ≡ true",
-        "StaysIn (Some s) None (Some t) = s.mode ≡ true → true ≡ true", INSTANCES),
+    ("StaysIn.new, a process from nowhere", "(s : ProcessState) × (caller ≡ Some s) ×", "(s : ProcessState) × (caller ≡ caller) ×", INSTANCES),
+    ("StaysIn.new, a child", "(caller ≡ Some s) × (s.mode ≡ true → t.mode ≡ true)", "(caller ≡ Some s) × (s.mode ≡ true → true ≡ true)",
+        INSTANCES),
     ("GainsNothing.modes", "StaysIn (slice_get w.processes p) (slice_get w.processes q) (slice_get next.processes q)", "q ≡ q",
         INSTANCES),
     ("GainsNothing.entries", "IfHeld (ComesFrom w caller q n) (next.files.table q n)", "n ≡ n", INSTANCES),
@@ -166,10 +164,10 @@ LIMITS = "task/specs/Limits.antt", [
 
 # Outcomes and effects that a line doesn't tell.
 STEPS = "kernel/specs/Steps.antt", [
-    ("answered, a failure", "outcome = Failed errno cause; effects = []", "outcome = Done; effects = []", "opens_in_the_mode"),
+    ("answered, a failure", "outcome = Failed errno cause; effects = []", "outcome = No_call; effects = []", "opens_in_the_mode"),
     ("answered, the effects", "outcome = Value value; effects = effects", "outcome = Value value; effects = []",
         "reads_to_the_end"),
-    ("stepped_at, the outcome", "acted_as s x.outcome x.effects", "acted_as s Done x.effects", "opens_in_the_mode"),
+    ("stepped_at, the outcome", "acted_as s x.outcome x.effects", "acted_as s No_call x.effects", "opens_in_the_mode"),
     ("stepped_at, the effects", "acted_as s x.outcome x.effects", "acted_as s x.outcome []", "reads_to_the_end"),
     ("next_instruction, a deed", "next_instruction (Some deed) here = Some deed.instruction", "next_instruction (Some deed) here = here",
         "is_another_deed_each_time"),
@@ -223,7 +221,8 @@ CAUSES = "kernel/specs/Answers.antt", [
         "commanded command d rest = unless (is_within command d.fcntls) ENOTCAPABLE Refused rest", "shares_status_flags"),
 ]
 
-# Well-formed worlds are what the laws of runs speak of, and what each step of the checker's proof keeps: no instance says so.
+# Well-formed worlds are what the laws of runs speak of, and what each step of the checker's proof keeps. Of those between two steps an
+# instance says what isn't one.
 WELL_FORMED = "kernel/specs/WellFormed.antt", [
     ("IsCode", "IsCode (i ∷ code) = is_program (i ∷ code) ≡ true", "IsCode (i ∷ code) = true ≡ true", ""),
     ("ArePrograms", "(n : ℕ) → IsCode (programs n)", "(n : ℕ) → n ≡ n", ""),
@@ -270,7 +269,32 @@ WELL_FORMED = "kernel/specs/WellFormed.antt", [
     ("IsWorld.short", "length (w.files.queue pair side) ≤ most_messages", "side ≡ side", ""),
     ("IsWorld.idle", "w.files.pairs ≤ pair → w.files.queue pair side ≡ []", "w.files.pairs ≤ pair → side ≡ side", ""),
     ("IsWorld.sides", "2 ≤ side → w.files.queue pair side ≡ []", "2 ≤ side → side ≡ side", ""),
+    ("IsBegun", "s.walk ≡ None → s.kept ≡ None", "s.walk ≡ None → s.kept ≡ s.kept", "about_to_do_is_not_between"),
+    ("IsBetweenSteps.begun", "pub begun : (p : ℕ) → IsBegun (slice_get w.processes p)", "pub begun : (p : ℕ) → p ≡ p",
+        "about_to_do_is_not_between"),
 ]
 
-FILES = [ORIGINS, GAINS, HELD, SANDBOXED, CONFINED, HOSTILE, POLICIES, PREMISES, CHOICES, LIMITS, STEPS, EFFECTS, CAUSES, WELL_FORMED]
+LATER_EVENTS = "kernel/specs/LaterEvents.antt", [
+    ("AreAtLast, the old path", "= (is_at_last one ≡ true) ×", "= (one ≡ one) ×", "old_path_is_left"),
+    ("AreAtLast, the new path", "× (is_at_last other ≡ true)", "× (other ≡ other)", "new_path_is_left"),
+    ("LacksRemoval, that it lacks it", "(is_within (needs_of (called (Renameat x from y to)) no_request Second true) d.rights ≡ false)", "(d ≡ d)",
+        "removal_is_there"),
+    ("AskAgain, the event", "AsksAgain programs w e\n    ×", "(e ≡ e)\n    ×", "closed_after_a_deed"),
+    ("AskAgain, the events behind", "→ AskAgain programs (step_as programs w e act choice).world events)", "→ Unit {0})", "closed_after_a_deed"),
+]
+
+WITHIN = "rules/specs/Within.antt", [
+    ("IsBelowCeiling.holds", "pub holds : grant_holds grants name place ≡ true", "pub holds : true ≡ true", "within_refuses"),
+    ("IsBelowCeiling.below", "pub below : is_within rights (ceiling_in a.ceilings name) ≡ true", "pub below : true ≡ true", "within_refuses"),
+    ("MayHave, a listed end", "= lists_end a.holds class side ≡ true", "= true ≡ true", "within_refuses"),
+    ("MayHave, an own end", "= program ≡ own", "= program ≡ program", "within_refuses"),
+    ("IsTableWithin", "IfHeld (IsWithinAuthority plan certificate w program) (w.files.table p n)", "n ≡ n", "carried_in"),
+    ("HoldsWithin", "→ IsTableWithin plan certificate w p s.program", "→ Unit {0}", "carried_in"),
+    ("StayWithin, the events behind", "→ StayWithin plan certificate (step_as (programs_of_plan plan) w e act choice).world events)", "→ Unit {0})",
+        "carried_in"),
+    ("StayWithin, the last world", "StayWithin plan certificate w [] = HoldsWithin plan certificate w", "StayWithin plan certificate w [] = Unit {0}",
+        "carried_in"),
+]
+
+FILES = [ORIGINS, GAINS, HELD, SANDBOXED, CONFINED, HOSTILE, POLICIES, PREMISES, CHOICES, LIMITS, STEPS, EFFECTS, CAUSES, WELL_FORMED, LATER_EVENTS, WITHIN]
 EMPTYINGS = [(name, file, old, new, by) for file, changes in FILES for name, old, new, by in changes]

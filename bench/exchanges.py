@@ -19,7 +19,7 @@ MADE_DIRECTORY = """Gives 0 (record same { tree = Make (at_name (at d).place (la
 FIRST = "first_need (Renameat x from y to) no_request"
 SECOND = "needs_of (called (Renameat x from y to)) no_request Second false"
 BOTH = "held (entry x) (λ d. held (entry y) (λ target."
-RENAMED = "renamed_from source (λ k. renamed_to (Renameat x from y to) target k to place)"
+RENAMED = "existing source (λ k. renamed_to (Renameat x from y to) target k to place)"
 FIRST_FAULT = """or_fails (lookup_fault w.tree n from Beneath Keep)
       (or_fails (lookup_fault w.tree m to Beneath Keep)"""
 SECOND_FAULT_FIRST = """or_fails (lookup_fault w.tree m to Beneath Keep)
@@ -244,13 +244,13 @@ PAIRS = [
       (at_object (w.files.objects d.description)
       (λ n access. in_directory target.description (λ m. looks_twice n from m to (λ source place. elim source [
         Not_found fault ↦ lookup_fails fault
-        | other ↦ {IS_DIR} (renamed_from other (λ k. renamed_to (Renameat x from y to) target k to place))
+        | other ↦ {IS_DIR} (existing other (λ k. renamed_to (Renameat x from y to) target k to place))
       ])))
       {NO_DIR}"""),
     ("renameat_asks_the_second_kind_before_the_source", "answer (Renameat x from y to) =", f"""{BOTH} granted ({FIRST}) d
       (granted ({SECOND}) target
       ({IN_DIRECTORY} at_object (w.files.objects target.description)
-      (λ m access. looks_twice n from m to (λ source place. renamed_from source (λ k.
+      (λ m access. looks_twice n from m to (λ source place. existing source (λ k.
       unless (is_dir (at m).kind) ENOTDIR errors.Kind (renamed_to (Renameat x from y to) target k to place))))
       {NO_DIR}"""),
     ("renameat_asks_the_first_path_before_the_second", FIRST_FAULT, SECOND_FAULT_FIRST),
@@ -260,12 +260,12 @@ PAIRS = [
     ("renameat_asks_for_the_same_node_before_the_right_to_replace", "renamed_to call target n path (Found_node m) =",
         "granted (needs_of (called call) no_request Second true) target (if n == m then gives 0 else renamed_over n m"),
     ("renameat_asks_the_source_before_the_target",
-        "renamed_from source (λ k. renamed_to (Renameat x from y to) target k to place)",
+        "existing source (λ k. renamed_to (Renameat x from y to) target k to place)",
         """(elim source [
         Not_found fault ↦ lookup_fails fault
         | other ↦ elim place [
           Not_found fault ↦ lookup_fails fault
-          | there ↦ renamed_from other (λ k. renamed_to (Renameat x from y to) target k to there)
+          | there ↦ existing other (λ k. renamed_to (Renameat x from y to) target k to there)
         ]
       ]"""),
     ("renameat_asks_the_right_to_replace_first", "renamed_to call target n path (Found_node m) =", f"""if n == m then gives 0

@@ -46,7 +46,7 @@ accepted :
 accepted plan certificate processes text valid plain none shows =
     let meets : MeetsRules plan certificate = subst (IsFirst plan certificate) none (first_is_found plan certificate) in
     let first = first_well_formed plan valid in
-    let run = run_exists (programs_of_plan plan) (first_world plan) (turns processes) first.0 first.1 (are_events processes) in
+    let run = run_exists (programs_of_plan plan) (first_world plan) (turns processes) first.0 first.1.formed (are_events processes) in
     record { meets = meets; sandboxed = sound plan certificate valid plain meets; lines = run.0; run = run.1; shows = shows run.0 run.1 }
 
 passing_is_task : is_plan passing_plan ≡ true

@@ -111,7 +111,7 @@ trace-begun : (plan : Plan) (events : List Event) (before after : Option (List �
     WritesFront plan events before after → HasBegun (λ status before after. (status ≡ 0) × WritesTrace plan events before after) before after
 trace-begun plan events before after valid bytes front =
     let first = first_well_formed plan valid in
-    let run = run_exists (programs_of_plan plan) (first_world plan) events first.0 first.1 bytes in
+    let run = run_exists (programs_of_plan plan) (first_world plan) events first.0 first.1.formed bytes in
     record {
       status = 0;
       text = trace_text plan events run.0;
@@ -120,7 +120,9 @@ trace-begun plan events before after valid bytes front =
         record {
           lines = run.0;
           run = run.1;
-          every = λ others other. ap (λ lines. Some (trace_text plan events lines)) (same_lines_here (programs_of_plan plan) (first_world plan) events run.0 others first.0 first.1 bytes run.1 other);
+          every = λ others other.
+              ap (λ lines. Some (trace_text plan events lines))
+              (same_lines_here (programs_of_plan plan) (first_world plan) events run.0 others first.0 first.1.formed bytes run.1 other);
         },
       );
       begun = front run.0 run.1;

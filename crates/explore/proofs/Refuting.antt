@@ -7,9 +7,9 @@ use Rattle.process.specs.State.{ProcessState}
 use Rattle.kernel.specs.World.{World, Choice, IsFresh}
 use Rattle.kernel.specs.Answers.{Event, Effect, AreEvents}
 use Rattle.kernel.specs.Hostile.{Act, Own}
-use Rattle.kernel.specs.Steps.{LineResult, Done, Halted, Value, Failed, Waiting, Walks_on, Ended, Acted, Programs, step}
+use Rattle.kernel.specs.Steps.{LineResult, No_call, Halted, Value, Failed, Waiting, Walks_on, Ended, Acted, Programs, step}
 use Rattle.kernel.specs.WellFormed.{ArePrograms, IsWellFormed}
-use Rattle.kernel.proofs.Keeping.{next_world}
+use Rattle.kernel.proofs.Keeping.{next_formed}
 use Rattle.syscalls.specs.Shows.{shown}
 use Rattle.task.specs.Begins.{first_world}
 use Rattle.task.specs.Confined.{Confined, IsTrusted}
@@ -43,7 +43,7 @@ no-refusal-for Full other = refl
 no-refusal-for Refused other = refl
 
 no-refusal : (outcome : LineResult) → IsUnrefused outcome → refusal outcome ≡ None
-no-refusal Done unrefused = refl
+no-refusal No_call unrefused = refl
 no-refusal Halted unrefused = refl
 no-refusal (Value n) unrefused = refl
 no-refusal (Failed errno cause) unrefused = no-refusal-for cause unrefused
@@ -82,7 +82,7 @@ module _ (programs : Programs) (grants : List Grant) (valid : ArePrograms progra
       EndsWith programs grants w before events (Some breach) → Sandboxed programs grants w events → ⊥
   not-sandboxed w before [] good bytes none ends sandboxed = absurd cc
   not-sandboxed w before (e ∷ events) good bytes none ends sandboxed =
-      let next = next_world programs w e valid good bytes.0 in
+      let next = next_formed programs w e valid good bytes.0 in
       let choice : Choice = next.some.0 in
       let fresh : IsFresh w.files choice = next.some.1 in
       let here = sandboxed choice fresh in
@@ -94,7 +94,7 @@ module _ (programs : Programs) (grants : List Grant) (valid : ArePrograms progra
       EndsWith programs grants w before events (Some breach) → Confined programs grants w (own_acts events) → ⊥
   not-confined w before [] good bytes none ends confined = absurd cc
   not-confined w before (e ∷ events) good bytes none ends confined =
-      let next = next_world programs w e valid good bytes.0 in
+      let next = next_formed programs w e valid good bytes.0 in
       let choice : Choice = next.some.0 in
       let fresh : IsFresh w.files choice = next.some.1 in
       let here = confined choice fresh bytes.0 tt in
@@ -106,8 +106,8 @@ pub breaches_refute : BreachesRefute
 breaches_refute plan events breach valid bytes breaks =
     let formed = first_well_formed plan valid in
     record {
-      sandbox = λ sandboxed. not-sandboxed (programs_of_plan plan) plan.grants formed.0 breach (first_world plan) None events formed.1 bytes refl breaks (sandboxed events bytes);
-      confinement = λ confined. not-confined (programs_of_plan plan) plan.grants formed.0 breach (first_world plan) None events formed.1 bytes refl breaks (confined (own_acts events));
+      sandbox = λ sandboxed. not-sandboxed (programs_of_plan plan) plan.grants formed.0 breach (first_world plan) None events formed.1.formed bytes refl breaks (sandboxed events bytes);
+      confinement = λ confined. not-confined (programs_of_plan plan) plan.grants formed.0 breach (first_world plan) None events formed.1.formed bytes refl breaks (confined (own_acts events));
     }
 
 -- what a run breaks, if it breaks something, refutes the task

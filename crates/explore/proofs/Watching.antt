@@ -9,7 +9,7 @@ use Rattle.kernel.specs.Renamings.{DiffersInNumbers}
 use Rattle.kernel.specs.WellFormed.{ArePrograms, IsWellFormed}
 use Rattle.kernel.proofs.Aimed.{steps_alike}
 use Rattle.kernel.proofs.Determined.{alike_share, differs_twice}
-use Rattle.kernel.proofs.Keeping.{next_world}
+use Rattle.kernel.proofs.Keeping.{next_formed}
 use Rattle.task.specs.Begins.{first_world}
 use Rattle.task.specs.Limits.{is_plan}
 use Rattle.task.specs.Plans.{Plan, programs_of_plan}
@@ -27,7 +27,7 @@ Leads plan events w before left =
     → Breaks plan events last
 
 pub leads-start : (plan : Plan) (events : List Event) (w : World) → is_plan plan ≡ true → DiffersInNumbers (first_world plan) w → Leads plan events w None events
-leads-start plan events w valid differs last ends = ends (first_world plan) (first_well_formed plan valid).1 differs
+leads-start plan events w valid differs last ends = ends (first_world plan) (first_well_formed plan valid).1.formed differs
 
 -- what a step breaks is the same in worlds that differ in numbers alone
 same-broken : (plan : Plan) (w v : World) (e : Event) (line : Line) (j k : Choice) → DiffersInNumbers v w →
@@ -54,7 +54,7 @@ leads-step plan events w next before breach e left line valid good byte s is lea
         let both = steps_alike programs v w e choice s.choice formed fine good differs fresh s.fresh in
         subst (λ b. EndsWith programs plan.grants (step programs v e choice).world b left last)
         (is ∙ sym (same-broken plan w v e line choice s.choice differs both.line s.line_is))
-        (ends (step programs v e choice).world ((next_world programs v e formed fine byte).each choice fresh)
+        (ends (step programs v e choice).world ((next_formed programs v e formed fine byte).each choice fresh)
         (differs_twice _ _ _ both.next (alike_share _ _ s.world_is)))
 
 pub leads-end : (plan : Plan) (events : List Event) (w : World) (before : Option Breach) → Leads plan events w before [] → Breaks plan events before

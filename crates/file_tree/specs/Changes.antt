@@ -1,8 +1,12 @@
 -- What becomes of a tree. (own, after open(2), mkdir(2), unlink(2), rename(2), write(2) and ftruncate(2))
-use Rattle.std.specs.Prelude.{ℕ, ◌+◌, ◌-◌, false, ◌&&◌, List, ◌∷◌, ◌++◌, length, take, drop, map, replicate, slice_set, if◌then◌else◌}
+use Rattle.std.specs.Prelude.{ℕ, ◌+◌, ◌-◌, true, false, ◌&&◌, List, [], ◌∷◌, ◌++◌, length, take, drop, map, replicate, slice_set, if◌then◌else◌}
 use Rattle.rights.specs.Values.{Place, Content, NodeNumber}
 use Rattle.file_tree.specs.Places.{same_place, begins}
-use Rattle.file_tree.specs.Nodes.{Node, node, stands_at}
+use Rattle.file_tree.specs.Nodes.{Kind, Node, node, stands_at}
+
+-- A new node goes to the end. (open(2), mkdir(2))
+abbrev pub added : List Node → Place → Kind → Content → List Node
+added t place kind content = t ++ record { kind = kind; place = place; linked = true; content = content } ∷ []
 
 -- A removed node keeps its place and all else. (unlink(2))
 abbrev pub unlinked : Node → Node

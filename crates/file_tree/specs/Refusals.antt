@@ -3,6 +3,7 @@
 use Rattle.std.specs.Prelude.{ℕ, Bool, true, ◌&&◌, ◌||◌, not, nat_lt, List, [], ◌∷◌, ◌++◌, Option, Some, None, is_some, length, if◌then◌else◌}
 use Rattle.rights.specs.Limits.{most_nodes, most_bytes}
 use Rattle.file_tree.specs.Places.{same_place, begins, at_name}
+use Rattle.file_tree.specs.Changes.{added}
 use Rattle.file_tree.specs.Nodes.{Kind, Dir, Node, node, node_at, has_below}
 
 -- Why a change is refused.
@@ -19,7 +20,7 @@ new_tree = record { kind = Dir; place = []; linked = true; content = [] } ∷ []
 
 -- The tree with one more node, of that name in a directory. (open(2), mkdir(2))
 unfoldable pub created : List Node → ℕ → List ℕ → Kind → List ℕ → List Node
-created t d name kind content = t ++ (record { kind = kind; place = at_name (node t d).place name; linked = true; content = content }) ∷ []
+created t d name kind content = added t (at_name (node t d).place name) kind content
 
 -- A new node is refused in a directory that was removed, under a name that is taken, and in a full tree.
 unfoldable pub create_fault : List Node → ℕ → List ℕ → Option ChangeFault

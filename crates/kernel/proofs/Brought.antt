@@ -29,7 +29,7 @@ use Rattle.rights.specs.Errors.{ENOTDIR}
 use Rattle.rights.specs.Errors as errors
 use Rattle.kernel.specs.Answers.{Event, TreeChange, Answer, Fails, same, unless, held, at_object, value_of}
 use Rattle.kernel.specs.Calls.{last_if, looks, looks_twice, answer, truncated, opened, opened_as, read_byte, read_node, read_end, write_node, write_at, sent_end, received, receive_end}
-use Rattle.kernel.specs.Calls.{stats, stats_at, kind_number, made_directory, unlinks, renamed_to, renamed_from, pair_at, blocked, in_directory, at_file, at_socket}
+use Rattle.kernel.specs.Calls.{stats, stats_at, kind_number, made_directory, unlinks, renamed_to, existing, pair_at, blocked, in_directory, at_file, at_socket}
 use Rattle.kernel.specs.Changes.{tree_after}
 use Rattle.kernel.specs.Steps.{Programs}
 use Rattle.kernel.specs.WellFormed.{EachMessage, IsObject, IsWorld}
@@ -315,10 +315,10 @@ module _ (programs : Programs) (g : Ground) (standing : Standing programs g) (p 
       sound-gives g _ _ _ (alters 0 _ zero_small
       (moved_over w.tree n m (last_component path) standing.good.tree linked.linked there.linked named (not_true _ outside) (not_true _ empty)))))))))
 
-  sound-renamed_from : (found : lookups.Finding) (rest : ℕ → Answer) → IsFindingThere w.tree found → ((n : ℕ) → IsLinked w.tree n → Sound g (rest n)) → Sound g (renamed_from w p s e found rest)
-  sound-renamed_from (Not_found fault) rest there sound = sound-lookup_fails g fault
-  sound-renamed_from (Found_free d) rest there sound = sound-fails g _ _
-  sound-renamed_from (Found_node n) rest there sound = sound n there
+  sound-existing : (found : lookups.Finding) (rest : ℕ → Answer) → IsFindingThere w.tree found → ((n : ℕ) → IsLinked w.tree n → Sound g (rest n)) → Sound g (existing found rest)
+  sound-existing (Not_found fault) rest there sound = sound-lookup_fails g fault
+  sound-existing (Found_free d) rest there sound = sound-fails g _ _
+  sound-existing (Found_node n) rest there sound = sound n there
 
   sound-pair_at : (o : Option ℕ) → lowest_free (w.files.table p) ≡ o → Sound g (pair_at w p s e o)
   sound-pair_at None free = sound-fails g _ _
@@ -442,7 +442,7 @@ module _ (programs : Programs) (g : Ground) (standing : Standing programs g) (p 
       sound-directory into _ also (λ m other into_dir.
       sound-looks_twice _ _ _ _ _ opened other (both_under w.tree w.files.objects (w.files.table p) s (Renameat x from y target) x from y target s.walk refl fits)
       (λ one two first second. left (Two one two) (is_start _ d is dir, is_start _ into into_is into_dir, first, second)) (λ source place sure into_place.
-      sound-renamed_from source _ sure.there (λ k linked.
+      sound-existing source _ sure.there (λ k linked.
       sound-renamed_to (Renameat x from y target) into k target place (path_bytes target (both_right (is_path from) _ valid)) linked into_place.there into_place.vacant (into_place.named refl)))))))))
   sound (Dup x) valid fits left =
       sound-entry (value_of s x) _ (λ d low fine.

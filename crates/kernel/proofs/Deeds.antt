@@ -10,7 +10,7 @@ use Rattle.kernel.specs.World.{World, Choice}
 use Rattle.kernel.specs.Answers.{Event, TableChange, Same_table, Set_entry, Clear_entry, New_file, New_pair, New_process, Answer, Fails, Waits, Gives, Walks}
 use Rattle.kernel.specs.Calls.{answer}
 use Rattle.kernel.specs.Changes.{given, processes_after, files_after, changed}
-use Rattle.kernel.specs.Steps.{LineResult, Done, Halted, Value, Failed, Waiting, Walks_on, Ended, Executed, after_deed, answered, changed_at, executed, failed, jumped, register}
+use Rattle.kernel.specs.Steps.{LineResult, No_call, Halted, Value, Failed, Waiting, Walks_on, Ended, Executed, after_deed, answered, changed_at, executed, failed, jumped, register}
 use Rattle.kernel.specs.Steps.{with_process}
 use Rattle.kernel.proofs.KeptWalks.{slice_get-more_cases}
 use Rattle.kernel.proofs.Points.{still_on}
@@ -50,7 +50,7 @@ changed_length (x ∷ xs) (suc p) f = ap suc (changed_length xs p f)
 -- ## What a deed leaves
 pub is_end : LineResult → Bool
 is_end Walks_on = false
-is_end Done = true
+is_end No_call = true
 is_end Halted = true
 is_end (Value value) = true
 is_end (Failed errno cause) = true
@@ -61,7 +61,7 @@ pub after_end : (deed : Deed) (p made : ℕ) (outcome : LineResult) (xs : List P
     after_deed (Some deed) p made outcome xs ≡ changed_at (changed_at xs p (left_by deed)) made (left_by deed)
 unfolding is_end
 after_end deed p made Walks_on xs ends = absurd cc
-after_end deed p made Done xs ends = refl
+after_end deed p made No_call xs ends = refl
 after_end deed p made Halted xs ends = refl
 after_end deed p made (Value value) xs ends = refl
 after_end deed p made (Failed errno cause) xs ends = refl
@@ -77,7 +77,7 @@ module _ (Q : Option ProcessState → Type 0) (p made : ℕ) (xs : List ProcessS
       Q (slice_get (after_deed o p made outcome xs) m)
   after_keeps None outcome keeps is = is
   after_keeps (Some deed) Walks_on keeps is = is
-  after_keeps (Some deed) Done keeps is = left_keeps deed (keeps deed) is
+  after_keeps (Some deed) No_call keeps is = left_keeps deed (keeps deed) is
   after_keeps (Some deed) Halted keeps is = left_keeps deed (keeps deed) is
   after_keeps (Some deed) (Value value) keeps is = left_keeps deed (keeps deed) is
   after_keeps (Some deed) (Failed errno cause) keeps is = left_keeps deed (keeps deed) is
@@ -102,7 +102,7 @@ after_other o p made outcome xs m one other = by_deed o outcome
     by_deed : (o : Option Deed) (outcome : LineResult) → slice_get (after_deed o p made outcome xs) m ≡ slice_get xs m
     by_deed None outcome = refl
     by_deed (Some deed) Walks_on = refl
-    by_deed (Some deed) Done = twice deed
+    by_deed (Some deed) No_call = twice deed
     by_deed (Some deed) Halted = twice deed
     by_deed (Some deed) (Value value) = twice deed
     by_deed (Some deed) (Failed errno cause) = twice deed
@@ -118,7 +118,7 @@ after_length o p made outcome xs = by_deed o outcome
     by_deed : (o : Option Deed) (outcome : LineResult) → length (after_deed o p made outcome xs) ≡ length xs
     by_deed None outcome = refl
     by_deed (Some deed) Walks_on = refl
-    by_deed (Some deed) Done = twice deed
+    by_deed (Some deed) No_call = twice deed
     by_deed (Some deed) Halted = twice deed
     by_deed (Some deed) (Value value) = twice deed
     by_deed (Some deed) (Failed errno cause) = twice deed
@@ -126,11 +126,12 @@ after_length o p made outcome xs = by_deed o outcome
     by_deed (Some deed) Ended = twice deed
 
 -- ## What an instruction makes of the processes
--- of the same program, and in the mode if the other is
+-- of the same program, in the mode if the other is, and without a deed if the other is
 pub record IsLike (s t : ProcessState) : Type 0 where
   pub program : t.program ≡ s.program
   pub marked : t.marked ≡ s.marked
   pub mode : s.mode ≡ true → t.mode ≡ true
+  pub kept : s.kept ≡ None → t.kept ≡ None
 
 module _ (w : World) (e : Event) (choice : Choice) (s : ProcessState) where
   -- its own process and a child are like it, and the others are as they were
@@ -155,28 +156,29 @@ module _ (w : World) (e : Event) (choice : Choice) (s : ProcessState) where
 
     each_answered : (otherwise : ℕ) (a : Answer) (q : ℕ) → R q (slice_get (answered w e.process s choice otherwise a).world.processes q)
     unfolding answered changed
-    each_answered otherwise (Fails errno cause) q = each_set (failed s errno otherwise) (record { program = refl; marked = refl; mode = λ on. on }) q
+    each_answered otherwise (Fails errno cause) q = each_set (failed s errno otherwise) (record { program = refl; marked = refl; mode = λ on. on; kept = λ none. none }) q
     each_answered otherwise Waits q = there q
     each_answered otherwise (Gives value change effects) q =
         let on = still_on s.mode change.enters in
-        each_after (given s value change) (record { program = refl; marked = refl; mode = on }) (record { program = refl; marked = refl; mode = on }) change.table q
-    each_answered otherwise (Walks walking) q = each_set (record s { walk = Some walking }) (record { program = refl; marked = refl; mode = λ on. on }) q
+        each_after (given s value change) (record { program = refl; marked = refl; mode = on; kept = λ none. none })
+        (record { program = refl; marked = refl; mode = on; kept = λ none. refl }) change.table q
+    each_answered otherwise (Walks walking) q = each_set (record s { walk = Some walking }) (record { program = refl; marked = refl; mode = λ on. on; kept = λ none. none }) q
 
     each_jumped : (taken : Bool) (target : ℕ) (q : ℕ) → R q (slice_get (slice_set w.processes e.process (jumped s taken target)) q)
     unfolding jumped
-    each_jumped true target q = each_set _ (record { program = refl; marked = refl; mode = λ on. on }) q
-    each_jumped false target q = each_set _ (record { program = refl; marked = refl; mode = λ on. on }) q
+    each_jumped true target q = each_set _ (record { program = refl; marked = refl; mode = λ on. on; kept = λ none. none }) q
+    each_jumped false target q = each_set _ (record { program = refl; marked = refl; mode = λ on. on; kept = λ none. none }) q
 
     pub each_executed : (i : Instruction) (q : ℕ) → R q (slice_get (executed w e choice s i).world.processes q)
     unfolding executed
-    each_executed (Set r value) q = each_set _ (record { program = refl; marked = refl; mode = λ on. on }) q
-    each_executed (Mov r source) q = each_set _ (record { program = refl; marked = refl; mode = λ on. on }) q
-    each_executed (Add r addend) q = each_set _ (record { program = refl; marked = refl; mode = λ on. on }) q
-    each_executed (In r) q = each_set _ (record { program = refl; marked = refl; mode = λ on. on }) q
-    each_executed (Jmp target) q = each_set _ (record { program = refl; marked = refl; mode = λ on. on }) q
+    each_executed (Set r value) q = each_set _ (record { program = refl; marked = refl; mode = λ on. on; kept = λ none. none }) q
+    each_executed (Mov r source) q = each_set _ (record { program = refl; marked = refl; mode = λ on. on; kept = λ none. none }) q
+    each_executed (Add r addend) q = each_set _ (record { program = refl; marked = refl; mode = λ on. on; kept = λ none. none }) q
+    each_executed (In r) q = each_set _ (record { program = refl; marked = refl; mode = λ on. on; kept = λ none. none }) q
+    each_executed (Jmp target) q = each_set _ (record { program = refl; marked = refl; mode = λ on. on; kept = λ none. none }) q
     each_executed (Jeq r value target) q = each_jumped _ target q
     each_executed (Jlt r value target) q = each_jumped _ target q
-    each_executed Halt q = each_set (ended s) (record { program = refl; marked = refl; mode = λ on. on }) q
+    each_executed Halt q = each_set (ended s) (record { program = refl; marked = refl; mode = λ on. on; kept = λ none. none }) q
     each_executed (Invoke call otherwise) q = each_answered otherwise (answer w e.process s e call) q
 
   -- an instruction has names of a path left, or has come to an end

@@ -11,7 +11,7 @@ use Rattle.instruction_set.specs.Programs.{Halt}
 use Rattle.fd_table.specs.Descriptions.{Initial, Object, At_node, At_end, Descriptor, Message, new_state, descriptor_of, IfHeld}
 use Rattle.kernel.specs.World.{World}
 use Rattle.kernel.specs.Steps.{Programs}
-use Rattle.kernel.specs.WellFormed.{Numbering, IsDescriptor, EachMessage, FitsRegister, IsProcessIfMade, HasNone}
+use Rattle.kernel.specs.WellFormed.{Numbering, IsBegun, IsDescriptor, EachMessage, FitsRegister, IsProcessIfMade, HasNone}
 use Rattle.kernel.specs.Walks.{IsWalkerIfMade}
 use Rattle.kernel.specs.Runs.{WellFormedWorldExists}
 use Rattle.kernel.proofs.KeptWalks.{no_walker}
@@ -135,6 +135,10 @@ walks : (p : ℕ) → IsWalkerIfMade programs new_tree objects (table p) (slice_
 walks zero = no_walker programs new_tree objects (table zero) (new_process 0 false) refl
 walks (suc p) = tt
 
+begun : (p : ℕ) → IsBegun (slice_get (new_process 0 false ∷ []) p)
+begun zero = λ walk. refl
+begun (suc p) = tt
+
 pub first_world : WellFormedWorldExists
 unfolding first programs table row queue objects
 first_world = (
@@ -142,21 +146,24 @@ first_world = (
   (λ n. refl),
   first,
   record {
-    numbering = numbering;
-    world = record {
-      tree = new_is_tree;
-      some = omega arith;
-      few = omega arith;
-      processes = made;
-      entries = entries;
-      numbers = numbers;
-      gone = gone;
-      messages = messages;
-      short = short;
-      idle = idle;
-      sides = sides;
+    formed = record {
+      numbering = numbering;
+      world = record {
+        tree = new_is_tree;
+        some = omega arith;
+        few = omega arith;
+        processes = made;
+        entries = entries;
+        numbers = numbers;
+        gone = gone;
+        messages = messages;
+        short = short;
+        idle = idle;
+        sides = sides;
+      };
+      walks = walks;
     };
-    walks = walks;
+    begun = begun;
   },
   record { directory = refl; first_end = (refl, refl); second_end = (refl, refl); under_way = refl },
 )

@@ -9,7 +9,9 @@ use Rattle.process.specs.State.{ProcessState, new_process}
 use Rattle.instruction_set.specs.Programs.{Syscall, Number, Open, Openat, Sendfd, Recvfd, Dup, Cap_rights_limit, Cap_fcntls_limit, Socketpair, Fork}
 use Rattle.fd_table.specs.Descriptions.{Descriptor, Message}
 use Rattle.kernel.specs.World.{World}
-use Rattle.kernel.specs.Origins.{Caller, ComesFrom, stood, was_made, was_copied, IsMade, was_opened, was_opened_beneath, was_paired, was_duplicated, was_received, was_limited, was_limited_in_commands, IsSent, by_sendfd, QueuedFrom, had_waited, was_sent}
+use Rattle.kernel.specs.Origins.{Caller, ComesFrom, stood, was_made, was_copied, IsMade, was_opened, was_opened_beneath, was_paired, was_duplicated, was_received}
+use Rattle.kernel.specs.Origins.{was_limited, was_limited_in_commands, IsSent, by_sendfd, QueuedFrom, had_waited, was_sent}
+use Rattle.kernel.proofs.Gains.{made_in, still_in}
 use Rattle.kernel.specs.Gainful.{NothingComesFromElsewhere, NoneMakes, calls_that_make_none, wide, narrow, two_processes, carries, with_message, at_ends, receiving, second}
 use Rattle.kernel.specs.Gainful.{second_ended, opens, opens_in_directory, sends, receives}
 
@@ -18,6 +20,9 @@ some_is o d is = ap is_some is
 
 impossible : false ≡ true → ⊥
 impossible is = absurd cc
+
+no_more_there : {s : ProcessState} → None ≡ Some s → ⊥
+no_more_there is = absurd cc
 
 -- the two descriptors have other numbers
 abbrev description_in : Option Descriptor → ℕ
@@ -28,7 +33,8 @@ others : Some narrow ≡ Some wide → ⊥
 others is = let numbers : suc zero ≡ zero = ap description_in is in absurd (omega (arith, numbers))
 
 -- what stands at a number of the second process is what stood there, or what its call has made
-by_call : (w : World) (caller : Caller) (n : ℕ) (d : Descriptor) → length w.processes ≡ 2 → (w.files.table 1 n ≡ Some d → ⊥) → (IsMade w caller.process caller.state n d caller.call → ⊥) → ComesFrom w (Some caller) 1 n d → ⊥
+by_call : (w : World) (caller : Caller) (n : ℕ) (d : Descriptor) → length w.processes ≡ 2 → (w.files.table 1 n ≡ Some d → ⊥) →
+    (IsMade w caller.process caller.state n d caller.call → ⊥) → ComesFrom w (Some caller) 1 n d → ⊥
 by_call w caller n d two old made (stood is) = old is
 by_call w caller n d two old made (was_made c is at made_so) = let same : caller ≡ c = cc in made (subst (λ (c : Caller). IsMade w c.process c.state n d c.call) (sym same) made_so)
 by_call w caller n d two old made (was_copied c is forks at held) = absurd (omega (arith, at, two))
@@ -269,8 +275,8 @@ nothing_comes_from_elsewhere = record {
   no_call_of_the_ended = λ gains. by_nobody second_ended 1 1 narrow (empty_there narrow) (gains.entries 1 1);
   no_call_of_the_unmade = λ gains. by_nobody two_processes 2 1 wide (unmade_there wide) (gains.entries 2 1);
   no_call_at_no_call = λ gains. by_nobody two_processes 1 1 wide (empty_there wide) (gains.entries 1 1);
-  no_left_mode = λ gains. impossible (gains.modes 0 refl);
-  no_child_outside = λ gains. impossible (gains.modes 1 refl);
-  no_process_vanishes = λ gains. gains.modes 1;
-  no_process_from_nowhere = λ gains. gains.modes 1;
+  no_left_mode = λ gains. impossible (still_in _ _ _ (gains.modes 0) refl);
+  no_child_outside = λ gains. impossible (made_in _ _ (gains.modes 1) refl);
+  no_process_vanishes = λ gains. no_more_there ((gains.modes 1).still _ refl).1;
+  no_process_from_nowhere = λ gains. no_more_there ((gains.modes 1).new _ refl refl).1;
 }

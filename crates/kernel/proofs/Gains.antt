@@ -112,14 +112,38 @@ module _ (w : World) (p : ℕ) (s : ProcessState) (call : Syscall) (choice : Cho
 
 -- ## Modes
 stays_same : (caller o : Option ProcessState) → StaysIn caller o o
-stays_same caller None = tt
-stays_same caller (Some s) = λ on. on
+stays_same caller o = record { still = λ s is. (s, is, λ on. on); new = λ t none some. absurd cc }
+
+-- a process that is there still, and a new one
+pub stays_there : (caller : Option ProcessState) (s t : ProcessState) → (s.mode ≡ true → t.mode ≡ true) → StaysIn caller (Some s) (Some t)
+stays_there caller s t stays = record {
+  still = λ c is. let same : s ≡ c = cc in (t, refl, subst (λ (x : ProcessState). x.mode ≡ true → t.mode ≡ true) same stays);
+  new = λ c none some. absurd cc;
+}
+
+new_in : (s t : ProcessState) → (s.mode ≡ true → t.mode ≡ true) → StaysIn (Some s) None (Some t)
+new_in s t stays = record {
+  still = λ c is. absurd cc;
+  new = λ c none some. let same : t ≡ c = cc in (s, refl, subst (λ (x : ProcessState). s.mode ≡ true → x.mode ≡ true) same stays);
+}
+
+pub still_in : (caller : Option ProcessState) (s t : ProcessState) → StaysIn caller (Some s) (Some t) → s.mode ≡ true → t.mode ≡ true
+still_in caller s t stays on =
+    let k = stays.still s refl in
+    let same : k.0 ≡ t = cc in
+    subst (λ (x : ProcessState). x.mode ≡ true) same (k.2 on)
+
+pub made_in : (s t : ProcessState) → StaysIn (Some s) None (Some t) → s.mode ≡ true → t.mode ≡ true
+made_in s t stays on =
+    let k = stays.new t refl refl in
+    let same : s ≡ k.0 = cc in
+    k.2 (subst (λ (x : ProcessState). x.mode ≡ true) same on)
 
 module _ (processes : List ProcessState) (p : ℕ) (s t : ProcessState) (made : slice_get processes p ≡ Some s) (stays : s.mode ≡ true → t.mode ≡ true) where
   modes_set : (m : ℕ) → StaysIn (Some s) (slice_get processes m) (slice_get (slice_set processes p t) m)
   modes_set m =
       slice_get-set_cases (StaysIn (Some s) (slice_get processes m)) processes p t m
-      (λ at. subst (λ o. StaysIn (Some s) o (Some t)) (sym (ap (slice_get processes) at ∙ made)) stays)
+      (λ at. subst (λ o. StaysIn (Some s) o (Some t)) (sym (ap (slice_get processes) at ∙ made)) (stays_there (Some s) s t stays))
       (stays_same (Some s) (slice_get processes m))
 
   modes_more : (m : ℕ) → StaysIn (Some s) (slice_get processes m) (slice_get (slice_set processes p t ++ []) m)
@@ -138,14 +162,21 @@ module _ (processes : List ProcessState) (p : ℕ) (s t : ProcessState) (made : 
   modes_later (New_pair first second class) m = modes_more m
   modes_later New_process m =
       slice_get-more_cases (StaysIn (Some s) (slice_get processes m)) (slice_set processes p t) (forked t) m
-      (λ at. subst (λ o. StaysIn (Some s) o (Some (forked t))) (sym (beyond processes m (at ∙ length-set processes p t))) stays)
+      (λ at. subst (λ o. StaysIn (Some s) o (Some (forked t))) (sym (beyond processes m (at ∙ length-set processes p t))) (new_in s (forked t) stays))
       (λ _. modes_set m)
 
 -- what a deed leaves is in the mode if it was
 stays_left : (caller o : Option ProcessState) (deed : Deed) (t : ProcessState) → StaysIn caller o (Some t) → StaysIn caller o (Some (left_by deed t))
-stays_left caller (Some s) deed t stays = stays
-stays_left (Some s) None deed t stays = stays
-stays_left None None deed t stays = stays
+stays_left caller o deed t stays = record {
+  still = λ s is.
+      let k = stays.still s is in
+      let same : k.0 ≡ t = cc in
+      (left_by deed t, refl, λ on. subst (λ (x : ProcessState). x.mode ≡ true) same (k.2 on));
+  new = λ c none some.
+      let k = stays.new t none refl in
+      let same : left_by deed t ≡ c = cc in
+      (k.0, k.1, λ on. subst (λ (x : ProcessState). x.mode ≡ true) same (k.2 on));
+}
 
 -- ## Steps
 module _ (w : World) (e : Event) (choice : Choice) (caller : Option Caller) where

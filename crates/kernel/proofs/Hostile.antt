@@ -1,6 +1,6 @@
 -- Steps of a process that does anything.
 use Rattle.std.proofs.Common.{◌≡◌, ℕ, zero, suc, Bool, true, false, List, [], ◌∷◌, length, refl, ap, sym, subst, ◌∙◌}
-use Rattle.std.specs.Prelude.{◌<◌, ◌≤◌, ◌&&◌, not, is_some, Option, Some, None, if◌then◌else◌}
+use Rattle.std.specs.Prelude.{◌<◌, ◌≤◌, ◌≢◌, ◌&&◌, not, is_some, Option, Some, None, if◌then◌else◌}
 use Rattle.std.specs.List.{slice_get}
 use Rattle.rights.specs.Limits.{most_processes}
 use Rattle.rights.proofs.Tests.{both_left, both_right}
@@ -12,15 +12,16 @@ use Rattle.kernel.specs.Answers.{Event}
 use Rattle.kernel.specs.Steps.{Programs, changed_at, handed}
 use Rattle.kernel.specs.Origins.{Caller, ComesFrom, IsMade, IsSent, QueuedFrom, by_sendfd, had_waited, stood, was_copied, was_duplicated, was_limited, was_limited_in_commands, was_made}
 use Rattle.kernel.specs.Origins.{was_opened, was_opened_beneath, was_paired, was_received, was_sent}
-use Rattle.kernel.specs.Gains.{GainsNothing, KeepsMode, StaysIn}
+use Rattle.kernel.specs.Gains.{GainsNothing, StaysIn}
 use Rattle.kernel.specs.Hostile.{Act, Own, Does, IsAct, IsDeedOf, NextWorldExistsAsWell, NoRunGainsAsWell, NumbersDoNotMatterAsWell, about, caller_as, step_as}
 use Rattle.kernel.specs.Renamings.{DiffersInNumbers}
 use Rattle.kernel.specs.Walks.{IsWalker, IsWalkerIfMade}
-use Rattle.kernel.specs.WellFormed.{HasNone, IsDeed, IsProcess, IsProcessIfMade, IsWellFormed}
+use Rattle.kernel.specs.WellFormed.{HasNone, IsBegun, IsDeed, IsProcess, IsProcessIfMade, IsWellFormed}
 use Rattle.kernel.proofs.Aimed.{steps_alike}
 use Rattle.kernel.proofs.Deeds.{changed_at_there, changed_cases, changed_keeps, changed_length}
 use Rattle.kernel.proofs.Gains.{gains_nothing}
-use Rattle.kernel.proofs.Keeping.{next_world}
+use Rattle.kernel.proofs.Begun.{IsBegunIfEnded, begun_step, ended_begun}
+use Rattle.kernel.proofs.Keeping.{next_formed}
 use Rattle.kernel.proofs.KeptWalks.{no_walker}
 
 -- a process that is handed a deed, by whether it may do one
@@ -97,8 +98,32 @@ pub about_well_formed : (programs : Programs) (w : World) (p : ℕ) (act : Act) 
 about_well_formed programs w p Own good is = good
 about_well_formed programs w p (Does deed) good is = handed_well_formed programs w good p deed is
 
+-- between two steps but for the process that is about to do a deed
+module _ (w : World) (begun : (q : ℕ) → IsBegun (slice_get w.processes q)) (p : ℕ) where
+  others_begun : (act : Act) (q : ℕ) → q ≢ p → IsBegun (slice_get (about w p act).processes q)
+  others_begun Own q apart = begun q
+  others_begun (Does deed) q apart = changed_cases IsBegun w.processes p (handed_to deed) q tt (λ s there at. absurd (apart at)) (λ other. begun q)
+
+  ended_about : (act : Act) → IsBegunIfEnded (slice_get (about w p act).processes p)
+  ended_about Own = ended_begun (slice_get w.processes p) (begun p)
+  ended_about (Does deed) =
+      changed_keeps IsBegunIfEnded w.processes p (handed_to deed) p
+      (λ s is. handed_cases (λ t. IsBegunIfEnded (Some t)) deed s (λ hostile. λ ended. absurd (not_ended s hostile ended)) is)
+      (ended_begun (slice_get w.processes p) (begun p))
+    where
+      not_ended : (s : ProcessState) → is_hostile s ≡ true → s.alive ≡ false → ⊥
+      not_ended s hostile ended = let lives : s.alive ≡ true = both_right (s.marked && s.mode) _ (both_left _ _ hostile) in absurd cc
+
 pub next_world_as_well : NextWorldExistsAsWell
-next_world_as_well programs w e act valid good byte is = next_world programs (about w e.process act) e valid (about_well_formed programs w e.process act good is) byte
+next_world_as_well programs w e act valid good byte is =
+    let formed = next_formed programs (about w e.process act) e valid (about_well_formed programs w e.process act good.formed is) byte in
+    record {
+      some = formed.some;
+      each = λ choice fresh. record {
+        formed = formed.each choice fresh;
+        begun = begun_step (about w e.process act) e choice (others_begun w good.begun e.process act) programs (ended_about w good.begun e.process act);
+      };
+    }
 
 -- ## Numbers
 pub differs_about : (w v : World) (p : ℕ) (act : Act) → DiffersInNumbers w v → DiffersInNumbers (about w p act) (about v p act)
@@ -126,9 +151,17 @@ numbers_as_well programs w v e act j k valid good fine is same fresh also =
 
 -- ## Nothing is gained
 -- what one who is about to do something has gained he has gained before
-stays_about : (deed : Deed) (b : ProcessState) (after : Option ProcessState) → KeepsMode (handed_to deed b) after → KeepsMode b after
-stays_about deed b None stays = stays
-stays_about deed b (Some t) stays = handed_cases (λ s. (s.mode ≡ true → t.mode ≡ true) → b.mode ≡ true → t.mode ≡ true) deed b (λ hostile. λ was. was) (λ was. was) stays
+handed_mode : (deed : Deed) (s : ProcessState) → (handed_to deed s).mode ≡ s.mode
+handed_mode deed s = handed_cases (λ t. t.mode ≡ s.mode) deed s (λ hostile. refl) refl
+
+stays_about : (deed : Deed) (caller : Option ProcessState) (b : ProcessState) (after : Option ProcessState) → StaysIn caller (Some (handed_to deed b)) after → StaysIn caller (Some b) after
+stays_about deed caller b after stays = record {
+  still = λ s is.
+      let k = stays.still (handed_to deed b) refl in
+      let same : s ≡ b = cc in
+      (k.0, k.1, λ on. k.2 (handed_mode deed b ∙ subst (λ (x : ProcessState). x.mode ≡ true) same on));
+  new = λ t none some. absurd cc;
+}
 
 module _ (w : World) (p : ℕ) (deed : Deed) where
   abbrev before : List ProcessState
@@ -136,9 +169,13 @@ module _ (w : World) (p : ℕ) (deed : Deed) where
 
   -- an acting process that is handed a deed, or not, is in the mode where it was
   stays_by : (c : ProcessState) (b after : Option ProcessState) → StaysIn (Some (handed_to deed c)) b after → StaysIn (Some c) b after
-  stays_by c (Some s) after stays = stays
-  stays_by c None None stays = tt
-  stays_by c None (Some t) stays = handed_cases (λ s. (s.mode ≡ true → t.mode ≡ true) → c.mode ≡ true → t.mode ≡ true) deed c (λ hostile. λ was. was) (λ was. was) stays
+  stays_by c b after stays = record {
+    still = stays.still;
+    new = λ t none some.
+        let k = stays.new t none some in
+        let same : handed_to deed c ≡ k.0 = cc in
+        (c, refl, λ on. k.2 (subst (λ (x : ProcessState). x.mode ≡ true) same (handed_mode deed c ∙ on)));
+  }
 
   modes_about : (q : ℕ) (after : Option ProcessState) → StaysIn (slice_get before p) (slice_get before q) after → StaysIn (slice_get w.processes p) (slice_get w.processes q) after
   modes_about q after stays = by_other (by_caller stays)
@@ -151,7 +188,7 @@ module _ (w : World) (p : ℕ) (deed : Deed) where
       by_other : StaysIn (slice_get w.processes p) (slice_get before q) after → StaysIn (slice_get w.processes p) (slice_get w.processes q) after
       by_other =
           changed_at_there (λ b o. StaysIn (slice_get w.processes p) o after → StaysIn (slice_get w.processes p) b after) w.processes p (handed_to deed) q (λ o. λ is. is)
-          (λ b. stays_about deed b after)
+          (λ b. stays_about deed (slice_get w.processes p) b after)
 
   -- what is made and sent looks at what is open alone
   made_about : {q : ℕ} {s : ProcessState} {n : ℕ} {d : Descriptor} {call : Syscall} → IsMade (handed w p deed) q s n d call → IsMade w q s n d call

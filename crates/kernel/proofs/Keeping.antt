@@ -25,7 +25,7 @@ use Rattle.kernel.specs.Changes.{table_after, second_number, given, processes_af
 use Rattle.kernel.specs.Steps.{LineResult, Programs, Executed, after_deed, changed_at, next_instruction, register, with_register, goes_on, with_process, halted, failed}
 use Rattle.kernel.specs.Steps.{answered, jumped, executed, stepped_at, stepped_by, stepped, step}
 use Rattle.kernel.specs.WellFormed.{ArePrograms, EachMessage, HasPaths, IfKept, IsDeed, Numbering, HasNone, IsDescriptor, IsProcessIfMade, IsPoint, IsProcess, IsWorld, IsWellFormed}
-use Rattle.kernel.specs.Runs.{NextWorldExists, FreshNumbersExist, MayChoose}
+use Rattle.kernel.specs.Runs.{FreshNumbersExist, MayChoose}
 use Rattle.kernel.specs.Walks.{FitsLookups, IsWalkerIfMade, are_paths, call_in, lookups_of, under_way}
 use Rattle.kernel.proofs.Brings.{Ground, ground, Known, BringsTable, Brings, Sound}
 use Rattle.kernel.proofs.Deeds.{IsLike, StaysOrEnds, after_end, after_keeps, after_length, changed_cases, changed_keeps, each_executed, stays_or_ends}
@@ -477,9 +477,13 @@ pub kept : (programs : Programs) → ArePrograms programs → (numbering : Numbe
     (choice : Choice) → IsFresh w.files choice → IsWellFormed programs (step programs w e choice).world
 kept programs valid numbering w good walkers e byte choice fresh = step_kept programs numbering w good walkers e byte choice fresh valid
 
--- There is a next world, and each is well formed.
-pub next_world : NextWorldExists
-next_world programs w e valid good byte = record {
+-- There is a next world, and each is well formed, also where a process is about to do a deed.
+pub record HasFormed (programs : Programs) (w : World) (e : Event) : Type 0 where
+  pub some : (choice : Choice) × IsFresh w.files choice
+  pub each : (choice : Choice) → IsFresh w.files choice → IsWellFormed programs (step programs w e choice).world
+
+pub next_formed : (programs : Programs) (w : World) (e : Event) → ArePrograms programs → IsWellFormed programs w → IsEvent e → HasFormed programs w e
+next_formed programs w e valid good byte = record {
   some = fresh_some programs good.numbering w good.world;
   each = λ choice fresh. kept programs valid good.numbering w good.world good.walks e byte choice fresh;
 }

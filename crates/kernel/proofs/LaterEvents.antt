@@ -12,25 +12,29 @@ use Rattle.rights.specs.Needs.{First, Second, needs_of}
 use Rattle.rights.proofs.Changes.{put-other}
 use Rattle.file_tree.specs.Nodes.{Kind, Dir, File, Link, is_dir, node}
 use Rattle.lookup.specs.Answers.{Way, Beneath, Last, Follow, Keep, LookupFault, Escape, No_entry, Not_dir, Loop, Too_long, Bad_last, Finding, Found_node, Found_free, Not_found}
-use Rattle.lookup.specs.Walks.{first_handled, handled}
-use Rattle.process.specs.State.{Deed, ProcessState, Walking, One, Two, ended, forked, left_by}
+use Rattle.lookup.specs.Looks.{lookup_fault}
+use Rattle.lookup.specs.Walks.{WalkState, Progress, Done, More, begun, first_handled, handled}
+use Rattle.process.specs.State.{Deed, ProcessState, Walking, One, Two, ended, forked, handed_to, left_by}
 use Rattle.instruction_set.specs.Programs.{Instruction, Set, Mov, Add, In, Jmp, Jeq, Jlt, Halt, Invoke, Operand, called}
 use Rattle.instruction_set.specs.Programs.{Syscall, Open, Openat, Fstatat, Stat, Mkdirat, Mkdir, Unlinkat, Unlink, Renameat}
 use Rattle.fd_table.specs.Descriptions.{Object, At_node, At_end, Descriptor}
-use Rattle.kernel.specs.World.{World, Choice}
-use Rattle.kernel.specs.Answers.{Event, AreEvents, TableChange, Same_table, Set_entry, Clear_entry, New_file, New_pair, New_process, Answer, Fails, Waits, Gives, Walks, unless, held, at_object}
+use Rattle.kernel.specs.World.{World, Choice, IsFresh}
+use Rattle.kernel.specs.Answers.{Event, TableChange, Same_table, Set_entry, Clear_entry, New_file, New_pair, New_process, Answer, Fails, Waits, Gives, Walks, unless, held, at_object}
 use Rattle.kernel.specs.Answers.{at_number, lookup_fails, value_of}
-use Rattle.kernel.specs.Calls.{answer, in_directory, last_if, looks, looks_twice, made_directory, no_request, opened, opened_as, renamed_from, renamed_over, renamed_to, stats_at, unlinks}
+use Rattle.kernel.specs.Calls.{answer, existing, found_last, in_directory, is_at_last, last_if, looks, looks_twice, lost, made_directory, no_request, opened, opened_as}
+use Rattle.kernel.specs.Calls.{or_fails, renamed_over, renamed_to, resumed_both, stats_at, unlinks, walked, walked_both}
 use Rattle.kernel.specs.Changes.{changed, files_after, given, processes_after, table_after}
 use Rattle.kernel.specs.Steps.{LineResult, Programs, after_deed, next_instruction, answered, executed, failed, halted, jumped, register, step, stepped, stepped_at, stepped_by, with_process}
 use Rattle.kernel.specs.Walks.{FitsIfWalking, From_directory, IsDirectory, IsDirectoryOf, IsWalker, IsWalkerIfMade, call_in, lookups_of, under_way}
 use Rattle.kernel.proofs.FittingWalks.{both_starts, directory_start}
 use Rattle.kernel.specs.WellFormed.{ArePrograms, IsWellFormed}
-use Rattle.kernel.specs.LaterEvents.{AskAgain, AsksAgain, FailsLate, LacksRemoval, LaterEventsFailLate, is_early}
+use Rattle.kernel.specs.Hostile.{Act, Own, Does, about, step_as}
+use Rattle.kernel.specs.LaterEvents.{AreAtLast, AskAgain, AsksAgain, FailsLate, LacksRemoval, LaterEventsFailLate, is_early}
 use Rattle.kernel.proofs.Keeping.{kept}
-use Rattle.kernel.proofs.Deeds.{after_keeps}
+use Rattle.kernel.proofs.Deeds.{after_keeps, changed_keeps}
+use Rattle.kernel.proofs.Hostile.{about_well_formed, files_about, handed_cases, rests_now}
 use Rattle.kernel.proofs.KeptWalks.{call_here, set_other_cases, slice_get-more_cases, table-kept}
-use Rattle.kernel.proofs.Looking.{any_event, any_one, any_two, looks_any, looks_twice_any}
+use Rattle.kernel.proofs.Looking.{any_event, any_one, looks_any}
 
 -- what the first event has asked of the mode and of rights
 abbrev HasRight : (ℕ → Option Descriptor) → ℕ → ℕ → Type 0
@@ -175,12 +179,34 @@ module _ (w : World) (p : ℕ) (s : ProcessState) (e : Event) (call : Syscall) w
       looks_any Late w p s e start way path last rest (λ found. Unit {0}) (λ walk. Unit {0}) (any_one s.walk) (any_event (first_handled w.tree start path way last))
       (λ walk is. any_event (handled w.tree walk)) (λ found is. goes found) (λ walk is. late-walks (One walk))
 
-  late-looks_twice : (n : ℕ) (from : List ℕ) (m : ℕ) (to : List ℕ) (rest : Finding → Finding → Answer) → ((found place : Finding) → Late (rest found place)) →
-      Late (looks_twice w p s e n from m to rest)
-  late-looks_twice n from m to rest goes =
-      looks_twice_any Late w p s e late-lookup_fails n from m to rest (λ found. Unit {0}) (λ found. Unit {0}) (λ walk. Unit {0}) (λ walk. Unit {0}) (any_two s.walk)
-      (λ none. tt) (λ none. tt) tt tt (λ walk is. any_event (handled w.tree walk)) (λ walk is. any_event (handled w.tree walk)) (λ found place is also. goes found place)
-      (λ one other first second. late-walks (Two one other))
+  late-lost : (found : Finding) → Late (lost found)
+  late-lost (Not_found fault) = late-lookup_fails fault
+  late-lost (Found_node n) = late (w.files.table p) s call _ _ refl
+  late-lost (Found_free d) = late (w.files.table p) s call _ _ refl
+
+  late-before_last : (keep : WalkState → Walking) (event : Progress) → Late (walked keep lost event)
+  late-before_last keep (Done found) = late-lost found
+  late-before_last keep (More walk) = late-walks (keep walk)
+
+  -- what is found is found where both lookups are at their last name
+  late-looks_twice : (n : ℕ) (from : List ℕ) (m : ℕ) (to : List ℕ) (rest : Finding → Finding → Answer) (one other : WalkState) → s.walk ≡ Some (Two one other) →
+      (AreAtLast s.walk → (found place : Finding) → Late (rest found place)) → Late (looks_twice w p s e n from m to rest)
+  unfolding looks_twice
+  late-looks_twice n from m to rest one other is goes =
+      subst (λ o. Late (resumed_both o
+      (or_fails (lookup_fault w.tree n from Beneath Keep)
+      (or_fails (lookup_fault w.tree m to Beneath Keep) (walked_both w p s e rest (begun n from Beneath Keep) (begun m to Beneath Keep))))
+      (walked_both w p s e rest))) (sym is) (by_first (is_at_last one) refl)
+    where
+      by_second : is_at_last one ≡ true → (b : Bool) → is_at_last other ≡ b →
+          Late (cond (not b) (walked (λ walk. Two one walk) lost (handled w.tree other)) (rest (found_last (handled w.tree one)) (found_last (handled w.tree other))))
+      by_second first true second = goes (subst AreAtLast (sym is) (first, second)) _ _
+      by_second first false second = late-before_last (λ walk. Two one walk) (handled w.tree other)
+
+      by_first : (b : Bool) → is_at_last one ≡ b → Late (cond (not b) (walked (λ walk. Two walk other) lost (handled w.tree one))
+          (cond (not (is_at_last other)) (walked (λ walk. Two one walk) lost (handled w.tree other)) (rest (found_last (handled w.tree one)) (found_last (handled w.tree other)))))
+      by_first true first = by_second first (is_at_last other) refl
+      by_first false first = late-before_last (λ walk. Two walk other) (handled w.tree one)
 
   late-opened_as : (f : OpenRequest) (rights fcntls n : ℕ) (kind : Kind) → Late (opened_as w p s e f rights fcntls n kind)
   late-opened_as f rights fcntls n Link = late (w.files.table p) s call _ _ refl
@@ -208,10 +234,10 @@ module _ (w : World) (p : ℕ) (s : ProcessState) (e : Event) (call : Syscall) w
   late-unlinks true (Found_node n) = late-unless _ _ _ _ refl (late-unless _ _ _ _ refl (late-gives _ _ _))
   late-unlinks false (Found_node n) = late-unless _ _ _ _ refl (late-gives _ _ _)
 
-  late-renamed_from : (found : Finding) (rest : ℕ → Answer) → ((n : ℕ) → Late (rest n)) → Late (renamed_from w p s e found rest)
-  late-renamed_from (Not_found fault) rest goes = late-lookup_fails fault
-  late-renamed_from (Found_free d) rest goes = late (w.files.table p) s call _ _ refl
-  late-renamed_from (Found_node n) rest goes = goes n
+  late-existing : (found : Finding) (rest : ℕ → Answer) → ((n : ℕ) → Late (rest n)) → Late (existing found rest)
+  late-existing (Not_found fault) rest goes = late-lookup_fails fault
+  late-existing (Found_free d) rest goes = late (w.files.table p) s call _ _ refl
+  late-existing (Found_node n) rest goes = goes n
 
   late-over : (n m : ℕ) → Late (renamed_over w p s e n m)
   late-over n m = late-unless _ _ _ _ refl (late-unless _ _ _ _ refl (late-unless _ _ _ _ refl (late-unless _ _ _ _ refl (late-gives _ _ _))))
@@ -232,7 +258,13 @@ module _ (w : World) (p : ℕ) (s : ProcessState) (e : Event) (call : Syscall) w
   late-renamed_to target n path (Found_free d) lacks = late-unless _ _ _ _ refl (late-gives _ _ _)
   late-renamed_to target n path (Found_node m) lacks = late-if (n == m) _ _ (late-gives _ _ _) (late-replacing _ _ _ lacks (late-over n m))
 
-module _ (w : World) (p : ℕ) (s : ProcessState) (e : Event) (walking : Walking) where
+-- two lookups are under way
+record HasTwo (s : ProcessState) : Type 0 where
+  one : WalkState
+  other : WalkState
+  is : s.walk ≡ Some (Two one other)
+
+module _ (w : World) (p : ℕ) (s : ProcessState) (e : Event) (walking : Walking) (under : s.walk ≡ Some walking) where
   abbrev Fit : Syscall → Type 0
   Fit call = FitsIfWalking w.tree w.files.objects (w.files.table p) s (Some call) (Some walking)
 
@@ -265,12 +297,17 @@ module _ (w : World) (p : ℕ) (s : ProcessState) (e : Event) (walking : Walking
   fails_late (Renameat x from y to) fit ((d, is, right), (target, target_is, also)) =
       let call = Renameat x from y to in
       let starts = both_starts w.tree w.files.objects (w.files.table p) s call x from y to walking refl fit in
+      let both = both_walk walking fit under in
       late-held w p s e call (w.files.table p (value_of s x)) d _ is (late-held w p s e call (w.files.table p (value_of s y)) target _ target_is
       (late-passed w p s e call _ _ _ _ right (late-passed w p s e call _ _ _ _ also
       (late-directory w p s e call (w.files.table p (value_of s x)) d _ is starts.0 (λ n.
       late-directory w p s e call (w.files.table p (value_of s y)) target _ target_is starts.1 (λ m.
-      late-looks_twice w p s e call _ _ _ _ _ (λ source place. late-renamed_from w p s e call source _ (λ k.
-      late-renamed_to w p s e call target k to place (λ lacks. (target, target_is, lacks))))))))))
+      late-looks_twice w p s e call _ _ _ _ _ both.one both.other both.is (λ last source place. late-existing w p s e call source _ (λ k.
+      late-renamed_to w p s e call target k to place (λ lacks. (last, target, target_is, lacks))))))))))
+    where
+      both_walk : (o : Walking) → FitsIfWalking w.tree w.files.objects (w.files.table p) s (Some (Renameat x from y to)) (Some o) → s.walk ≡ Some o → HasTwo s
+      both_walk (One walk) fit is = absurd fit
+      both_walk (Two one other) fit is = record { one = one; other = other; is = is }
   fails_late call fit asks = absurd fit
 
 -- ## Runs
@@ -393,7 +430,7 @@ module _ (programs : Programs) (w : World) (before : HaveAsked programs w) (e : 
 
 asks_again : (programs : Programs) (w : World) (e : Event) → IsWellFormed programs w → HaveAsked programs w → AsksAgain programs w e
 asks_again programs w e good before s walking call made walks here =
-    fails_late w e.process s e walking call
+    fails_late w e.process s e walking walks call
     (subst (λ o. FitsIfWalking w.tree w.files.objects (w.files.table e.process) s (Some call) o) walks
     (subst (λ o. FitsIfWalking w.tree w.files.objects (w.files.table e.process) s o s.walk) here walker.fits))
     (subst (HaveAskedIf (w.files.table e.process) s (Some call)) walks (subst (λ o. HaveAskedIf (w.files.table e.process) s o s.walk) here own))
@@ -404,17 +441,29 @@ asks_again programs w e good before s walking call made walks here =
     own : HaveAskedIf (w.files.table e.process) s (under_way programs s) s.walk
     own = subst (HasAsked programs (w.files.table e.process)) made (before e.process)
 
-all_ask_again : (programs : Programs) (w : World) (events : List Event) → ArePrograms programs → IsWellFormed programs w → HaveAsked programs w → AreEvents events → AskAgain programs w events
-all_ask_again programs w [] valid good before bytes = tt
-all_ask_again programs w (e ∷ events) valid good before bytes = (
+-- what one who is about to do something has asked before
+asked_about : (programs : Programs) (w : World) (p : ℕ) (act : Act) → HaveAsked programs w → HaveAsked programs (about w p act)
+asked_about programs w p Own before q = before q
+asked_about programs w p (Does deed) before q =
+    changed_keeps (HasAsked programs (w.files.table q)) w.processes p (handed_to deed) q
+    (λ s asked. handed_cases (λ t. HasAsked programs (w.files.table q) (Some t)) deed s
+    (λ hostile. rests programs (w.files.table q) (record s { kept = Some deed }) (rests_now programs deed s hostile)) asked)
+    (before q)
+
+all_ask_again : (programs : Programs) (w : World) (events : List (Event × Act)) → ArePrograms programs → IsWellFormed programs w → HaveAsked programs w → AskAgain programs w events
+all_ask_again programs w [] valid good before = tt
+all_ask_again programs w ((e, act) ∷ events) valid good before = (
   asks_again programs w e good before,
-  λ choice fresh.
-      all_ask_again programs (step programs w e choice).world events valid
-      (kept programs valid good.numbering w good.world good.walks e bytes.0 choice fresh) (step_later programs w before e choice) bytes.1,
+  λ choice fresh byte is.
+      let formed = about_well_formed programs w e.process act good is in
+      all_ask_again programs (step_as programs w e act choice).world events valid
+      (kept programs valid formed.numbering (about w e.process act) formed.world formed.walks e byte choice
+      (subst (λ f. IsFresh f choice) (sym (files_about w e.process act)) fresh))
+      (step_later programs (about w e.process act) (asked_about programs w e.process act before) e choice),
 )
 
 pub later_events_fail_late : LaterEventsFailLate
-later_events_fail_late programs w events valid good resting bytes = all_ask_again programs w events valid good asked_nothing bytes
+later_events_fail_late programs w events valid good resting = all_ask_again programs w events valid good asked_nothing
   where
     asked_nothing : HaveAsked programs w
     asked_nothing p = by_process (slice_get w.processes p) refl

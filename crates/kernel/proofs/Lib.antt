@@ -19,8 +19,7 @@ pub mod Later
 pub mod KeptWalks
 pub mod Deeds
 pub mod Keeping
-mod LateFailures
-pub mod LaterEvents
+pub mod Begun
 pub mod Opens
 pub mod Renamed
 pub mod ChangedAlike
@@ -30,6 +29,8 @@ pub mod Aimed
 pub mod Determined
 pub mod Gains
 pub mod Hostile
+mod LateFailures
+pub mod LaterEvents
 pub mod Marks
 mod DeedRows
 pub mod ChangeRows

@@ -9,7 +9,7 @@ use Rattle.process.specs.State.{ProcessState, Walking, One, Two}
 use Rattle.kernel.specs.World.{World}
 use Rattle.kernel.specs.Answers.{Event, Answer, Fails, Walks, lookup_fails}
 use Rattle.kernel.specs.Walks.{IfOne, IfTwo}
-use Rattle.kernel.specs.Calls.{found_last, is_at_last, looks, looks_twice, lost, resumed_one, resumed_both, or_fails, walked, walked_both, walked_first, walked_second}
+use Rattle.kernel.specs.Calls.{found_last, is_at_last, looks, looks_twice, lost, resumed_one, resumed_both, or_fails, walked, walked_both}
 
 -- an event ends in a finding that is good, or leaves names, and what is under way is good
 abbrev pub IsEvent : (Finding → Type 0) → (WalkState → Type 0) → Progress → Type 0
@@ -35,7 +35,7 @@ module _ (P : Answer → Type 0) (w : World) (p : ℕ) (s : ProcessState) (e : E
   -- ## One path
   module _ (start : ℕ) (way : Way) (path : List ℕ) (last : Last) (rest : Finding → Answer) (Good : Finding → Type 0) (Under : WalkState → Type 0) where
     walked_any : (event : Progress) → IsEvent Good Under event → ((found : Finding) → Good found → P (rest found)) →
-        ((walk : WalkState) → Under walk → P (Walks (One walk))) → P (walked rest event)
+        ((walk : WalkState) → Under walk → P (Walks (One walk))) → P (walked One rest event)
     walked_any (Done finding) good found walks = found finding good
     walked_any (More walk) good found walks = walks walk good
 
@@ -75,12 +75,12 @@ module _ (P : Answer → Type 0) (w : World) (p : ℕ) (s : ProcessState) (e : E
 
     module _ (n : ℕ) (from : List ℕ) (m : ℕ) (to : List ℕ) (rest : Finding → Finding → Answer) (Good Also : Finding → Type 0) (First Second : WalkState → Type 0) where
       walked_first_any : (other : WalkState) → Second other → (event : Progress) → IsEvent Good First event →
-          ((one other : WalkState) → First one → Second other → P (Walks (Two one other))) → P (walked_first other event)
+          ((one other : WalkState) → First one → Second other → P (Walks (Two one other))) → P (walked (λ walk. Two walk other) lost event)
       walked_first_any other second (Done finding) good walks = lost_any finding
       walked_first_any other second (More walk) good walks = walks walk other good second
 
       walked_second_any : (one : WalkState) → First one → (event : Progress) → IsEvent Also Second event →
-          ((one other : WalkState) → First one → Second other → P (Walks (Two one other))) → P (walked_second one event)
+          ((one other : WalkState) → First one → Second other → P (Walks (Two one other))) → P (walked (λ walk. Two one walk) lost event)
       walked_second_any one first (Done finding) good walks = lost_any finding
       walked_second_any one first (More walk) good walks = walks one walk first good
 
@@ -94,13 +94,13 @@ module _ (P : Answer → Type 0) (w : World) (p : ℕ) (s : ProcessState) (e : E
           ((one other : WalkState) → First one → Second other → P (Walks (Two one other))) → P (walked_both w p s e rest one other)
       walked_both_any one other first second none nor one_event other_event found walks = by_first (is_at_last one)
         where
-          by_second : (b : Bool) → P (cond (not b) (walked_second one (handled w.tree other)) (rest (found_last (handled w.tree one)) (found_last (handled w.tree other))))
+          by_second : (b : Bool) → P (cond (not b) (walked (λ walk. Two one walk) lost (handled w.tree other)) (rest (found_last (handled w.tree one)) (found_last (handled w.tree other))))
           by_second true =
               found _ _ (last_any Good First (handled w.tree one) none (one_event one first)) (last_any Also Second (handled w.tree other) nor (other_event other second))
           by_second false = walked_second_any one first (handled w.tree other) (other_event other second) walks
 
-          by_first : (b : Bool) → P (cond (not b) (walked_first other (handled w.tree one))
-              (cond (not (is_at_last other)) (walked_second one (handled w.tree other)) (rest (found_last (handled w.tree one)) (found_last (handled w.tree other)))))
+          by_first : (b : Bool) → P (cond (not b) (walked (λ walk. Two walk other) lost (handled w.tree one))
+              (cond (not (is_at_last other)) (walked (λ walk. Two one walk) lost (handled w.tree other)) (rest (found_last (handled w.tree one)) (found_last (handled w.tree other)))))
           by_first true = by_second (is_at_last other)
           by_first false = walked_first_any other second (handled w.tree one) (one_event one first) walks
 

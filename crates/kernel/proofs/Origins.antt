@@ -19,9 +19,10 @@ use Rattle.kernel.specs.World.{World}
 use Rattle.kernel.specs.Answers.{Event, Effect, TableChange, Same_table, Set_entry, Clear_entry, New_file, New_pair, New_process, QueueChange, Same_queue, Push, Pop, Change}
 use Rattle.kernel.specs.Answers.{Answer, Fails, Waits, Gives, Walks, unless, held, at_object, at_number, lookup_fails}
 use Rattle.kernel.specs.Calls.{looks, looks_twice, answer, opened, opened_as, read_byte, read_end, write_node, sent_end, received, receive_end, stats_at, made_directory}
-use Rattle.kernel.specs.Calls.{unlinks_as, unlinks, renamed_over, renamed_to, renamed_from, pair_at, blocked, in_directory, at_file}
+use Rattle.kernel.specs.Calls.{unlinks_as, unlinks, renamed_over, renamed_to, existing, pair_at, blocked, in_directory, at_file}
 use Rattle.kernel.proofs.Looking.{any_event, any_one, any_two, fault_any, looks_any, looks_twice_any}
-use Rattle.kernel.specs.Origins.{front_of, arriving_at, arriving, IsNoWider, IsMade, was_opened, was_opened_beneath, was_paired, was_duplicated, was_received, was_limited, was_limited_in_commands, IsEndOf, IsEnd, IsSent, by_sendfd}
+use Rattle.kernel.specs.Origins.{front_of, arriving_at, arriving, IsNoWider, IsMade, was_opened, was_opened_beneath, was_paired, was_duplicated, was_received}
+use Rattle.kernel.specs.Origins.{was_limited, was_limited_in_commands, IsEndOf, IsEnd, IsSent, by_sendfd}
 
 -- a number that is found free is
 unheld : (o : Option Descriptor) → is_some o ≡ false → o ≡ None
@@ -212,10 +213,10 @@ module _ (w : World) (p : ℕ) (s : ProcessState) where
     fair-renamed_to call target n path (Found_node m) =
         fair-if call _ _ _ (gives call _ _ _ tt tt) (fair-unless call _ _ _ _ (λ _. fair-renamed_over call n m))
 
-    fair-renamed_from : (call : Syscall) (found : lookups.Finding) (rest : ℕ → Answer) → ((n : ℕ) → Fair call (rest n)) → Fair call (renamed_from w p s e found rest)
-    fair-renamed_from call (Not_found fault) rest fair = fair-lookup_fails call fault
-    fair-renamed_from call (Found_free d) rest fair = fails call _ _
-    fair-renamed_from call (Found_node n) rest fair = fair n
+    fair-existing : (call : Syscall) (found : lookups.Finding) (rest : ℕ → Answer) → ((n : ℕ) → Fair call (rest n)) → Fair call (existing found rest)
+    fair-existing call (Not_found fault) rest fair = fair-lookup_fails call fault
+    fair-existing call (Found_free d) rest fair = fails call _ _
+    fair-existing call (Found_node n) rest fair = fair n
 
     -- a descriptor's directory and file
     fair-directory : (call : Syscall) (d : Descriptor) (rest : ℕ → Answer) → ((n : ℕ) → Fair call (rest n)) → Fair call (in_directory w p s e d.description rest)
@@ -295,7 +296,7 @@ module _ (w : World) (p : ℕ) (s : ProcessState) where
         fair-unless call _ _ _ _ (λ _. fair-unless call _ _ _ _ (λ _.
         fair-directory call d _ (λ n. fair-directory call target _ (λ m.
         fair-looks_twice call _ _ _ _ _ (λ source place.
-        fair-renamed_from call source _ (λ k. fair-renamed_to call target k to place))))))))
+        fair-existing call source _ (λ k. fair-renamed_to call target k to place))))))))
     fair (Dup x) =
         fair-held (Dup x) _ _ (λ d is. fair-number (Dup x) _ _ (λ number none.
         gives (Dup x) _ _ _ (was_duplicated (free number none) (within-itself d _ is)) tt))

@@ -21,8 +21,8 @@ use Rattle.kernel.specs.Answers.{Event, Effect, TableChange, Same_table, Set_ent
 use Rattle.kernel.specs.Answers.{Same_state, Set_state, Fill, Change, Answer, Fails, Waits, Gives, Walks, same, gives, does, unless, held, at_object, at_number, lookup_fails, value_of}
 use Rattle.rights.specs.Limits.{most_messages}
 use Rattle.kernel.specs.Calls.{looks, looks_twice, answer, opened, opened_as, read_byte, read_node, read_end, write_node, write_at, write_offset, sent_end, received, receive_end, own_class}
-use Rattle.kernel.specs.Calls.{found_last, is_at_last, lost, resumed_one, resumed_both, or_fails, walked, walked_both, walked_first, walked_second}
-use Rattle.kernel.specs.Calls.{stats_at, made_directory, unlinks, renamed_to, renamed_from, pair_at, blocked, in_directory, at_file, at_socket}
+use Rattle.kernel.specs.Calls.{found_last, is_at_last, lost, resumed_one, resumed_both, or_fails, walked, walked_both}
+use Rattle.kernel.specs.Calls.{stats_at, made_directory, unlinks, renamed_to, existing, pair_at, blocked, in_directory, at_file, at_socket}
 use Rattle.kernel.specs.Renamings.{Renaming, SameObject, SameFiles, renamed_object, renamed_descriptor, renamed_entry, renamed_message, renamed_messages}
 
 -- A change, and an answer, under the other numbers.
@@ -273,7 +273,7 @@ module _ (r : Renaming) (w : World) (g : OpenFiles) (alike : SameFiles r w.files
   unfolding looks
   both-looks start way path last rest more is = by_event (resumed_one s.walk (first_handled w.tree start path way last) (handled w.tree))
     where
-      by_event : (event : Progress) → Matches r (walked rest event) (walked more event)
+      by_event : (event : Progress) → Matches r (walked One rest event) (walked One more event)
       by_event (Done found) = is found
       by_event (More walk) = walks r (One walk)
 
@@ -288,11 +288,11 @@ module _ (r : Renaming) (w : World) (g : OpenFiles) (alike : SameFiles r w.files
       both-lost (Found_node k) = fails r _ _
       both-lost (Found_free k) = fails r _ _
 
-      both-first : (two : WalkState) (event : Progress) → Matches r (walked_first two event) (walked_first two event)
+      both-first : (two : WalkState) (event : Progress) → Matches r (walked (λ walk. Two walk two) lost event) (walked (λ walk. Two walk two) lost event)
       both-first two (Done found) = both-lost found
       both-first two (More walk) = walks r (Two walk two)
 
-      both-second : (one : WalkState) (event : Progress) → Matches r (walked_second one event) (walked_second one event)
+      both-second : (one : WalkState) (event : Progress) → Matches r (walked (λ walk. Two one walk) lost event) (walked (λ walk. Two one walk) lost event)
       both-second one (Done found) = both-lost found
       both-second one (More walk) = walks r (Two one walk)
 
@@ -345,10 +345,10 @@ module _ (r : Renaming) (w : World) (g : OpenFiles) (alike : SameFiles r w.files
       both-if r (n == m) _ _ _ _ (given r 0 _ [])
       (both-unless r _ _ _ _ _ (both-unless r _ _ _ _ _ (both-unless r _ _ _ _ _ (both-unless r _ _ _ _ _ (both-unless r _ _ _ _ _ (given r _ _ _))))))
 
-  both-renamed_from : (found : lookups.Finding) (rest more : ℕ → Answer) → ((n : ℕ) → Matches r (rest n) (more n)) → Matches r (renamed_from w p s e found rest) (renamed_from other p s e found more)
-  both-renamed_from (Not_found fault) rest more is = both-lookup_fails r fault
-  both-renamed_from (Found_free d) rest more is = fails r _ _
-  both-renamed_from (Found_node n) rest more is = is n
+  both-existing : (found : lookups.Finding) (rest more : ℕ → Answer) → ((n : ℕ) → Matches r (rest n) (more n)) → Matches r (existing found rest) (existing found more)
+  both-existing (Not_found fault) rest more is = both-lookup_fails r fault
+  both-existing (Found_free d) rest more is = fails r _ _
+  both-existing (Found_node n) rest more is = is n
 
   both-pair_at : (o : Option ℕ) → Matches r (pair_at w p s e o) (pair_at other p s e o)
   both-pair_at None = fails r _ _
@@ -416,7 +416,7 @@ module _ (r : Renaming) (w : World) (g : OpenFiles) (alike : SameFiles r w.files
       both-entry (value_of s x) _ _ (λ d twin. both-entry (value_of s y) _ _ (λ into also.
       both-unless r _ _ _ _ _ (both-unless r _ _ _ _ _
       (both-directory d twin _ _ (λ n. both-directory into also _ _ (λ m.
-      both-looks_twice _ _ _ _ _ _ (λ source place. both-renamed_from source _ _ (λ k.
+      both-looks_twice _ _ _ _ _ _ (λ source place. both-existing source _ _ (λ k.
       both-renamed_to (Renameat x from y target) into k target place))))))))
   matches (Dup x) = both-entry (value_of s x) _ _ (λ d twin. both-free _ _ (λ number. given r _ _ _))
   matches (Close x) = both-entry (value_of s x) _ _ (λ d twin. given r _ _ _)

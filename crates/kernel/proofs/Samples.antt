@@ -15,7 +15,7 @@ use Rattle.instruction_set.specs.Assembly.{Fault}
 use Rattle.fd_table.specs.Descriptions.{Object, At_node, At_end, Initial, Descriptor, new_state}
 use Rattle.kernel.specs.World.{World, Choice}
 use Rattle.kernel.specs.Answers.{Event, Effect}
-use Rattle.kernel.specs.Steps.{LineResult, Done, Halted, Value, Failed, Waiting, Walks_on, Ended, Acted, Programs, step}
+use Rattle.kernel.specs.Steps.{LineResult, No_call, Halted, Value, Failed, Waiting, Walks_on, Ended, Acted, Programs, step}
 
 -- Directories `/work` with `in`, `out` and three links, `/workshop` with `x`, `/log`, and `/etc` with
 -- `passwd`: eleven nodes after the root.
@@ -78,7 +78,7 @@ times n = replicate n (event 0 0)
 
 -- What a run shows: the text of a trace.
 abbrev pub result_text : LineResult → List ℕ
-result_text Done = codes "ok"
+result_text No_call = codes "ok"
 result_text Halted = codes "halt"
 result_text (Value n) = codes "= " ++ decimal n
 result_text (Failed errno cause) = codes "! " ++ errno_name errno ++ codes " " ++ cause_name cause

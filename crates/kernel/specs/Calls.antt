@@ -65,29 +65,25 @@ abbrev pub resumed_both : Option Walking → Answer → (WalkState → WalkState
 resumed_both (Some (Two one other)) first later = later one other
 resumed_both _ first later = first
 
--- The call ends with what is found, or has names left.
-abbrev pub walked : (lookups.Finding → Answer) → Progress → Answer
-walked rest (Done finding) = rest finding
-walked rest (More walk) = Walks (One walk)
+-- The call goes on with what is found, or has names left and keeps what is under way.
+abbrev pub walked : (WalkState → Walking) → (lookups.Finding → Answer) → Progress → Answer
+walked keep rest (Done finding) = rest finding
+walked keep rest (More walk) = Walks (keep walk)
+
+-- a call on what is there goes on with the node
+abbrev pub existing : lookups.Finding → (NodeNumber → Answer) → Answer
+existing (Not_found fault) rest = lookup_fails fault
+existing (Found_free d) rest = Fails ENOENT Path
+existing (Found_node n) rest = rest n
 
 -- why a call with two paths ends before both are found
 abbrev pub or_fails : Option LookupFault → Answer → Answer
 or_fails None rest = rest
 or_fails (Some fault) rest = lookup_fails fault
 
--- A lookup that has names left ends in a fault alone; the other two never come.
+-- A lookup ends before its last name by a fault alone.
 abbrev pub lost : lookups.Finding → Answer
-lost (Not_found fault) = lookup_fails fault
-lost (Found_node n) = Fails ENOENT Path
-lost (Found_free d) = Fails ENOENT Path
-
-abbrev pub walked_first : WalkState → Progress → Answer
-walked_first other (Done finding) = lost finding
-walked_first other (More walk) = Walks (Two walk other)
-
-abbrev pub walked_second : WalkState → Progress → Answer
-walked_second one (Done finding) = lost finding
-walked_second one (More walk) = Walks (Two one walk)
+lost finding = existing finding (λ n. Fails ENOENT Path)
 
 -- whether one name is left, the last one
 abbrev pub is_at_last : WalkState → Bool
@@ -155,14 +151,14 @@ module _ (w : World) (p : ℕ) (s : ProcessState) (e : Event) where
   -- Every lookup of a call is one of these two. An event looks one name up: the first event of the call begins, and a later one goes
   -- on with what the process has under way. What is found at the end goes to the rest of the call.
   unfoldable pub looks : NodeNumber → Way → PathText → Last → (lookups.Finding → Answer) → Answer
-  looks start way path last rest = walked rest (resumed_one s.walk (first_handled w.tree start path way last) (handled w.tree))
+  looks start way path last rest = walked One rest (resumed_one s.walk (first_handled w.tree start path way last) (handled w.tree))
 
   -- The old path is walked until one name is left, then the new one. Both last names are looked up in one event. What is wrong with
   -- the text or the start of either is told in the first event, the old one's first. (own)
   abbrev pub walked_both : (lookups.Finding → lookups.Finding → Answer) → WalkState → WalkState → Answer
   walked_both rest one other =
-      if not (is_at_last one) then walked_first other (handled w.tree one)
-      else (if not (is_at_last other) then walked_second one (handled w.tree other)
+      if not (is_at_last one) then walked (λ walk. Two walk other) lost (handled w.tree one)
+      else (if not (is_at_last other) then walked (λ walk. Two one walk) lost (handled w.tree other)
       else rest (found_last (handled w.tree one)) (found_last (handled w.tree other)))
 
   unfoldable pub looks_twice : NodeNumber → PathText → NodeNumber → PathText → (lookups.Finding → lookups.Finding → Answer) → Answer
@@ -285,9 +281,7 @@ module _ (w : World) (p : ℕ) (s : ProcessState) (e : Event) where
   stats n = Gives (kind_number (at n).kind) same (does Look (at n).place)
 
   abbrev pub stats_at : lookups.Finding → Answer
-  stats_at (Not_found fault) = lookup_fails fault
-  stats_at (Found_free d) = Fails ENOENT Path
-  stats_at (Found_node n) = stats n
+  stats_at found = existing found stats
 
   -- ## mkdirat and mkdir (mkdir(2))
   abbrev pub made_directory : PathText → lookups.Finding → Answer
@@ -306,10 +300,8 @@ module _ (w : World) (p : ℕ) (s : ProcessState) (e : Event) where
   unlinks_as false n rest = unless (not (is_dir (at n).kind)) EPERM Path rest
 
   abbrev pub unlinks : Bool → lookups.Finding → Answer
-  unlinks directory (Not_found fault) = lookup_fails fault
-  unlinks directory (Found_free d) = Fails ENOENT Path
-  unlinks directory (Found_node n) =
-      unlinks_as directory n (Gives 0 (record same { tree = Remove n }) (does Removes (at n).place))
+  unlinks directory found =
+      existing found (λ n. unlinks_as directory n (Gives 0 (record same { tree = Remove n }) (does Removes (at n).place)))
 
   -- ## renameat (rename(2))
   -- Into a free name, or over another node, whose kind has to fit. A node that is replaced is removed, which
@@ -339,11 +331,6 @@ module _ (w : World) (p : ℕ) (s : ProcessState) (e : Event) where
   renamed_to call target n path (Found_node m) =
       if n == m then gives 0
       else granted (needs_of (called call) no_request Second true) target (renamed_over n m)
-
-  abbrev pub renamed_from : lookups.Finding → (NodeNumber → Answer) → Answer
-  renamed_from (Not_found fault) rest = lookup_fails fault
-  renamed_from (Found_free d) rest = Fails ENOENT Path
-  renamed_from (Found_node n) rest = rest n
 
   -- ## socketpair (socketpair(2))
   -- The two lowest free numbers.
@@ -415,7 +402,7 @@ module _ (w : World) (p : ℕ) (s : ProcessState) (e : Event) where
       (in_directory d.description (λ n.
       in_directory target.description (λ m.
       looks_twice n from m to (λ source place.
-      renamed_from source (λ k. renamed_to (Renameat x from y to) target k to place))))))))
+      existing source (λ k. renamed_to (Renameat x from y to) target k to place))))))))
   answer (Dup x) = held (entry x) (λ d. at_number free (λ number. Gives number (record same { table = Set_entry number d }) []))
   answer (Close x) = held (entry x) (λ d. Gives 0 (record same { table = Clear_entry (value_of s x) }) [])
   answer (Cap_rights_limit x rights) =

@@ -5,7 +5,7 @@ use Rattle.rights.specs.Values.{DescriptionNumber, DescriptorNumber, ProcessNumb
 use Rattle.rights.specs.Sets.{all_rights, all_commands}
 use Rattle.rights.specs.Maps.{put, put2}
 use Rattle.file_tree.specs.Nodes.{Node}
-use Rattle.file_tree.specs.Changes.{removed, filled, renamed}
+use Rattle.file_tree.specs.Changes.{added, removed, filled, renamed}
 use Rattle.process.specs.State.{ProcessState, forked}
 use Rattle.fd_table.specs.Descriptions.{At_node, At_end, Object, State, Descriptor, Message, new_state, descriptor_of}
 use Rattle.fd_table.specs.OpenFiles.{OpenFiles}
@@ -13,10 +13,10 @@ use Rattle.kernel.specs.World.{World, Choice}
 use Rattle.kernel.specs.Answers.{TreeChange, Same_tree, Make, Remove, Move, Fill, TableChange, Same_table, Set_entry, Clear_entry, New_file, New_pair, New_process, QueueChange}
 use Rattle.kernel.specs.Answers.{Same_queue, Push, Pop, StateChange, Same_state, Set_state, Change}
 
--- The tree: a new node goes to the end.
+-- The tree: a new node is empty.
 abbrev pub tree_after : List Node → TreeChange → List Node
 tree_after tree Same_tree = tree
-tree_after tree (Make place kind) = tree ++ record { kind = kind; place = place; linked = true; content = [] } ∷ []
+tree_after tree (Make place kind) = added tree place kind []
 tree_after tree (Remove n) = removed tree n
 tree_after tree (Move n place) = renamed tree n place
 tree_after tree (Fill n content) = filled tree n content

@@ -10,16 +10,10 @@ use Rattle.kernel.specs.Steps.{Programs, step}
 use Rattle.fd_table.specs.Descriptions.{IfHeld, EachPassed}
 use Rattle.kernel.specs.Origins.{Caller, caller_of, ComesFrom, QueuedFrom}
 
--- A process in capability mode stays in it, and a child of one is in it.
-abbrev pub KeepsMode : ProcessState → Option ProcessState → Type 0
-KeepsMode s None = ⊥
-KeepsMode s (Some t) = s.mode ≡ true → t.mode ≡ true
-
-abbrev pub StaysIn : Option ProcessState → Option ProcessState → Option ProcessState → Type 0
-StaysIn caller (Some s) after = KeepsMode s after
-StaysIn caller None None = Unit {0}
-StaysIn None None (Some t) = ⊥
-StaysIn (Some s) None (Some t) = s.mode ≡ true → t.mode ≡ true
+-- What was there is there still, and in capability mode if it was; a new process is in the mode if the caller is, who has made it.
+pub record StaysIn (caller before after : Option ProcessState) : Type 0 where
+  pub still : (s : ProcessState) → before ≡ Some s → (t : ProcessState) × (after ≡ Some t) × (s.mode ≡ true → t.mode ≡ true)
+  pub new : (t : ProcessState) → before ≡ None → after ≡ Some t → (s : ProcessState) × (caller ≡ Some s) × (s.mode ≡ true → t.mode ≡ true)
 
 -- from a world to the next one, by a step of process p, which makes that call, if any
 pub record GainsNothing (w : World) (p : ProcessNumber) (caller : Option Caller) (next : World) : Type 0 where

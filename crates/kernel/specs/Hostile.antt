@@ -10,7 +10,7 @@ use Rattle.kernel.specs.Origins.{Caller, caller_of}
 use Rattle.kernel.specs.Gains.{GainsNothing}
 use Rattle.kernel.specs.Runs.{HasNext}
 use Rattle.kernel.specs.Renamings.{DiffersInNumbers, StepsAlike}
-use Rattle.kernel.specs.WellFormed.{ArePrograms, IsDeed, IsWellFormed}
+use Rattle.kernel.specs.WellFormed.{ArePrograms, IsBetweenSteps, IsDeed, IsWellFormed}
 
 -- What an event has its process do: what it goes on with by itself, or this deed, if it may do anything.
 pub data Act : Type 0 where
@@ -39,12 +39,12 @@ IsAct programs w p Own = Unit {0}
 IsAct programs w p (Does deed) = IsDeedOf programs (slice_get w.processes p) deed
 
 -- ## What holds of them as of other steps
--- There is a next world, and each is well formed.
+-- There is a next world, and each is well formed and between two steps.
 abbrev pub NextWorldExistsAsWell : Type 0
 NextWorldExistsAsWell =
     (programs : Programs) (w : World) (e : Event) (act : Act)
     → ArePrograms programs
-    → IsWellFormed programs w
+    → IsBetweenSteps programs w
     → IsEvent e
     → IsAct programs w e.process act
     → HasNext programs (about w e.process act) e

@@ -6,11 +6,11 @@ pub mod Steps
 pub mod Walks
 pub mod Origins
 pub mod WellFormed
-pub mod LaterEvents
 pub mod Runs
 pub mod Renamings
 pub mod Alike
 pub mod Gains
 pub mod Hostile
+pub mod LaterEvents
 pub mod Gainful
 pub mod Scans

@@ -6,7 +6,7 @@ use Rattle.kernel.specs.Answers.{Event, IsEvent, AreEvents}
 use Rattle.kernel.specs.Steps.{Programs, Acted, step}
 use Rattle.kernel.specs.Origins.{front_of, IsEnd}
 use Rattle.kernel.specs.Walks.{IsDirectory}
-use Rattle.kernel.specs.WellFormed.{ArePrograms, IsWellFormed}
+use Rattle.kernel.specs.WellFormed.{ArePrograms, IsBetweenSteps, IsWellFormed}
 use Rattle.kernel.specs.Renamings.{DiffersInNumbers}
 use Rattle.kernel.specs.Alike.{AlikeWorlds}
 
@@ -21,13 +21,13 @@ Runs programs w (e ∷ events) (line ∷ lines) =
     × ((step programs w e choice).acted ≡ line)
     × Runs programs (step programs w e choice).world events lines
 
--- There is a fresh choice, and every fresh choice leads to a well-formed world.
+-- There is a fresh choice, and every fresh choice leads to a well-formed world between two steps.
 pub record HasNext (programs : Programs) (w : World) (e : Event) : Type 0 where
   pub some : (choice : Choice) × IsFresh w.files choice
-  pub each : (choice : Choice) → IsFresh w.files choice → IsWellFormed programs (step programs w e choice).world
+  pub each : (choice : Choice) → IsFresh w.files choice → IsBetweenSteps programs (step programs w e choice).world
 
 abbrev pub NextWorldExists : Type 0
-NextWorldExists = (programs : Programs) (w : World) (e : Event) → ArePrograms programs → IsWellFormed programs w → IsEvent e → HasNext programs w e
+NextWorldExists = (programs : Programs) (w : World) (e : Event) → ArePrograms programs → IsBetweenSteps programs w → IsEvent e → HasNext programs w e
 
 -- Whatever number that nobody names a step takes for its first description, the rest can be chosen; and numbers that
 -- are free one by one are a fresh choice together.
@@ -94,4 +94,4 @@ pub record HoldsEach (w : World) : Type 0 where
   pub under_way : IsDirectory w.tree w.files.objects (front_of (w.files.queue 0 0))
 
 abbrev pub WellFormedWorldExists : Type 0
-WellFormedWorldExists = (programs : Programs) × ArePrograms programs × (w : World) × IsWellFormed programs w × HoldsEach w
+WellFormedWorldExists = (programs : Programs) × ArePrograms programs × (w : World) × IsBetweenSteps programs w × HoldsEach w

@@ -13,7 +13,7 @@ use Rattle.kernel.specs.Changes.{given, changed}
 
 -- what a step comes to
 pub data LineResult : Type 0 where
-  Done : LineResult  -- an instruction that is no call
+  No_call : LineResult  -- an instruction that is no call
   Halted : LineResult
   Value : ℕ → LineResult  -- the call's, in the caller
   Failed : (errno : Errno) (cause : Cause) → LineResult
@@ -43,7 +43,7 @@ with_process w p s = record w { processes = slice_set w.processes p s }
 
 -- An instruction that is no call changes its process alone.
 abbrev pub plain : World → ProcessNumber → ProcessState → Executed
-plain w p s = record { world = with_process w p s; outcome = Done; effects = [] }
+plain w p s = record { world = with_process w p s; outcome = No_call; effects = [] }
 
 -- `halt` ends the process and closes its table.
 abbrev pub halted : World → ProcessNumber → ProcessState → World

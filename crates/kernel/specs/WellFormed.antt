@@ -114,3 +114,14 @@ pub record IsWellFormed (programs : Programs) (w : World) : Type 0 where
   pub numbering : Numbering
   pub world : IsWorld programs numbering w
   pub walks : (p : ℕ) → IsWalkerIfMade programs w.tree w.files.objects (w.files.table p) (slice_get w.processes p)
+
+-- Between two steps a process has a deed to do only while it has looked a part of the deed's paths up. In the world in which it is
+-- about to do one it has looked nothing up yet.
+abbrev pub IsBegun : Option ProcessState → Type 0
+IsBegun None = Unit {0}
+IsBegun (Some s) = s.walk ≡ None → s.kept ≡ None
+
+-- a well-formed world between two steps
+pub record IsBetweenSteps (programs : Programs) (w : World) : Type 0 where
+  pub formed : IsWellFormed programs w
+  pub begun : (p : ℕ) → IsBegun (slice_get w.processes p)

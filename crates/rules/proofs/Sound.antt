@@ -32,7 +32,8 @@ use Rattle.task.proofs.Trusted.{trusted_tasks_are_sandboxed}
 use Rattle.rules.specs.Outcomes.{enters_mode, is_followed}
 use Rattle.rules.specs.Points.{instruction_at}
 use Rattle.rules.specs.Rules.{marked_at}
-use Rattle.rules.specs.Verdicts.{IsConfining, IsSound, MeetsRules}
+use Rattle.rules.specs.Verdicts.{IsConfining, IsHeldWithin, IsSound, MeetsRules}
+use Rattle.rules.specs.Within.{HoldsWithin, StayWithin}
 use Rattle.rules.proofs.calls.Owing.{Leaves, Owed, Standing, invariant_after}
 use Rattle.rules.proofs.hostile.About.{invariant_about}
 use Rattle.rules.proofs.hostile.Confining.{Roams}
@@ -45,7 +46,7 @@ use Rattle.rules.proofs.Step.{owed_executed}
 use Rattle.rules.proofs.frames.ChangeKinds.{Acts}
 use Rattle.rules.proofs.worlds.FirstStates.{first_invariant}
 use Rattle.rules.proofs.worlds.Invariant.{IfAlive, IsLiving, Invariant, IsDescribed, LivesBy, is_free, marks, bounds}
-use Rattle.rules.proofs.worlds.Seen.{seen_of, table_of}
+use Rattle.rules.specs.Seen.{seen_of, table_seen}
 
 -- what holds of a step, and the invariant after it
 record IsHeld (plan : Plan) (w : World) (e : Event) (next : Stepped) : Type 0 where
@@ -114,7 +115,7 @@ module _ (plan : Plan) (certificate : Certificate) (keeps : KeepsLimits plan) (m
           stays = stays;
           here = here;
           stands =
-              stands plan certificate s (table_of plan w e.process) i described.bound here described.at described.is
+              stands plan certificate s (table_seen plan w e.process) i described.bound here described.at described.is
               (λ m far. ap (option_map (seen_of plan w)) (inv.formed.world.numbers e.process m far)) followed (meets s.program s.point);
         }
 
@@ -284,6 +285,23 @@ module _ (plan : Plan) (certificate : Certificate) (keeps : KeepsLimits plan) (m
         runs valid (step programs u e choice).world events here.1,
       )
 
+  -- What is held in each world of such a run is within the authority.
+  holds_within : (w : World) → Invariant plan (bounds plan certificate) w → HoldsWithin plan certificate w
+  holds_within w inv p s made lives marked mode =
+      let living = subst (IfAlive (IsLiving plan (bounds plan certificate) w p)) made (inv.living p) in
+      subst (λ free. LivesBy plan certificate free w p s) (both_true marked mode) (living lives).asked
+
+  stay_within : ArePrograms (programs_of_plan plan) → (w : World) (events : List (Event × Act)) → Invariant plan (bounds plan certificate) w
+      → StayWithin plan certificate w events
+  stay_within valid w [] inv = holds_within w inv
+  stay_within valid w ((e, act) ∷ events) inv = (
+    holds_within w inv,
+    λ choice fresh byte is.
+        let u : World = about w e.process act in
+        let here = one_step u e byte choice (subst (λ f. IsFresh f choice) (sym (files_about w e.process act)) fresh) (invariant_about plan certificate w e.process act is inv) valid in
+        stay_within valid (step (programs_of_plan plan) u e choice).world events here.1,
+  )
+
 -- Soundness, whatever programs are marked.
 pub confining : IsConfining
 confining plan certificate valid meets events =
@@ -291,3 +309,7 @@ confining plan certificate valid meets events =
 
 pub sound : IsSound
 sound plan certificate valid none meets = trusted_tasks_are_sandboxed plan valid none (confining plan certificate valid meets)
+
+pub held_within : IsHeldWithin
+held_within plan certificate valid meets events =
+    stay_within plan certificate (plans_keep_limits plan valid) meets (first_well_formed plan valid).0 (first_world plan) events (first_invariant plan certificate valid meets)

@@ -10,7 +10,7 @@ use Rattle.kernel.specs.Answers.{Event, IsEvent}
 use Rattle.kernel.specs.Calls.{answer}
 use Rattle.kernel.specs.Steps.{executed}
 use Rattle.task.specs.Plans.{Plan}
-use Rattle.rules.proofs.worlds.Seen.{table_of}
+use Rattle.rules.specs.Seen.{table_seen}
 use Rattle.rules.proofs.outcomes.Plain.{plain_moves}
 use Rattle.rules.proofs.calls.Owing.{Standing, Owed, owed_halt}
 use Rattle.rules.proofs.calls.OwedCalls.{OwedBy, owed_of, plain_owed}
@@ -62,25 +62,25 @@ module _ (plan : Plan) (certificate : Certificate) (w : World) (e : Event) (s : 
   unfolding executed
   owed_executed (Set r v) byte known =
       plain_owed plan certificate w e s choice (Set r v) byte known
-      (plain_moves plan certificate w e choice s (table_of plan w e.process) (Set r v) byte known.stands)
+      (plain_moves plan certificate w e choice s (table_seen plan w e.process) (Set r v) byte known.stands)
   owed_executed (Mov r source) byte known =
       plain_owed plan certificate w e s choice (Mov r source) byte known
-      (plain_moves plan certificate w e choice s (table_of plan w e.process) (Mov r source) byte known.stands)
+      (plain_moves plan certificate w e choice s (table_seen plan w e.process) (Mov r source) byte known.stands)
   owed_executed (Add r addend) byte known =
       plain_owed plan certificate w e s choice (Add r addend) byte known
-      (plain_moves plan certificate w e choice s (table_of plan w e.process) (Add r addend) byte known.stands)
+      (plain_moves plan certificate w e choice s (table_seen plan w e.process) (Add r addend) byte known.stands)
   owed_executed (In r) byte known =
       plain_owed plan certificate w e s choice (In r) byte known
-      (plain_moves plan certificate w e choice s (table_of plan w e.process) (In r) byte known.stands)
+      (plain_moves plan certificate w e choice s (table_seen plan w e.process) (In r) byte known.stands)
   owed_executed (Jmp target) byte known =
       plain_owed plan certificate w e s choice (Jmp target) byte known
-      (plain_moves plan certificate w e choice s (table_of plan w e.process) (Jmp target) byte known.stands)
+      (plain_moves plan certificate w e choice s (table_seen plan w e.process) (Jmp target) byte known.stands)
   owed_executed (Jeq r v target) byte known =
       plain_owed plan certificate w e s choice (Jeq r v target) byte known
-      (plain_moves plan certificate w e choice s (table_of plan w e.process) (Jeq r v target) byte known.stands)
+      (plain_moves plan certificate w e choice s (table_seen plan w e.process) (Jeq r v target) byte known.stands)
   owed_executed (Jlt r v target) byte known =
       plain_owed plan certificate w e s choice (Jlt r v target) byte known
-      (plain_moves plan certificate w e choice s (table_of plan w e.process) (Jlt r v target) byte known.stands)
+      (plain_moves plan certificate w e choice s (table_seen plan w e.process) (Jlt r v target) byte known.stands)
   owed_executed Halt byte known = owed_halt plan certificate w e.process s choice Halt known
   owed_executed (Invoke call otherwise) byte known =
       owed_of plan certificate w e.process s choice call otherwise known (answer w e.process s e call) (owed_answer call otherwise known)

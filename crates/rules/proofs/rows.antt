@@ -8,3 +8,4 @@ pub mod Probed
 pub mod ProbedMarks
 mod MarkRows
 pub mod ExpansionRows
+pub mod WithinRows

@@ -1,6 +1,4 @@
 -- What holds of each world of a run.
-pub mod Seen
-pub mod Within
 pub mod Walks
 pub mod Invariant
 pub mod FirstStates

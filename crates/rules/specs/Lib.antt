@@ -9,6 +9,8 @@ pub mod Outcomes
 pub mod Carrying
 pub mod Expansions
 pub mod Authority
+pub mod Seen
+pub mod Within
 pub mod Rules
 pub mod Verdicts
 pub mod Probes

@@ -1,17 +1,22 @@
 -- What the rules on marked programs refuse, and what they let through: a probe for each. (own)
 use Rattle.std.specs.Prelude.{◌≡◌, ◌++◌, ◌+◌, ℕ, Bool, true, false, List, [], ◌∷◌, codes, Option, Some, None}
-use Rattle.rights.specs.Values.{RightSet}
+use Rattle.rights.specs.Values.{Place, RightSet}
 use Rattle.rights.specs.Sets.{all_commands, lookup_right, read_right, write_right, unlinkat_right, renameat_source_right, renameat_target_right}
 use Rattle.rights.specs.Classes.{Initial}
 use Rattle.rights.specs.Operations.{Look, Read as Reads, Create as Creates, Remove as Removes}
 use Rattle.file_tree.specs.Nodes.{Dir}
 use Rattle.instruction_set.specs.Programs.{Number, Cap_enter, Dup, Instruction, Halt, Invoke}
-use Rattle.certificate.specs.Bounds.{Off, On, Either, Target, In_grant, Any_node, Held, Slot, Bound, ChannelBound, Ceiling, End, Three}
+use Rattle.kernel.specs.Answers.{Event}
+use Rattle.kernel.specs.Hostile.{Own}
+use Rattle.certificate.specs.Bounds.{Off, On, Either, Target, In_grant, Any_node, Held, Slot, Bound, ChannelBound, Ceiling, End, Authority, Certificate, Three}
+use Rattle.certificate.specs.Describes.{Node_at, End_of, Own_end}
 use Rattle.certificate.specs.Bounds as bounds
-use Rattle.task.specs.Plans.{FirstObject, On_node, On_end, FirstDescriptor, Plan, unmarked}
+use Rattle.task.specs.Begins.{first_world}
+use Rattle.task.specs.Plans.{FirstObject, On_node, On_end, FirstDescriptor, Grant, Plan, unmarked}
 use Rattle.task.specs.Breaches.{small_tree}
 use Rattle.rules.specs.Outcomes.{unknown_held}
 use Rattle.rules.specs.Verdicts.{first_found}
+use Rattle.rules.specs.Within.{MayHave, StayWithin}
 use Rattle.rules.specs.Probes.{bound_of_slots, loosest, any_node, channel, block_if, broken}
 
 -- Programs `main`, which ends at once, and `probe`, which is marked and has one instruction before its end. A process runs
@@ -135,3 +140,25 @@ pub record LeastMarkRuleIsTold : Type 0 where
   -- Both ends of a pair can't be held: what is expected from one is what may come by the other.
   pub both_wide : probed_marked (record (holding (Some unknown_held) (Some unknown_held)) { holds = side_held 0 ∷ side_held 1 ∷ [] }) Halt ≡ broken 21
   pub both_none : probed_marked (record (holding None None) { holds = side_held 0 ∷ side_held 1 ∷ [] }) Halt ≡ broken 22
+
+-- ## What is within an authority
+-- What isn't: a right without a ceiling, a place in no grant, an end that isn't listed, and an end of another program's pair.
+abbrev pub nothing_allowed : Authority
+nothing_allowed = record { program = codes "main"; ceilings = []; holds = [] }
+
+-- `probe` carries the directory into the mode, by a certificate without an authority.
+abbrev pub carrying : Plan
+carrying = mark_plan (record nothing_held { in_mode = false; descriptors = starting_with work_directory read_right ∷ [] }) (Invoke Cap_enter 1)
+
+abbrev pub no_authority : Certificate
+no_authority = record { version = Three; points = []; channels = []; authorities = [] }
+
+abbrev pub first_event : Event
+first_event = record { process = 0; input = 0; refuse = false }
+
+pub record WithinRefuses : Type 0 where
+  pub above_the_ceiling : (grants : List Grant) (place : Place) → MayHave grants nothing_allowed (codes "main") (Node_at place) write_right → ⊥
+  pub in_no_grant : (a : Authority) (place : Place) → MayHave [] a (codes "main") (Node_at place) 0 → ⊥
+  pub unlisted_end : MayHave [] nothing_allowed (codes "main") (End_of (Initial 0) 0) 0 → ⊥
+  pub end_of_another : MayHave [] nothing_allowed (codes "main") (Own_end (codes "child") 0) 0 → ⊥
+  pub carried_in : StayWithin carrying no_authority (first_world carrying) ((first_event, Own) ∷ []) → ⊥

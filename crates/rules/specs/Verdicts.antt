@@ -2,12 +2,16 @@
 use Rattle.std.specs.Prelude.{◌≡◌, ◌<◌, ◌+◌, ℕ, true, List, [], ◌∷◌, Option, Some, None}
 use Rattle.certificate.specs.Bounds.{Bound, Certificate, bound_at}
 use Rattle.instruction_set.specs.Programs.{Instruction}
+use Rattle.kernel.specs.Answers.{Event}
+use Rattle.kernel.specs.Hostile.{Act}
+use Rattle.task.specs.Begins.{first_world}
 use Rattle.task.specs.Plans.{NamedProgram, Plan, program_name, none_marked}
 use Rattle.task.specs.Limits.{is_plan}
 use Rattle.task.specs.Confined.{IsConfined}
 use Rattle.task.specs.Sandboxed.{IsSandboxed}
 use Rattle.rules.specs.Points.{instruction_at}
 use Rattle.rules.specs.Rules.{tests, tests_without, least_broken}
+use Rattle.rules.specs.Within.{StayWithin}
 
 -- the least rule that is broken at a point of a program; none past a program's end
 unfoldable pub found_with : Plan → Certificate → ℕ → ℕ → Option Instruction → Option Bound → Option ℕ
@@ -61,6 +65,12 @@ FirstIsFound = (plan : Plan) (certificate : Certificate) → IsFirst plan certif
 -- whatever processes of marked programs do in the mode, and whatever fresh numbers are chosen at each step.
 abbrev pub IsConfining : Type 0
 IsConfining = (plan : Plan) (certificate : Certificate) → is_plan plan ≡ true → MeetsRules plan certificate → IsConfined plan
+
+-- And what a process of a marked program holds in the mode is within the program's authority, before each event and after the last.
+abbrev pub IsHeldWithin : Type 0
+IsHeldWithin =
+    (plan : Plan) (certificate : Certificate) → is_plan plan ≡ true → MeetsRules plan certificate → (events : List (Event × Act))
+    → StayWithin plan certificate (first_world plan) events
 
 -- Where a certificate meets the rules and no program is marked, every run of the task is sandboxed: whatever list of events,
 -- inputs, schedules and refusals, and whatever fresh numbers are chosen at each step.

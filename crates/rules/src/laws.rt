@@ -2,8 +2,8 @@
 
 ghost use Rattle.rules.specs.Expansions.{ExpansionBounds, ExpansionIsGrown};
 ghost use Rattle.rules.specs.Refusals.{EachRuleIsBroken, EachRuleIsKept, LeastIsTold};
-ghost use Rattle.rules.specs.MarkedRefusals.{EachMarkRuleIsBroken, EachMarkRuleIsKept, LeastMarkRuleIsTold};
-ghost use Rattle.rules.specs.Verdicts.{FirstIsFound, IsConfining, IsSound};
+ghost use Rattle.rules.specs.MarkedRefusals.{EachMarkRuleIsBroken, EachMarkRuleIsKept, LeastMarkRuleIsTold, WithinRefuses};
+ghost use Rattle.rules.specs.Verdicts.{FirstIsFound, IsConfining, IsHeldWithin, IsSound};
 
 /// Where going through all points in order finds none that breaks a rule, the certificate meets the rules at every point;
 /// and what it finds is the first program, the first point there, and the least rule that is broken there. (own)
@@ -53,4 +53,11 @@ pub fn what_meets_the_rules_is_sandboxed()
 /// unmarked program's process refused for a missing right or by the mode, or gives a descriptor more than its source has. (own)
 pub fn what_meets_the_rules_is_confined()
     ensures { IsConfining }
+{}
+
+/// Where a certificate meets the rules, what a process of a marked program holds in the mode is within the program's authority, in each world of
+/// every run, whatever such processes do; and there is what isn't within. (own)
+pub fn what_is_held_is_within_the_authority()
+    ensures held { IsHeldWithin }
+    ensures refused { WithinRefuses }
 {}

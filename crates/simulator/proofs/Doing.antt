@@ -12,7 +12,7 @@ use Rattle.process.specs.State.{ProcessState}
 use Rattle.instruction_set.specs.Programs.{Instruction, Set, Mov, Add, In, Jmp, Jeq, Jlt, Halt, Invoke, is_instruction, is_last}
 use Rattle.kernel.specs.World.{World, Choice, IsFresh}
 use Rattle.kernel.specs.Answers.{Event}
-use Rattle.kernel.specs.Steps.{Done, Ended, Executed, Halted, LineResult, Programs, Stepped, after_deed, executed, halted, next_instruction, plain, step, stepped, stepped_at, stepped_by}
+use Rattle.kernel.specs.Steps.{No_call, Ended, Executed, Halted, LineResult, Programs, Stepped, after_deed, executed, halted, next_instruction, plain, step, stepped, stepped_at, stepped_by}
 use Rattle.kernel.specs.Alike.{AlikeWorlds}
 use Rattle.kernel.specs.Walks.{FitsIfWalking, IsWalker, IsWalkerIfMade, call_in}
 use Rattle.kernel.specs.WellFormed.{ArePrograms, IsCode, IsPoint, IsWellFormed}
@@ -202,7 +202,7 @@ as_executed w e i outcome effects next at choice fresh x is told prints alike = 
 }
 
 pub executes_moved : (w : World) (e : Event) (x next : ProcessState) (i : Instruction) (outcome : LineResult) (effects : List Shown) →
-    MayExecute w e.process i → x ≡ get_or w.processes e.process x → Moves ≡ action i → next ≡ acted_on x e.input i → outcome ≡ Done → effects ≡ [] →
+    MayExecute w e.process i → x ≡ get_or w.processes e.process x → Moves ≡ action i → next ≡ acted_on x e.input i → outcome ≡ No_call → effects ≡ [] →
     Executes w e i outcome effects (record w { processes = slice_set w.processes e.process next })
 executes_moved w e x next i outcome effects at read moves is told none =
     let some = fresh_some at.programs at.numbering w at.good in

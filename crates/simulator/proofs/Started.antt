@@ -43,7 +43,7 @@ module _ (plan : Plan) (test : is_plan plan ≡ true) (w : World) (d : DiffersIn
   first = first_world plan
 
   abbrev good : IsWellFormed (programs_of_plan plan) first
-  good = (first_well_formed plan test).1
+  good = (first_well_formed plan test).1.formed
 
   abbrev numbering : Numbering
   numbering = record {

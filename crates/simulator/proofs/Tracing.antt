@@ -13,7 +13,7 @@ use Rattle.kernel.specs.WellFormed.{ArePrograms, IsWellFormed}
 use Rattle.kernel.proofs.AlikeWorlds.{act_alike}
 use Rattle.kernel.proofs.Determined.{alike_share, differs_twice, run_exists}
 use Rattle.kernel.proofs.Aimed.{steps_alike}
-use Rattle.kernel.proofs.Keeping.{next_world}
+use Rattle.kernel.proofs.Keeping.{next_formed}
 use Rattle.task.specs.Plans.{Plan, programs_of_plan}
 use Rattle.task.specs.Begins.{first_world}
 use Rattle.task.specs.Limits.{is_plan}
@@ -28,7 +28,7 @@ use Rattle.simulator.specs.Traces.{line_text, trace_text}
 pub steps_good : (programs : Programs) (w next : World) (e : Event) (line : Line) → ArePrograms programs → IsWellFormed programs w → IsEvent e →
     StepsMachine programs w e line next → IsWellFormed programs next
 steps_good programs w next e line valid good byte s =
-    (act_alike programs (step programs w e s.choice).world next valid ((next_world programs w e valid good byte).each s.choice s.fresh) s.world_is).well_formed
+    (act_alike programs (step programs w e s.choice).world next valid ((next_formed programs w e valid good byte).each s.choice s.fresh) s.world_is).well_formed
 
 -- Where a run of these events is: what it showed so far is written so, and it goes on from a world that differs from
 -- this one in numbers alone.
@@ -58,7 +58,7 @@ traced-start plan events before gathered w none test differs = record {
   each = λ lines run. record {
     world = first_world plan;
     rest = lines;
-    good = (first_well_formed plan test).1;
+    good = (first_well_formed plan test).1.formed;
     same = differs;
     run = run;
     text = ap (λ t. t ++ trace_text plan events lines) none;
@@ -88,7 +88,7 @@ ahead-step plan events lines begun w next e left line test good byte s at = go a
         record {
           world = (step programs at.world e choice).world;
           rest = rest;
-          good = (next_world programs at.world e valid at.good byte).each choice fresh;
+          good = (next_formed programs at.world e valid at.good byte).each choice fresh;
           same = differs_twice _ _ _ both.next (alike_share _ _ s.world_is);
           run = run;
           text =
@@ -126,7 +126,7 @@ pub traced-end : (plan : Plan) (events : List Event) (before mid after : Option 
     IsTraced plan events before mid gathered w [] → Took mid after gathered → WritesTrace plan events before after
 traced-end plan events before mid after gathered w test bytes so_far took =
     let first = first_well_formed plan test in
-    let run = run_exists (programs_of_plan plan) (first_world plan) events first.0 first.1 bytes in
+    let run = run_exists (programs_of_plan plan) (first_world plan) events first.0 first.1.formed bytes in
     record {
       lines = run.0;
       run = run.1;

@@ -5,13 +5,13 @@ use Rattle.std.specs.Fmt.{decimal}
 use Rattle.rights.specs.Errors.{errno_name, cause_name}
 use Rattle.rights.specs.OperationLists.{operation_name}
 use Rattle.kernel.specs.Answers.{Event}
-use Rattle.kernel.specs.Steps.{LineResult, Done, Halted, Value, Failed, Waiting, Walks_on, Ended, Acted}
+use Rattle.kernel.specs.Steps.{LineResult, No_call, Halted, Value, Failed, Waiting, Walks_on, Ended, Acted}
 use Rattle.syscalls.specs.Shows.{Shown}
 use Rattle.task.specs.Plans.{Plan, program_name}
 use Rattle.simulator.specs.Lines.{Line, ShownStep, line_at}
 
 abbrev pub result_text : LineResult → List ℕ
-result_text Done = codes "ok"
+result_text No_call = codes "ok"
 result_text Halted = codes "halt"
 result_text (Value n) = codes "= " ++ decimal n
 result_text (Failed errno cause) = codes "! " ++ errno_name errno ++ codes " " ++ cause_name cause

@@ -1,7 +1,7 @@
 -- What the code's lines and actions stand for.
 use Rattle.std.specs.Option.{option_map}
 use Rattle.rights.specs.Views.{errno_of, cause_of}
-use Rattle.kernel.specs.Steps.{LineResult, Done, Halted, Value, Failed, Waiting, Walks_on, Ended}
+use Rattle.kernel.specs.Steps.{LineResult, No_call, Halted, Value, Failed, Waiting, Walks_on, Ended}
 use Rattle.syscalls.specs.Views.{effects_of}
 use Rattle.simulator.specs.declared.lines.LineResult.{LineResult as LineResultCode}
 use Rattle.simulator.specs.declared.lines.LineResult.TheVariants as code
@@ -13,7 +13,7 @@ use Rattle.simulator.specs.Lines.{Line, ShownStep}
 use Rattle.simulator.specs.Steps.{Action, Moves, Ends, Calls}
 
 abbrev pub result_of : LineResultCode → LineResult
-result_of code.Done = Done
+result_of code.Done = No_call
 result_of code.Halted = Halted
 result_of (code.Value n) = Value n
 result_of (code.Failed errno cause) = Failed (errno_of errno) (cause_of cause)

@@ -17,7 +17,7 @@ use Rattle.fd_table.specs.OpenFiles.{OpenFiles}
 use Rattle.file_tree.specs.Nodes.{is_link, node}
 use Rattle.file_tree.specs.WellFormed.{IsTree}
 use Rattle.lookup.proofs.UnderWay.{begun_under_way}
-use Rattle.kernel.specs.Calls.{found_last, is_at_last, renamed_from}
+use Rattle.kernel.specs.Calls.{found_last, is_at_last, existing}
 use Rattle.lookup.specs.Answers as lookups
 use Rattle.syscalls.specs.declared.lookups.Both.{Both}
 use Rattle.syscalls.specs.AnswerViews.{AreFound}
@@ -49,10 +49,10 @@ last_found t start path code is = rw (found_first t start path Beneath Keep code
 module _ (w : World) (p : ℕ) (s : ProcessState) (e : Event) (n : ℕ) (from : PathText) (m : ℕ) (to : PathText) where
   pub both_at_once : (k : ℕ) (place : Found) (rest : ℕ → lookups.Finding → Answer) → path_components from ≡ from ∷ [] → path_components to ≡ to ∷ [] →
       first_handled w.tree n from Beneath Keep ≡ Done (Found_node k) → first_handled w.tree m to Beneath Keep ≡ Done (found_of place) →
-      both_first w p s e n from m to (λ source place. renamed_from w p s e source (λ k. rest k place)) ≡ rest k (found_of place)
+      both_first w p s e n from m to (λ source place. existing source (λ k. rest k place)) ≡ rest k (found_of place)
   both_at_once k place rest one other source target =
       rw ((found_first w.tree n from Beneath Keep (found.Node k) source).0, (found_first w.tree m to Beneath Keep place target).0)
-      (last_is w p s e (begun n from Beneath Keep) (begun m to Beneath Keep) (λ source place. renamed_from w p s e source (λ k. rest k place)) (at_last n from one) (at_last m to other)
+      (last_is w p s e (begun n from Beneath Keep) (begun m to Beneath Keep) (λ source place. existing source (λ k. rest k place)) (at_last n from one) (at_last m to other)
       ∙ rw (last_found w.tree n from (found.Node k) source, last_found w.tree m to place target) refl)
 
 -- what both paths lead to, in the words of a rename
@@ -63,7 +63,7 @@ module _ (t : List Node) (n : ℕ) (from : PathText) (m : ℕ) (to : PathText) (
 
   pub leads_at_once : path_components from ≡ from ∷ [] → path_components to ≡ to ∷ [] → (s : ProcessState) (f : OpenFiles) (processes : List ProcessState) (p : ℕ) (e : Event)
       (rest : ℕ → lookups.Finding → Answer) →
-      both_first (world_with t f processes) p s e n from m to (λ place other. renamed_from (world_with t f processes) p s e place (λ k. rest k other)) ≡ rest both.node (found_of both.place)
+      both_first (world_with t f processes) p s e n from m to (λ place other. existing place (λ k. rest k other)) ≡ rest both.node (found_of both.place)
   leads_at_once alone also s f processes p e rest = both_at_once (world_with t f processes) p s e n from m to both.node both.place rest alone also node_first other
 
   pub found_at_once : IsTree t → is_link (node t n).kind ≡ false → is_link (node t m).kind ≡ false → AreFound t from to both

@@ -35,20 +35,20 @@ passes_on view whole test (Err refused) same passes = λ rest. subst (Refuses re
 lost_look : (refused : Refusal) (finding : Finding) (rest : Finding → Answer) → TellsFaults rest → IsNotFound refused finding → Refuses refused (rest finding)
 lost_look refused finding rest tells lost = subst (Refuses refused) (sym (ap rest lost.is ∙ tells lost.fault)) lost.refuses
 
-left_look : (refused : Refusal) (event : Progress) (rest : Finding → Answer) → TellsFaults rest → IsLeft refused event → Refuses refused (walked rest event)
+left_look : (refused : Refusal) (event : Progress) (rest : Finding → Answer) → TellsFaults rest → IsLeft refused event → Refuses refused (walked One rest event)
 left_look refused (Done finding) rest tells lost = lost_look refused finding rest tells lost
 left_look refused (More walk) rest tells left = left
 
 -- an event that finds nothing, in a call that fails so
-pub refused_look : (refused : Refusal) (event : Progress) (rest : Finding → Answer) → TellsFaults rest → Finds event (Err refused) → Refuses refused (walked rest event)
+pub refused_look : (refused : Refusal) (event : Progress) (rest : Finding → Answer) → TellsFaults rest → Finds event (Err refused) → Refuses refused (walked One rest event)
 refused_look (refusal.Fails errno cause) event rest tells finds = left_look (refusal.Fails errno cause) event rest tells (finds (λ is. absurd cc))
 refused_look refusal.Waits event rest tells finds = left_look refusal.Waits event rest tells (finds (λ is. absurd cc))
 refused_look (refusal.Walks walking) event rest tells finds = left_look (refusal.Walks walking) event rest tells (finds (λ is. absurd cc))
 refused_look refusal.Memory event rest tells finds = tt
 
 -- tests that go on to an event of a lookup
-pub leads_on : (look : (Finding → Answer) → Answer) (r : Result Found Refusal) (event : Progress) → ((rest : Finding → Answer) → look rest ≡ walked rest event) → Finds event r → LooksUp look r
-leads_on look (Ok code) event same finds = λ rest. same rest ∙ ap (walked rest) finds
+pub leads_on : (look : (Finding → Answer) → Answer) (r : Result Found Refusal) (event : Progress) → ((rest : Finding → Answer) → look rest ≡ walked One rest event) → Finds event r → LooksUp look r
+leads_on look (Ok code) event same finds = λ rest. same rest ∙ ap (walked One rest) finds
 leads_on look (Err refused) event same finds = λ rest tells. subst (Refuses refused) (sym (same rest)) (refused_look refused event rest tells finds)
 
 -- what an event finds is sure

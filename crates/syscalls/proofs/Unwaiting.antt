@@ -11,7 +11,7 @@ use Rattle.instruction_set.specs.Programs.{Syscall, Open, Openat, Fstatat, Stat,
 use Rattle.fd_table.specs.Descriptions.{Access, Object, At_node, At_end, Descriptor}
 use Rattle.kernel.specs.World.{World}
 use Rattle.kernel.specs.Answers.{Event, Effect, Change, Answer, Fails, Waits, Gives, Walks, unless, held, at_object, at_number, lookup_fails}
-use Rattle.kernel.specs.Calls.{answer, in_directory, looks, looks_twice, made_directory, opened, opened_as, renamed_from, renamed_to, stats_at, unlinks}
+use Rattle.kernel.specs.Calls.{answer, in_directory, looks, looks_twice, made_directory, opened, opened_as, existing, renamed_to, stats_at, unlinks}
 use Rattle.kernel.specs.Walks.{No_path, lookups_of}
 use Rattle.kernel.proofs.Looking.{any_event, any_one, any_two, fault_any, looks_any, looks_twice_any}
 
@@ -114,10 +114,10 @@ module _ (w : World) (p : ℕ) (s : ProcessState) (e : Event) where
       goes-if (n == m) _ _ (goes-gives _ _ _)
       (goes-unless _ _ _ _ (goes-unless _ _ _ _ (goes-unless _ _ _ _ (goes-unless _ _ _ _ (goes-unless _ _ _ _ (goes-gives _ _ _))))))
 
-  goes-renamed_from : (found : Finding) (rest : ℕ → Answer) → ((n : ℕ) → Goes (rest n)) → Goes (renamed_from w p s e found rest)
-  goes-renamed_from (Not_found fault) rest goes = goes-lookup_fails fault
-  goes-renamed_from (Found_free d) rest goes = goes-fails _ _
-  goes-renamed_from (Found_node n) rest goes = goes n
+  goes-existing : (found : Finding) (rest : ℕ → Answer) → ((n : ℕ) → Goes (rest n)) → Goes (existing found rest)
+  goes-existing (Not_found fault) rest goes = goes-lookup_fails fault
+  goes-existing (Found_free d) rest goes = goes-fails _ _
+  goes-existing (Found_node n) rest goes = goes n
 
   waiting : (a : Answer) → Goes a → a ≡ Waits → ⊥
   waiting a goes is = never_waits (subst Goes is goes)
@@ -136,5 +136,5 @@ module _ (w : World) (p : ℕ) (s : ProcessState) (e : Event) where
   looks_nothing (Unlink path directory) is = absurd (waiting _ (goes-unless _ _ _ _ (goes-looks _ _ _ _ _ (goes-unlinks directory))) is)
   looks_nothing (Renameat x from y to) is =
       absurd (waiting _ (goes-held _ _ (λ d. goes-held _ _ (λ target. goes-unless _ _ _ _ (goes-unless _ _ _ _ (goes-directory _ _ (λ n. goes-directory _ _ (λ m.
-      goes-looks_twice _ _ _ _ _ (λ source place. goes-renamed_from source _ (λ k. goes-renamed_to (Renameat x from y to) target k to place))))))))) is)
+      goes-looks_twice _ _ _ _ _ (λ source place. goes-existing source _ (λ k. goes-renamed_to (Renameat x from y to) target k to place))))))))) is)
   looks_nothing call is = refl

@@ -20,7 +20,7 @@ use Rattle.instruction_set.specs.Programs as programs
 use Rattle.fd_table.specs.OpenFiles.{OpenFiles}
 use Rattle.kernel.specs.World.{World}
 use Rattle.kernel.specs.Answers.{Answer, Event, lookup_fails}
-use Rattle.kernel.specs.Calls.{found_last, is_at_last, looks_twice, or_fails, walked_both, walked_first, walked_second}
+use Rattle.kernel.specs.Calls.{found_last, is_at_last, looks_twice, lost, or_fails, walked, walked_both}
 use Rattle.kernel.specs.Walks.{IfOne, IfTwo, No_path, lookups_of}
 use Rattle.syscalls.specs.declared.lookups.Both.{Both}
 use Rattle.syscalls.specs.declared.outcomes.Refusal.{Refusal}
@@ -103,10 +103,10 @@ pub refused_as : (look : (Finding → Finding → Answer) → Answer) (from : Fi
 refused_as look from refused a same is = λ rest tells. subst (Refuses refused) (sym (same _)) is
 
 module _ (w : World) (p : ℕ) (s : ProcessState) (e : Event) (one other : WalkState) (rest : Finding → Finding → Answer) where
-  pub old_is : is_at_last one ≡ false → walked_both w p s e rest one other ≡ walked_first other (handled w.tree one)
+  pub old_is : is_at_last one ≡ false → walked_both w p s e rest one other ≡ walked (λ walk. Two walk other) lost (handled w.tree one)
   old_is more = rw more refl
 
-  pub new_is : is_at_last one ≡ true → is_at_last other ≡ false → walked_both w p s e rest one other ≡ walked_second one (handled w.tree other)
+  pub new_is : is_at_last one ≡ true → is_at_last other ≡ false → walked_both w p s e rest one other ≡ walked (λ walk. Two one walk) lost (handled w.tree other)
   new_is last more = rw (last, more) refl
 
   pub last_is : is_at_last one ≡ true → is_at_last other ≡ true → walked_both w p s e rest one other ≡ rest (found_last (handled w.tree one)) (found_last (handled w.tree other))

@@ -30,7 +30,7 @@ use Rattle.syscalls.specs.declared.outcomes.Refusal.{Refusal}
 use Rattle.syscalls.specs.declared.outcomes.Refusal.TheVariants as refusal
 use Rattle.fd_table.specs.Views.{access_seen, side_seen}
 use Rattle.instruction_set.specs.Programs.{Syscall, Read, Write, Lseek, Ftruncate, Fsync, Fstat, called}
-use Rattle.kernel.specs.Calls.{answer, lost, no_request, renamed_from}
+use Rattle.kernel.specs.Calls.{answer, lost, no_request, existing}
 use Rattle.syscalls.specs.declared.paths.Beneath.{Beneath}
 use Rattle.syscalls.specs.declared.lookups.Both.{Both}
 use Rattle.syscalls.specs.declared.operands.Caller.{Caller}
@@ -226,7 +226,7 @@ RenamesOn look from (Err refused) =
 abbrev pub RenamesIn : List Node → ProcessState → (World → ℕ → ProcessState → Event → (lookups.Finding → lookups.Finding → Answer) → Answer) → Result Both Refusal → Type 0
 RenamesIn t s look r =
     (f : OpenFiles) (processes : List ProcessState) (p : ℕ) (e : Event)
-    → RenamesOn (look (world_with t f processes) p s e) (renamed_from (world_with t f processes) p s e) r
+    → RenamesOn (look (world_with t f processes) p s e) existing r
 
 -- What is known of what both paths lead to.
 pub record AreFound (t : List Node) (path new_path : PathText) (both : Both) : Type 0 where

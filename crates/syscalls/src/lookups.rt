@@ -10,7 +10,7 @@ ghost use Rattle.lookup.specs.UnderWay.{IsUnderWay};
 ghost use Rattle.lookup.specs.Views.{fault_of, found_of, last_of, way_of};
 ghost use Rattle.lookup.specs.Walks as walks;
 ghost use Rattle.lookup.specs.Walks.{IsInTree, first_handled, handled};
-ghost use Rattle.process.specs.State.{ProcessState};
+ghost use Rattle.process.specs.State.{ProcessState, Two};
 ghost use Rattle.process.specs.Views.{walking_in};
 ghost use Rattle.kernel.specs.Calls as model;
 ghost use Rattle.kernel.specs.Calls.{found_last, resumed_one, or_fails};
@@ -163,7 +163,7 @@ pub(crate) struct Both {
 /// A name of the old path, where more than the last one is left.
 fn step_old<T: Tree>(tree: &T, one: Walk, other: Walk) -> Refusal
     requires { IsInTree (T.nodes tree.now) one }
-    ensures { Refuses result (model.walked_first other (handled (T.nodes tree.now) one)) }
+    ensures { Refuses result (model.walked (λ walk. Two walk other) model.lost (handled (T.nodes tree.now) one)) }
 {
     match step_before_last(tree, one) {
         Ok(next) => Refusal::Walks(Walking::Two(next, other)),
@@ -174,7 +174,7 @@ fn step_old<T: Tree>(tree: &T, one: Walk, other: Walk) -> Refusal
 /// A name of the new path, where more than the last one is left.
 fn step_new<T: Tree>(tree: &T, one: Walk, other: Walk) -> Refusal
     requires { IsInTree (T.nodes tree.now) other }
-    ensures { Refuses result (model.walked_second one (handled (T.nodes tree.now) other)) }
+    ensures { Refuses result (model.walked (λ walk. Two one walk) model.lost (handled (T.nodes tree.now) other)) }
 {
     match step_before_last(tree, other) {
         Ok(next) => Refusal::Walks(Walking::Two(one, next)),

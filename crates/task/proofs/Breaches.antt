@@ -18,7 +18,7 @@ use Rattle.kernel.specs.Changes.{files_after, changed}
 use Rattle.kernel.specs.Steps.{answered, jumped, executed, stepped_at, stepped_by, stepped, step}
 use Rattle.kernel.specs.Gainful.{two_processes, setting, event_by}
 use Rattle.kernel.proofs.Gainful.{nothing_comes_from_elsewhere}
-use Rattle.kernel.proofs.Keeping.{next_world}
+use Rattle.kernel.proofs.Begun.{next_world}
 use Rattle.task.specs.Begins.{first_files, first_world}
 use Rattle.task.specs.Limits.{is_plan}
 use Rattle.task.specs.Plans.{Grant, Plan, programs_of_plan}

@@ -12,7 +12,7 @@ use Rattle.rights.specs.Limits.{most_processes, most_programs}
 use Rattle.fd_table.specs.Descriptions.{Object}
 use Rattle.file_tree.specs.Nodes.{Node}
 use Rattle.kernel.specs.Walks.{IsWalkerIfMade}
-use Rattle.kernel.specs.WellFormed.{IsCode, IsPoint, IsProcessIfMade, HasNone, FitsRegister, IsWorld}
+use Rattle.kernel.specs.WellFormed.{IsBegun, IsCode, IsPoint, IsProcessIfMade, HasNone, FitsRegister, IsWorld}
 use Rattle.task.specs.Plans.{NamedProgram, Start, Plan, code_in, programs_of_plan}
 use Rattle.task.specs.Limits.{are_grants, is_program_named, are_named_apart, all_apart, are_programs, are_descriptors, is_start, are_starts, is_tree, is_plan}
 use Rattle.task.specs.Begins.{first_files, first_process, first_world}
@@ -129,14 +129,23 @@ none_walks plan tree objects row [] p = tt
 none_walks plan tree objects row (s ∷ starts) zero = record { lives = λ ended. refl; fits = tt }
 none_walks plan tree objects row (s ∷ starts) (suc p) = none_walks plan tree objects row starts p
 
+-- and no deed is to be done
+none_begun : (plan : Plan) (starts : List Start) (p : ℕ) → IsBegun (slice_get (map (first_process plan.programs) starts) p)
+none_begun plan [] p = tt
+none_begun plan (s ∷ starts) zero = λ walk. refl
+none_begun plan (s ∷ starts) (suc p) = none_begun plan starts p
+
 pub first_well_formed : FirstWorldsAreWellFormed
 unfolding first_world
 first_well_formed plan good =
     let facts = checked plan good in (
       (λ n. valid_code plan.programs n (named_programs plan.programs facts.programs)),
       record {
-        numbering = numbering_of plan.starts;
-        world = first_is_world plan facts;
-        walks = λ p. none_walks plan (first_world plan).tree (first_world plan).files.objects ((first_world plan).files.table p) plan.starts p;
+        formed = record {
+          numbering = numbering_of plan.starts;
+          world = first_is_world plan facts;
+          walks = λ p. none_walks plan (first_world plan).tree (first_world plan).files.objects ((first_world plan).files.table p) plan.starts p;
+        };
+        begun = λ p. none_begun plan plan.starts p;
       },
     )

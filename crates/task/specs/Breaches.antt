@@ -5,7 +5,7 @@ use Rattle.rights.specs.Operations.{Operation, Look, Read as Reads, Remove as Re
 use Rattle.rights.specs.Sets.{all_rights, all_commands, seek_right}
 use Rattle.file_tree.specs.Nodes.{Node, File, Dir}
 use Rattle.instruction_set.specs.Programs.{Syscall, Halt, Invoke, Cap_enter, Open, Read, Write, Renameat, Number}
-use Rattle.kernel.specs.Steps.{Done, Stepped}
+use Rattle.kernel.specs.Steps.{No_call, Stepped}
 use Rattle.kernel.specs.Gainful.{wide, two_processes, with_at, setting, event_by}
 use Rattle.task.specs.Plans.{On_node, Plan, unmarked}
 use Rattle.task.specs.Sandboxed.{IsSafe, IsSandboxed}
@@ -60,7 +60,7 @@ moving_plan = entering (Removes ∷ []) all_rights 1 false (Renameat (Number 2) 
 -- What no step does: the second process of two sets a register, with no effect that its line shows, and has a descriptor more,
 -- with all rights.
 abbrev pub gaining : Stepped
-gaining = record { world = with_at 1 1 wide; acted = Some (record { program = 0; point = 0; outcome = Done; effects = [] }) }
+gaining = record { world = with_at 1 1 wide; acted = Some (record { program = 0; point = 0; outcome = No_call; effects = [] }) }
 
 pub record SomeAreNotSandboxed : Type 0 where
   pub missing_right : IsSandboxed reading_plan → ⊥

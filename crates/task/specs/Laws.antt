@@ -6,7 +6,7 @@ use Rattle.process.specs.State.{ProcessState, new_process}
 use Rattle.fd_table.specs.Descriptions.{Descriptor, new_state}
 use Rattle.fd_table.specs.OpenFiles.{OpenFiles}
 use Rattle.kernel.specs.World.{World}
-use Rattle.kernel.specs.WellFormed.{ArePrograms, IsWellFormed}
+use Rattle.kernel.specs.WellFormed.{ArePrograms, IsBetweenSteps}
 use Rattle.task.specs.Plans.{Grant, FirstObject, On_node, On_end, FirstDescriptor, NamedProgram, Start, Plan, marked_in, programs_of_plan}
 use Rattle.task.specs.Limits.{is_plan}
 use Rattle.task.specs.Policies.{is_allowed}
@@ -16,7 +16,7 @@ use Rattle.task.specs.Begins.{given_to, first_object, first_world}
 -- A task starts in a well-formed world of its programs.
 abbrev pub FirstWorldsAreWellFormed : Type 0
 FirstWorldsAreWellFormed =
-    (plan : Plan) → is_plan plan ≡ true → ArePrograms (programs_of_plan plan) × IsWellFormed (programs_of_plan plan) (first_world plan)
+    (plan : Plan) → is_plan plan ≡ true → ArePrograms (programs_of_plan plan) × IsBetweenSteps (programs_of_plan plan) (first_world plan)
 
 -- A first process stands at point 0 of its program with all registers 0, in capability mode if the task says so, and is marked if
 -- its program is.

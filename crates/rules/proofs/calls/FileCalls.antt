@@ -26,7 +26,7 @@ use Rattle.lookup.proofs.UnderWay.{there_if_opened}
 use Rattle.task.specs.Plans.{Plan}
 use Rattle.rules.specs.Intervals.{only}
 use Rattle.rules.specs.Outcomes.{from_to}
-use Rattle.rules.proofs.worlds.Seen.{seen_of, table_of}
+use Rattle.rules.specs.Seen.{seen_of, table_seen}
 use Rattle.rules.proofs.bounds.IntervalLaws.{inside_of, only_fits}
 use Rattle.rules.proofs.outcomes.CallOutcomes.{leads_read, leads_write, leads_lseek, leads_ftruncate, leads_fstat, leads_setfl}
 use Rattle.rules.proofs.calls.Owing.{Standing}
@@ -55,7 +55,7 @@ module _ (plan : Plan) (certificate : Certificate) (w : World) (e : Event) (s : 
         owed_value plan certificate w e.process s choice (Read x) otherwise known 256 Same_tree Same_queue Same_state _ (from_to 0 256) tt
         (allowed_through plan certificate w e s choice (Read x) otherwise known x d opened n access is (λ slot. refl) operations.Read (λ slot. inl refl)
         (λ slot. refl) (node w.tree n).place (λ name holds. holds)) tt
-        (leads_read plan certificate s (table_of plan w e.process) x otherwise known.stands (seen_of plan w d) opened.there) refl
+        (leads_read plan certificate s (table_seen plan w e.process) x otherwise known.stands (seen_of plan w d) opened.there) refl
     byte_read n access is (Some byte) at =
         let old = w.files.states d.description in
         let small : byte < 256 =
@@ -64,7 +64,7 @@ module _ (plan : Plan) (certificate : Certificate) (w : World) (e : Event) (s : 
         (Set_state d.description (record old { offset = old.offset + 1 })) _ (from_to 0 256) tt
         (allowed_through plan certificate w e s choice (Read x) otherwise known x d opened n access is (λ slot. refl) operations.Read (λ slot. inl refl)
         (λ slot. refl) (node w.tree n).place (λ name holds. holds)) tt
-        (leads_read plan certificate s (table_of plan w e.process) x otherwise known.stands (seen_of plan w d) opened.there)
+        (leads_read plan certificate s (table_seen plan w e.process) x otherwise known.stands (seen_of plan w d) opened.there)
         (inside_of (from_to 0 256) byte (omega arith) (omega (arith, small)))
 
     node_read : (n : ℕ) (access : Access) → w.files.objects d.description ≡ At_node n access
@@ -80,7 +80,7 @@ module _ (plan : Plan) (certificate : Certificate) (w : World) (e : Event) (s : 
     empty_read true nonblock = owed_blocked plan certificate w e s choice (Read x) otherwise known refl nonblock
     empty_read false nonblock =
         owed_value plan certificate w e.process s choice (Read x) otherwise known 256 Same_tree Same_queue Same_state [] (from_to 0 256) tt (λ on. tt) tt
-        (leads_read plan certificate s (table_of plan w e.process) x otherwise known.stands (seen_of plan w d) opened.there) refl
+        (leads_read plan certificate s (table_seen plan w e.process) x otherwise known.stands (seen_of plan w d) opened.there) refl
 
     end_read : (Good : Descriptor → Type 0) (pair side : ℕ) (messages : List Message) → EachMessage Good messages
         → OwedBy plan certificate w e.process s choice (Read x) otherwise known (read_end w e.process s e d.description pair side messages)
@@ -88,7 +88,7 @@ module _ (plan : Plan) (certificate : Certificate) (w : World) (e : Event) (s : 
     end_read Good pair side (m ∷ messages) good =
         let small : m.byte < 256 = good.0 in
         owed_value plan certificate w e.process s choice (Read x) otherwise known m.byte Same_tree (Pop pair (other_side side)) Same_state [] (from_to 0 256) tt (λ on. tt) tt
-        (leads_read plan certificate s (table_of plan w e.process) x otherwise known.stands (seen_of plan w d) opened.there)
+        (leads_read plan certificate s (table_seen plan w e.process) x otherwise known.stands (seen_of plan w d) opened.there)
         (inside_of (from_to 0 256) m.byte (omega arith) (omega (arith, small)))
 
   pub owed_read : (x : Operand) (otherwise : ℕ) (known : Standing plan certificate w e.process s choice (Invoke (Read x) otherwise))
@@ -118,7 +118,7 @@ module _ (plan : Plan) (certificate : Certificate) (w : World) (e : Event) (s : 
         (Set_state d.description (record old { offset = offset + 1 })) _ (only 1) tt
         (allowed_through plan certificate w e s choice (Write x v) otherwise known x d opened n access is (λ slot. refl) operations.Write (λ slot. inl refl)
         (λ slot. refl) (node w.tree n).place (λ name holds. holds)) tt
-        (leads_write plan certificate s (table_of plan w e.process) x v otherwise known.stands (seen_of plan w d) opened.there) (only_fits 1)))))
+        (leads_write plan certificate s (table_seen plan w e.process) x v otherwise known.stands (seen_of plan w d) opened.there) (only_fits 1)))))
 
     -- a byte alone, where there is room
     byte_sent : (pair side byte : ℕ) (nonblock room : Bool)
@@ -126,7 +126,7 @@ module _ (plan : Plan) (certificate : Certificate) (w : World) (e : Event) (s : 
         (if room then Gives 1 (record same { queue = Push pair side (record { byte = byte; passed = None }) }) [] else blocked w e.process s e nonblock)
     byte_sent pair side byte nonblock true =
         owed_value plan certificate w e.process s choice (Write x v) otherwise known 1 Same_tree (Push pair side (record { byte = byte; passed = None })) Same_state [] (only 1) tt (λ on. tt) tt
-        (leads_write plan certificate s (table_of plan w e.process) x v otherwise known.stands (seen_of plan w d) opened.there) (only_fits 1)
+        (leads_write plan certificate s (table_seen plan w e.process) x v otherwise known.stands (seen_of plan w d) opened.there) (only_fits 1)
     byte_sent pair side byte nonblock false = owed_blocked plan certificate w e s choice (Write x v) otherwise known refl nonblock
 
     end_written : (pair side : ℕ)
@@ -157,7 +157,7 @@ module _ (plan : Plan) (certificate : Certificate) (w : World) (e : Event) (s : 
       owed_unless plan certificate w e.process s choice (Lseek x v) otherwise known refl (nat_le offset most_bytes) EINVAL Refused _ tt (λ fits.
       owed_value plan certificate w e.process s choice (Lseek x v) otherwise known offset Same_tree Same_queue
       (Set_state d.description (record (w.files.states d.description) { offset = offset })) [] (from_to 0 most_bytes) tt (λ on. tt) tt
-      (leads_lseek plan certificate s (table_of plan w e.process) x v otherwise known.stands (seen_of plan w d) opened.there)
+      (leads_lseek plan certificate s (table_seen plan w e.process) x v otherwise known.stands (seen_of plan w d) opened.there)
       (inside_of (from_to 0 most_bytes) offset (omega arith) (leb-true offset most_bytes fits)))))
 
   pub owed_ftruncate : (x v : Operand) (otherwise : ℕ) (known : Standing plan certificate w e.process s choice (Invoke (Ftruncate x v) otherwise))
@@ -172,7 +172,7 @@ module _ (plan : Plan) (certificate : Certificate) (w : World) (e : Event) (s : 
       owed_value plan certificate w e.process s choice (Ftruncate x v) otherwise known 0 (Fill n (resized (node w.tree n).content size)) Same_queue Same_state _ (only 0) tt
       (allowed_through plan certificate w e s choice (Ftruncate x v) otherwise known x d opened n access is (λ slot. refl) operations.Write (λ slot. inl refl)
       (λ slot. refl) (node w.tree n).place (λ name holds. holds)) tt
-      (leads_ftruncate plan certificate s (table_of plan w e.process) x v otherwise known.stands (seen_of plan w d) opened.there) (only_fits 0)))))
+      (leads_ftruncate plan certificate s (table_seen plan w e.process) x v otherwise known.stands (seen_of plan w d) opened.there) (only_fits 0)))))
 
   pub owed_setfl : (x v : Operand) (otherwise : ℕ) (known : Standing plan certificate w e.process s choice (Invoke (Fcntl_setfl x v) otherwise))
       → OwedBy plan certificate w e.process s choice (Fcntl_setfl x v) otherwise known (answer w e.process s e (Fcntl_setfl x v))
@@ -184,7 +184,7 @@ module _ (plan : Plan) (certificate : Certificate) (w : World) (e : Event) (s : 
       (owed_unless plan certificate w e.process s choice (Fcntl_setfl x v) otherwise known refl (nat_le flags 3) EINVAL Refused _ tt (λ fits.
       owed_value plan certificate w e.process s choice (Fcntl_setfl x v) otherwise known 0 Same_tree Same_queue
       (Set_state d.description (with_status (w.files.states d.description) flags)) [] (only 0) tt (λ on. tt) tt
-      (leads_setfl plan certificate s (table_of plan w e.process) x v otherwise known.stands (seen_of plan w d) opened.there) (only_fits 0))))
+      (leads_setfl plan certificate s (table_seen plan w e.process) x v otherwise known.stands (seen_of plan w d) opened.there) (only_fits 0))))
 
   -- ## `fstat`
   pub owed_fstat : (x : Operand) (otherwise : ℕ) (known : Standing plan certificate w e.process s choice (Invoke (Fstat x) otherwise))
@@ -197,7 +197,7 @@ module _ (plan : Plan) (certificate : Certificate) (w : World) (e : Event) (s : 
       owed_value plan certificate w e.process s choice (Fstat x) otherwise known (kind_number (node w.tree n).kind) Same_tree Same_queue Same_state _ (from_to 1 3) tt
       (allowed_through plan certificate w e s choice (Fstat x) otherwise known x d opened n access is (λ slot. refl) operations.Look (λ slot. inl refl)
       (λ slot. refl) (node w.tree n).place (λ name holds. holds)) tt
-      (leads_fstat plan certificate s (table_of plan w e.process) x otherwise known.stands (seen_of plan w d) opened.there) (kind_fits (node w.tree n).kind))
+      (leads_fstat plan certificate s (table_seen plan w e.process) x otherwise known.stands (seen_of plan w d) opened.there) (kind_fits (node w.tree n).kind))
       (λ pair side class is.
       owed_value plan certificate w e.process s choice (Fstat x) otherwise known 3 Same_tree Same_queue Same_state [] (from_to 1 3) tt (λ on. tt) tt
-      (leads_fstat plan certificate s (table_of plan w e.process) x otherwise known.stands (seen_of plan w d) opened.there) refl))
+      (leads_fstat plan certificate s (table_seen plan w e.process) x otherwise known.stands (seen_of plan w d) opened.there) refl))

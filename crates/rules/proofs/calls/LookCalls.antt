@@ -17,7 +17,7 @@ use Rattle.kernel.specs.Calls.{answer, kind_number, stats_at}
 use Rattle.kernel.specs.Walks.{lookups_of}
 use Rattle.task.specs.Plans.{Plan}
 use Rattle.rules.specs.Outcomes.{from_to}
-use Rattle.rules.proofs.worlds.Seen.{subject_of, seen_of, table_of}
+use Rattle.rules.specs.Seen.{subject_of, seen_of, table_seen}
 use Rattle.rules.proofs.outcomes.CallOutcomes.{leads_fstatat, leads_stat}
 use Rattle.rules.proofs.findings.Findings.{Found, FoundBeneath}
 use Rattle.rules.proofs.calls.Owing.{Standing}
@@ -43,7 +43,7 @@ module _ (plan : Plan) (certificate : Certificate) (w : World) (e : Event) (s : 
         owed_value plan certificate w e.process s choice (Fstatat x path) otherwise known (kind_number (node w.tree m).kind) Same_tree Same_queue Same_state _ (from_to 1 2) tt
         (allowed_through plan certificate w e s choice (Fstatat x path) otherwise known x d opened n access is (λ slot. refl) operations.Look (λ slot. inl refl)
         (λ slot. refl) (node w.tree m).place found.within) tt
-        (leads_fstatat plan certificate s (table_of plan w e.process) x path otherwise known.stands (seen_of plan w d) (node w.tree n).place opened.there (ap (subject_of plan w.tree) is))
+        (leads_fstatat plan certificate s (table_seen plan w e.process) x path otherwise known.stands (seen_of plan w d) (node w.tree n).place opened.there (ap (subject_of plan w.tree) is))
         (kind_fits (node w.tree m).kind (found.found.followed refl))
 
   pub owed_fstatat : (x : Operand) (path : List ℕ) (otherwise : ℕ) (known : Standing plan certificate w e.process s choice (Invoke (Fstatat x path) otherwise))
@@ -63,7 +63,7 @@ module _ (plan : Plan) (certificate : Certificate) (w : World) (e : Event) (s : 
   looked_anywhere path otherwise known (Found_node m) found =
       owed_value plan certificate w e.process s choice (Stat path) otherwise known (kind_number (node w.tree m).kind) Same_tree Same_queue Same_state _ (from_to 1 2) tt
       (λ on. absurd (never_on plan certificate w e s choice (Stat path) otherwise known refl on)) tt
-      (leads_stat plan certificate s (table_of plan w e.process) path otherwise known.stands)
+      (leads_stat plan certificate s (table_seen plan w e.process) path otherwise known.stands)
       (kind_fits (node w.tree m).kind (found.followed refl))
 
   pub owed_stat : (path : List ℕ) (otherwise : ℕ) (known : Standing plan certificate w e.process s choice (Invoke (Stat path) otherwise))

@@ -18,7 +18,7 @@ use Rattle.lookup.specs.Paths.{last_component}
 use Rattle.instruction_set.specs.Programs.{Operand, Renameat, Invoke, called}
 use Rattle.kernel.specs.World.{World, Choice}
 use Rattle.kernel.specs.Answers.{Event, Effect, Answer, Same_tree, Move, Same_queue, Same_state, Gives, gives, granted, value_of}
-use Rattle.kernel.specs.Calls.{no_request, answer, moves, renamed_free, renamed_over, renamed_to, renamed_from}
+use Rattle.kernel.specs.Calls.{no_request, answer, moves, renamed_free, renamed_over, renamed_to, existing}
 use Rattle.kernel.specs.Walks.{lookups_of}
 use Rattle.task.specs.Plans.{Plan}
 use Rattle.task.specs.Policies.{grant_holds}
@@ -26,7 +26,7 @@ use Rattle.task.specs.Sandboxed.{Allowed, AreAllowed}
 use Rattle.rules.specs.Intervals.{only}
 use Rattle.rules.specs.Needs.{moving_to}
 use Rattle.rules.specs.Uses.{use_of}
-use Rattle.rules.proofs.worlds.Seen.{subject_of, seen_of, table_of}
+use Rattle.rules.specs.Seen.{subject_of, seen_of, table_seen}
 use Rattle.rules.proofs.bounds.IntervalLaws.{only_fits}
 use Rattle.rules.proofs.Members.{Among}
 use Rattle.rules.proofs.outcomes.Outcomes.{GoesOn, subject_is}
@@ -50,7 +50,7 @@ module _ (plan : Plan) (certificate : Certificate) (w : World) (e : Event) (s : 
   -- both descriptors are there, and are of directories
   record Both (d target : Descriptor) (n m : ℕ) : Type 0 where
     opened : Opened plan certificate w e s choice (Renameat x from y to) otherwise known x d
-    there : table_of plan w e.process (value_of s y) ≡ Some (seen_of plan w target)
+    there : table_seen plan w e.process (value_of s y) ≡ Some (seen_of plan w target)
     first_access : Access
     is_first : w.files.objects d.description ≡ At_node n first_access
     second_access : Access
@@ -58,17 +58,17 @@ module _ (plan : Plan) (certificate : Certificate) (w : World) (e : Event) (s : 
 
   module _ (d target : Descriptor) (n m : ℕ) (both : Both d target n m) where
     second : Through plan certificate known.stands.bound s.mode y (value_of s y) (use_of known.stands.bound moving_to) (seen_of plan w target)
-    second = through_second plan certificate s (table_of plan w e.process) x y from to otherwise known.stands (seen_of plan w target) both.there
+    second = through_second plan certificate s (table_seen plan w e.process) x y from to otherwise known.stands (seen_of plan w target) both.there
 
     leads : GoesOn plan certificate s known.stands.bound (only 0)
     leads =
-        leads_rename plan certificate s (table_of plan w e.process) x from y to otherwise known.stands (seen_of plan w d) (seen_of plan w target)
+        leads_rename plan certificate s (table_seen plan w e.process) x from y to otherwise known.stands (seen_of plan w d) (seen_of plan w target)
         (node w.tree n).place (node w.tree m).place both.opened.there (ap (subject_of plan w.tree) both.is_first) both.there
         (ap (subject_of plan w.tree) both.is_second)
 
     one : OneGrant plan.grants (node w.tree n).place (node w.tree m).place
     one =
-        renames_in plan certificate s (table_of plan w e.process) x y from to otherwise known.stands (seen_of plan w d) (seen_of plan w target)
+        renames_in plan certificate s (table_seen plan w e.process) x y from to otherwise known.stands (seen_of plan w d) (seen_of plan w target)
         (node w.tree n).place (node w.tree m).place both.opened.there (ap (subject_of plan w.tree) both.is_first) both.there
         (ap (subject_of plan w.tree) both.is_second)
 
@@ -138,7 +138,7 @@ module _ (plan : Plan) (certificate : Certificate) (w : World) (e : Event) (s : 
     goes_to k found (Found_node j) place = unless_same k j (k == j) found place
 
     comes_from : (a b : lookups.Finding) → Source a → Target b
-        → OwesMove (renamed_from w e.process s e a (λ k. renamed_to w e.process s e (Renameat x from y to) target k to b))
+        → OwesMove (existing a (λ k. renamed_to w e.process s e (Renameat x from y to) target k to b))
     comes_from (Not_found fault) b found place = owed_lost plan certificate w e s choice (Renameat x from y to) otherwise known refl fault
     comes_from (Found_free k) b found place = owed_fails plan certificate w e.process s choice (Renameat x from y to) otherwise known refl ENOENT errors.Path tt
     comes_from (Found_node k) b found place = goes_to k found b place
@@ -150,10 +150,10 @@ module _ (plan : Plan) (certificate : Certificate) (w : World) (e : Event) (s : 
       owed_held plan certificate w e.process s choice (Renameat x from y to) otherwise known refl (w.files.table e.process (value_of s y)) _ (λ target other.
       let first = ap (option_map (seen_of plan w)) here in
       let there = ap (option_map (seen_of plan w)) other in
-      let way = slots.through plan certificate s (table_of plan w e.process) (Renameat x from y to) otherwise known.stands x (seen_of plan w d) refl first in
+      let way = slots.through plan certificate s (table_seen plan w e.process) (Renameat x from y to) otherwise known.stands x (seen_of plan w d) refl first in
       owed_passed plan certificate w e.process s choice (Renameat x from y to) otherwise known _ _ _ _ way.has.rights
       (owed_passed plan certificate w e.process s choice (Renameat x from y to) otherwise known _ _ _ _
-      (second_rights plan certificate s (table_of plan w e.process) x y from to otherwise known.stands (seen_of plan w target) there)
+      (second_rights plan certificate s (table_seen plan w e.process) x y from to otherwise known.stands (seen_of plan w target) there)
       (owed_directory plan certificate w e s choice (Renameat x from y to) otherwise known refl d.description _ (λ n first_access is_first dir.
       owed_directory plan certificate w e s choice (Renameat x from y to) otherwise known refl target.description _ (λ m second_access is_second also.
       owed_twice plan certificate w e s choice (Renameat x from y to) otherwise known refl x from y to refl d here n first_access is_first dir target other m second_access is_second also _

@@ -23,7 +23,7 @@ use Rattle.task.specs.Plans.{Plan}
 use Rattle.task.specs.Policies.{grant_holds}
 use Rattle.rules.specs.Demands.{demands}
 use Rattle.rules.specs.Intervals.{only}
-use Rattle.rules.proofs.worlds.Seen.{subject_of, seen_of, table_of}
+use Rattle.rules.specs.Seen.{subject_of, seen_of, table_seen}
 use Rattle.rules.proofs.bounds.IntervalLaws.{only_fits}
 use Rattle.rules.proofs.outcomes.Outcomes.{subject_is}
 use Rattle.rules.proofs.outcomes.CallOutcomes.{leads_mkdirat, leads_unlinkat}
@@ -40,7 +40,7 @@ module _ (plan : Plan) (certificate : Certificate) (w : World) (e : Event) (s : 
   -- no name is made or removed in a global name space
   not_global : (call : Syscall) (otherwise : ℕ) (known : Standing plan certificate w e.process s choice (Invoke call otherwise)) → (demands call).changes_global_names ≡ true → ⊥
   not_global call otherwise known changes =
-      let wrong : true ≡ false = sym changes ∙ (said plan certificate s (table_of plan w e.process) call otherwise known.stands).global_names in
+      let wrong : true ≡ false = sym changes ∙ (said plan certificate s (table_seen plan w e.process) call otherwise known.stands).global_names in
       cc
 
   -- ## `mkdirat` and `mkdir`
@@ -59,7 +59,7 @@ module _ (plan : Plan) (certificate : Certificate) (w : World) (e : Event) (s : 
         (allowed_through plan certificate w e s choice (Mkdirat x path) otherwise known x d opened n access is (λ slot. refl) operations.Create (λ slot. inl refl)
         (λ slot. refl) place
         (λ name held. deep_held plan.grants name place (found.deep refl name held))) tt
-        (leads_mkdirat plan certificate s (table_of plan w e.process) x path otherwise known.stands (seen_of plan w d) (node w.tree n).place opened.there (ap (subject_of plan w.tree) is))
+        (leads_mkdirat plan certificate s (table_seen plan w e.process) x path otherwise known.stands (seen_of plan w d) (node w.tree n).place opened.there (ap (subject_of plan w.tree) is))
         (only_fits 0)))
 
   pub owed_mkdirat : (x : Operand) (path : List ℕ) (otherwise : ℕ) (known : Standing plan certificate w e.process s choice (Invoke (Mkdirat x path) otherwise))
@@ -107,7 +107,7 @@ module _ (plan : Plan) (certificate : Certificate) (w : World) (e : Event) (s : 
         (deep_of plan.grants in_grant.name place (found.deep refl in_grant.name in_grant.holds))
         (allowed_through plan certificate w e s choice (Unlinkat x path directory) otherwise known x d opened n access is (λ slot. refl) operations.Remove (λ slot. inl refl)
         (λ slot. refl) place (λ name held. deep_held plan.grants name place (found.deep refl name held))) tt
-        (leads_unlinkat plan certificate s (table_of plan w e.process) x path directory otherwise known.stands (seen_of plan w d) from opened.there seen)
+        (leads_unlinkat plan certificate s (table_seen plan w e.process) x path directory otherwise known.stands (seen_of plan w d) from opened.there seen)
         (only_fits 0))
 
   pub owed_unlinkat : (x : Operand) (path : List ℕ) (directory : Bool) (otherwise : ℕ)

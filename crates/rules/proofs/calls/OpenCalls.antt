@@ -31,7 +31,7 @@ use Rattle.rules.specs.Demands.{demands}
 use Rattle.rules.specs.Needs.{operation_if}
 use Rattle.rules.specs.Intervals.{only}
 use Rattle.rules.specs.Outcomes.{target_of_path}
-use Rattle.rules.proofs.worlds.Seen.{subject_of, seen_of, table_of}
+use Rattle.rules.specs.Seen.{subject_of, seen_of, table_seen}
 use Rattle.rules.proofs.Members.{Among}
 use Rattle.rules.proofs.bounds.IntervalLaws.{only_fits}
 use Rattle.rules.proofs.frames.KeptTrees.{IsDeepChange}
@@ -202,7 +202,7 @@ module _ (plan : Plan) (certificate : Certificate) (w : World) (e : Event) (s : 
       owed_beneath plan certificate w e s choice call otherwise known x path (last_if f.create) refl d opened.held n access is dir _ (λ a found.
       owed_opened plan certificate w e s choice call otherwise known refl d.rights d.fcntls (IsBeside plan.grants from)
       (λ place number reaches free.
-      leads_openat plan certificate s (table_of plan w p) x path f otherwise known.stands (seen_of plan w d) from place number opened.there node_is reaches
+      leads_openat plan certificate s (table_seen plan w p) x path f otherwise known.stands (seen_of plan w d) from place number opened.there node_is reaches
       (number_taken plan certificate s (seen_of plan w) (w.files.table p) call otherwise known.stands refl number free))
       f
       (λ on made place reaches.
@@ -219,12 +219,12 @@ module _ (plan : Plan) (certificate : Certificate) (w : World) (e : Event) (s : 
   owed_open path f otherwise known =
       let call = Open path f in
       let p = e.process in
-      let none_made : f.create ≡ false = (said plan certificate s (table_of plan w p) call otherwise known.stands).global_names in
+      let none_made : f.create ≡ false = (said plan certificate s (table_seen plan w p) call otherwise known.stands).global_names in
       owed_outside plan certificate w e s choice call otherwise known refl _
       (owed_opening plan certificate w e s choice call otherwise known path (last_if f.create) refl _ (λ a found.
       owed_opened plan certificate w e s choice call otherwise known refl all_rights all_commands (IsOpened plan.grants path)
       (λ place number reaches free.
-      leads_open plan certificate s (table_of plan w p) path f otherwise known.stands place number reaches
+      leads_open plan certificate s (table_seen plan w p) path f otherwise known.stands place number reaches
       (number_taken plan certificate s (seen_of plan w) (w.files.table p) call otherwise known.stands refl number free))
       f
       (λ on made place reaches. absurd (never_on plan certificate w e s choice call otherwise known refl on))

@@ -16,7 +16,7 @@ use Rattle.task.specs.Plans.{Plan}
 use Rattle.task.specs.Policies.{grant_holds}
 use Rattle.task.specs.Sandboxed.{AreAllowed, IsOtherCause}
 use Rattle.rules.specs.Demands.{demands}
-use Rattle.rules.proofs.worlds.Seen.{table_of}
+use Rattle.rules.specs.Seen.{table_seen}
 use Rattle.rules.proofs.worlds.Invariant.{IsCarried, IsDescribed, bounds}
 use Rattle.rules.proofs.frames.KeptTrees.{IsDeepChange}
 use Rattle.rules.proofs.frames.Frames.{KeepsClasses, IfPushed, described_stays}
@@ -31,7 +31,7 @@ use Rattle.rules.proofs.calls.Owing.{Standing, Owed, living_there, in_place, no_
 pub plain_owed :
     (plan : Plan) (certificate : Certificate) (w : World) (e : Event) (s : ProcessState) (choice : Choice) (i : Instruction) → IsEvent e
     → (known : Standing plan certificate w e.process s choice i)
-    → Moves plan certificate w e choice s (table_of plan w e.process) i
+    → Moves plan certificate w e choice s (table_seen plan w e.process) i
     → Owed plan certificate w e.process s choice known.inv.classes (executed w e choice s i)
 plain_owed plan certificate w e s choice i byte known moves =
     subst (Owed plan certificate w e.process s choice known.inv.classes) (sym moves.is)
@@ -66,7 +66,7 @@ module _ (plan : Plan) (certificate : Certificate) (w : World) (p : ℕ) (s : Pr
   owed_fails may errno cause other =
       owed_by (Fails errno cause)
       (owed_failed plan certificate w p s choice (Invoke call otherwise) known errno cause otherwise other
-      (failed_arrives plan certificate s (table_of plan w p) call otherwise known.stands may errno))
+      (failed_arrives plan certificate s (table_seen plan w p) call otherwise known.stands may errno))
 
   pub owed_wait : OwedBy Waits
   owed_wait = owed_by Waits (owed_waits plan certificate w p s choice (Invoke call otherwise) known otherwise)
@@ -119,7 +119,8 @@ module _ (plan : Plan) (certificate : Certificate) (w : World) (p : ℕ) (s : Pr
       → IsDeepChange plan.grants w.tree tree → (s.mode ≡ true → AreAllowed plan.grants effects)
       → IfPushed (IsCarried (bounds plan certificate) (changed w p (given s value (quiet tree queue state enters)) choice (quiet tree queue state enters)) known.inv.classes) queue
       → GoesOn plan certificate s after i → interval_describes i value ≡ true
-      → Described (grant_holds plan.grants) after (s.mode || enters) s.registers (table_of plan (changed w p (given s value (quiet tree queue state enters)) choice (quiet tree queue state enters)) p)
+      → Described (grant_holds plan.grants) after (s.mode || enters) s.registers
+      (table_seen plan (changed w p (given s value (quiet tree queue state enters)) choice (quiet tree queue state enters)) p)
       → OwedBy (Gives value (quiet tree queue state enters) effects)
   unfolding OwedBy answered
   owed_quiet value tree queue state enters effects after i follows deep allowed pushed leads fits inside =
@@ -138,8 +139,8 @@ module _ (plan : Plan) (certificate : Certificate) (w : World) (p : ℕ) (s : Pr
             own =
                 in_place plan certificate w p s choice known.acts known.inv v t (processes_same t tree queue state enters)
                 (λ alive. living_there plan certificate v p t follows refl
-                (arrives plan certificate t (table_of plan v p) (with_interval after 0 i) leads
-                (register_changed (grant_holds plan.grants) after (s.mode || enters) s.registers (table_of plan v p) 0 value i fits inside)));
+                (arrives plan certificate t (table_seen plan v p) (with_interval after 0 i) leads
+                (register_changed (grant_holds plan.grants) after (s.mode || enters) s.registers (table_seen plan v p) 0 value i fits inside)));
             child = no_child plan certificate w p s choice known.acts known.inv v t (processes_same t tree queue state enters);
             pushed = pushed;
           };
@@ -153,7 +154,7 @@ module _ (plan : Plan) (certificate : Certificate) (w : World) (p : ℕ) (s : Pr
 
   -- what the bound says of the process as it was, it says in the world after
   pub inside_later : (t : ProcessState) (tree : TreeChange) (queue : QueueChange) (state : StateChange) (enters : Bool) → IsDeepChange plan.grants w.tree tree
-      → Described (grant_holds plan.grants) known.stands.bound s.mode s.registers (table_of plan (changed w p t choice (quiet tree queue state enters)) p)
+      → Described (grant_holds plan.grants) known.stands.bound s.mode s.registers (table_seen plan (changed w p t choice (quiet tree queue state enters)) p)
   inside_later t tree queue state enters deep =
       let holds = grant_holds plan.grants in
       let change : Change = quiet tree queue state enters in
@@ -162,15 +163,15 @@ module _ (plan : Plan) (certificate : Certificate) (w : World) (p : ℕ) (s : Pr
       let before : IsDescribed plan certificate w p s = record {
         bound = b;
         at = known.stands.at;
-        is = from_described holds b s.mode s.registers (table_of plan w p) known.stands.inside;
+        is = from_described holds b s.mode s.registers (table_seen plan w p) known.stands.inside;
       } in
       let after : IsDescribed plan certificate v p s =
       described_stays plan w v choice queue p (frame_changed plan w p s choice known.acts t change deep) certificate p s
       (table_same t tree queue state enters) before in
       let clash : Some after.bound ≡ Some b = sym after.at ∙ known.stands.at in
       let same : after.bound ≡ b = cc in
-      subst (λ x. Described holds x s.mode s.registers (table_of plan v p)) same
-      (described holds after.bound s.mode s.registers (table_of plan v p) after.is)
+      subst (λ x. Described holds x s.mode s.registers (table_seen plan v p)) same
+      (described holds after.bound s.mode s.registers (table_seen plan v p) after.is)
 
   -- one that gives a value alone, of an interval
   pub owed_value :
@@ -182,5 +183,5 @@ module _ (plan : Plan) (certificate : Certificate) (w : World) (p : ℕ) (s : Pr
   owed_value value tree queue state effects i deep allowed pushed leads fits =
       let t : ProcessState = given s value (quiet tree queue state false) in
       owed_quiet value tree queue state false effects known.stands.bound i (subst (λ on. (s.marked && on) ≡ false) (sym (off_stays s.mode)) known.follows) deep allowed pushed leads fits
-      (subst (λ on. Described (grant_holds plan.grants) known.stands.bound on s.registers (table_of plan (changed w p t choice (quiet tree queue state false)) p))
+      (subst (λ on. Described (grant_holds plan.grants) known.stands.bound on s.registers (table_seen plan (changed w p t choice (quiet tree queue state false)) p))
       (sym (off_stays s.mode)) (inside_later t tree queue state false deep))

@@ -13,7 +13,7 @@ use Rattle.kernel.specs.Steps.{answered}
 use Rattle.task.specs.Plans.{Plan}
 use Rattle.task.specs.Policies.{grant_holds}
 use Rattle.task.specs.Sandboxed.{AreAllowed}
-use Rattle.rules.proofs.worlds.Seen.{table_of}
+use Rattle.rules.specs.Seen.{table_seen}
 use Rattle.rules.proofs.worlds.Invariant.{IsLiving, LivesBy, is_free, bounds}
 use Rattle.rules.proofs.frames.ChangeKinds.{frame_changed}
 use Rattle.rules.proofs.frames.PairClasses.{classes_after, IsNamed, entry_named, classes_changed}
@@ -61,7 +61,7 @@ module _ (plan : Plan) (certificate : Certificate) (w : World) (p : ℕ) (s : Pr
       (value : ℕ) (change : Change) (after : Bound) (i : Interval) (registers : List ℕ) → change.enters ≡ false
       → second_number change.table (slice_set s.registers 0 value) ≡ slice_set registers 0 value
       → GoesOn plan certificate s after i → interval_describes i value ≡ true
-      → Described (grant_holds plan.grants) after s.mode registers (table_of plan (changed w p (given s value change) choice change) p)
+      → Described (grant_holds plan.grants) after s.mode registers (table_seen plan (changed w p (given s value change) choice change) p)
       → LivesBy plan certificate (is_free (given s value change)) (changed w p (given s value change) choice change) p (given s value change)
   own_described value change after i registers enters second leads fits inside =
       let t : ProcessState = given s value change in
@@ -70,10 +70,10 @@ module _ (plan : Plan) (certificate : Certificate) (w : World) (p : ℕ) (s : Pr
       let on : (s.mode || change.enters) ≡ s.mode = subst (λ b. (s.mode || b) ≡ s.mode) (sym enters) (off_stays s.mode) in
       lives_described plan certificate v p t (subst (λ m. (s.marked && m) ≡ false) (sym on) known.follows)
       (described_there plan certificate v p t
-      (arrives plan certificate t (table_of plan v p) (with_interval after 0 i) leads
-      (subst (λ m. Described holds (with_interval after 0 i) m t.registers (table_of plan v p)) (sym on)
-      (subst (λ rs. Described holds (with_interval after 0 i) s.mode rs (table_of plan v p)) (sym second)
-      (register_changed holds after s.mode registers (table_of plan v p) 0 value i fits inside)))))
+      (arrives plan certificate t (table_seen plan v p) (with_interval after 0 i) leads
+      (subst (λ m. Described holds (with_interval after 0 i) m t.registers (table_seen plan v p)) (sym on)
+      (subst (λ rs. Described holds (with_interval after 0 i) s.mode rs (table_seen plan v p)) (sym second)
+      (register_changed holds after s.mode registers (table_seen plan v p) 0 value i fits inside)))))
 
   -- what a number of the process has is named
   pub held_named : (n : ℕ) (d : Descriptor) → w.files.table p n ≡ Some d → IsNamed w choice known.inv.classes d

@@ -22,7 +22,7 @@ use Rattle.kernel.proofs.Looking.{looks_any, looks_twice_any}
 use Rattle.task.specs.Plans.{Plan, programs_of_plan}
 use Rattle.task.specs.Policies.{grant_holds}
 use Rattle.rules.specs.Demands.{demands}
-use Rattle.rules.proofs.worlds.Seen.{table_of}
+use Rattle.rules.specs.Seen.{table_seen}
 use Rattle.rules.proofs.worlds.Walks.{IsBeside, StartsBeside, WalkIn, WalksIn}
 use Rattle.rules.proofs.worlds.Invariant.{IfAlive, IsLiving, bounds}
 use Rattle.rules.proofs.bounds.Describing.{from_described}
@@ -83,7 +83,7 @@ module _ (plan : Plan) (certificate : Certificate) (w : World) (e : Event) (s : 
                   lives_described plan certificate (with_process w e.process t) e.process t known.follows (record {
                     bound = known.stands.bound;
                     at = known.stands.at;
-                    is = from_described (grant_holds plan.grants) known.stands.bound s.mode s.registers (table_of plan w e.process) known.stands.inside;
+                    is = from_described (grant_holds plan.grants) known.stands.bound s.mode s.registers (table_seen plan w e.process) known.stands.inside;
                   });
               walker = record {
                 walks =

@@ -22,7 +22,7 @@ use Rattle.task.specs.Policies.{grant_holds}
 use Rattle.task.specs.Sandboxed.{AreAllowed}
 use Rattle.rules.specs.Slots.{OpenSlot}
 use Rattle.rules.specs.Demands.{demands}
-use Rattle.rules.proofs.worlds.Seen.{subject_of, seen_of, table_of}
+use Rattle.rules.specs.Seen.{subject_of, seen_of, table_seen}
 use Rattle.rules.proofs.Members.{Among}
 use Rattle.rules.proofs.outcomes.Failing as failing
 use Rattle.rules.proofs.outcomes.Outcomes.{subject_is}
@@ -40,7 +40,7 @@ module _ (plan : Plan) (certificate : Certificate) (w : World) (e : Event) (s : 
   -- the descriptor that an operand names, and what the rules say of it
   pub record Opened (x : Operand) (d : Descriptor) : Type 0 where
     pub held : w.files.table e.process (value_of s x) ≡ Some d
-    pub there : table_of plan w e.process (value_of s x) ≡ Some (seen_of plan w d)
+    pub there : table_seen plan w e.process (value_of s x) ≡ Some (seen_of plan w d)
     pub way : Through plan certificate known.stands.bound s.mode x (value_of s x) (first_use known.stands.bound call) (seen_of plan w d)
 
   -- it is as it is in a well-formed world
@@ -62,7 +62,7 @@ module _ (plan : Plan) (certificate : Certificate) (w : World) (e : Event) (s : 
   owed_through x first may need needs rest owed =
       owed_held plan certificate w e.process s choice call otherwise known may (w.files.table e.process (value_of s x)) (λ d. granted need d (rest d)) (λ d here.
       let there = ap (option_map (seen_of plan w)) here in
-      let way = through_slots.through plan certificate s (table_of plan w e.process) call otherwise known.stands x (seen_of plan w d) first there in
+      let way = through_slots.through plan certificate s (table_seen plan w e.process) call otherwise known.stands x (seen_of plan w d) first there in
       owed_passed plan certificate w e.process s choice call otherwise known (is_within need d.rights) ENOTCAPABLE MissingRight (rest d)
       (subst (λ n. is_within n d.rights ≡ true) (needs (record { number = value_of s x; held = way.slot.held })) way.has.rights)
       (owed d (record { held = here; there = there; way = way })))
@@ -100,11 +100,11 @@ module _ (plan : Plan) (certificate : Certificate) (w : World) (e : Event) (s : 
   pub owed_outside : (demands call).is_global ≡ true → (rest : Answer) → Owes rest → Owes (outside_mode w e.process s e rest)
   owed_outside global rest owed =
       owed_passed plan certificate w e.process s choice call otherwise known (not s.mode) ECAPMODE CapMode rest
-      (failing.outside_mode plan certificate s (table_of plan w e.process) call otherwise known.stands global) owed
+      (failing.outside_mode plan certificate s (table_seen plan w e.process) call otherwise known.stands global) owed
 
   pub never_on : (demands call).is_global ≡ true → s.mode ≡ true → ⊥
   never_on global on =
-      let off = failing.outside_mode plan certificate s (table_of plan w e.process) call otherwise known.stands global in
+      let off = failing.outside_mode plan certificate s (table_seen plan w e.process) call otherwise known.stands global in
       let wrong : false ≡ true = ap not (sym on) ∙ off in
       cc
 

@@ -19,7 +19,7 @@ use Rattle.task.specs.Sandboxed.{AreAllowed, IsOtherCause, IsUnrefused}
 use Rattle.kernel.proofs.Marks.{AreMarkedAs}
 use Rattle.rules.specs.Outcomes.{enters_mode}
 use Rattle.rules.specs.Points.{instruction_at}
-use Rattle.rules.proofs.worlds.Seen.{table_of}
+use Rattle.rules.specs.Seen.{table_seen}
 use Rattle.rules.proofs.worlds.Walks.{rests}
 use Rattle.rules.proofs.worlds.Invariant.{IfAlive, IsLiving, HasClass, Invariant, IsDescribed, LivesBy, is_free, marks, bounds}
 use Rattle.rules.proofs.frames.Frames.{Frame, KeepsClasses, Owes, bounds_persist, next}
@@ -37,7 +37,7 @@ pub record Standing (plan : Plan) (certificate : Certificate) (w : World) (p : �
   pub rests : s.kept ≡ None
   pub stays : enters_mode i ≡ true → s.marked ≡ false
   pub here : instruction_at plan s.program s.point ≡ Some i
-  pub stands : Stands plan certificate s (table_of plan w p) i
+  pub stands : Stands plan certificate s (table_seen plan w p) i
 
 -- What a step leaves: the frame, the classes of pairs, and what the acting process owes of itself, of a child, and of what
 -- it has sent.
@@ -66,7 +66,7 @@ invariant_after plan certificate w v p s choice acts inv leaves formed marked =
 
 -- what a process comes to, in the world after it, with nothing under way
 pub described_there :
-    (plan : Plan) (certificate : Certificate) (v : World) (p : ℕ) (t : ProcessState) → Arrives plan certificate t (table_of plan v p)
+    (plan : Plan) (certificate : Certificate) (v : World) (p : ℕ) (t : ProcessState) → Arrives plan certificate t (table_seen plan v p)
     → IsDescribed plan certificate v p t
 described_there plan certificate v p t there = record { bound = there.bound; at = there.at; is = there.is }
 
@@ -78,7 +78,7 @@ lives_described plan certificate v p t follows there = subst (λ b. LivesBy plan
 
 pub living_there :
     (plan : Plan) (certificate : Certificate) (v : World) (p : ℕ) (t : ProcessState) → is_free t ≡ false → t.walk ≡ None
-    → Arrives plan certificate t (table_of plan v p) → IsLiving plan (bounds plan certificate) v p t
+    → Arrives plan certificate t (table_seen plan v p) → IsLiving plan (bounds plan certificate) v p t
 living_there plan certificate v p t follows none there = record {
   asked = lives_described plan certificate v p t follows (described_there plan certificate v p t there);
   walker = rests plan v.tree v.files.objects (v.files.table p) t none;
@@ -156,7 +156,7 @@ module _ (plan : Plan) (certificate : Certificate) (w : World) (p : ℕ) (s : Pr
 module _ (plan : Plan) (certificate : Certificate) (w : World) (p : ℕ) (s : ProcessState) (choice : Choice) (i : Instruction)
     (known : Standing plan certificate w p s choice i) where
   -- an instruction that is neither `halt` nor a call
-  pub owed_plain : (t : ProcessState) → is_free t ≡ false → t.walk ≡ None → Arrives plan certificate t (table_of plan w p) → Owed plan certificate w p s choice known.inv.classes (plain w p t)
+  pub owed_plain : (t : ProcessState) → is_free t ≡ false → t.walk ≡ None → Arrives plan certificate t (table_seen plan w p) → Owed plan certificate w p s choice known.inv.classes (plain w p t)
   owed_plain t follows none there = record {
     allowed = λ on. tt;
     unrefused = tt;
@@ -173,7 +173,7 @@ module _ (plan : Plan) (certificate : Certificate) (w : World) (p : ℕ) (s : Pr
   owed_waits otherwise = record { allowed = λ on. tt; unrefused = tt; leaves = leaves_same plan certificate w p s choice known.acts known.inv }
 
   -- a call that fails, of another cause than a right or the mode
-  pub owed_failed : (errno : Errno) (cause : Cause) (otherwise : ℕ) → IsOtherCause cause → Arrives plan certificate (failed s errno otherwise) (table_of plan w p)
+  pub owed_failed : (errno : Errno) (cause : Cause) (otherwise : ℕ) → IsOtherCause cause → Arrives plan certificate (failed s errno otherwise) (table_seen plan w p)
       → Owed plan certificate w p s choice known.inv.classes (answered w p s choice otherwise (Fails errno cause))
   unfolding answered
   owed_failed errno cause otherwise other there =

@@ -24,7 +24,7 @@ use Rattle.task.specs.Policies.{grant_holds}
 use Rattle.rules.specs.Intervals.{only}
 use Rattle.rules.specs.Channels.{channel_at}
 use Rattle.rules.specs.Outcomes.{from_to, all_held, with_pair}
-use Rattle.rules.proofs.worlds.Seen.{end_of, subject_of, seen_of, table_of}
+use Rattle.rules.specs.Seen.{end_seen, subject_of, seen_of, table_seen}
 use Rattle.rules.proofs.bounds.IntervalLaws.{only_fits}
 use Rattle.rules.proofs.bounds.Describing.{Described, register_changed, set_apart}
 use Rattle.rules.proofs.worlds.Invariant.{Carries, IsInLine, LivesBy, is_free, line_describes, bounds}
@@ -75,19 +75,19 @@ module _ (plan : Plan) (certificate : Certificate) (w : World) (e : Event) (s : 
       → Takes plan certificate s known.stands.bound number (seen_of plan w c)
   takes_carried x otherwise known pair side number (Initial n) d c here end free carried formed =
       let holds = grant_holds plan.grants in
-      leads_recvfd plan certificate s (table_of plan w e.process) x otherwise known.stands (seen_of plan w d) (classes.Initial n) side (seen_of plan w c) number
+      leads_recvfd plan certificate s (table_seen plan w e.process) x otherwise known.stands (seen_of plan w d) (classes.Initial n) side (seen_of plan w c) number
       (ap (option_map (seen_of plan w)) here) (ap (subject_of plan w.tree) end)
       (coming holds (channel_at certificate (classes.Initial n) (other_side side)) (seen_of plan w c) carried) formed.rights formed.fcntls
       (number_taken plan certificate s (seen_of plan w) (w.files.table e.process) (Recvfd x) otherwise known.stands refl number free)
   takes_carried x otherwise known pair side number (Made_at program point) d c here end free carried formed =
       let holds = grant_holds plan.grants in
       let class = classes.Made_at (program_name plan program) point in
-      leads_recvfd plan certificate s (table_of plan w e.process) x otherwise known.stands (seen_of plan w d) class side (seen_of plan w c) number
+      leads_recvfd plan certificate s (table_seen plan w e.process) x otherwise known.stands (seen_of plan w d) class side (seen_of plan w c) number
       (ap (option_map (seen_of plan w)) here) (ap (subject_of plan w.tree) end)
       (coming holds (channel_at certificate class (other_side side)) (seen_of plan w c) carried) formed.rights formed.fcntls
       (number_taken plan certificate s (seen_of plan w) (w.files.table e.process) (Recvfd x) otherwise known.stands refl number free)
   takes_carried x otherwise known pair side number (Made_by program) d c here end free carried formed =
-      leads_own_recvfd plan certificate s (table_of plan w e.process) x otherwise known.stands (seen_of plan w d) (program_name plan program) side (seen_of plan w c) number
+      leads_own_recvfd plan certificate s (table_seen plan w e.process) x otherwise known.stands (seen_of plan w d) (program_name plan program) side (seen_of plan w c) number
       (ap (option_map (seen_of plan w)) here) (ap (subject_of plan w.tree) end) formed.rights formed.fcntls
       (number_taken plan certificate s (seen_of plan w) (w.files.table e.process) (Recvfd x) otherwise known.stands refl number free)
 
@@ -132,7 +132,7 @@ module _ (plan : Plan) (certificate : Certificate) (w : World) (e : Event) (s : 
       let call = Recvfd x in
       let p = e.process in
       owed_held plan certificate w p s choice call otherwise known refl (w.files.table p (value_of s x)) _ (λ d here.
-      let has = (through plan certificate s (table_of plan w p) call otherwise known.stands x (seen_of plan w d) refl (ap (option_map (seen_of plan w)) here)).has in
+      let has = (through plan certificate s (table_seen plan w p) call otherwise known.stands x (seen_of plan w d) refl (ap (option_map (seen_of plan w)) here)).has in
       owed_passed plan certificate w p s choice call otherwise known _ _ _ _ has.rights
       (owed_object plan certificate w p s choice call otherwise known (w.files.objects d.description) _ _
       (λ n access is. owed_fails plan certificate w p s choice call otherwise known refl _ _ tt)
@@ -144,7 +144,7 @@ module _ (plan : Plan) (certificate : Certificate) (w : World) (e : Event) (s : 
   -- into an end of a class that a certificate can name
   owed_sent : (x y v : Operand) (otherwise : ℕ) (known : Standing plan certificate w e.process s choice (Invoke (Sendfd x y v) otherwise))
       → (d passed : Descriptor) → w.files.table e.process (value_of s x) ≡ Some d → w.files.table e.process (value_of s y) ≡ Some passed
-      → (pair side : ℕ) (class : PairClass) → w.files.objects d.description ≡ At_end pair side class → (named : Class) → end_of plan class side ≡ End_of named side
+      → (pair side : ℕ) (class : PairClass) → w.files.objects d.description ≡ At_end pair side class → (named : Class) → end_seen plan class side ≡ End_of named side
       → (IsInLine plan certificate w named side passed → Carries plan certificate w class side passed)
       → OwedBy plan certificate w e.process s choice (Sendfd x y v) otherwise known
       (sent_end w e.process s e d.description pair side (record { byte = value_of s v % 256; passed = Some passed }))
@@ -163,7 +163,7 @@ module _ (plan : Plan) (certificate : Certificate) (w : World) (e : Event) (s : 
       named_end plan w p s choice known.acts (bounds plan certificate) known.inv d pair side class
       (held_named plan certificate w p s choice call otherwise known (value_of s x) d here) is in
       let line : Line holds (channel_at certificate class_named side) (seen_of plan w passed) =
-      sends_line plan certificate s (table_of plan w p) x y v otherwise known.stands (seen_of plan w d) (seen_of plan w passed) class_named side there beside end in
+      sends_line plan certificate s (table_seen plan w p) x y v otherwise known.stands (seen_of plan w d) (seen_of plan w passed) class_named side there beside end in
       let carries : Carries plan certificate w (known.inv.classes pair) side passed =
       subst (λ k. Carries plan certificate w k side passed) (sym through_end.1) (carried (in_line holds (channel_at certificate class_named side) (seen_of plan w passed) line)) in
       owed_unless plan certificate w p s choice call otherwise known refl _ _ _ _ tt (λ opened.
@@ -173,7 +173,7 @@ module _ (plan : Plan) (certificate : Certificate) (w : World) (e : Event) (s : 
       (sent_arrives plan w p s choice known.acts (bounds plan certificate) known.inv t change tt
       (bounds_persist plan w (changed w p t choice change) choice (Push pair side message) p (frame_changed plan w p s choice known.acts t change tt) certificate)
       pair side through_end.0 passed named carries)
-      (leads_sendfd plan certificate s (table_of plan w p) x y v otherwise known.stands (seen_of plan w d) (seen_of plan w passed) class_named side there beside end)
+      (leads_sendfd plan certificate s (table_seen plan w p) x y v otherwise known.stands (seen_of plan w d) (seen_of plan w passed) class_named side there beside end)
       (only_fits 1))
       (owed_blocked plan certificate w e s choice call otherwise known refl (w.files.states d.description).nonblock))
 
@@ -187,7 +187,7 @@ module _ (plan : Plan) (certificate : Certificate) (w : World) (e : Event) (s : 
   owed_into x y v otherwise known d passed here also pair side (Made_at program point) is =
       owed_sent x y v otherwise known d passed here also pair side (Made_at program point) is (classes.Made_at (program_name plan program) point) refl (λ line. line)
   owed_into x y v otherwise known d passed here also pair side (Made_by program) is =
-      absurd (never_sends_own plan certificate s (table_of plan w e.process) x y v otherwise known.stands (seen_of plan w d) (program_name plan program) side
+      absurd (never_sends_own plan certificate s (table_seen plan w e.process) x y v otherwise known.stands (seen_of plan w d) (program_name plan program) side
       (ap (option_map (seen_of plan w)) here) (ap (subject_of plan w.tree) is))
 
   pub owed_sendfd : (x y v : Operand) (otherwise : ℕ) (known : Standing plan certificate w e.process s choice (Invoke (Sendfd x y v) otherwise))
@@ -198,7 +198,7 @@ module _ (plan : Plan) (certificate : Certificate) (w : World) (e : Event) (s : 
       let p = e.process in
       owed_held plan certificate w p s choice call otherwise known refl (w.files.table p (value_of s x)) _ (λ d here.
       owed_held plan certificate w p s choice call otherwise known refl (w.files.table p (value_of s y)) _ (λ passed also.
-      let has = (through plan certificate s (table_of plan w p) call otherwise known.stands x (seen_of plan w d) refl (ap (option_map (seen_of plan w)) here)).has in
+      let has = (through plan certificate s (table_seen plan w p) call otherwise known.stands x (seen_of plan w d) refl (ap (option_map (seen_of plan w)) here)).has in
       owed_passed plan certificate w p s choice call otherwise known _ _ _ _ has.rights
       (owed_object plan certificate w p s choice call otherwise known (w.files.objects d.description) _ _
       (λ n access is. owed_fails plan certificate w p s choice call otherwise known refl _ _ tt)
@@ -223,14 +223,14 @@ module _ (plan : Plan) (certificate : Certificate) (w : World) (e : Event) (s : 
       let one : Held = all_held (Socket (classes.Made_at name s.point) 0) in
       let other : Held = all_held (Socket (classes.Made_at name s.point) 1) in
       let both : Bound = with_slot (with_slot b first (slots.Open one)) second (slots.Open other) in
-      let table = table_of plan (changed w p t choice change) p in
+      let table = table_seen plan (changed w p t choice change) p in
       let inside : Described holds both s.mode s.registers table = record {
         mode = known.stands.inside.mode;
         registers = known.stands.inside.registers;
         slots =
             pair_slots plan w p s choice known.acts t change tt first second class refl one other
-            (subst (λ c. held_describes holds one (fresh (end_of plan c 0)) ≡ true) (sym own) (end_described plan certificate s (table_of plan w p) name s.point 0))
-            (subst (λ c. held_describes holds other (fresh (end_of plan c 1)) ≡ true) (sym own) (end_described plan certificate s (table_of plan w p) name s.point 1))
+            (subst (λ c. held_describes holds one (fresh (end_seen plan c 0)) ≡ true) (sym own) (end_described plan certificate s (table_seen plan w p) name s.point 0))
+            (subst (λ c. held_describes holds other (fresh (end_seen plan c 1)) ≡ true) (sym own) (end_described plan certificate s (table_seen plan w p) name s.point 1))
             b.slots known.stands.inside.slots;
       } in
       owed_change plan certificate w p s choice Socketpair otherwise known first change [] (λ on. tt) (record {
@@ -239,7 +239,7 @@ module _ (plan : Plan) (certificate : Certificate) (w : World) (e : Event) (s : 
         own = λ alive.
             own_described plan certificate w p s choice Socketpair otherwise known first change (with_pair plan.grants certificate name s.point b first second) (only first)
             (slice_set s.registers 1 second) refl (set_apart s.registers 0 1 first second (λ same. absurd (omega (arith, same))))
-            (leads_pair plan certificate s (table_of plan w p) otherwise known.stands first second
+            (leads_pair plan certificate s (table_seen plan w p) otherwise known.stands first second
             (pair_taken plan certificate s (seen_of plan w) (w.files.table p) Socketpair otherwise known.stands refl first second free free_too))
             (only_fits first) (register_changed holds both s.mode s.registers table 1 second (only second) (only_fits second) inside);
         child = tt;
@@ -275,7 +275,7 @@ module _ (plan : Plan) (certificate : Certificate) (w : World) (e : Event) (s : 
       let t : ProcessState = given s made change in
       let v : World = changed w p t choice change in
       let row = old_slots plan w p s choice known.acts t change tt b.slots known.stands.inside.slots in
-      let child : Described holds b s.mode s.registers (table_of plan v made) = record {
+      let child : Described holds b s.mode s.registers (table_seen plan v made) = record {
         mode = known.stands.inside.mode;
         registers = known.stands.inside.registers;
         slots = child_slots plan w p s choice known.acts t change tt refl b.slots row;
@@ -287,7 +287,7 @@ module _ (plan : Plan) (certificate : Certificate) (w : World) (e : Event) (s : 
         named = tt;
         own = λ alive.
             own_described plan certificate w p s choice Fork otherwise known made change b (from_to 1 (most_processes - 1)) s.registers refl refl
-            (leads_fork plan certificate s (table_of plan w p) otherwise known.stands) (few_made made known.acts.formed.world.some few) (record {
+            (leads_fork plan certificate s (table_seen plan w p) otherwise known.stands) (few_made made known.acts.formed.world.some few) (record {
               mode = known.stands.inside.mode;
               registers = known.stands.inside.registers;
               slots = parent_slots plan w p s choice known.acts t change tt refl b.slots known.stands.inside.slots;
@@ -298,7 +298,7 @@ module _ (plan : Plan) (certificate : Certificate) (w : World) (e : Event) (s : 
     where
       child_described : (otherwise : ℕ) (known : Standing plan certificate w e.process s choice (Invoke Fork otherwise)) (made : ℕ) (change : Change)
           → change ≡ entries New_process Same_queue
-          → Described (grant_holds plan.grants) known.stands.bound s.mode s.registers (table_of plan (changed w e.process (given s made change) choice change) made)
+          → Described (grant_holds plan.grants) known.stands.bound s.mode s.registers (table_seen plan (changed w e.process (given s made change) choice change) made)
           → LivesBy plan certificate (is_free (given s made change)) (changed w e.process (given s made change) choice change) made (forked (given s made change))
       child_described otherwise known made change is child =
           let holds = grant_holds plan.grants in
@@ -309,8 +309,8 @@ module _ (plan : Plan) (certificate : Certificate) (w : World) (e : Event) (s : 
           ap (λ (c : Change). slice_set (second_number c.table (slice_set s.registers 0 made)) 0 0) is ∙ set_twice s.registers made 0 in
           lives_described plan certificate v made (forked t) (subst (λ m. (s.marked && m) ≡ false) (sym enters) known.follows)
           (described_there plan certificate v made (forked t)
-          (arrives plan certificate (forked t) (table_of plan v made) (with_interval known.stands.bound 0 (only 0))
-          (leads_fork_child plan certificate s (table_of plan w e.process) otherwise known.stands)
-          (subst (λ m. Described holds (with_interval known.stands.bound 0 (only 0)) m (forked t).registers (table_of plan v made)) (sym enters)
-          (subst (λ rs. Described holds (with_interval known.stands.bound 0 (only 0)) s.mode rs (table_of plan v made)) (sym registers)
-          (register_changed holds known.stands.bound s.mode s.registers (table_of plan v made) 0 0 (only 0) (only_fits 0) child)))))
+          (arrives plan certificate (forked t) (table_seen plan v made) (with_interval known.stands.bound 0 (only 0))
+          (leads_fork_child plan certificate s (table_seen plan w e.process) otherwise known.stands)
+          (subst (λ m. Described holds (with_interval known.stands.bound 0 (only 0)) m (forked t).registers (table_seen plan v made)) (sym enters)
+          (subst (λ rs. Described holds (with_interval known.stands.bound 0 (only 0)) s.mode rs (table_seen plan v made)) (sym registers)
+          (register_changed holds known.stands.bound s.mode s.registers (table_seen plan v made) 0 0 (only 0) (only_fits 0) child)))))

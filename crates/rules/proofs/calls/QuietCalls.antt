@@ -14,7 +14,7 @@ use Rattle.kernel.specs.Changes.{given}
 use Rattle.task.specs.Plans.{Plan}
 use Rattle.rules.specs.Intervals.{only}
 use Rattle.rules.specs.Outcomes.{from_to, mode_interval}
-use Rattle.rules.proofs.worlds.Seen.{seen_of, table_of}
+use Rattle.rules.specs.Seen.{seen_of, table_seen}
 use Rattle.rules.proofs.bounds.IntervalLaws.{only_fits}
 use Rattle.rules.proofs.points.Uses.{through}
 use Rattle.rules.proofs.outcomes.CallOutcomes.{leads_cap_enter, leads_cap_getmode, leads_fsync, leads_getfl}
@@ -46,7 +46,7 @@ module _ (plan : Plan) (certificate : Certificate) (w : World) (e : Event) (s : 
   owed_cap_getmode otherwise known =
       let b = known.stands.bound in
       owed_value plan certificate w e.process s choice Cap_getmode otherwise known (bit_of s.mode 1) Same_tree Same_queue Same_state [] (mode_interval b.mode) tt (λ on. tt) tt
-      (leads_cap_getmode plan certificate s (table_of plan w e.process) otherwise known.stands) (mode_fits b.mode s.mode known.stands.inside.mode)
+      (leads_cap_getmode plan certificate s (table_seen plan w e.process) otherwise known.stands) (mode_fits b.mode s.mode known.stands.inside.mode)
 
   pub owed_cap_enter : (otherwise : ℕ) (known : Standing plan certificate w e.process s choice (Invoke Cap_enter otherwise))
       → OwedBy plan certificate w e.process s choice Cap_enter otherwise known (answer w e.process s e Cap_enter)
@@ -55,7 +55,7 @@ module _ (plan : Plan) (certificate : Certificate) (w : World) (e : Event) (s : 
       let inside = inside_later plan certificate w e.process s choice Cap_enter otherwise known (given s 0 (quiet Same_tree Same_queue Same_state true)) Same_tree Same_queue Same_state true tt in
       owed_quiet plan certificate w e.process s choice Cap_enter otherwise known 0 Same_tree Same_queue Same_state true [] (record known.stands.bound { mode = On }) (only 0)
       (ap (λ m. m && (s.mode || true)) (known.stays refl)) tt (λ on. tt) tt
-      (leads_cap_enter plan certificate s (table_of plan w e.process) otherwise known.stands) (only_fits 0)
+      (leads_cap_enter plan certificate s (table_seen plan w e.process) otherwise known.stands) (only_fits 0)
       (record { mode = turned_on s.mode; registers = inside.registers; slots = inside.slots })
 
   pub owed_getfl : (x : Operand) (otherwise : ℕ) (known : Standing plan certificate w e.process s choice (Invoke (Fcntl_getfl x) otherwise))
@@ -66,12 +66,12 @@ module _ (plan : Plan) (certificate : Certificate) (w : World) (e : Event) (s : 
       let p = e.process in
       owed_held plan certificate w p s choice call otherwise known refl (w.files.table p (value_of s x)) _ (λ d here.
       let there = ap (option_map (seen_of plan w)) here in
-      let has = (through plan certificate s (table_of plan w p) call otherwise known.stands x (seen_of plan w d) refl there).has in
+      let has = (through plan certificate s (table_seen plan w p) call otherwise known.stands x (seen_of plan w d) refl there).has in
       let state = w.files.states d.description in
       owed_passed plan certificate w p s choice call otherwise known _ _ _ _ has.rights
       (owed_passed plan certificate w p s choice call otherwise known _ _ _ _ has.commands
       (owed_value plan certificate w p s choice call otherwise known (status_number state) Same_tree Same_queue Same_state [] (from_to 0 3) tt (λ on. tt) tt
-      (leads_getfl plan certificate s (table_of plan w p) x otherwise known.stands (seen_of plan w d) there) (status_fits state.append state.nonblock state refl refl))))
+      (leads_getfl plan certificate s (table_seen plan w p) x otherwise known.stands (seen_of plan w d) there) (status_fits state.append state.nonblock state refl refl))))
 
   pub owed_fsync : (x : Operand) (otherwise : ℕ) (known : Standing plan certificate w e.process s choice (Invoke (Fsync x) otherwise))
       → OwedBy plan certificate w e.process s choice (Fsync x) otherwise known (answer w e.process s e (Fsync x))
@@ -81,10 +81,10 @@ module _ (plan : Plan) (certificate : Certificate) (w : World) (e : Event) (s : 
       let p = e.process in
       owed_held plan certificate w p s choice call otherwise known refl (w.files.table p (value_of s x)) _ (λ d here.
       let there = ap (option_map (seen_of plan w)) here in
-      let has = (through plan certificate s (table_of plan w p) call otherwise known.stands x (seen_of plan w d) refl there).has in
+      let has = (through plan certificate s (table_seen plan w p) call otherwise known.stands x (seen_of plan w d) refl there).has in
       owed_passed plan certificate w p s choice call otherwise known _ _ _ _ has.rights
       (owed_object plan certificate w p s choice call otherwise known (w.files.objects d.description) _ _
       (λ n access is.
       owed_value plan certificate w p s choice call otherwise known 0 Same_tree Same_queue Same_state [] (only 0) tt (λ on. tt) tt
-      (leads_fsync plan certificate s (table_of plan w p) x otherwise known.stands (seen_of plan w d) there) (only_fits 0))
+      (leads_fsync plan certificate s (table_seen plan w p) x otherwise known.stands (seen_of plan w d) there) (only_fits 0))
       (λ pair side class is. owed_fails plan certificate w p s choice call otherwise known refl _ _ tt)))

@@ -15,7 +15,7 @@ use Rattle.kernel.specs.Changes.{given, changed}
 use Rattle.task.specs.Plans.{Plan}
 use Rattle.task.specs.Policies.{grant_holds}
 use Rattle.rules.specs.Intervals.{only}
-use Rattle.rules.proofs.worlds.Seen.{seen_of, table_of}
+use Rattle.rules.specs.Seen.{seen_of, table_seen}
 use Rattle.rules.proofs.bounds.IntervalLaws.{only_fits}
 use Rattle.rules.proofs.bounds.Describing.{Described}
 use Rattle.rules.proofs.frames.Frames.{IfPushed}
@@ -38,7 +38,7 @@ module _ (plan : Plan) (certificate : Certificate) (w : World) (p : ℕ) (s : Pr
     (known : Standing plan certificate w p s choice (Invoke call otherwise)) where
   abbrev inside_set : (value number : ℕ) (d : Descriptor) (queue : QueueChange) → Bound → Type 0
   inside_set value number d queue after =
-      Described (grant_holds plan.grants) after s.mode s.registers (table_of plan (changed w p (given s value (entries (Set_entry number d) queue)) choice (entries (Set_entry number d) queue)) p)
+      Described (grant_holds plan.grants) after s.mode s.registers (table_seen plan (changed w p (given s value (entries (Set_entry number d) queue)) choice (entries (Set_entry number d) queue)) p)
 
   -- a number gets a descriptor that is named
   sets : (value number : ℕ) (d : Descriptor) (queue : QueueChange) (h : Held) → IsNamed w choice known.inv.classes d
@@ -109,7 +109,7 @@ module _ (plan : Plan) (certificate : Certificate) (w : World) (e : Event) (s : 
       owed_held plan certificate w p s choice call otherwise known refl (w.files.table p (value_of s x)) _ (λ d here.
       let there = ap (option_map (seen_of plan w)) here in
       owed_cleared plan certificate w p s choice call otherwise known (value_of s x)
-      (leads_close plan certificate s (table_of plan w p) x otherwise known.stands (seen_of plan w d) there))
+      (leads_close plan certificate s (table_seen plan w p) x otherwise known.stands (seen_of plan w d) there))
 
   pub owed_rights : (x : Operand) (rights otherwise : ℕ) (known : Standing plan certificate w e.process s choice (Invoke (Cap_rights_limit x rights) otherwise))
       → OwedBy plan certificate w e.process s choice (Cap_rights_limit x rights) otherwise known (answer w e.process s e (Cap_rights_limit x rights))
@@ -119,10 +119,10 @@ module _ (plan : Plan) (certificate : Certificate) (w : World) (e : Event) (s : 
       let p = e.process in
       owed_held plan certificate w p s choice call otherwise known refl (w.files.table p (value_of s x)) _ (λ d here.
       let there = ap (option_map (seen_of plan w)) here in
-      let has = (through plan certificate s (table_of plan w p) call otherwise known.stands x (seen_of plan w d) refl there).has in
+      let has = (through plan certificate s (table_seen plan w p) call otherwise known.stands x (seen_of plan w d) refl there).has in
       let named : IsNamed w choice known.inv.classes d = held_named plan certificate w p s choice call otherwise known (value_of s x) d here in
       let is : Limits plan certificate s known.stands.bound (value_of s x) (record (seen_of plan w d) { rights = rights }) =
-      leads_rights plan certificate s (table_of plan w p) x rights otherwise known.stands (seen_of plan w d) there in
+      leads_rights plan certificate s (table_seen plan w p) x rights otherwise known.stands (seen_of plan w d) there in
       owed_passed plan certificate w p s choice call otherwise known _ _ _ _ has.kept_rights
       (owed_set plan certificate w p s choice call otherwise known 0 (value_of s x) (record d { rights = rights }) is.held (only 0)
       (record { apart = named.apart; class = named.class }) is.describes (only_fits 0) is.leads))
@@ -135,10 +135,10 @@ module _ (plan : Plan) (certificate : Certificate) (w : World) (e : Event) (s : 
       let p = e.process in
       owed_held plan certificate w p s choice call otherwise known refl (w.files.table p (value_of s x)) _ (λ d here.
       let there = ap (option_map (seen_of plan w)) here in
-      let has = (through plan certificate s (table_of plan w p) call otherwise known.stands x (seen_of plan w d) refl there).has in
+      let has = (through plan certificate s (table_seen plan w p) call otherwise known.stands x (seen_of plan w d) refl there).has in
       let named : IsNamed w choice known.inv.classes d = held_named plan certificate w p s choice call otherwise known (value_of s x) d here in
       let is : Limits plan certificate s known.stands.bound (value_of s x) (record (seen_of plan w d) { fcntls = commands }) =
-      leads_commands plan certificate s (table_of plan w p) x commands otherwise known.stands (seen_of plan w d) there in
+      leads_commands plan certificate s (table_seen plan w p) x commands otherwise known.stands (seen_of plan w d) there in
       owed_passed plan certificate w p s choice call otherwise known _ _ _ _ has.kept_commands
       (owed_set plan certificate w p s choice call otherwise known 0 (value_of s x) (record d { fcntls = commands }) is.held (only 0)
       (record { apart = named.apart; class = named.class }) is.describes (only_fits 0) is.leads))
@@ -154,5 +154,5 @@ module _ (plan : Plan) (certificate : Certificate) (w : World) (e : Event) (s : 
       let named : IsNamed w choice known.inv.classes d = held_named plan certificate w p s choice call otherwise known (value_of s x) d here in
       owed_number plan certificate w p s choice call otherwise known refl (lowest_free (w.files.table p)) _ (λ k free.
       let numbers = number_taken plan certificate s (seen_of plan w) (w.files.table p) call otherwise known.stands refl k free in
-      let is : Takes plan certificate s known.stands.bound k (seen_of plan w d) = leads_dup plan certificate s (table_of plan w p) x otherwise known.stands (seen_of plan w d) k there numbers in
+      let is : Takes plan certificate s known.stands.bound k (seen_of plan w d) = leads_dup plan certificate s (table_seen plan w p) x otherwise known.stands (seen_of plan w d) k there numbers in
       owed_set plan certificate w p s choice call otherwise known k k d is.held (only k) named is.describes (only_fits k) is.leads))

@@ -29,8 +29,8 @@ use Rattle.task.specs.Plans.{Plan, program_name, programs_of_plan}
 use Rattle.task.specs.Policies.{grant_holds}
 use Rattle.task.specs.KeptLimits.{KeepsGrants}
 use Rattle.rules.specs.Channels.{channel_at}
-use Rattle.rules.proofs.worlds.Seen.{subject_of, seen_of, table_of}
-use Rattle.rules.proofs.worlds.Within.{IsTableWithin, IsWithin, MayHave, own_authority}
+use Rattle.rules.specs.Seen.{subject_of, seen_of, table_seen}
+use Rattle.rules.specs.Within.{IsTableWithin, IsWithinAuthority, MayHave, own_authority}
 use Rattle.rules.proofs.worlds.Invariant.{Asks, IfAlive, IsLiving, IsOfClass, HasClass, IsCarried, Invariant, IsDescribed, Carries, LivesBy, is_free, line_describes, marks, bounds}
 use Rattle.rules.proofs.worlds.Walks.{IsWalkerIn}
 use Rattle.rules.proofs.frames.KeptTrees.{KeepsTree, goes_on, clear_stays}
@@ -247,26 +247,26 @@ module _ (plan : Plan) (w v : World) (choice : Choice) (queue : QueueChange) (p 
   slot_stays (Maybe h) (Some d) one two is = held_stays h d (frame.keeps.objects d.description one two) is
 
   -- an entry that stays is as its slot says
-  pub entry_stays : (s : Slot) (q m : ℕ) → slot_describes (grant_holds plan.grants) s (table_of plan w q m) ≡ true
+  pub entry_stays : (s : Slot) (q m : ℕ) → slot_describes (grant_holds plan.grants) s (table_seen plan w q m) ≡ true
       → slot_describes (grant_holds plan.grants) s (option_map (seen_of plan v) (w.files.table q m)) ≡ true
   entry_stays s q m is = slot_stays s (w.files.table q m) (frame.fresh.first.entries q m) (frame.fresh.second.entries q m) is
 
   slots_stay : (n : ℕ) (slots : List Slot) (q : ℕ) → ((m : ℕ) → v.files.table q m ≡ w.files.table q m)
-      → slots_describe (grant_holds plan.grants) n slots (table_of plan w q) ≡ true
-      → slots_describe (grant_holds plan.grants) n slots (table_of plan v q) ≡ true
+      → slots_describe (grant_holds plan.grants) n slots (table_seen plan w q) ≡ true
+      → slots_describe (grant_holds plan.grants) n slots (table_seen plan v q) ≡ true
   slots_stay n [] q same is = is
   slots_stay n (s ∷ slots) q same is =
       both_true
       (subst (λ o. slot_describes (grant_holds plan.grants) s (option_map (seen_of plan v) o) ≡ true) (sym (same n))
-      (entry_stays s q n (both_left _ (slots_describe (grant_holds plan.grants) (n + 1) slots (table_of plan w q)) is)))
-      (slots_stay (n + 1) slots q same (both_right (slot_describes (grant_holds plan.grants) s (table_of plan w q n)) _ is))
+      (entry_stays s q n (both_left _ (slots_describe (grant_holds plan.grants) (n + 1) slots (table_seen plan w q)) is)))
+      (slots_stay (n + 1) slots q same (both_right (slot_describes (grant_holds plan.grants) s (table_seen plan w q n)) _ is))
 
   pub described_stays : (certificate : Certificate) (q : ℕ) (s : ProcessState) → ((n : ℕ) → v.files.table q n ≡ w.files.table q n)
       → IsDescribed plan certificate w q s → IsDescribed plan certificate v q s
   described_stays certificate q s same inside =
       let b = inside.bound in
       let front = mode_describes b.mode s.mode && registers_describe b.registers s.registers in
-      let slots = slots_describe (grant_holds plan.grants) 0 b.slots (table_of plan w q) in
+      let slots = slots_describe (grant_holds plan.grants) 0 b.slots (table_seen plan w q) in
       record {
         bound = b;
         at = inside.at;
@@ -291,26 +291,26 @@ module _ (plan : Plan) (w v : World) (choice : Choice) (queue : QueueChange) (p 
   may_stay program certificate (At_end pair side (Made_by of)) rights is = is
 
   pub within_stays : (certificate : Certificate) (program : ℕ) (d : Descriptor) → v.files.objects d.description ≡ w.files.objects d.description
-      → IsWithin plan certificate w program d → IsWithin plan certificate v program d
+      → IsWithinAuthority plan certificate w program d → IsWithinAuthority plan certificate v program d
   within_stays certificate program d same is =
       subst (λ o. MayHave plan.grants (own_authority plan certificate program) (program_name plan program) (subject_of plan v.tree o) d.rights) (sym same)
       (may_stay program certificate (w.files.objects d.description) d.rights is)
 
   pub entry_within : (certificate : Certificate) (program : ℕ) (o : Option Descriptor) → IsOther choice.first o → IsOther choice.second o
-      → IfHeld (IsWithin plan certificate w program) o → IfHeld (IsWithin plan certificate v program) o
+      → IfHeld (IsWithinAuthority plan certificate w program) o → IfHeld (IsWithinAuthority plan certificate v program) o
   entry_within certificate program None one two is = tt
   entry_within certificate program (Some d) one two is = within_stays certificate program d (frame.keeps.objects d.description one two) is
 
   -- a row of the world before
   pub row_within : (certificate : Certificate) (program q : ℕ) → IsTableWithin plan certificate w q program → (n : ℕ)
-      → IfHeld (IsWithin plan certificate v program) (w.files.table q n)
+      → IfHeld (IsWithinAuthority plan certificate v program) (w.files.table q n)
   row_within certificate program q is n =
       entry_within certificate program (w.files.table q n) (frame.fresh.first.entries q n) (frame.fresh.second.entries q n) (is n)
 
   lives_stay : (certificate : Certificate) (free : Bool) (q : ℕ) (s : ProcessState) → ((n : ℕ) → v.files.table q n ≡ w.files.table q n)
       → LivesBy plan certificate free w q s → LivesBy plan certificate free v q s
   lives_stay certificate true q s same is = λ n.
-      subst (IfHeld (IsWithin plan certificate v s.program)) (sym (same n)) (row_within certificate s.program q is n)
+      subst (IfHeld (IsWithinAuthority plan certificate v s.program)) (sym (same n)) (row_within certificate s.program q is n)
   lives_stay certificate false q s same is = described_stays certificate q s same is
 
   carries_stay : (certificate : Certificate) (class : PairClass) (side : ℕ) (d : Descriptor) → v.files.objects d.description ≡ w.files.objects d.description

@@ -15,7 +15,7 @@ use Rattle.kernel.specs.Answers.{TableChange, Same_table, Set_entry, Clear_entry
 use Rattle.kernel.specs.Changes.{objects_after, table_after}
 use Rattle.task.specs.Plans.{Plan}
 use Rattle.task.specs.Policies.{grant_holds}
-use Rattle.rules.proofs.worlds.Seen.{seen_of, table_of}
+use Rattle.rules.specs.Seen.{seen_of, table_seen}
 use Rattle.rules.proofs.frames.Frames.{Frame, entry_stays}
 
 -- ## One number of a row, and its slot
@@ -57,15 +57,15 @@ row_put plan w row n o slots at fits is =
 
 -- A row of the world before is described as well after it.
 module _ (plan : Plan) (w v : World) (choice : Choice) (queue : QueueChange) (p : ℕ) (frame : Frame plan w v choice queue p) where
-  rows_stay : (q k : ℕ) (slots : List Slot) → slots_describe (grant_holds plan.grants) k slots (table_of plan w q) ≡ true
+  rows_stay : (q k : ℕ) (slots : List Slot) → slots_describe (grant_holds plan.grants) k slots (table_seen plan w q) ≡ true
       → slots_describe (grant_holds plan.grants) k slots (row_of plan v (w.files.table q)) ≡ true
   rows_stay q k [] is = is
   rows_stay q k (s ∷ slots) is =
       both_true
-      (entry_stays plan w v choice queue p frame s q k (both_left _ (slots_describe (grant_holds plan.grants) (k + 1) slots (table_of plan w q)) is))
-      (rows_stay q (k + 1) slots (both_right (slot_describes (grant_holds plan.grants) s (table_of plan w q k)) _ is))
+      (entry_stays plan w v choice queue p frame s q k (both_left _ (slots_describe (grant_holds plan.grants) (k + 1) slots (table_seen plan w q)) is))
+      (rows_stay q (k + 1) slots (both_right (slot_describes (grant_holds plan.grants) s (table_seen plan w q k)) _ is))
 
-  pub row_stays : (q : ℕ) (slots : List Slot) → slots_describe (grant_holds plan.grants) 0 slots (table_of plan w q) ≡ true
+  pub row_stays : (q : ℕ) (slots : List Slot) → slots_describe (grant_holds plan.grants) 0 slots (table_seen plan w q) ≡ true
       → slots_describe (grant_holds plan.grants) 0 slots (row_of plan v (w.files.table q)) ≡ true
   row_stays q slots is = rows_stay q 0 slots is
 

@@ -21,7 +21,7 @@ use Rattle.fd_table.specs.OpenFiles.{lowest_free}
 use Rattle.certificate.specs.Bounds.{Certificate}
 use Rattle.kernel.specs.World.{World, Choice}
 use Rattle.kernel.specs.Answers.{Answer, Effect, Event, Gives, Same_tree, Make, Remove, Move, Fill, gives, granted, same, value_of}
-use Rattle.kernel.specs.Calls.{answer, last_if, made_directory, moves, no_request, renamed_free, renamed_from, renamed_over, renamed_to, stats, stats_at, unlinks, unlinks_as}
+use Rattle.kernel.specs.Calls.{answer, last_if, made_directory, moves, no_request, renamed_free, existing, renamed_over, renamed_to, stats, stats_at, unlinks, unlinks_as}
 use Rattle.kernel.specs.Walks.{lookups_of}
 use Rattle.task.specs.Plans.{Plan}
 use Rattle.task.specs.Policies.{grant_holds}
@@ -37,7 +37,7 @@ use Rattle.rules.proofs.hostile.Confining.{Confines, Roams, by_object, does, fai
 use Rattle.rules.proofs.hostile.Confining.{if_passed, if_socket, if_through, if_unrefused, never_outside, tree, walks, within}
 use Rattle.rules.proofs.hostile.Parts.{May, Under, fewer_may, gives_value, may, opens, pairs, reads, reads_end, receives, sends_end, sends_there, sets}
 use Rattle.rules.proofs.points.Known.{OneGrant}
-use Rattle.rules.proofs.worlds.Within.{IsBelow, own_authority}
+use Rattle.rules.specs.Within.{IsBelowCeiling, own_authority}
 
 module _ (plan : Plan) (certificate : Certificate) (w : World) (e : Event) (s : ProcessState) (choice : Choice) (known : Roams plan certificate w e.process s choice) where
   abbrev Allows : Operation → List (List ℕ) → Type 0
@@ -45,7 +45,7 @@ module _ (plan : Plan) (certificate : Certificate) (w : World) (e : Event) (s : 
 
   -- the descriptor of an operand is below a ceiling
   abbrev Below : ℕ → ℕ → Type 0
-  Below n rights = IsBelow plan.grants (own_authority plan certificate s.program) (node w.tree n).place rights
+  Below n rights = IsBelowCeiling plan.grants (own_authority plan certificate s.program) (node w.tree n).place rights
 
   -- ## Lookups beneath a directory
   module _ (x : Operand) (path : List ℕ) (f : OpenRequest) (here : Under plan certificate w e s choice known (Openat x path f)) where
@@ -236,7 +236,7 @@ module _ (plan : Plan) (certificate : Certificate) (w : World) (e : Event) (s : 
       goes_to k found (Found_node j) place = unless_same k j (k == j) found place
 
       comes_from : (a b : lookups.Finding) → Source a → Target b
-          → MayMove (renamed_from w e.process s e a (λ k. renamed_to w e.process s e (Renameat x from y to) target k to b))
+          → MayMove (existing a (λ k. renamed_to w e.process s e (Renameat x from y to) target k to b))
       comes_from (Not_found fault) b found place = let call = Renameat x from y to in if_lost plan certificate w e.process s choice known call here e fault
       comes_from (Found_free k) b found place = let call = Renameat x from y to in fails plan certificate w e.process s choice known call here _ _
       comes_from (Found_node k) b found place = goes_to k found b place

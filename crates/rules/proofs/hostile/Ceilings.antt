@@ -31,7 +31,7 @@ use Rattle.rules.proofs.points.AskedCalls.{if_passes, not_both}
 use Rattle.rules.proofs.points.Known.{OneGrant, allowed_by}
 use Rattle.rules.proofs.points.Marked.{AuthorityAsked, Passing, any_found}
 use Rattle.rules.proofs.worlds.Invariant.{line_describes}
-use Rattle.rules.proofs.worlds.Within.{IsBelow, MayHave, own_authority}
+use Rattle.rules.specs.Within.{IsBelowCeiling, MayHave, own_authority}
 
 -- ## Ceilings
 -- the ceiling that has a right which the grant's has
@@ -66,7 +66,7 @@ module _ (plan : Plan) (certificate : Certificate) (program : ℕ) (asked : Auth
 
   -- What a right lets do at a place in each grant that holds the descriptor's is allowed.
   pub may_do : (right : ℕ) (operation : Operation) → Among (right, operation) operations_of_rights → is_within right 0 ≡ false → (from place : List (List ℕ)) (rights : ℕ)
-      → IsBelow plan.grants a from rights → is_within right rights ≡ true
+      → IsBelowCeiling plan.grants a from rights → is_within right rights ≡ true
       → ((name : List ℕ) → grant_holds plan.grants name from ≡ true → grant_holds plan.grants name place ≡ true) → Allowed plan.grants operation place
   may_do right operation one some from place rights below has beneath =
       let found = ceiling_of a.ceilings below.name right some (is_within-trans right rights (ceiling_in a.ceilings below.name) has below.below) in
@@ -79,8 +79,8 @@ module _ (plan : Plan) (certificate : Certificate) (program : ℕ) (asked : Auth
       (allowed_by plan.grants below.name operation place (beneath below.name below.holds) (subst (λ n. grant_lists plan.grants n operation ≡ true) found.of listed))
 
   -- What a node can be moved from, and into, is one grant.
-  pub moves_in_one : (from place : List (List ℕ)) (rights others : ℕ) → IsBelow plan.grants a from rights → is_within renameat_source_right rights ≡ true
-      → IsBelow plan.grants a place others → is_within renameat_target_right others ≡ true → OneGrant plan.grants from place
+  pub moves_in_one : (from place : List (List ℕ)) (rights others : ℕ) → IsBelowCeiling plan.grants a from rights → is_within renameat_source_right rights ≡ true
+      → IsBelowCeiling plan.grants a place others → is_within renameat_target_right others ≡ true → OneGrant plan.grants from place
   moves_in_one from place rights others source may target also =
       let one = ceiling_of a.ceilings source.name renameat_source_right refl (is_within-trans renameat_source_right rights (ceiling_in a.ceilings source.name) may source.below) in
       let two = ceiling_of a.ceilings target.name renameat_target_right refl (is_within-trans renameat_target_right others (ceiling_in a.ceilings target.name) also target.below) in

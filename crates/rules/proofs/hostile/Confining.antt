@@ -27,9 +27,9 @@ use Rattle.rules.proofs.frames.KeptTrees.{IsDeepChange}
 use Rattle.rules.proofs.frames.PairClasses.{IsNamed, entry_named}
 use Rattle.rules.proofs.points.Marked.{AuthorityAsked}
 use Rattle.rules.proofs.worlds.Invariant.{Carries, IfAlive, Invariant, IsLiving, LivesBy, is_free, bounds}
-use Rattle.rules.proofs.worlds.Seen.{subject_of}
+use Rattle.rules.specs.Seen.{subject_of}
 use Rattle.rules.proofs.worlds.Walks.{WalkIn, WalksIn}
-use Rattle.rules.proofs.worlds.Within.{IsBelow, IsTableWithin, IsWithin, MayHave, own_authority}
+use Rattle.rules.specs.Within.{IsBelowCeiling, IsTableWithin, IsWithinAuthority, MayHave, own_authority}
 
 -- It lives, it is of a marked program and in the mode, and nothing is found wrong with the program's authority.
 pub record Roams (plan : Plan) (certificate : Certificate) (w : World) (p : ℕ) (s : ProcessState) (choice : Choice) : Type 0 where
@@ -58,9 +58,9 @@ module _ (plan : Plan) (certificate : Certificate) (w : World) (p : ℕ) (s : Pr
   -- What comes into a table, besides what was there.
   abbrev pub Adds : TreeChange → TableChange → Type 0
   Adds tree Same_table = Unit {0}
-  Adds tree (Set_entry number d) = IsNamed w choice known.inv.classes d × IsWithin plan certificate w s.program d
+  Adds tree (Set_entry number d) = IsNamed w choice known.inv.classes d × IsWithinAuthority plan certificate w s.program d
   Adds tree (Clear_entry number) = Unit {0}
-  Adds tree (New_file number n access append rights fcntls) = IsBelow plan.grants (own_authority plan certificate s.program) (node (tree_after w.tree tree) n).place rights
+  Adds tree (New_file number n access append rights fcntls) = IsBelowCeiling plan.grants (own_authority plan certificate s.program) (node (tree_after w.tree tree) n).place rights
   Adds tree (New_pair first second class) = class ≡ Made_by s.program
   Adds tree New_process = Unit {0}
 
@@ -179,8 +179,8 @@ module _ (plan : Plan) (certificate : Certificate) (w : World) (p : ℕ) (s : Pr
       if_lost fault = fault_any Confines w p s e fails fault
 
     -- ## Entries
-    pub held_within : (n : ℕ) (d : Descriptor) → w.files.table p n ≡ Some d → IsWithin plan certificate w s.program d
-    held_within n d there = subst (IfHeld (IsWithin plan certificate w s.program)) there (table_within n)
+    pub held_within : (n : ℕ) (d : Descriptor) → w.files.table p n ≡ Some d → IsWithinAuthority plan certificate w s.program d
+    held_within n d there = subst (IfHeld (IsWithinAuthority plan certificate w s.program)) there (table_within n)
 
     pub held_named : (n : ℕ) (d : Descriptor) → w.files.table p n ≡ Some d → IsNamed w choice known.inv.classes d
     held_named n d there =

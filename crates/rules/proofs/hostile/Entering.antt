@@ -7,7 +7,8 @@ use Rattle.std.specs.Cmp.Derive.{both_true}
 use Rattle.rights.proofs.Tests.{both_left, both_right}
 use Rattle.process.specs.State.{ProcessState}
 use Rattle.instruction_set.specs.Programs.{Instruction, Set, Mov, Add, In, Jmp, Jeq, Jlt, Halt, Invoke, Open, Openat, Read, Write, Sendfd, Recvfd, Lseek, Ftruncate, Fsync, Fstat, Fcntl_getfl}
-use Rattle.instruction_set.specs.Programs.{Fcntl_setfl, Fstatat, Stat, Mkdirat, Mkdir, Unlinkat, Unlink, Renameat, Dup, Close, Cap_rights_limit, Cap_fcntls_limit, Cap_enter, Cap_getmode, Socketpair, Fork}
+use Rattle.instruction_set.specs.Programs.{Fcntl_setfl, Fstatat, Stat, Mkdirat, Mkdir, Unlinkat, Unlink, Renameat, Dup, Close, Cap_rights_limit, Cap_fcntls_limit}
+use Rattle.instruction_set.specs.Programs.{Cap_enter, Cap_getmode, Socketpair, Fork}
 use Rattle.fd_table.specs.Descriptions.{Descriptor, IfHeld}
 use Rattle.certificate.specs.Bounds.{Authority, Bound, Certificate, Closed, Maybe, Open as Open_slot, Slot, slot}
 use Rattle.certificate.specs.Describes.{Seen, slot_describes}
@@ -31,8 +32,8 @@ use Rattle.rules.proofs.hostile.Ceilings.{held_may}
 use Rattle.rules.proofs.hostile.Leaves.{Freely}
 use Rattle.rules.proofs.points.Marked.{AuthorityAsked}
 use Rattle.rules.proofs.worlds.Invariant.{Invariant, IsDescribed, IsLiving, LivesBy, is_free, bounds}
-use Rattle.rules.proofs.worlds.Seen.{seen_of, table_of}
-use Rattle.rules.proofs.worlds.Within.{IsTableWithin, IsWithin, own_authority}
+use Rattle.rules.specs.Seen.{seen_of, table_seen}
+use Rattle.rules.specs.Within.{IsTableWithin, IsWithinAuthority, own_authority}
 
 -- the one instruction that enters it
 pub entering : (i : Instruction) → enters_mode i ≡ true → (otherwise : ℕ) × (i ≡ Invoke Cap_enter otherwise)
@@ -84,15 +85,15 @@ module _ (plan : Plan) (certificate : Certificate) (w : World) (e : Event) (s : 
   within : IsTableWithin plan certificate w e.process s.program
   within n =
       let holds = grant_holds plan.grants in
-      let inside = described holds lives.bound s.mode s.registers (table_of plan w e.process) lives.is in
-      let few : (m : ℕ) → 16 ≤ m → table_of plan w e.process m ≡ None = λ m far. ap (option_map (seen_of plan w)) (inv.formed.world.numbers e.process m far) in
-      let P : ℕ → Type 0 = λ k. slot_describes holds (slot lives.bound.slots n) (table_of plan w e.process k) ≡ true in
+      let inside = described holds lives.bound s.mode s.registers (table_seen plan w e.process) lives.is in
+      let few : (m : ℕ) → 16 ≤ m → table_seen plan w e.process m ≡ None = λ m far. ap (option_map (seen_of plan w)) (inv.formed.world.numbers e.process m far) in
+      let P : ℕ → Type 0 = λ k. slot_describes holds (slot lives.bound.slots n) (table_seen plan w e.process k) ≡ true in
       let same : 0 + n ≡ n = omega arith in
-      let here : P n = subst P same (slot_at holds 0 lives.bound.slots (table_of plan w e.process) inside.slots few n) in
+      let here : P n = subst P same (slot_at holds 0 lives.bound.slots (table_seen plan w e.process) inside.slots few n) in
       entry (w.files.table e.process n) (slot lives.bound.slots n) (all_slots (own_authority plan certificate s.program) lives.bound.slots n may) here
     where
       entry : (o : Option Descriptor) (x : Slot) → may_have_slot (own_authority plan certificate s.program) x ≡ true
-          → slot_describes (grant_holds plan.grants) x (option_map (seen_of plan w) o) ≡ true → IfHeld (IsWithin plan certificate w s.program) o
+          → slot_describes (grant_holds plan.grants) x (option_map (seen_of plan w) o) ≡ true → IfHeld (IsWithinAuthority plan certificate w s.program) o
       entry None x allowed here = tt
       entry (Some d) Closed allowed here = absurd cc
       entry (Some d) (Open_slot h) allowed here = held_may plan certificate s.program asked h (seen_of plan w d) here allowed

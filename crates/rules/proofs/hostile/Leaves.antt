@@ -29,9 +29,9 @@ use Rattle.rules.proofs.frames.PairClasses.{BringsNamed, IsNamed, OfNew, classes
 use Rattle.rules.proofs.hostile.Calls.{answer_may}
 use Rattle.rules.proofs.hostile.Confining.{Adds, Confines, MayDo, Roams, Sends, SendsThere, free, table_within}
 use Rattle.rules.proofs.worlds.Invariant.{Carries, IfAlive, IsCarried, IsLiving, LivesBy, is_free, bounds}
-use Rattle.rules.proofs.worlds.Seen.{subject_of}
+use Rattle.rules.specs.Seen.{subject_of}
 use Rattle.rules.proofs.worlds.Walks.{IsWalkerIn, WalkIn, WalksIn, rests}
-use Rattle.rules.proofs.worlds.Within.{IsTableWithin, IsWithin, MayHave, own_authority}
+use Rattle.rules.specs.Within.{IsTableWithin, IsWithinAuthority, MayHave, own_authority}
 
 -- what it does is allowed, and it leaves what it must
 pub record Freely (plan : Plan) (certificate : Certificate) (w : World) (p : ℕ) (choice : Choice) (classes : ℕ → PairClass) (x : Executed) : Type 0 where
@@ -72,7 +72,7 @@ module _ (plan : Plan) (certificate : Certificate) (w : World) (e : Event) (s : 
 
     -- what comes into the table is of what its program may have
     of_new : (tree : TreeChange) (table : TableChange) → Adds plan certificate w e.process s choice known tree table
-        → ((d : Descriptor) → IsNamed w choice known.inv.classes d → IsWithin plan certificate w s.program d
+        → ((d : Descriptor) → IsNamed w choice known.inv.classes d → IsWithinAuthority plan certificate w s.program d
         → MayHave plan.grants (own_authority plan certificate s.program) (program_name plan s.program)
         (subject_of plan (tree_after w.tree tree) (objects_after w.files.objects choice table d.description)) d.rights)
         → OfNew (λ d. MayHave plan.grants (own_authority plan certificate s.program) (program_name plan s.program)
@@ -98,36 +98,36 @@ module _ (plan : Plan) (certificate : Certificate) (w : World) (e : Event) (s : 
     named_of tree (New_pair first second class) adds = tt
     named_of tree New_process adds = tt
 
-    later_within : (d : Descriptor) → IsNamed w choice known.inv.classes d → IsWithin plan certificate w s.program d → IsWithin plan certificate v s.program d
+    later_within : (d : Descriptor) → IsNamed w choice known.inv.classes d → IsWithinAuthority plan certificate w s.program d → IsWithinAuthority plan certificate v s.program d
     later_within d named is =
         within_stays plan w v choice change.queue e.process frame certificate s.program d
         (object_stays plan w v choice change.queue e.process frame d.description named.apart) is
 
-    old_row : (n : ℕ) → IfHeld (IsWithin plan certificate v s.program) (w.files.table e.process n)
+    old_row : (n : ℕ) → IfHeld (IsWithinAuthority plan certificate v s.program) (w.files.table e.process n)
     old_row n = row_within plan w v choice change.queue e.process frame certificate s.program e.process (table_within plan certificate w e.process s choice known) n
 
     not_new : e.process ≢ length w.processes
     not_new same = let below : e.process < length w.processes = get_below w.processes e.process s known.acts.made in absurd (omega (arith, same, below))
 
     -- its row, and a child's
-    new_row : (n : ℕ) → IfHeld (IsWithin plan certificate v s.program) (row_after (w.files.table e.process) choice change.table n)
+    new_row : (n : ℕ) → IfHeld (IsWithinAuthority plan certificate v s.program) (row_after (w.files.table e.process) choice change.table n)
     unfolding changed files_after
     new_row n =
-        subst (λ row. IfHeld (IsWithin plan certificate (changed w e.process t choice change) s.program) (row n))
+        subst (λ row. IfHeld (IsWithinAuthority plan certificate (changed w e.process t choice change) s.program) (row n))
         (own_row (λ q. w.files.table e.process) e.process (length w.processes) choice change.table not_new)
-        (each_entry (IsWithin plan certificate (changed w e.process t choice change) s.program) (λ q. w.files.table e.process) e.process (length w.processes) choice change.table
+        (each_entry (IsWithinAuthority plan certificate (changed w e.process t choice change) s.program) (λ q. w.files.table e.process) e.process (length w.processes) choice change.table
         (of_new change.tree change.table done.adds later_within) (λ q m. old_row m) e.process n)
 
     own_table : IsTableWithin plan certificate v e.process s.program
     unfolding changed files_after
     own_table n =
-        subst (λ row. IfHeld (IsWithin plan certificate (changed w e.process t choice change) s.program) (row n))
+        subst (λ row. IfHeld (IsWithinAuthority plan certificate (changed w e.process t choice change) s.program) (row n))
         (sym (own_row w.files.table e.process (length w.processes) choice change.table not_new)) (new_row n)
 
     child_table : change.table ≡ New_process → IsTableWithin plan certificate v (length w.processes) s.program
     unfolding changed files_after
     child_table forks n =
-        subst (λ row. IfHeld (IsWithin plan certificate (changed w e.process t choice change) s.program) (row n))
+        subst (λ row. IfHeld (IsWithinAuthority plan certificate (changed w e.process t choice change) s.program) (row n))
         (sym (ap (λ c. table_after w.files.table e.process (length w.processes) choice c (length w.processes)) forks
         ∙ child_row w.files.table e.process (length w.processes) choice)) (old_row n)
 

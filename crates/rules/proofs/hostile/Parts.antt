@@ -24,7 +24,7 @@ use Rattle.kernel.specs.World.{World, Choice}
 use Rattle.certificate.specs.Describes.{End_of, Node_at, Own_end, Subject}
 use Rattle.kernel.specs.Answers.{Answer, Event, Gives, Set_entry, same, value_of}
 use Rattle.kernel.specs.Calls.{answer, last_if, made_directory, opened, opened_as, own_class, pair_at, read_byte, read_end, receive_end, received, renamed_free}
-use Rattle.kernel.specs.Calls.{renamed_from, renamed_over, renamed_to}
+use Rattle.kernel.specs.Calls.{existing, renamed_over, renamed_to}
 use Rattle.kernel.specs.Calls.{sent_end, stats_at, truncated, truncates, unlinks, unlinks_as}
 use Rattle.kernel.specs.Walks.{lookups_of, under_way}
 use Rattle.task.specs.Plans.{Plan, program_name, programs_of_plan}
@@ -44,8 +44,8 @@ use Rattle.rules.proofs.hostile.Confining.{Confines, MayDo, Roams, SendsThere, b
 use Rattle.rules.proofs.hostile.Confining.{if_blocked, if_directory, if_file, if_held, if_lost, if_number, if_passed, if_so, if_socket, if_through, if_unrefused, never_outside, tree, walks, within}
 use Rattle.rules.proofs.points.Known.{OneGrant}
 use Rattle.rules.proofs.worlds.Invariant.{Carries, bounds}
-use Rattle.rules.proofs.worlds.Seen.{seen_of, subject_of}
-use Rattle.rules.proofs.worlds.Within.{IsBelow, IsWithin, MayHave, own_authority}
+use Rattle.rules.specs.Seen.{seen_of, subject_of}
+use Rattle.rules.specs.Within.{IsBelowCeiling, IsWithinAuthority, MayHave, own_authority}
 
 -- ## Rights that an open needs
 creates_needs : (read write append create trunc : Bool) → create ≡ true → is_within create_right (openat_needs (open_request read write append create trunc)) ≡ true
@@ -117,8 +117,8 @@ empties_needs false false false false true is = refl
 empties_needs false false false false false is = absurd cc
 
 -- with fewer rights, and of a program of the same name
-pub fewer_may : (plan : Plan) (certificate : Certificate) (w : World) (program : ℕ) (d : Descriptor) (rights : ℕ) → is_within rights d.rights ≡ true → IsWithin plan certificate w program d
-    → IsWithin plan certificate w program (record d { rights = rights })
+pub fewer_may : (plan : Plan) (certificate : Certificate) (w : World) (program : ℕ) (d : Descriptor) (rights : ℕ) → is_within rights d.rights ≡ true → IsWithinAuthority plan certificate w program d
+    → IsWithinAuthority plan certificate w program (record d { rights = rights })
 fewer_may plan certificate w program d rights less is = go (subject_of plan w.tree (w.files.objects d.description)) is
   where
     go : (x : Subject) → MayHave plan.grants (own_authority plan certificate program) (program_name plan program) x d.rights
@@ -127,14 +127,14 @@ fewer_may plan certificate w program d rights less is = go (subject_of plan w.tr
     go (End_of class side) is = is
     go (Own_end of side) is = is
 
-same_name_may : (plan : Plan) (certificate : Certificate) (w : World) (one other : ℕ) (d : Descriptor) → program_name plan one ≡ program_name plan other → IsWithin plan certificate w one d
-    → IsWithin plan certificate w other d
+same_name_may : (plan : Plan) (certificate : Certificate) (w : World) (one other : ℕ) (d : Descriptor) → program_name plan one ≡ program_name plan other → IsWithinAuthority plan certificate w one d
+    → IsWithinAuthority plan certificate w other d
 same_name_may plan certificate w one other d same is =
     subst (λ n. MayHave plan.grants (authority_at certificate n) n (subject_of plan w.tree (w.files.objects d.description)) d.rights) same is
 
 -- at a place in each grant that holds the first
-pub below_at : (plan : Plan) (certificate : Certificate) (program : ℕ) (from place : List (List ℕ)) (rights : ℕ) → IsBelow plan.grants (own_authority plan certificate program) from rights
-    → ((name : List ℕ) → grant_holds plan.grants name from ≡ true → grant_holds plan.grants name place ≡ true) → IsBelow plan.grants (own_authority plan certificate program) place rights
+pub below_at : (plan : Plan) (certificate : Certificate) (program : ℕ) (from place : List (List ℕ)) (rights : ℕ) → IsBelowCeiling plan.grants (own_authority plan certificate program) from rights
+    → ((name : List ℕ) → grant_holds plan.grants name from ≡ true → grant_holds plan.grants name place ≡ true) → IsBelowCeiling plan.grants (own_authority plan certificate program) place rights
 below_at plan certificate program from place rights is beneath = record { name = is.name; holds = beneath is.name is.holds; below = is.below }
 
 module _ (plan : Plan) (certificate : Certificate) (w : World) (e : Event) (s : ProcessState) (choice : Choice) (known : Roams plan certificate w e.process s choice) where
@@ -146,7 +146,7 @@ module _ (plan : Plan) (certificate : Certificate) (w : World) (e : Event) (s : 
 
   -- what a right of a descriptor lets do, at its place or beneath it
   pub may : (right : ℕ) (operation : Operation) → Among (right, operation) operations_of_rights → is_within right 0 ≡ false → (from place : List (List ℕ)) (rights : ℕ)
-      → IsBelow plan.grants (own_authority plan certificate s.program) from rights → is_within right rights ≡ true
+      → IsBelowCeiling plan.grants (own_authority plan certificate s.program) from rights → is_within right rights ≡ true
       → ((name : List ℕ) → grant_holds plan.grants name from ≡ true → grant_holds plan.grants name place ≡ true) → Allowed plan.grants operation place
   may = may_do plan certificate s.program known.asked
 
@@ -155,7 +155,7 @@ module _ (plan : Plan) (certificate : Certificate) (w : World) (e : Event) (s : 
     May a = Confines plan certificate w e.process s choice known call here a
 
     -- ## Opening
-    module _ (f : OpenRequest) (d : Descriptor) (from : List (List ℕ)) (below : IsBelow plan.grants (own_authority plan certificate s.program) from d.rights)
+    module _ (f : OpenRequest) (d : Descriptor) (from : List (List ℕ)) (below : IsBelowCeiling plan.grants (own_authority plan certificate s.program) from d.rights)
         (has : is_within (openat_needs f) d.rights ≡ true) where
       may_create : f.create ≡ true → (place : List (List ℕ)) → IsBeside plan.grants from place → Allowed plan.grants Creates place
       may_create creates place beside =
@@ -186,7 +186,7 @@ module _ (plan : Plan) (certificate : Certificate) (w : World) (e : Event) (s : 
             allowed = may_empty f.trunc refl (node w.tree n).place beside;
             deep = deep_truncated plan w.tree f.trunc n;
             adds =
-                subst (λ q. IsBelow plan.grants (own_authority plan certificate s.program) q d.rights) (sym (truncated_place w.tree f.trunc n there))
+                subst (λ q. IsBelowCeiling plan.grants (own_authority plan certificate s.program) q d.rights) (sym (truncated_place w.tree f.trunc n there))
                 (below_at plan certificate s.program from (node w.tree n).place d.rights below beside);
             sends = tt;
           })))
@@ -205,7 +205,7 @@ module _ (plan : Plan) (certificate : Certificate) (w : World) (e : Event) (s : 
             allowed = (may_create reached.0 place reached.1, tt);
             deep = tt;
             adds =
-                subst (λ (m : Node). IsBelow plan.grants (own_authority plan certificate s.program) m.place d.rights) (sym (last_node w.tree made))
+                subst (λ (m : Node). IsBelowCeiling plan.grants (own_authority plan certificate s.program) m.place d.rights) (sym (last_node w.tree made))
                 (below_at plan certificate s.program from place d.rights below reached.1);
             sends = tt;
           }))))
@@ -237,7 +237,7 @@ module _ (plan : Plan) (certificate : Certificate) (w : World) (e : Event) (s : 
         (if_blocked plan certificate w e.process s choice known call here e (w.files.states d.description).nonblock))
 
     -- what it sends is what the pair's other side may be sent
-    carries_sent : (n : ℕ) (d passed : Descriptor) → w.files.table e.process n ≡ Some d → IsWithin plan certificate w s.program passed
+    carries_sent : (n : ℕ) (d passed : Descriptor) → w.files.table e.process n ≡ Some d → IsWithinAuthority plan certificate w s.program passed
         → is_within passed.rights all_rights ≡ true → is_within passed.fcntls all_commands ≡ true
         → (pair side : ℕ) (class : PairClass) → w.files.objects d.description ≡ At_end pair side class → Carries plan certificate w class side passed
     carries_sent n d passed there within_it rights fcntls pair side (Initial i) is =
@@ -264,7 +264,7 @@ module _ (plan : Plan) (certificate : Certificate) (w : World) (e : Event) (s : 
 
     -- what comes to it its program may have
     comes_within : (n : ℕ) (d c : Descriptor) → w.files.table e.process n ≡ Some d → (pair side : ℕ) (class : PairClass) → w.files.objects d.description ≡ At_end pair side class
-        → Carries plan certificate w class (other_side side) c → IsWithin plan certificate w s.program c
+        → Carries plan certificate w class (other_side side) c → IsWithinAuthority plan certificate w s.program c
     comes_within n d c there pair side (Initial i) is carried =
         may_receive plan certificate s.program known.asked (classes.Initial i) side
         (held_of plan certificate w e.process s choice known call here n d there (At_end pair side (Initial i)) is) (seen_of plan w c) carried
@@ -297,7 +297,7 @@ module _ (plan : Plan) (certificate : Certificate) (w : World) (e : Event) (s : 
         receives_front n number d there pair side class is m.passed (front_carried plan certificate w e.process s choice known.acts known.inv pair (other_side side) m messages waiting)
 
     -- a number gets a descriptor that it may have
-    pub sets : (value number : ℕ) (d : Descriptor) → IsNamed w choice known.inv.classes d → IsWithin plan certificate w s.program d
+    pub sets : (value number : ℕ) (d : Descriptor) → IsNamed w choice known.inv.classes d → IsWithinAuthority plan certificate w s.program d
         → May (Gives value (record same { table = Set_entry number d }) [])
     sets value number d named is =
         does plan certificate w e.process s choice known call here _ _ _ (record { allowed = tt; deep = tt; adds = (named, is); sends = tt })

@@ -20,7 +20,7 @@ use Rattle.rules.proofs.points.Asked.{AreKept, none_broken}
 use Rattle.rules.proofs.points.AskedCalls.{if_passes}
 use Rattle.rules.proofs.frames.KeptTrees.{both_or_none}
 use Rattle.rules.proofs.worlds.Invariant.{marks}
-use Rattle.rules.proofs.worlds.Within.{own_authority}
+use Rattle.rules.specs.Within.{own_authority}
 
 -- ## Marks by number and by name
 -- an element that passes the test, and one that is found by it

@@ -36,9 +36,9 @@ use Rattle.rules.specs.Authority.{ceiling_in, is_below_ceiling, may_start_on, ma
 use Rattle.rules.specs.Verdicts.{MeetsRules, found_with, found_at}
 use Rattle.rules.proofs.Members.{Among, each_of}
 use Rattle.rules.proofs.points.Marked.{FirstAsked, any_at, any_found, first_asked, marked_by_name}
-use Rattle.rules.proofs.worlds.Seen.{subject_of, seen_of, table_of}
+use Rattle.rules.specs.Seen.{subject_of, seen_of, table_seen}
 use Rattle.rules.proofs.worlds.Walks.{rests}
-use Rattle.rules.proofs.worlds.Within.{IsTableWithin, IsWithin, MayHave, own_authority}
+use Rattle.rules.specs.Within.{IsTableWithin, IsWithinAuthority, MayHave, own_authority}
 use Rattle.rules.proofs.worlds.Invariant.{IfAlive, IsLiving, IsOfClass, HasClass, IsCarried, Invariant, IsDescribed, LivesBy, is_free, marks, bounds}
 
 -- ## What the rules say at point 0
@@ -121,7 +121,7 @@ module _ (plan : Plan) (certificate : Certificate) (valid : is_plan plan ≡ tru
 
   -- ## A first process
   module _ (p : ℕ) (st : Start) (here : slice_get plan.starts p ≡ Some st) where
-    first_is : (m : ℕ) → first_table plan.nodes st m ≡ table_of plan (first_world plan) p m
+    first_is : (m : ℕ) → first_table plan.nodes st m ≡ table_seen plan (first_world plan) p m
     first_is m =
         let is = first_is_first plan valid in
         entry_seen plan (first_world plan) is.tree (with_number m st.descriptors) ((first_world plan).files.table p m)
@@ -142,7 +142,7 @@ module _ (plan : Plan) (certificate : Certificate) (valid : is_plan plan ≡ tru
           own false is h = absurd cc
 
       first_described : (b : Bound) → start_within plan b st ≡ true
-          → describes (grant_holds plan.grants) b st.mode (replicate register_count 0) (table_of plan (first_world plan) p) ≡ true
+          → describes (grant_holds plan.grants) b st.mode (replicate register_count 0) (table_seen plan (first_world plan) p) ≡ true
       first_described b within =
           subst (λ (table : ℕ → Option Seen). describes (grant_holds plan.grants) b st.mode (replicate register_count 0) table ≡ true) (λ i m. first_is m i) within
 
@@ -190,7 +190,7 @@ module _ (plan : Plan) (certificate : Certificate) (valid : is_plan plan ≡ tru
           (subst (λ o. IsFirstEntry (first_world plan).files (given_to o n) ((first_world plan).files.table p n)) here (is.entries p n))
         where
           entry : (given : Option FirstDescriptor) → with_number n st.descriptors ≡ given → (o : Option Descriptor) → IsFirstEntry (first_world plan).files given o
-              → IfHeld (IsWithin plan certificate (first_world plan) st.program) o
+              → IfHeld (IsWithinAuthority plan certificate (first_world plan) st.program) o
           entry None at None is = tt
           entry None at (Some d) is = absurd is
           entry (Some given) at None is = absurd is
@@ -245,7 +245,7 @@ module _ (plan : Plan) (certificate : Certificate) (valid : is_plan plan ≡ tru
 
   pub first_invariant : Invariant plan (bounds plan certificate) (first_world plan)
   first_invariant =
-      let formed : IsWellFormed (programs_of_plan plan) (first_world plan) = (first_well_formed plan valid).1 in
+      let formed : IsWellFormed (programs_of_plan plan) (first_world plan) = (first_well_formed plan valid).1.formed in
       let is : IsFirstWorld plan (first_world plan) = first_is_first plan valid in
       record {
         formed = formed;

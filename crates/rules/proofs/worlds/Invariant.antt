@@ -15,8 +15,8 @@ use Rattle.kernel.proofs.Marks.{AreMarkedAs}
 use Rattle.task.specs.Plans.{Grant, Plan, marked_in, program_name, programs_of_plan}
 use Rattle.task.specs.Policies.{grant_holds}
 use Rattle.rules.specs.Channels.{channel_at}
-use Rattle.rules.proofs.worlds.Seen.{seen_of, table_of}
-use Rattle.rules.proofs.worlds.Within.{IsTableWithin, IsWithin}
+use Rattle.rules.specs.Seen.{seen_of, table_seen}
+use Rattle.rules.specs.Within.{IsTableWithin, IsWithinAuthority}
 use Rattle.rules.proofs.worlds.Walks.{IsWalkerIn}
 
 -- What is asked of each living process, by its number, and of each descriptor that one side of a pair of a class has
@@ -70,7 +70,7 @@ pub record Invariant (plan : Plan) (asks : Asks) (w : World) : Type 0 where
 pub record IsDescribed (plan : Plan) (certificate : Certificate) (w : World) (p : ℕ) (s : ProcessState) : Type 0 where
   pub bound : Bound
   pub at : bound_at certificate (program_name plan s.program) s.point ≡ Some bound
-  pub is : describes (grant_holds plan.grants) bound s.mode s.registers (table_of plan w p) ≡ true
+  pub is : describes (grant_holds plan.grants) bound s.mode s.registers (table_seen plan w p) ≡ true
 
 -- One of a marked program that is in the mode doesn't follow it: what it holds is within the program's authority.
 abbrev pub is_free : ProcessState → Bool
@@ -93,7 +93,7 @@ IsInLine plan certificate w class side d =
 abbrev pub Carries : Plan → Certificate → World → PairClass → ℕ → Descriptor → Type 0
 Carries plan certificate w (Initial pair) side d = IsInLine plan certificate w (classes.Initial pair) side d
 Carries plan certificate w (Made_at program point) side d = IsInLine plan certificate w (classes.Made_at (program_name plan program) point) side d
-Carries plan certificate w (Made_by program) side d = IsWithin plan certificate w program d
+Carries plan certificate w (Made_by program) side d = IsWithinAuthority plan certificate w program d
 
 abbrev pub bounds : Plan → Certificate → Asks
 bounds plan certificate = record { Lives = λ w p s. LivesBy plan certificate (is_free s) w p s; Carries = Carries plan certificate }

@@ -1,4 +1,4 @@
-use Rattle.kernel.proofs.Keeping.{next_world}
+use Rattle.kernel.proofs.Begun.{next_world}
 use Rattle.kernel.proofs.laws.a_next_world_exists.Goals as goal
 
 pub returns : goal.returns

@@ -3,7 +3,7 @@ use Rattle.lookup.specs.Answers.{Beneath, Keep}
 use Rattle.lookup.specs.UnderWay.{IsUnderWay}
 use Rattle.lookup.proofs.UnderWay.{under_way_in_tree}
 use Rattle.process.specs.Views.{walking_in}
-use Rattle.kernel.specs.Calls.{looks_twice, renamed_from, walked_both}
+use Rattle.kernel.specs.Calls.{looks_twice, existing, walked_both}
 use Rattle.syscalls.specs.Views.{world_with}
 use Rattle.syscalls.proofs.Walked.{both_first, looks_none, looks_one, looks_two, renames_as, two_are}
 use Rattle.syscalls.proofs.lookups.look_up_both.Goals as goal
@@ -13,7 +13,7 @@ returns-in-None-clause-leads g c = λ s same f processes p e.
     let w = world_with (g.T.Tree.nodes c.args.tree.now) f processes in
     let is : s.walk ≡ None = same ∙ ap walking_in c.in-None.is in
     renames_as (λ rest. looks_twice w p s e c.args.start c.args.path.now c.args.target c.args.new_path.now rest)
-    (both_first w p s e c.args.start c.args.path.now c.args.target c.args.new_path.now) (renamed_from w p s e) c.step_both_first.result
+    (both_first w p s e c.args.start c.args.path.now c.args.target c.args.new_path.now) existing c.step_both_first.result
     (λ rest. looks_none w p s e c.args.start c.args.path.now c.args.target c.args.new_path.now rest is) (c.step_both_first.ensures.leads s f processes p e)
 
 pub returns-in-One-clause-leads : goal.returns-in-One-clause-leads
@@ -21,7 +21,7 @@ returns-in-One-clause-leads g c = λ s same f processes p e.
     let w = world_with (g.T.Tree.nodes c.args.tree.now) f processes in
     let is = same ∙ ap walking_in (c.in-Some.is ∙ ap Some c.in-One.is) in
     renames_as (λ rest. looks_twice w p s e c.args.start c.args.path.now c.args.target c.args.new_path.now rest)
-    (both_first w p s e c.args.start c.args.path.now c.args.target c.args.new_path.now) (renamed_from w p s e) c.step_both_first-in-One.result
+    (both_first w p s e c.args.start c.args.path.now c.args.target c.args.new_path.now) existing c.step_both_first-in-One.result
     (λ rest. looks_one w p s e c.args.start c.args.path.now c.args.target c.args.new_path.now rest c.in-One.field-0 is) (c.step_both_first-in-One.ensures.leads s f processes p e)
 
 pub step_both-requires-clause-one : goal.step_both-requires-clause-one
@@ -43,7 +43,7 @@ returns-clause-leads g c = λ s same f processes p e.
     let w = world_with (g.T.Tree.nodes c.args.tree.now) f processes in
     let is = same ∙ ap walking_in (c.in-Some.is ∙ ap Some c.in-Two.is) in
     renames_as (λ rest. looks_twice w p s e c.args.start c.args.path.now c.args.target c.args.new_path.now rest)
-    (λ rest. walked_both w p s e rest c.in-Two.one c.in-Two.other) (renamed_from w p s e) c.step_both.result
+    (λ rest. walked_both w p s e rest c.in-Two.one c.in-Two.other) existing c.step_both.result
     (λ rest. looks_two w p s e c.args.start c.args.path.now c.args.target c.args.new_path.now rest c.in-Two.one c.in-Two.other is) (c.step_both.ensures.leads s f processes p e)
 
 pub returns-clause-found : goal.returns-clause-found

@@ -5,7 +5,7 @@ use Rattle.lookup.specs.UnderWay.{IsUnderWay}
 use Rattle.lookup.specs.Views.{fault_of}
 use Rattle.lookup.specs.Walks.{begun}
 use Rattle.lookup.proofs.UnderWay.{begun_under_way}
-use Rattle.kernel.specs.Calls.{renamed_from, or_fails, walked_both}
+use Rattle.kernel.specs.Calls.{existing, or_fails, walked_both}
 use Rattle.syscalls.specs.AnswerViews.{Refuses}
 use Rattle.syscalls.specs.Views.{world_with}
 use Rattle.syscalls.proofs.Walked.{renames_as, told_lost}
@@ -32,7 +32,7 @@ returns-clause-leads g c = λ s f processes p e.
     let other = begun c.args.target c.args.new_path.now Beneath Keep in
     renames_as (λ rest. or_fails (lookup_fault t c.args.start c.args.path.now Beneath Keep)
     (or_fails (lookup_fault t c.args.target c.args.new_path.now Beneath Keep) (walked_both w p s e rest one other)))
-    (λ rest. walked_both w p s e rest c.in-Ok.walk c.in-Ok-begin.walk) (renamed_from w p s e) c.step_both.result
+    (λ rest. walked_both w p s e rest c.in-Ok.walk c.in-Ok-begin.walk) existing c.step_both.result
     (λ rest. ap (λ fault. or_fails fault (or_fails (lookup_fault t c.args.target c.args.new_path.now Beneath Keep) (walked_both w p s e rest one other))) c.in-Ok.ensures.allowed
     ∙ ap (λ fault. or_fails fault (walked_both w p s e rest one other)) c.in-Ok-begin.ensures.allowed
     ∙ ap (λ first. walked_both w p s e rest first other) (sym c.in-Ok.ensures.begun)

@@ -4,6 +4,7 @@ use Rattle.fd_table.specs.Kept.{open_files}
 use Rattle.lookup.specs.Answers.{Beneath, Last}
 use Rattle.lookup.specs.Views.{found_of}
 use Rattle.lookup.specs.Walks.{first_handled, handled}
+use Rattle.process.specs.State.{One}
 use Rattle.process.specs.Views.{walking_in}
 use Rattle.kernel.specs.Calls.{answer, last_if, looks, opened, resumed_one, walked}
 use Rattle.syscalls.specs.AnswerViews.{Finds, Meets, Refuses, state_with}
@@ -58,5 +59,5 @@ returns-in-Ok-look_up g c = λ processes e same.
     let after = Meets w p (g.T.Tree.nodes c.open_found.new.tree) (open_files c.open_found.new.files) c.open_found.result in
     subst after
     (sym (c.in-Ok.ensures.passes _ ∙ c.in-Ok-directory_of.ensures.passes processes p s e _
-    ∙ ap (walked (opened w p s e c.args.flags how.rights.0 how.fcntls.0 path)) (ap event (sym c.last_if-last.ensures) ∙ c.in-Ok-look_up.ensures.finds)))
+    ∙ ap (walked One (opened w p s e c.args.flags how.rights.0 how.fcntls.0 path)) (ap event (sym c.last_if-last.ensures) ∙ c.in-Ok-look_up.ensures.finds)))
     (subst (λ f. after (opened w p s e f how.rights.0 how.fcntls.0 path found)) c.in-Ok.ensures.flags (c.open_found.ensures processes e same))
