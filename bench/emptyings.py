@@ -75,12 +75,12 @@ ORIGINS = "kernel/specs/Origins.antt", [
 ]
 
 GAINS = "kernel/specs/Gains.antt", [
-    ("StaysIn.still, a process that vanishes", "(t : ProcessState) × (after ≡ Some t) ×", "(t : ProcessState) × (after ≡ after) ×", INSTANCES),
+    ("StaysIn.still, a process that vanishes", "(t : ProcessState) × (after ≡ Some t) ×", "(t : ProcessState) × (after ≡ after) ×", "still_in"),
     ("StaysIn.still, the mode", "(after ≡ Some t) × (s.mode ≡ true → t.mode ≡ true)", "(after ≡ Some t) × (s.mode ≡ true → true ≡ true)",
-        INSTANCES),
-    ("StaysIn.new, a process from nowhere", "(s : ProcessState) × (caller ≡ Some s) ×", "(s : ProcessState) × (caller ≡ caller) ×", INSTANCES),
+        "still_in"),
+    ("StaysIn.new, a process from nowhere", "(s : ProcessState) × (caller ≡ Some s) ×", "(s : ProcessState) × (caller ≡ caller) ×", "made_in"),
     ("StaysIn.new, a child", "(caller ≡ Some s) × (s.mode ≡ true → t.mode ≡ true)", "(caller ≡ Some s) × (s.mode ≡ true → true ≡ true)",
-        INSTANCES),
+        "made_in"),
     ("GainsNothing.modes", "StaysIn (slice_get w.processes p) (slice_get w.processes q) (slice_get next.processes q)", "q ≡ q",
         INSTANCES),
     ("GainsNothing.entries", "IfHeld (ComesFrom w caller q n) (next.files.table q n)", "n ≡ n", INSTANCES),

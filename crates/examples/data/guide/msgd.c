@@ -23,7 +23,10 @@ static void pass(int sock, int *fd, int sends) {
 	*c = (struct cmsghdr){ .cmsg_len = CMSG_LEN(sizeof(int)), .cmsg_level = SOL_SOCKET, .cmsg_type = SCM_RIGHTS };
 	if (sends) memcpy(CMSG_DATA(c), fd, sizeof(int));
 	if ((sends ? sendmsg(sock, &m, 0) : recvmsg(sock, &m, 0)) != 1) err(1, "pass");
-	if (!sends) memcpy(fd, CMSG_DATA(c), sizeof(int));
+	if (sends) return;
+	if (m.msg_controllen < CMSG_LEN(sizeof(int)) || c->cmsg_type != SCM_RIGHTS || c->cmsg_len != CMSG_LEN(sizeof(int)))
+		errx(1, "no descriptor came");
+	memcpy(fd, CMSG_DATA(c), sizeof(int));
 }
 
 static void worker(int sock, int log) {
@@ -53,6 +56,7 @@ int main(void) {
 	int pair[2], msgs, logs, log, request;
 	char byte;
 	if ((logs = open("/var/log", O_RDONLY | O_DIRECTORY)) < 0) err(1, "/var/log");
+	limit(logs, cap_rights_init(&r, CAP_LOOKUP, CAP_WRITE));
 	if ((log = openat(logs, "msgd", O_WRONLY | O_APPEND)) < 0) err(1, "/var/log/msgd");
 	close(logs);
 	if ((msgs = open("/var/msgs", O_RDONLY | O_DIRECTORY)) < 0) err(1, "/var/msgs");
