@@ -280,7 +280,8 @@ LATER_EVENTS = "kernel/specs/LaterEvents.antt", [
     ("LacksRemoval, that it lacks it", "(is_within (needs_of (called (Renameat x from y to)) no_request Second true) d.rights ≡ false)", "(d ≡ d)",
         "removal_is_there"),
     ("AskAgain, the event", "AsksAgain programs w e\n    ×", "(e ≡ e)\n    ×", "closed_after_a_deed"),
-    ("AskAgain, the events behind", "→ AskAgain programs (step_as programs w e act choice).world events)", "→ Unit {0})", "closed_after_a_deed"),
+    ("AskAgain, the events behind", "→ AskAgain programs (step_as programs w e act choice).world events)",
+        "→ (e ≡ e) × Unit {0})", "closed_after_a_deed"),
 ]
 
 WITHIN = "rules/specs/Within.antt", [
