@@ -1,11 +1,10 @@
 -- What keeps several rules at once breaks none of them.
-use Rattle.std.proofs.Common.{◌≡◌, Bool, true, false, List, [], ◌∷◌, None, refl}
+use Rattle.std.proofs.Common.{◌≡◌, ℕ, Bool, true, false, List, [], ◌∷◌, None, refl}
 use Rattle.std.specs.Prelude.{not, ◌&&◌, ◌||◌}
 use Rattle.std.specs.List.{list_all}
-use Rattle.certificate.specs.Bounds.{Certificate}
-use Rattle.certificate.specs.Views.{bound_of}
+use Rattle.certificate.specs.Bounds.{Bound, Certificate}
 use Rattle.certificate.proofs.Growing.{and_left, and_right, both_true}
-use Rattle.instruction_set.specs.Programs.{Syscall}
+use Rattle.instruction_set.specs.Programs.{Syscall, Invoke}
 use Rattle.task.specs.Plans.{Plan}
 use Rattle.rules.specs.Channels.{all_have_channels, keeps_channel_bound}
 use Rattle.rules.specs.Demands.{demands, keeps_beneath, keeps_numbers, keeps_single}
@@ -13,8 +12,7 @@ use Rattle.rules.specs.Rules.{keeps_commands, keeps_limit, keeps_policy, keeps_r
 use Rattle.rules.specs.Slots.{may_be_on}
 use Rattle.rules.specs.Uses.{Use, uses}
 use Rattle.checker.specs.KeptUses.{keeps_all, keeps_call_rules}
-use Rattle.checker.specs.SiteViews.{call_tests, expansion_at}
-use Rattle.transfer.specs.declared.successes.Site.{Site}
+use Rattle.checker.specs.SiteViews.{tests_of_call}
 
 pub all_both : {A : Type 0} (p q : A → Bool) (us : List A) → list_all (λ u. p u && q u) us ≡ true → (list_all p us ≡ true) × (list_all q us ≡ true)
 all_both p q [] all = (refl, refl)
@@ -79,13 +77,10 @@ module _ (plan : Plan) (c : Certificate) (on : Bool) where
         channel = at_14.1;
       }
 
-pub none_broken : (s : Site) (call : Syscall) → keeps_call_rules s.task.now (expansion_at s) (bound_of s.bound.now) call ≡ true
-    → least_broken (call_tests s call) ≡ None
+pub none_broken : (plan : Plan) (c : Certificate) (point : ℕ) (b : Bound) (call : Syscall) (otherwise : ℕ) → keeps_call_rules plan c b call ≡ true
+    → least_broken (tests_of_call plan c point b (Invoke call otherwise)) ≡ None
 unfolding tests
-none_broken s call all =
-    let plan = s.task.now in
-    let c = expansion_at s in
-    let b = bound_of s.bound.now in
+none_broken plan c point b call otherwise all =
     let us = uses b call in
     let on = may_be_on b.mode in
     let to_numbers = keeps_single b call && keeps_numbers b call in

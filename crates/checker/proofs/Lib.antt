@@ -5,6 +5,7 @@ pub mod Named
 pub mod Standing
 pub mod KnownLimits
 pub mod Along
-pub mod Marked
+pub mod Asking
+pub mod OneByOne
 pub mod Apart
 pub mod FindingLaws

@@ -2,6 +2,7 @@
 
 ghost use Rattle.std.specs.Prelude.{◌≡◌, ◌==◌, ◌&&◌, ◌||◌, [], MatchOption, not, map};
 ghost use Rattle.std.specs.List.{list_all, list_any};
+ghost use Rattle.certificate.specs.Growth.{IsCertificate};
 ghost use Rattle.certificate.specs.Order.{same_class};
 ghost use Rattle.certificate.specs.Views.{authorities_of, authority_of, ceiling_of, class_of, held_end_of, held_of, name_of, side_of, slot_of, target_of};
 ghost use Rattle.checker.specs.AllowanceViews.{allowance_of};
@@ -50,9 +51,10 @@ fn authority_among<'a>(authorities: &'a [Authority], program: &[u8]) -> Option<&
     }
 }
 
-/// What a program may hold by a certificate; nothing where it has no authority. (own)
+/// What a program may hold by a certificate; nothing where it has no authority. Who asks learns that it is a certificate. (own)
 pub fn allowance_at<'a>(cert: &'a Cert, program: &Name) -> Allowance<'a>
-    ensures { allowance_of result ≡ authority_at cert.now (name_of program.now) }
+    ensures allowance { allowance_of result ≡ authority_at cert.now (name_of program.now) }
+    ensures valid { IsCertificate cert.now }
 {
     match authority_among(cert.authorities(), program.as_bytes()) {
         None => Allowance {
@@ -128,8 +130,8 @@ pub fn may_hold_all(allowance: &Allowance<'_>, held: &Held) -> bool
     may_hold(allowance, &held.target(), held.rights().greatest())
 }
 
-/// Whether a slot's descriptor is, if it may be open.
-fn may_have_slot(allowance: &Allowance<'_>, slot: &Slot) -> bool
+/// Whether a slot's descriptor is, if it may be open. (own)
+pub fn may_have_slot(allowance: &Allowance<'_>, slot: &Slot) -> bool
     ensures { result ≡ may_have_slot (allowance_of allowance.now) (slot_of slot.now) }
 {
     match slot {
@@ -251,7 +253,7 @@ fn lists_if_held(grants: &[Grant], ceiling: &Ceiling, right: Rights, operation: 
 }
 
 /// Whether a ceiling's grant lists all that its rights are for. (rights(4))
-fn keeps_ceiling(grants: &[Grant], ceiling: &Ceiling) -> bool
+pub fn keeps_ceiling(grants: &[Grant], ceiling: &Ceiling) -> bool
     ensures { result ≡ keeps_ceiling (grants_of grants.now) (ceiling_of ceiling.now) }
 {
     lists_if_held(grants, ceiling, Rights::READ, Op::Read)

@@ -4,20 +4,23 @@
 
 pub mod allowances;
 mod arrivals;
-mod broken;
+mod asked;
+mod at_once;
 mod carrying;
 pub mod expanding;
 pub mod findings;
+mod keeping;
 pub mod laws;
-mod marks;
 pub mod points;
-mod rule_tests;
-mod starts;
-mod uses;
+pub mod rule;
+pub mod starts;
+pub mod uses;
 pub mod verdicts;
 
 pub use allowances::{Allowance, allowance_at, ceiling_at};
 pub use expanding::{expand, is_expanded};
 pub use findings::{BrokenRule, all_findings};
 pub use points::{code_named, instruction_at, is_named};
+pub use rule::{AuthorityRule, CallRule, Rule, SlotRule};
+pub use uses::KeepsRule;
 pub use verdicts::{Verdict, check};

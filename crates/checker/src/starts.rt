@@ -2,24 +2,23 @@
 
 ghost use Rattle.std.specs.Prelude.{◌≡◌, ◌==◌, ◌&&◌, ◌+◌, ◌≤◌, length, map, option_map, true};
 ghost use Rattle.certificate.specs.Describes.{held_describes, interval_describes, mode_describes, registers_describe, slot_describes, slots_describe, target_describes};
-ghost use Rattle.certificate.specs.Views.{bound_of, class_of, held_of, interval_of, mode_of, name_of, side_of, slot_of, target_of};
+ghost use Rattle.certificate.specs.Views.{bound_of, class_of, held_of, interval_of, mode_of, side_of, slot_of, target_of};
 ghost use Rattle.certificate.specs.Order.{same_class};
 ghost use Rattle.rights.specs.Classes.{Initial};
 ghost use Rattle.fd_table.specs.Views.{side_seen};
-ghost use Rattle.rules.specs.Rules.{all_starts_within, is_bounded_start, first_seen, first_subject, first_table, is_started, start_within, starts_program, starts_within};
+ghost use Rattle.rules.specs.Rules.{all_starts_within, is_bounded_start, first_seen, first_subject, first_table, is_started, marked_at, start_within, starts_program, starts_within};
 ghost use Rattle.file_tree.specs.Nodes.{node};
 ghost use Rattle.file_tree.specs.Views.{names_of};
 ghost use Rattle.task.specs.Begins.{with_number};
-ghost use Rattle.task.specs.Plans.{program_name};
 ghost use Rattle.task.specs.Policies.{grant_holds};
 ghost use Rattle.task.specs.Views.{first_descriptor_of, first_object_of, grants_of, nodes_of, start_of, starts_of};
 
-use certificate::{Bound, Class, Held, Interval, ModeBound, Name, Slot, Target};
+use certificate::{Bound, Class, Held, Interval, ModeBound, Slot, Target};
 use rights::Rights;
-use task::{FirstDescriptor, FirstObject, Grant, Start, Task, TaskNode, grant_holds, is_marked};
+use task::{FirstDescriptor, FirstObject, Grant, Start, Task, TaskNode, grant_holds};
 
-/// Whether a process may be in this mode.
-fn mode_describes(bound: ModeBound, mode: bool) -> bool
+/// Whether a process may be in this mode. (own)
+pub fn mode_describes(bound: ModeBound, mode: bool) -> bool
     ensures { result ≡ mode_describes (mode_of bound) mode }
 {
     match bound {
@@ -27,6 +26,13 @@ fn mode_describes(bound: ModeBound, mode: bool) -> bool
         ModeBound::On => mode,
         ModeBound::Either => true,
     }
+}
+
+/// Whether a register may have this value. (own)
+pub fn interval_describes(interval: Interval, value: u32) -> bool
+    ensures { result ≡ interval_describes (interval_of interval) value }
+{
+    interval.low() <= value && value <= interval.high()
 }
 
 /// Whether each value is in its interval.
@@ -38,7 +44,7 @@ fn registers_describe(intervals: &[Interval], values: &[u32]) -> bool
         [first, rest @ ..] => match values {
             [] => false,
             [value, others @ ..] => {
-                first.low() <= *value && *value <= first.high() && registers_describe(rest, others)
+                interval_describes(*first, *value) && registers_describe(rest, others)
             }
         },
     }
@@ -109,8 +115,8 @@ fn held_describes(
         && held.fcntls().greatest().contains(descriptor.fcntls)
 }
 
-/// The descriptor of this number, if there is one.
-fn with_number(descriptors: &[FirstDescriptor], number: usize) -> Option<FirstDescriptor>
+/// The descriptor of this number, if there is one. (own)
+pub fn with_number(descriptors: &[FirstDescriptor], number: usize) -> Option<FirstDescriptor>
     ensures { option_map first_descriptor_of result
         ≡ with_number number (map first_descriptor_of descriptors.now) }
 {
@@ -125,8 +131,8 @@ fn with_number(descriptors: &[FirstDescriptor], number: usize) -> Option<FirstDe
     }
 }
 
-/// Whether a number of a table is as its slot says.
-fn slot_describes(
+/// Whether a number of a table is as its slot says. (own)
+pub fn slot_describes(
     grants: &[Grant],
     nodes: &[TaskNode],
     slot: &Slot,
@@ -182,8 +188,8 @@ fn start_within(task: &Task, bound: &Bound, start: &Start) -> bool
         && slots_describe(task.grants(), task.nodes(), 0, bound.slots(), start)
 }
 
-/// Whether a process starts with the program and is bounded by its points: one of a marked program that starts in the mode isn't.
-fn is_bounded_start(marked: bool, program: u8, start: &Start) -> bool
+/// Whether a process starts with the program and is bounded by its points: one of a marked program that starts in the mode isn't. (own)
+pub fn is_bounded_start(marked: bool, program: u8, start: &Start) -> bool
     ensures { result ≡ is_bounded_start marked program (start_of start.now) }
 {
     !(marked && start.mode) && start.program == program
@@ -209,15 +215,20 @@ fn all_starts_within(
 }
 
 /// At point 0, whether the bound describes each such process of the program at its start. (own)
-pub(crate) fn starts_within(task: &Task, name: &Name, program: u8, point: u8, bound: &Bound) -> bool
-    requires { name_of name.now ≡ program_name task.now program }
+pub(crate) fn starts_within(
+    task: &Task,
+    marked: bool,
+    program: u8,
+    point: u8,
+    bound: &Bound,
+) -> bool
+    requires { marked ≡ marked_at task.now program }
     ensures { result ≡ starts_within task.now program point (bound_of bound.now) }
 {
-    let marked = is_marked(task.programs(), name.as_bytes());
     point != 0 || all_starts_within(task, marked, program, bound, task.starts())
 }
 
-/// Whether one of these does.
+/// Whether one of these processes starts with the program and is bounded by its points.
 fn starts_program(marked: bool, program: u8, starts: &[Start]) -> bool
     ensures { result ≡ starts_program marked program (starts_of starts.now) }
 {
@@ -230,13 +241,9 @@ fn starts_program(marked: bool, program: u8, starts: &[Start]) -> bool
 }
 
 /// Whether some process starts the program and is bounded by its points.
-pub(crate) fn is_started(task: &Task, name: &Name, program: u8) -> bool
-    requires { name_of name.now ≡ program_name task.now program }
+pub(crate) fn is_started(task: &Task, marked: bool, program: u8) -> bool
+    requires { marked ≡ marked_at task.now program }
     ensures { result ≡ is_started task.now program }
 {
-    starts_program(
-        is_marked(task.programs(), name.as_bytes()),
-        program,
-        task.starts(),
-    )
+    starts_program(marked, program, task.starts())
 }

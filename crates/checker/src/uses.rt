@@ -1,25 +1,29 @@
 //! The rules on each slot that a call may go through.
 
-ghost use Rattle.std.specs.Prelude.{◌≡◌, ◌++◌};
+ghost use Rattle.std.specs.Prelude.{◌≡◌, ◌++◌, option_map};
 ghost use Rattle.std.specs.List.{list_all};
 ghost use Rattle.rights.specs.Views.{operation_of};
 ghost use Rattle.certificate.specs.Order.{held_within};
 ghost use Rattle.certificate.specs.Views.{bound_of, held_of, target_of};
+ghost use Rattle.checker.specs.KeptUses.{keeps_all};
+ghost use Rattle.checker.specs.RuleViews.{keeps_at_slot};
 ghost use Rattle.instruction_set.specs.Programs.{Invoke};
 ghost use Rattle.instruction_set.specs.Views.{operand_of, syscall_of};
+ghost use Rattle.rules.specs.Channels.{sends_into};
 ghost use Rattle.rules.specs.Expansions.{expansion};
-ghost use Rattle.rules.specs.Channels.{keeps_channel_bound, sends_into};
-ghost use Rattle.rules.specs.Rules.{in_the_mode, is_known, keeps_commands, keeps_limit, keeps_policy, keeps_rights, moves_within, names_known, same_grant, target_lists, works_on_known};
-ghost use Rattle.checker.specs.KeptUses.{keeps_all};
-ghost use Rattle.rules.specs.Slots.{slots_in};
+ghost use Rattle.rules.specs.Rules.{in_the_mode, is_known, same_grant, target_lists};
+ghost use Rattle.rules.specs.Slots.{OpenSlot, slots_in};
+ghost use Rattle.rules.specs.Uses.{named_slots};
 ghost use Rattle.transfer.specs.Views.{operation_list};
 
+use crate::rule::SlotRule;
 use certificate::{Bound, Cert, Domain, Held, Target};
 use instruction_set::{Operand, Syscall};
 use rights::Op;
 use task::{Task, grant_lists};
 use transfer::{
-    Need, Passed, SlotTest, UseTest, all_slots_pass, all_uses_pass, channel_at, may_be_on,
+    HasChannel, Need, Passed, SlotTest, UseTest, all_slots_pass, all_uses_pass, channel_at,
+    may_be_on,
 };
 
 /// Whether each slot that a call may go through passes, where a process may be in capability mode.
@@ -27,43 +31,6 @@ pub(crate) fn in_the_mode<T: UseTest>(bound: &Bound, call: &Syscall, test: &T) -
     ensures { result ≡ in_the_mode (bound_of bound.now) (T.passes test.now) (Invoke (syscall_of call.now) 0) }
 {
     !may_be_on(bound.mode()) || all_uses_pass(bound, call, test)
-}
-
-/// The test whether it surely has the rights that the call needs. (rights(4))
-#[derive(Clone, Copy)]
-pub(crate) struct KeepsRights;
-
-impl UseTest for KeepsRights {
-    ghost passes = { λ t u. keeps_rights u };
-
-    fn asks(&self, _bound: &Bound, need: &Need, _number: u8, held: &Held) -> bool {
-        held.rights().least().contains(need.rights)
-    }
-}
-
-/// The test whether it surely has the fcntl commands that the call needs. (cap_fcntls_limit(2))
-#[derive(Clone, Copy)]
-pub(crate) struct KeepsCommands;
-
-impl UseTest for KeepsCommands {
-    ghost passes = { λ t u. keeps_commands u };
-
-    fn asks(&self, _bound: &Bound, need: &Need, _number: u8, held: &Held) -> bool {
-        held.fcntls().least().contains(need.commands)
-    }
-}
-
-/// The test whether what a limit keeps is surely there. (cap_rights_limit(2), cap_fcntls_limit(2))
-#[derive(Clone, Copy)]
-pub(crate) struct KeepsLimit;
-
-impl UseTest for KeepsLimit {
-    ghost passes = { λ t u. keeps_limit u };
-
-    fn asks(&self, _bound: &Bound, need: &Need, _number: u8, held: &Held) -> bool {
-        held.rights().least().contains(need.kept_rights)
-            && held.fcntls().least().contains(need.kept_commands)
-    }
 }
 
 /// Whether what it is of is known: a node of a grant, or a socket.
@@ -76,20 +43,8 @@ fn is_known(target: &Target) -> bool
     }
 }
 
-/// The test whether what a call works on is known. (capsicum(4))
-#[derive(Clone, Copy)]
-pub(crate) struct WorksOnKnown;
-
-impl UseTest for WorksOnKnown {
-    ghost passes = { λ t u. works_on_known u };
-
-    fn asks(&self, _bound: &Bound, need: &Need, _number: u8, held: &Held) -> bool {
-        !need.works || is_known(&held.target())
-    }
-}
-
-/// Whether the grant lists the operation, if there is one, where the target is in one.
-fn target_lists(task: &Task, target: &Target, operation: Option<Op>) -> bool
+/// Whether the grant lists the operation, if there is one, where the target is in one. (own)
+pub fn target_lists(task: &Task, target: &Target, operation: Option<Op>) -> bool
     ensures { result ≡ list_all (target_lists task.now.grants (target_of target.now)) (operation_list operation) }
 {
     match (target, operation) {
@@ -100,38 +55,10 @@ fn target_lists(task: &Task, target: &Target, operation: Option<Op>) -> bool
     }
 }
 
-/// The test whether the slot's grant lists each operation of the call.
+/// The test whether a slot is in no other grant than this target. (own)
 #[derive(Clone, Copy)]
-pub(crate) struct KeepsPolicy<'a> {
-    pub task: &'a Task,
-}
-
-impl<'a> UseTest for KeepsPolicy<'a> {
-    ghost passes = { λ t u. keeps_policy t.task.now.grants u };
-
-    fn asks(&self, _bound: &Bound, need: &Need, _number: u8, held: &Held) -> bool {
-        let target = held.target();
-        target_lists(self.task, &target, need.operation)
-            && target_lists(self.task, &target, need.other_operation)
-    }
-}
-
-/// The test whether names change only beneath a slot that is known.
-#[derive(Clone, Copy)]
-pub(crate) struct NamesKnown;
-
-impl UseTest for NamesKnown {
-    ghost passes = { λ t u. names_known u };
-
-    fn asks(&self, _bound: &Bound, need: &Need, _number: u8, held: &Held) -> bool {
-        !need.changes_names || is_known(&held.target())
-    }
-}
-
-/// The test whether a slot is in no other grant than this target.
-#[derive(Clone, Copy)]
-struct SameGrant<'a> {
-    source: &'a Target,
+pub struct SameGrant<'a> {
+    pub source: &'a Target,
 }
 
 impl<'a> SlotTest for SameGrant<'a> {
@@ -148,26 +75,10 @@ impl<'a> SlotTest for SameGrant<'a> {
     }
 }
 
-/// The test whether nothing is moved from one grant into another.
+/// The test whether a slot is within what a channel sends. (own)
 #[derive(Clone, Copy)]
-pub(crate) struct MovesWithin;
-
-impl UseTest for MovesWithin {
-    ghost passes = { λ t u. moves_within u };
-
-    fn asks(&self, bound: &Bound, need: &Need, _number: u8, held: &Held) -> bool {
-        let source = &held.target();
-        match need.targets {
-            None => true,
-            Some(operand) => all_slots_pass(bound, operand, &SameGrant { source }),
-        }
-    }
-}
-
-/// The test whether a slot is within what a channel sends.
-#[derive(Clone, Copy)]
-struct IsWithin<'a> {
-    most: &'a Held,
+pub struct IsWithin<'a> {
+    pub most: &'a Held,
 }
 
 impl<'a> SlotTest for IsWithin<'a> {
@@ -195,21 +106,52 @@ fn sends_into(cert: &Cert, bound: &Bound, target: &Target, sent: Operand) -> boo
     }
 }
 
-/// The test whether what is sent lies within its channel. (sendmsg(2))
+/// Whether nothing is moved from a slot of this target into another grant.
+fn moves_within(bound: &Bound, source: &Target, targets: Option<Operand>) -> bool
+    ensures { result ≡ list_all (λ (t : OpenSlot). same_grant (target_of source.now) t.held.target)
+        (named_slots (bound_of bound.now) (option_map operand_of targets)) }
+{
+    match targets {
+        None => true,
+        Some(operand) => all_slots_pass(bound, operand, &SameGrant { source }),
+    }
+}
+
+/// The test whether a slot that a call goes through keeps a rule. (own; after rights(4), capsicum(4), cap_rights_limit(2),
+/// cap_fcntls_limit(2), sendmsg(2) and recvmsg(2))
 #[derive(Clone, Copy)]
-pub(crate) struct KeepsChannelBound<'a> {
+pub struct KeepsRule<'a> {
+    pub rule: SlotRule,
     pub task: &'a Task,
     pub cert: &'a Cert,
 }
 
-impl<'a> UseTest for KeepsChannelBound<'a> {
-    ghost passes = { λ t u. keeps_channel_bound (expansion t.task.now t.cert.now) u u.passing };
+impl<'a> UseTest for KeepsRule<'a> {
+    ghost passes = { λ t u. keeps_at_slot t.rule t.task.now (expansion t.task.now t.cert.now) u };
 
-    #[tactic(auto, using(rules::proofs::expansions::Channelled::expansion_keeps))]
-    fn asks(&self, bound: &Bound, need: &Need, _number: u8, held: &Held) -> bool {
-        match need.passed {
-            Passed::Nothing | Passed::Received => true,
-            Passed::Sent(sent) => sends_into(self.cert, bound, &held.target(), sent),
+    #[tactic(auto, using(rules::proofs::expansions::Channelled::expansion_keeps, rules::proofs::expansions::Channelled::expansion_has))]
+    fn asks(&self, bound: &Bound, need: &Need, number: u8, held: &Held) -> bool {
+        let cert = self.cert;
+        let target = &held.target();
+        match self.rule {
+            SlotRule::Rights => held.rights().least().contains(need.rights),
+            SlotRule::Commands => held.fcntls().least().contains(need.commands),
+            SlotRule::Limit => {
+                held.rights().least().contains(need.kept_rights)
+                    && held.fcntls().least().contains(need.kept_commands)
+            }
+            SlotRule::KnownObject => !need.works || is_known(target),
+            SlotRule::Policy => {
+                target_lists(self.task, target, need.operation)
+                    && target_lists(self.task, target, need.other_operation)
+            }
+            SlotRule::KnownNames => !need.changes_names || is_known(target),
+            SlotRule::Moves => moves_within(bound, target, need.targets),
+            SlotRule::Sent => match need.passed {
+                Passed::Nothing | Passed::Received => true,
+                Passed::Sent(sent) => sends_into(cert, bound, target, sent),
+            },
+            SlotRule::Channel => HasChannel { cert }.asks(bound, need, number, held),
         }
     }
 }
@@ -223,18 +165,40 @@ pub(crate) struct KeepsAll<'a> {
     pub may_be_on: bool,
 }
 
+impl<'a> KeepsAll<'a> {
+    /// The test of one of the rules.
+    fn test(&self, rule: SlotRule) -> KeepsRule<'a>
+        ensures rule { result.rule ≡ rule }
+        ensures task { result.task.now ≡ self.now.task.now }
+        ensures cert { result.cert.now ≡ self.now.cert.now }
+    {
+        KeepsRule {
+            rule,
+            task: self.task,
+            cert: self.cert,
+        }
+    }
+}
+
 impl<'a> UseTest for KeepsAll<'a> {
     ghost passes = { λ t u. keeps_all t.task.now (expansion t.task.now t.cert.now) t.may_be_on u };
 
     fn asks(&self, bound: &Bound, need: &Need, number: u8, held: &Held) -> bool {
-        let (task, cert) = (self.task, self.cert);
-        KeepsRights.asks(bound, need, number, held)
-            && KeepsCommands.asks(bound, need, number, held)
-            && KeepsLimit.asks(bound, need, number, held)
-            && (!self.may_be_on || WorksOnKnown.asks(bound, need, number, held))
-            && (!self.may_be_on || KeepsPolicy { task }.asks(bound, need, number, held))
-            && NamesKnown.asks(bound, need, number, held)
-            && MovesWithin.asks(bound, need, number, held)
-            && KeepsChannelBound { task, cert }.asks(bound, need, number, held)
+        let on = self.may_be_on;
+        self.test(SlotRule::Rights).asks(bound, need, number, held)
+            && self
+                .test(SlotRule::Commands)
+                .asks(bound, need, number, held)
+            && self.test(SlotRule::Limit).asks(bound, need, number, held)
+            && (!on
+                || self
+                    .test(SlotRule::KnownObject)
+                    .asks(bound, need, number, held))
+            && (!on || self.test(SlotRule::Policy).asks(bound, need, number, held))
+            && self
+                .test(SlotRule::KnownNames)
+                .asks(bound, need, number, held)
+            && self.test(SlotRule::Moves).asks(bound, need, number, held)
+            && self.test(SlotRule::Sent).asks(bound, need, number, held)
     }
 }

@@ -2,9 +2,12 @@
 
 ghost use Rattle.std.specs.Prelude.{◌≡◌, ◌<◌, ◌≤◌, ℕ, None, Some, MatchOption, length, true};
 ghost use Rattle.std.specs.List.{list_all};
+ghost use Rattle.certificate.specs.Growth.{IsCertificate};
 ghost use Rattle.instruction_set.specs.Views.{code_of};
 ghost use Rattle.rules.specs.Expansions.{expansion};
 ghost use Rattle.rules.specs.Verdicts.{found_at};
+ghost use Rattle.checker.specs.PointViews.{expansion_of};
+ghost use Rattle.checker.specs.RuleViews.{rule_number};
 ghost use Rattle.checker.specs.Verdicts.{IsVerdict, Yes};
 ghost use Rattle.checker.specs.Views.{verdict_of};
 ghost use Rattle.task.specs.Plans.{none_marked, programs_of_plan};
@@ -12,8 +15,10 @@ ghost use Rattle.task.specs.Confined.{IsConfined};
 ghost use Rattle.task.specs.Sandboxed.{IsSandboxed};
 ghost use Rattle.transfer.specs.Limits.{leaves_known};
 
-use crate::broken::{found_at, name_at};
-use crate::carrying::carried_past;
+use crate::asked::AskedProgram;
+use crate::at_once::found_at;
+use crate::carrying::{bound_with, carried_past};
+use crate::rule::Rule;
 use certificate::Cert;
 use instruction_set::Instruction;
 use task::Task;
@@ -37,10 +42,35 @@ pub enum Verdict {
 #[derive(Clone, Copy)]
 struct Found {
     point: u8,
-    rule: u8,
+    rule: Rule,
 }
 
 /// The first point of a program with this code where a rule is broken. One bound is kept, which is carried along.
+fn first_in(of: &AskedProgram<'_>, code: &[Instruction]) -> Option<Found>
+    requires made { IsCertificate of.now.cert.now }
+    requires program { of.now.program < length of.now.task.now.programs }
+    requires code { code_of code.now ≡ programs_of_plan of.now.task.now of.now.program }
+    requires few { length code.now ≤ 256 }
+    requires known { list_all leaves_known (code_of code.now) ≡ true }
+    ensures { MatchOption result
+        ((point : ℕ) → point < length code.now → found_at of.now.task.now (expansion_of of.now) of.now.program point ≡ None)
+        (λ found. (found_at of.now.task.now (expansion_of of.now) of.now.program found.point ≡ Some (rule_number found.rule))
+        × ((point : ℕ) → point < found.point → found_at of.now.task.now (expansion_of of.now) of.now.program point ≡ None)) }
+{
+    let mut carried = None;
+    for point in 0..code.len() {
+        let point = point as u8;
+        let bound = bound_with(of.cert, &of.name, point, &carried);
+        let next = carried_past(of.task, of.cert, &of.name, code, point, &carried);
+        if let Some(rule) = found_at(of, point, &bound, &next) {
+            return Some(Found { point, rule });
+        }
+        carried = next;
+    }
+    None
+}
+
+/// The first point of a program, by its place in the task, where a rule is broken; this is its code.
 fn first_found(task: &Task, cert: &Cert, program: u8, code: &[Instruction]) -> Option<Found>
     requires program { program < length task.now.programs }
     requires code { code_of code.now ≡ programs_of_plan task.now program }
@@ -48,21 +78,13 @@ fn first_found(task: &Task, cert: &Cert, program: u8, code: &[Instruction]) -> O
     requires known { list_all leaves_known (code_of code.now) ≡ true }
     ensures { MatchOption result
         ((point : ℕ) → point < length code.now → found_at task.now (expansion task.now cert.now) program point ≡ None)
-        (λ found. (found_at task.now (expansion task.now cert.now) program found.point ≡ Some found.rule)
+        (λ found. (found_at task.now (expansion task.now cert.now) program found.point ≡ Some (rule_number found.rule))
         × ((point : ℕ) → point < found.point → found_at task.now (expansion task.now cert.now) program point ≡ None)) }
 {
-    task.note_valid();
-    let name = &name_at(task, program)?;
-    let mut carried = None;
-    for point in 0..code.len() {
-        let point = point as u8;
-        let next = carried_past(task, cert, name, code, point, &carried);
-        if let Some(rule) = found_at(task, cert, name, program, point, &carried, &next) {
-            return Some(Found { point, rule });
-        }
-        carried = next;
+    match &AskedProgram::new(task, cert, program) {
+        None => None,
+        Some(of) => first_in(of, code),
     }
-    None
 }
 
 /// Whether the certificate meets the rules at every point of every program of the task; else the first program, by
@@ -85,7 +107,7 @@ pub fn check(task: &Task, cert: &Cert) -> Verdict
             return Verdict::No {
                 program: number,
                 point: found.point,
-                rule: found.rule,
+                rule: found.rule.number(),
             };
         }
     }

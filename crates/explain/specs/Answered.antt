@@ -8,6 +8,7 @@ use Rattle.checker.specs.Verdicts.{IsAccepted}
 use Rattle.commands.specs.Files.{Files, IsFile}
 use Rattle.commands.specs.Served.{is_done_status}
 use Rattle.kernel.specs.Answers.{Event}
+use Rattle.searcher.specs.Flat.{flat}
 use Rattle.task.specs.Plans.{Plan}
 use Rattle.task_reader.specs.Reading.{task_of}
 use Rattle.explore.specs.Breaches as explore
@@ -31,15 +32,16 @@ pub record SaysBroken (status : ℕ) (task certificate : List ℕ) : Type 0 wher
   pub is_certificate : certificate_of_text certificate ≡ Ok bounds
   pub says : SaysWhether status (IsAccepted plan bounds)
 
--- of a task's text, that a certificate of it is accepted, with status 0; 1 says nothing
+-- of a task's text, that a certificate of it is accepted, with status 0; and with 1 that its flat one isn't, if it has one
 pub record SaysFound (status : ℕ) (task : List ℕ) : Type 0 where
   pub plan : Plan
   pub is_task : task_of task ≡ Ok plan
   pub is_done : is_done_status status ≡ true
   pub found : status ≡ 0 → (bounds : Certificate) × IsAccepted plan bounds
+  pub unfound : status ≡ 1 → (bounds : Certificate) → flat plan ≡ Some bounds → IsAccepted plan bounds → ⊥
 
 -- The files are there. `text` says whether the one is a task's text; `no` whether the certificate of the other is accepted, where no
--- rule is broken; `none` says with 0 that some certificate is; all else is done with 0.
+-- rule is broken; `none` says with 0 that some certificate is, and with 1 that the flat one isn't; all else is done with 0.
 pub record SaysOfFile (files : Files) (name : List ℕ) (status : ℕ) : Type 0 where
   pub text : List ℕ
   pub is_file : IsFile files name text

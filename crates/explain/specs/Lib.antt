@@ -1,3 +1,5 @@
 pub mod Questions
 pub mod QuestionViews
 pub mod Answered
+pub mod Breaking
+pub mod NoAnswers

@@ -64,7 +64,7 @@ fn listing_alone<'a>(alloc: Global, file: &[u8]) -> Result<Answer, Fault<'a>>
         task: &task,
         cert: &Cert::new(alloc, Version::One),
     };
-    add_listing(alloc, &mut page, &scene, false);
+    add_listing(&mut page, &scene, false);
     Ok(Answer { page, status: DONE })
 }
 
@@ -82,7 +82,7 @@ fn listing_with<'a>(alloc: Global, file: &[u8], cert: &[u8]) -> Result<Answer, F
         task: &claim.task,
         cert: &expanded,
     };
-    add_listing(alloc, &mut page, &scene, true);
+    add_listing(&mut page, &scene, true);
     Ok(Answer { page, status: DONE })
 }
 
@@ -99,18 +99,12 @@ fn status_of_rules(task: &Task, cert: &Cert, found: &[BrokenRule]) -> u8
 }
 
 /// Adds all rules that a certificate breaks.
-fn add_broken(
-    alloc: Global,
-    page: &mut Page,
-    scene: &Scene<'_>,
-    cert: &Cert,
-    found: &[BrokenRule],
-) {
+fn add_broken(page: &mut Page, scene: &Scene<'_>, cert: &Cert, found: &[BrokenRule]) {
     if found.is_empty() {
         return page.text("no rule is broken: the certificate is accepted\n");
     }
-    add_older(alloc, page, scene.task, cert);
-    add_findings(alloc, page, scene, found)
+    add_older(page, scene.task, cert);
+    add_findings(page, scene, found)
 }
 
 /// All rules that a certificate breaks.
@@ -129,7 +123,7 @@ fn broken<'a>(alloc: Global, file: &[u8], cert: &[u8]) -> Result<Answer, Fault<'
         task: &claim.task,
         cert: &expanded,
     };
-    add_broken(alloc, &mut page, &scene, &claim.cert, &found);
+    add_broken(&mut page, &scene, &claim.cert, &found);
     Ok(Answer { page, status })
 }
 

@@ -2,21 +2,29 @@
 
 ghost use Rattle.std.specs.Prelude.{None, true};
 
+use crate::breaking::{error_fits, registers_beyond, slots_beyond, successes_fit};
 use crate::naming::{add_interval, add_slot, mode_name};
-use crate::scenes::{Scene, Spot, short};
+use crate::scenes::{BoundedPoint, Scene};
 use certificate::{Bound, Domain};
-use checker::instruction_at;
-use rights::limits::REGISTERS;
 use std::alloc::{AllocError, Global};
 use task_text::Page;
 use task_text::Piece::{Number, Text};
-use transfer::{Outcome, OutcomeTest, Site, failure, successes_pass};
+use transfer::{Outcome, OutcomeTest, failure, successes_pass};
 
 /// An outcome of an instruction: the point that it goes to, and the bound that it has there.
 #[derive(Clone, Copy)]
 pub(crate) struct Arrival {
     pub point: usize,
     pub bound: Bound,
+}
+
+/// By what an instruction leads to other points.
+#[derive(Clone, Copy, PartialEq, Eq)]
+pub(crate) enum Leads {
+    BySuccess,
+    ByError,
+    /// By either.
+    Anywhere,
 }
 
 /// The outcomes of an instruction, as they are told.
@@ -52,58 +60,47 @@ impl OutcomeTest for Arrivals {
     }
 }
 
-/// The outcomes of the successes of a point's instruction.
-pub(crate) fn successes(
+/// The outcomes of a point's instruction.
+pub(crate) fn arrivals(
     alloc: Global,
     scene: &Scene<'_>,
-    spot: &Spot<'_>,
-    program: u8,
+    from: &BoundedPoint<'_>,
+    leads: Leads,
 ) -> Result<Vec<Arrival>, AllocError> {
-    let Some(instruction) = instruction_at(scene.task, program, spot.point) else {
-        return Ok(Vec::new(alloc));
-    };
-    let site = Site {
-        task: scene.task,
-        cert: scene.cert,
-        name: spot.name,
-        point: spot.point,
-        bound: spot.bound,
-    };
     let mut arrivals = Arrivals {
         list: Vec::new(alloc),
         is_cut: false,
     };
-    successes_pass(&site, instruction, &mut arrivals);
+    if leads != Leads::ByError {
+        successes_pass(&from.site(scene), from.instruction, &mut arrivals);
+    }
+    if leads != Leads::BySuccess {
+        if let Some(outcome) = failure(from.bound, from.instruction) {
+            arrivals.asks(&outcome);
+        }
+    }
     if arrivals.is_cut {
         return Err(AllocError);
     }
     Ok(arrivals.list)
 }
 
-/// The outcome of its error, if it has one.
-pub(crate) fn failures(alloc: Global, spot: &Spot<'_>) -> Result<Vec<Arrival>, AllocError> {
-    let mut list = Vec::new(alloc);
-    if let Some(outcome) = failure(spot.bound, spot.instruction) {
-        list.push(Arrival {
-            point: outcome.point,
-            bound: outcome.bound_there(),
-        })?;
-    }
-    Ok(list)
-}
-
-/// The outcomes of the successes, and that of the error.
-pub(crate) fn outcomes(
-    alloc: Global,
+/// Whether each outcome that goes to a point is within this bound there.
+pub(crate) fn fits(
     scene: &Scene<'_>,
-    spot: &Spot<'_>,
-    program: u8,
-) -> Result<Vec<Arrival>, AllocError> {
-    let mut arrivals = successes(alloc, scene, spot, program)?;
-    for failure in &failures(alloc, spot)? {
-        arrivals.push(*failure)?;
+    from: &BoundedPoint<'_>,
+    leads: Leads,
+    point: usize,
+    there: &Option<Bound>,
+) -> bool {
+    match leads {
+        Leads::BySuccess => successes_fit(&from.site(scene), from.instruction, point, there),
+        Leads::ByError => error_fits(from.bound, from.instruction, point, there),
+        Leads::Anywhere => {
+            successes_fit(&from.site(scene), from.instruction, point, there)
+                && error_fits(from.bound, from.instruction, point, there)
+        }
     }
-    Ok(arrivals)
 }
 
 /// Adds in which parts a bound is too narrow for one that arrives.
@@ -116,31 +113,23 @@ pub(crate) fn add_parts(page: &mut Page, arriving: &Bound, there: &Bound) {
             Text(mode_name(there.mode())),
         ]);
     }
-    for register in 0..REGISTERS {
-        let register = register as u8;
-        let (arrives, bound) = (arriving.interval(register), there.interval(register));
-        if !arrives.within(&bound) {
-            page.pieces(&[
-                Text("; r"),
-                Number(u32::from(register)),
-                Text(" arrives as "),
-            ]);
-            add_interval(page, arrives);
-            page.text(", the bound has ");
-            add_interval(page, bound);
-        }
+    let registers = registers_beyond(page.alloc(), arriving, there);
+    for register in &page.gathered(registers) {
+        page.pieces(&[
+            Text("; r"),
+            Number(u32::from(*register)),
+            Text(" arrives as "),
+        ]);
+        add_interval(page, arriving.interval(*register));
+        page.text(", the bound has ");
+        add_interval(page, there.interval(*register));
     }
-    for (number, slot) in arriving.slots().iter().enumerate() {
-        let bound = there.slot(short(number));
-        if !slot.within(&bound) {
-            page.pieces(&[
-                Text("; descriptor "),
-                Number(short(number)),
-                Text(" arrives as "),
-            ]);
-            add_slot(page, slot);
-            page.text(", the bound has ");
-            add_slot(page, &bound);
-        }
+    let numbers = slots_beyond(page.alloc(), arriving, there);
+    for number in &page.gathered(numbers) {
+        let number = u32::from(*number);
+        page.pieces(&[Text("; descriptor "), Number(number), Text(" arrives as ")]);
+        add_slot(page, &arriving.slot(number));
+        page.text(", the bound has ");
+        add_slot(page, &there.slot(number));
     }
 }

@@ -1,16 +1,17 @@
 //! What the rules K17 to K22 compare of an untrusted program and its authority.
 
+use crate::breaking::{
+    moved_into, narrow_ends, received_beyond, started_beyond, taken_beyond, unlisted_ceilings,
+};
 use crate::naming::{add_end, add_held, add_rights, add_slot, mode_name};
-use crate::scenes::{Scene, short};
+use crate::scenes::{BoundedPoint, Scene, short};
 use crate::starting::add_object;
-use certificate::{Bound, Channel, Class, Domain, Held, Name, Side, Slot, Target};
-use checker::allowances::{is_widest, may_come, may_hold_all, may_start_with, stays_in};
-use checker::{Allowance, BrokenRule, allowance_at, ceiling_at};
-use instruction_set::{Instruction, Syscall};
+use certificate::{Bound, Channel, Class, Name, Side, Target};
+use checker::{Allowance, AuthorityRule, allowance_at, ceiling_at};
 use task::{Grant, Start};
 use task_text::Page;
 use task_text::Piece::{Bytes, Number, Text};
-use transfer::{channel_at, other};
+use transfer::{channel_at, enters_mode, other};
 
 /// Adds the ceiling of a descriptor's grant, or that it is an end that isn't listed, or that nothing can be said of it.
 fn add_ceiling(page: &mut Page, scene: &Scene<'_>, allowed: &Allowance<'_>, target: &Target) {
@@ -33,13 +34,14 @@ fn add_ceiling(page: &mut Page, scene: &Scene<'_>, allowed: &Allowance<'_>, targ
 
 /// Adds what a process may take into the mode that its authority hasn't.
 fn add_taken(page: &mut Page, scene: &Scene<'_>, allowed: &Allowance<'_>, bound: &Bound) {
-    for (number, slot) in bound.slots().iter().enumerate() {
+    let numbers = taken_beyond(page.alloc(), allowed, bound);
+    for number in &page.gathered(numbers) {
+        let number = u32::from(*number);
+        let slot = bound.slot(number);
         if let Some(held) = slot.held() {
-            if !may_hold_all(allowed, &held) {
-                page.pieces(&[Text("; descriptor "), Number(short(number)), Text(" is ")]);
-                add_slot(page, slot);
-                add_ceiling(page, scene, allowed, &held.target());
-            }
+            page.pieces(&[Text("; descriptor "), Number(number), Text(" is ")]);
+            add_slot(page, &slot);
+            add_ceiling(page, scene, allowed, &held.target());
         }
     }
 }
@@ -52,46 +54,41 @@ fn add_first(
     process: usize,
     start: &Start,
 ) {
-    for first in &start.descriptors {
-        if !may_start_with(scene.task, allowed, *first) {
-            page.pieces(&[
-                Text("; process "),
-                Number(short(process)),
-                Text(" starts in the mode with descriptor "),
-                Number(u32::from(first.number)),
-                Text(" of "),
-            ]);
-            add_object(page, scene, first.object);
-            page.text(" with ");
-            add_rights(page, first.rights);
-        }
+    let descriptors = started_beyond(page.alloc(), scene.task, allowed, start);
+    for first in &page.gathered(descriptors) {
+        page.pieces(&[
+            Text("; process "),
+            Number(short(process)),
+            Text(" starts in the mode with descriptor "),
+            Number(u32::from(first.number)),
+            Text(" of "),
+        ]);
+        add_object(page, scene, first.object);
+        page.text(" with ");
+        add_rights(page, first.rights);
     }
 }
 
-/// Adds what a program may hold in the mode at a point that its authority hasn't: where a process enters the mode, or starts in it.
+/// Adds what a program may hold in the mode at a point that its authority hasn't: where a process enters the mode, or, at point 0
+/// and so at each point without a bound that is asked, starts in it.
 pub(crate) fn add_beyond(
     page: &mut Page,
     scene: &Scene<'_>,
     name: &Name,
-    found: BrokenRule,
-    instruction: &Instruction,
-    bound: Option<&Bound>,
+    program: u8,
+    at: Option<&BoundedPoint<'_>>,
 ) {
     let allowed = allowance_at(scene.cert, name);
-    if let Instruction::Invoke {
-        call: Syscall::CapEnter,
-        ..
-    } = instruction
-    {
-        if let Some(bound) = bound {
-            add_taken(page, scene, &allowed, bound);
+    if let Some(at) = at {
+        if enters_mode(at.instruction) {
+            add_taken(page, scene, &allowed, at.bound);
+        }
+        if at.point != 0 {
+            return;
         }
     }
-    if found.point != 0 {
-        return;
-    }
     for (process, start) in scene.task.starts().iter().enumerate() {
-        if start.mode && start.program == found.program {
+        if start.mode && start.program == program {
             add_first(page, scene, &allowed, process, start);
         }
     }
@@ -106,9 +103,10 @@ fn add_operations(page: &mut Page, grant: &Grant) {
     }
 }
 
-/// Adds what the ceilings have, and what their grants list.
+/// Adds the ceilings whose grant doesn't list what their rights are for, and what it lists.
 fn add_ceilings(page: &mut Page, scene: &Scene<'_>, allowed: &Allowance<'_>) {
-    for ceiling in allowed.ceilings {
+    let ceilings = unlisted_ceilings(page.alloc(), scene.task, allowed);
+    for ceiling in &page.gathered(ceilings) {
         let name = ceiling.grant().as_bytes();
         page.pieces(&[Text("; the ceiling on "), Bytes(name), Text(" has ")]);
         add_rights(page, ceiling.rights());
@@ -123,16 +121,15 @@ fn add_ceilings(page: &mut Page, scene: &Scene<'_>, allowed: &Allowance<'_>) {
 /// Adds which ceilings let a name be moved.
 fn add_moves(page: &mut Page, allowed: &Allowance<'_>) {
     for source in allowed.ceilings {
-        for target in allowed.ceilings {
-            if !stays_in(source, target) {
-                page.pieces(&[
-                    Text("; the ceiling on "),
-                    Bytes(source.grant().as_bytes()),
-                    Text(" has RENAMEAT_SOURCE, the one on "),
-                    Bytes(target.grant().as_bytes()),
-                    Text(" has RENAMEAT_TARGET"),
-                ]);
-            }
+        let targets = moved_into(page.alloc(), source, allowed);
+        for target in &page.gathered(targets) {
+            page.pieces(&[
+                Text("; the ceiling on "),
+                Bytes(source.grant().as_bytes()),
+                Text(" has RENAMEAT_SOURCE, the one on "),
+                Bytes(target.grant().as_bytes()),
+                Text(" has RENAMEAT_TARGET"),
+            ]);
         }
     }
 }
@@ -155,30 +152,24 @@ fn add_line(page: &mut Page, channel: Option<&Channel>, class: &Class, side: Sid
 
 /// Adds what may come by the listed ends that isn't within.
 fn add_received(page: &mut Page, scene: &Scene<'_>, allowed: &Allowance<'_>) {
-    for end in allowed.ends {
+    let ends = received_beyond(page.alloc(), scene.cert, allowed);
+    for end in &page.gathered(ends) {
         let (class, side) = (end.class(), other(end.side()));
-        if !may_come(scene.cert, allowed, &class, side) {
-            let channel = channel_at(scene.cert, &class, side);
-            add_line(page, channel, &class, side);
-            let comes = match channel {
-                None => None,
-                Some(channel) => channel.sends(),
-            };
-            if let Some(held) = &comes {
-                add_ceiling(page, scene, allowed, &held.target());
-            }
+        let channel = channel_at(scene.cert, &class, side);
+        add_line(page, channel, &class, side);
+        if let Some(held) = channel.and_then(|channel| channel.sends()) {
+            add_ceiling(page, scene, allowed, &held.target());
         }
     }
 }
 
 /// Adds which channels of the listed ends don't let everything through.
 fn add_sent(page: &mut Page, scene: &Scene<'_>, allowed: &Allowance<'_>) {
-    for end in allowed.ends {
+    let ends = narrow_ends(page.alloc(), scene.cert, allowed);
+    for end in &page.gathered(ends) {
         let (class, side) = (end.class(), end.side());
-        if !is_widest(scene.cert, &class, side) {
-            add_line(page, channel_at(scene.cert, &class, side), &class, side);
-            page.text(", and has to have unknown 0000 3fff 0 3");
-        }
+        add_line(page, channel_at(scene.cert, &class, side), &class, side);
+        page.text(", and has to have unknown 0000 3fff 0 3");
     }
 }
 
@@ -191,13 +182,12 @@ pub(crate) fn add_bounded(page: &mut Page, bound: &Bound) {
 }
 
 /// Adds what one of the rules K19 to K22 compares of a program's authority.
-pub(crate) fn add_authority(page: &mut Page, scene: &Scene<'_>, name: &Name, rule: u8) {
+pub(crate) fn add_authority(page: &mut Page, scene: &Scene<'_>, name: &Name, rule: AuthorityRule) {
     let allowed = allowance_at(scene.cert, name);
     match rule {
-        19 => add_ceilings(page, scene, &allowed),
-        20 => add_moves(page, &allowed),
-        21 => add_received(page, scene, &allowed),
-        22 => add_sent(page, scene, &allowed),
-        _ => {}
+        AuthorityRule::Ceilings => add_ceilings(page, scene, &allowed),
+        AuthorityRule::Moves => add_moves(page, &allowed),
+        AuthorityRule::Received => add_received(page, scene, &allowed),
+        AuthorityRule::Sent => add_sent(page, scene, &allowed),
     }
 }

@@ -1,8 +1,11 @@
 //! What the search for a certificate came to.
 
-ghost use Rattle.std.specs.Prelude.{◌≡◌, IfOk, true};
+ghost use Rattle.std.specs.Prelude.{◌≡◌, ◌==◌, ◌||◌, IfOk, Some, false, true};
+ghost use Rattle.std.specs.List.{list_any};
 ghost use Rattle.certificate.specs.Bounds.{Certificate};
+ghost use Rattle.checker.specs.RuleViews.{rule_number};
 ghost use Rattle.checker.specs.Verdicts.{IsAccepted};
+ghost use Rattle.searcher.specs.Flat.{flat};
 
 use crate::listing::add_listing;
 use crate::refusing::add_findings;
@@ -64,7 +67,7 @@ fn opened_path(instruction: &Instruction) -> Option<&[u8]> {
 }
 
 /// Adds that the grant of a path would be needed, which is opened at a point.
-fn add_open(page: &mut Page, scene: &Scene<'_>, program: usize, point: usize, path: &[u8]) {
+fn add_open(page: &mut Page, scene: &Scene<'_>, program: u8, point: usize, path: &[u8]) {
     page.text("a grant of ");
     page.bytes(path);
     page.text(" would be needed, if it is a directory: ");
@@ -78,7 +81,7 @@ fn add_opens(page: &mut Page, scene: &Scene<'_>) {
         for (point, instruction) in named.program.code().iter().enumerate() {
             if let Some(path) = opened_path(instruction) {
                 if !is_granted(scene.task, path) {
-                    add_open(page, scene, program, point, path);
+                    add_open(page, scene, program as u8, point, path);
                 }
             }
         }
@@ -111,10 +114,12 @@ fn add_first(page: &mut Page, scene: &Scene<'_>) {
 }
 
 /// Whether a rule is broken by what lies in no grant.
-fn wants_grant(found: &[BrokenRule]) -> bool {
+fn wants_grant(found: &[BrokenRule]) -> bool
+    ensures { result ≡ list_any (λ finding. (rule_number finding.rule == 10) || (rule_number finding.rule == 12)) found.now }
+{
     found
         .iter()
-        .any(|finding| finding.rule == 10 || finding.rule == 12)
+        .any(|finding| matches!(finding.rule.number(), 10 | 12))
 }
 
 /// Adds what the search came to. Whether it finds a certificate.
@@ -125,7 +130,8 @@ pub(crate) fn add_unfound(
     texts: &[ProgramText],
     task: &Task,
 ) -> Result<bool, Memory>
-    ensures { IfOk result (λ is_found. is_found ≡ true → (found : Certificate) × IsAccepted task.now found) }
+    ensures found { IfOk result (λ is_found. is_found ≡ true → (found : Certificate) × IsAccepted task.now found) }
+    ensures unfound { IfOk result (λ is_found. is_found ≡ false → (bounds : Certificate) → flat task.now ≡ Some bounds → IsAccepted task.now bounds → ⊥) }
 {
     if let Some(_found) = search(alloc, task)? {
         page.text("a certificate is found: `capcheck search` prints it\n");
@@ -145,12 +151,12 @@ pub(crate) fn add_unfound(
         cert: &expanded,
     };
     let found = all_findings(alloc, task, &cert)?;
-    add_findings(alloc, page, &scene, &found);
+    add_findings(page, &scene, &found);
     if wants_grant(&found) {
         add_opens(page, &scene);
         add_first(page, &scene);
     }
     page.text("\nThe bounds that the search reached:\n");
-    add_listing(alloc, page, &scene, true);
+    add_listing(page, &scene, true);
     Ok(false)
 }

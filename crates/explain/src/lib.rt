@@ -7,8 +7,10 @@ pub mod answering;
 mod arriving;
 mod authority_rules;
 mod breaching;
+mod breaking;
 mod call_rules;
 mod failing;
+pub mod laws;
 mod listing;
 mod naming;
 mod older;
@@ -21,7 +23,6 @@ mod sentences;
 mod starting;
 mod task_faults;
 mod usage;
-mod uses;
 
 pub use answering::serve;
 pub use questions::{Question, read_question};

@@ -4,7 +4,6 @@ use crate::naming::{add_rights, add_target, mode_name};
 use crate::remarks::add_remarks;
 use crate::scenes::{Scene, short};
 use certificate::{Bound, Held, Slot, slots_within};
-use std::alloc::Global;
 use task_text::Page;
 use task_text::Piece::{Bytes, Number, Text};
 
@@ -67,7 +66,7 @@ fn add_point(
 
 /// Adds each program with its remarks; the bounds are those of the certificate, if there is one. The numbers of a table are told
 /// where they aren't those of the point before.
-pub(crate) fn add_listing(alloc: Global, page: &mut Page, scene: &Scene<'_>, has_cert: bool) {
+pub(crate) fn add_listing(page: &mut Page, scene: &Scene<'_>, has_cert: bool) {
     for (number, program) in scene.task.programs().iter().enumerate() {
         let name = program.name.as_bytes();
         page.pieces(&[Bytes(name), Text("\n")]);
@@ -87,6 +86,6 @@ pub(crate) fn add_listing(alloc: Global, page: &mut Page, scene: &Scene<'_>, has
                 before = Some(bound);
             }
         }
-        add_remarks(alloc, page, scene, number, has_cert);
+        add_remarks(page, scene, number, has_cert);
     }
 }

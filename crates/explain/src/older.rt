@@ -101,18 +101,18 @@ fn add_move(page: &mut Page, program: &[u8], moved: Move) {
 
 /// Adds, for each program whose bounds in version 2 or 3 stand at points that nothing names, and would all stand at named ones if
 /// some of them had moved, that they have.
-pub(crate) fn add_older(alloc: Global, page: &mut Page, task: &Task, cert: &Cert) {
+pub(crate) fn add_older(page: &mut Page, task: &Task, cert: &Cert) {
     if cert.version() == Version::One {
         return;
     }
     for program in task.programs() {
         let name = program.name.as_bytes();
         let code = program.program.code();
-        let (Ok(points), Ok(flags)) = (points_of(alloc, cert, name), named_points(alloc, code))
-        else {
-            page.fail();
-            return;
-        };
+        let (points, flags) = (
+            points_of(page.alloc(), cert, name),
+            named_points(page.alloc(), code),
+        );
+        let (points, flags) = (page.gathered(points), page.gathered(flags));
         let stays = Move {
             from: 0,
             far: 0,

@@ -3,28 +3,22 @@
 use crate::scenes::Scene;
 use crate::sentences::add_rule;
 use checker::BrokenRule;
-use std::alloc::Global;
 use task_text::Page;
 use task_text::Piece::{Bytes, Text};
 
 /// Adds the line of a point: its instruction as it is written.
 fn add_head(page: &mut Page, scene: &Scene<'_>, found: BrokenRule) {
-    let (program, point) = (usize::from(found.program), usize::from(found.point));
-    scene.add_point(page, program, point);
+    let point = usize::from(found.point);
+    scene.add_point(page, found.program, point);
     page.pieces(&[
         Text(": "),
-        Bytes(scene.written(program, point).text),
+        Bytes(scene.written(usize::from(found.program), point).text),
         Text("\n"),
     ])
 }
 
 /// Adds the rules that are broken, point by point.
-pub(crate) fn add_findings(
-    alloc: Global,
-    page: &mut Page,
-    scene: &Scene<'_>,
-    found: &[BrokenRule],
-) {
+pub(crate) fn add_findings(page: &mut Page, scene: &Scene<'_>, found: &[BrokenRule]) {
     let mut last = None;
     for finding in found {
         let here = (finding.program, finding.point);
@@ -32,6 +26,6 @@ pub(crate) fn add_findings(
             last = Some(here);
             add_head(page, scene, *finding);
         }
-        add_rule(alloc, page, scene, *finding);
+        add_rule(page, scene, *finding);
     }
 }

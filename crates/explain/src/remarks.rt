@@ -3,7 +3,6 @@
 use crate::naming::add_rights;
 use crate::reaching::{points_reached, rights_used};
 use crate::scenes::{Scene, short};
-use crate::uses::open_slot;
 use certificate::{Bound, Domain, Target};
 use instruction_set::{Instruction, Operand};
 use rights::Rights;
@@ -122,7 +121,6 @@ fn flags_of(alloc: Global, code: &[Instruction], flag: bool) -> Result<Vec<bool>
 
 /// Remarks that a process of the program never enters the mode.
 fn add_outside(
-    alloc: Global,
     page: &mut Page,
     scene: &Scene<'_>,
     program: usize,
@@ -145,10 +143,8 @@ fn add_outside(
     if !starts_free || is_entered {
         return;
     }
-    let Ok(flags) = flags_of(alloc, bounded.code, true) else {
-        page.fail();
-        return;
-    };
+    let flags = flags_of(page.alloc(), bounded.code, true);
+    let flags = page.gathered(flags);
     let text = " never enters the mode, and a yes does not bound what it does to the tree,";
     add_remark(page, bounded.name, text, &flags)
 }
@@ -168,11 +164,9 @@ fn add_untrusted(page: &mut Page, bounded: &Bounded<'_>) {
 }
 
 /// Remarks where no point leads.
-fn add_unreached(alloc: Global, page: &mut Page, bounded: &Bounded<'_>, has_cert: bool) {
-    let Ok(mut flags) = points_reached(alloc, bounded.code) else {
-        page.fail();
-        return;
-    };
+fn add_unreached(page: &mut Page, bounded: &Bounded<'_>, has_cert: bool) {
+    let flags = points_reached(page.alloc(), bounded.code);
+    let mut flags = page.gathered(flags);
     for (point, flag) in flags.iter_mut().enumerate() {
         let is_bound = matches!(bounded.bounds.get(point), Some(Some(_)));
         *flag = if has_cert { !is_bound } else { !*flag };
@@ -186,11 +180,9 @@ fn add_unreached(alloc: Global, page: &mut Page, bounded: &Bounded<'_>, has_cert
 }
 
 /// Remarks where, in the mode, a number may hold what lies in no grant.
-fn add_strays(alloc: Global, page: &mut Page, bounded: &Bounded<'_>, number: u32) {
-    let Ok(mut flags) = flags_of(alloc, bounded.code, false) else {
-        page.fail();
-        return;
-    };
+fn add_strays(page: &mut Page, bounded: &Bounded<'_>, number: u32) {
+    let flags = flags_of(page.alloc(), bounded.code, false);
+    let mut flags = page.gathered(flags);
     for (point, flag) in flags.iter_mut().enumerate() {
         if let Some(Some(bound)) = bounded.bounds.get(point) {
             if let Some(held) = bound.slot(number).held() {
@@ -200,7 +192,7 @@ fn add_strays(alloc: Global, page: &mut Page, bounded: &Bounded<'_>, number: u32
             }
         }
     }
-    let mut subject = Page::new(alloc);
+    let mut subject = Page::new(page.alloc());
     subject.pieces(&[Text("descriptor "), Number(number)]);
     if subject.finish().is_err() {
         page.fail();
@@ -252,9 +244,9 @@ fn add_limit(page: &mut Page, number: u32, point: usize, most: Rights) {
 }
 
 /// Remarks to what a number could be limited.
-fn add_limits(alloc: Global, page: &mut Page, bounded: &Bounded<'_>, number: u32) {
+fn add_limits(page: &mut Page, bounded: &Bounded<'_>, number: u32) {
     for (point, _instruction) in bounded.code.iter().enumerate() {
-        match limit_at(alloc, bounded, number, point) {
+        match limit_at(page.alloc(), bounded, number, point) {
             Ok(None) => {}
             Ok(Some(most)) => add_limit(page, number, point, most),
             Err(AllocError) => page.fail(),
@@ -267,11 +259,11 @@ fn add_closed(page: &mut Page, bounded: &Bounded<'_>, point: usize, through: Opt
     let Some(through) = through else {
         return;
     };
-    let operand = through.operand;
-    let (Some(Some(bound)), Operand::Number(number)) = (bounded.bounds.get(point), operand) else {
+    let (Some(Some(bound)), Operand::Number(number)) = (bounded.bounds.get(point), through.operand)
+    else {
         return;
     };
-    if open_slot(bound, &operand, number as usize).is_none() {
+    if bound.slot(number).held().is_none() {
         page.pieces(&[
             Text("  remark: descriptor "),
             Number(number),
@@ -294,26 +286,20 @@ fn add_all_closed(page: &mut Page, bounded: &Bounded<'_>) {
 }
 
 /// Adds the remarks on a program.
-pub(crate) fn add_remarks(
-    alloc: Global,
-    page: &mut Page,
-    scene: &Scene<'_>,
-    program: usize,
-    has_cert: bool,
-) {
-    let Ok(bounded) = with_bounds(alloc, scene, program) else {
+pub(crate) fn add_remarks(page: &mut Page, scene: &Scene<'_>, program: usize, has_cert: bool) {
+    let Ok(bounded) = with_bounds(page.alloc(), scene, program) else {
         page.fail();
         return;
     };
-    add_outside(alloc, page, scene, program, &bounded, has_cert);
+    add_outside(page, scene, program, &bounded, has_cert);
     add_untrusted(page, &bounded);
-    add_unreached(alloc, page, &bounded, has_cert);
+    add_unreached(page, &bounded, has_cert);
     if !has_cert {
         return;
     }
     for number in 0..MAX_DESCRIPTORS {
-        add_strays(alloc, page, &bounded, short(number));
-        add_limits(alloc, page, &bounded, short(number));
+        add_strays(page, &bounded, short(number));
+        add_limits(page, &bounded, short(number));
     }
     add_all_closed(page, &bounded);
 }

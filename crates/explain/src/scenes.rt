@@ -1,11 +1,15 @@
 //! What is explained: a task with its file, and a certificate in which all bounds are written.
 
+ghost use Rattle.std.specs.Prelude.{◌≡◌, true};
+ghost use Rattle.instruction_set.specs.Views.{instruction_of};
+ghost use Rattle.transfer.specs.Limits.{leaves_known};
+
 use certificate::{Bound, Cert, Name};
-use checker::instruction_at;
 use instruction_set::Instruction;
 use task::Task;
 use task_text::Piece::{Bytes, Number, Text};
 use task_text::{Page, ProgramText, Written};
+use transfer::Site;
 
 /// A task with its file, and a certificate in which all bounds are written.
 #[derive(Clone, Copy)]
@@ -18,11 +22,26 @@ pub(crate) struct Scene<'a> {
 
 /// A point of a program that has a bound.
 #[derive(Clone, Copy)]
-pub(crate) struct Spot<'a> {
+pub(crate) struct BoundedPoint<'a> {
     pub name: &'a Name,
+    pub program: u8,
     pub point: u8,
     pub bound: &'a Bound,
     pub instruction: &'a Instruction,
+    pub ghost known: { leaves_known (instruction_of instruction.now) ≡ true },
+}
+
+impl<'a> BoundedPoint<'a> {
+    /// The point in a task with a certificate.
+    pub(crate) fn site(&self, scene: &Scene<'a>) -> Site<'a> {
+        Site {
+            task: scene.task,
+            cert: scene.cert,
+            name: self.name,
+            point: self.point,
+            bound: self.bound,
+        }
+    }
 }
 
 impl<'a> Scene<'a> {
@@ -34,34 +53,35 @@ impl<'a> Scene<'a> {
         }
     }
 
-    /// The instruction of a point.
-    pub(crate) fn instruction(&self, program: usize, point: usize) -> Option<&'a Instruction> {
-        match (u8::try_from(program), u8::try_from(point)) {
-            (Ok(program), Ok(point)) => instruction_at(self.task, program, point),
-            _ => None,
+    /// The name of a program.
+    pub(crate) fn name(&self, program: u8) -> Option<Name> {
+        Name::read(self.task.program_name(program))
+    }
+
+    /// How many points a program has.
+    pub(crate) fn length(&self, program: u8) -> usize {
+        match self.task.programs().get(usize::from(program)) {
+            Some(program) => program.program.code().len(),
+            None => 0,
         }
     }
 
-    /// The name of a program.
-    pub(crate) fn name(&self, program: usize) -> Option<Name> {
-        match self.task.programs().get(program) {
-            Some(program) => Name::read(program.name.as_bytes()),
-            None => None,
+    /// Whether a program is untrusted.
+    pub(crate) fn is_untrusted(&self, program: u8) -> bool {
+        match self.task.programs().get(usize::from(program)) {
+            Some(program) => program.untrusted,
+            None => false,
         }
     }
 
     /// Adds a point with its line: `main:2 (line 31)`.
-    pub(crate) fn add_point(&self, page: &mut Page, program: usize, point: usize) {
-        let name = match self.task.programs().get(program) {
-            Some(program) => program.name.as_bytes(),
-            None => &[],
-        };
+    pub(crate) fn add_point(&self, page: &mut Page, program: u8, point: usize) {
         page.pieces(&[
-            Bytes(name),
+            Bytes(self.task.program_name(program)),
             Text(":"),
             Number(short(point)),
             Text(" (line "),
-            Number(self.written(program, point).line),
+            Number(self.written(usize::from(program), point).line),
             Text(")"),
         ])
     }

@@ -68,6 +68,26 @@ impl Page {
         self.is_short = true;
     }
 
+    /// Where its memory comes from.
+    pub fn alloc(&self) -> Global {
+        *self.bytes.allocator()
+    }
+
+    /// A list that was gathered for the page. Where memory was refused for that it is empty, and `finish` says so.
+    pub fn gathered<T: Drop>(&mut self, list: Result<Vec<T>, AllocError>) -> Vec<T>
+        ensures list { IfOk list (λ items. result ≡ items) }
+        ensures whole { OnOk list (self.new ≡ self.old) }
+        ensures short { OnErr list (self.new.is_short ≡ true) }
+    {
+        match list {
+            Ok(items) => items,
+            Err(AllocError) => {
+                self.fail();
+                Vec::new(self.alloc())
+            }
+        }
+    }
+
     /// Adds bytes.
     pub fn bytes(&mut self, bytes: &[u8])
         ensures { Adds self.old self.new bytes.now }

@@ -4,3 +4,4 @@ pub mod Repeated
 pub mod Keeping
 pub mod EachTested
 pub mod Known
+pub mod Failures

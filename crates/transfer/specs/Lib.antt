@@ -1,4 +1,5 @@
 pub mod CallViews
+pub mod FailingViews
 pub mod GivenViews
 pub mod Kept
 pub mod Limits

@@ -73,10 +73,10 @@ pub fn all_slots_pass<T: SlotTest>(bound: &Bound, operand: Operand, test: &T) ->
 
 /// A test of uses as one of slots, where the bound and the need are known.
 #[derive(Drop)]
-struct Asked<'a, T> {
-    bound: &'a Bound,
-    need: &'a Need,
-    test: &'a T,
+pub(crate) struct Asked<'a, T> {
+    pub bound: &'a Bound,
+    pub need: &'a Need,
+    pub test: &'a T,
 }
 
 impl<'a, T: UseTest> SlotTest for Asked<'a, T> {

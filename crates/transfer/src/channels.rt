@@ -68,10 +68,10 @@ fn receives_known(cert: &Cert, target: &Target) -> bool
     }
 }
 
-/// The test whether the channel is known that a call uses.
+/// The test whether the channel has a line that a call uses by a slot. (own, after sendmsg(2) and recvmsg(2))
 #[derive(Clone, Copy)]
-struct HasChannel<'a> {
-    cert: &'a Cert,
+pub struct HasChannel<'a> {
+    pub cert: &'a Cert,
 }
 
 impl<'a> UseTest for HasChannel<'a> {

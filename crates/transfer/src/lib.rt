@@ -7,6 +7,7 @@ mod calls;
 pub mod carrying;
 pub mod channels;
 pub mod demands;
+pub mod failing;
 mod given;
 pub mod instructions;
 pub mod intervals;
@@ -18,8 +19,9 @@ pub mod uses;
 
 pub use asks::{SlotTest, UseTest, all_slots_pass, all_uses_pass};
 pub use carrying::carried_on;
-pub use channels::{all_have_channels, channel_at, other};
+pub use channels::{HasChannel, all_have_channels, channel_at, other};
 pub use demands::{Demands, demanded, keeps_beneath, keeps_numbers, keeps_single};
+pub use failing::{OpenSlot, failing_slots, failing_through};
 pub use instructions::{enters_mode, failure, successes_pass};
 pub use outcomes::{Change, Outcome};
 pub use slots::{FreeNumbers, Takes, free_numbers, is_single, may_be_on, operand_interval};

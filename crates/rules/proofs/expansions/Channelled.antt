@@ -131,6 +131,14 @@ module _ (plan : Plan) (c : Certificate) where
   pub expansion_channels : (through : List Use) → all_have_channels (expansion plan c) through ≡ all_have_channels c through
   expansion_channels through = channels-in c.version through
 
+  has-in : (v : Version) (u : Use) (p : Passing) → has_channel (expanded v plan c) u p ≡ has_channel c u p
+  has-in One u p = refl
+  has-in Two u p = has_channel_same One (expanded_points plan c) c u p
+  has-in Three u p = has_channel_same c.version (expanded_points plan c) c u p
+
+  pub expansion_has : (u : Use) (p : Passing) → has_channel (expansion plan c) u p ≡ has_channel c u p
+  expansion_has u p = has-in c.version u p
+
   keeps-in : (v : Version) (u : Use) (p : Passing) → keeps_channel_bound (expanded v plan c) u p ≡ keeps_channel_bound c u p
   keeps-in One u p = refl
   keeps-in Two u p = keeps_same One (expanded_points plan c) c u p

@@ -1,0 +1,64 @@
+-- What is no answer, by the files that are told.
+use Rattle.std.proofs.Common.{◌≡◌, ℕ, List, Some, refl, inl, inr, subst, sym, ◌∙◌}
+use Rattle.std.specs.Prelude.{Option, Result, Ok}
+use Rattle.certificate.specs.Bounds.{Certificate}
+use Rattle.certificate_text.specs.Readings.{certificate_of_text}
+use Rattle.checker.specs.Verdicts.{IsAccepted}
+use Rattle.searcher.specs.Flat.{flat}
+use Rattle.task.specs.Plans.{Plan}
+use Rattle.task_reader.specs.Reading.{task_of}
+use Rattle.explain.specs.Answered.{Answers, SaysBroken, SaysFound, SaysOfFiles, SaysOfSearch, SaysWhether}
+use Rattle.explain.specs.Questions.{Broken, Unfound}
+use Rattle.explain.specs.NoAnswers.{NoSaysWhether, NoneSaysWhether}
+
+same_some : {A : Type 0} {x y : A} → Some x ≡ Some y → x ≡ y
+same_some same = cc
+
+same_ok : {A E : Type 0} {x y : A} → Ok {A} {E} x ≡ Ok y → x ≡ y
+same_ok same = cc
+
+never_both : (Holds : Type 0) → SaysWhether 0 Holds → Holds
+never_both Holds (inl says) = says.1
+never_both Holds (inr says) = absurd cc
+
+denied : (Holds : Type 0) → SaysWhether 1 Holds → Holds → ⊥
+denied Holds (inl says) holds = cc
+denied Holds (inr says) holds = says.1 holds
+
+module _ (text bounds_text : List ℕ) (plan : Plan) (bounds : Certificate) (is_task : task_of text ≡ Ok plan) (is_bounds : certificate_of_text bounds_text ≡ Ok bounds) where
+  accepted_if : (told told_bounds : List ℕ) (is : told ≡ text) (is_told : told_bounds ≡ bounds_text) → SaysBroken 0 told told_bounds → IsAccepted plan bounds
+  accepted_if told told_bounds is is_told says =
+      let plan_is : says.plan ≡ plan = same_ok (sym says.is_task ∙ (λ k. task_of (is k)) ∙ is_task) in
+      let bounds_is : says.bounds ≡ bounds = same_ok (sym says.is_certificate ∙ (λ k. certificate_of_text (is_told k)) ∙ is_bounds) in
+      subst (λ (b : Certificate). IsAccepted plan b) bounds_is (subst (λ (p : Plan). IsAccepted p says.bounds) plan_is (never_both (IsAccepted says.plan says.bounds) says.says))
+
+  refused_if : (told told_bounds : List ℕ) (is : told ≡ text) (is_told : told_bounds ≡ bounds_text) → SaysBroken 1 told told_bounds → IsAccepted plan bounds → ⊥
+  refused_if told told_bounds is is_told says accepted =
+      let plan_is : says.plan ≡ plan = same_ok (sym says.is_task ∙ (λ k. task_of (is k)) ∙ is_task) in
+      let bounds_is : says.bounds ≡ bounds = same_ok (sym says.is_certificate ∙ (λ k. certificate_of_text (is_told k)) ∙ is_bounds) in
+      denied (IsAccepted says.plan says.bounds) says.says
+      (subst (λ (p : Plan). IsAccepted p says.bounds) (sym plan_is) (subst (λ (b : Certificate). IsAccepted plan b) (sym bounds_is) accepted))
+
+pub no_says : NoSaysWhether
+no_says = record {
+  refused = λ files task certificate text bounds_text plan bounds before after is_text is_bounds is_task is_certificate refused answers.
+      refused (accepted_if text bounds_text plan bounds is_task is_certificate answers.text answers.bounds_text
+      (same_some (sym answers.is_file ∙ is_text)) (same_some (sym answers.is_bounds ∙ is_bounds)) answers.says);
+  accepted = λ files task certificate text bounds_text plan bounds before after is_text is_bounds is_task is_certificate accepted answers.
+      refused_if text bounds_text plan bounds is_task is_certificate answers.text answers.bounds_text
+      (same_some (sym answers.is_file ∙ is_text)) (same_some (sym answers.is_bounds ∙ is_bounds)) answers.says accepted;
+}
+
+plan_of : (text told : List ℕ) (plan : Plan) (status : ℕ) → task_of text ≡ Ok plan → told ≡ text → (says : SaysFound status told) → says.plan ≡ plan
+plan_of text told plan status is_task is says = same_ok (sym says.is_task ∙ (λ k. task_of (is k)) ∙ is_task)
+
+pub none_says : NoneSaysWhether
+none_says = record {
+  unfit = λ files task text plan before after is_text is_task none answers.
+      let plan_is = plan_of text answers.text plan 0 is_task (same_some (sym answers.is_file ∙ is_text)) answers.says in
+      let found = answers.says.found refl in
+      none found.0 (subst (λ (p : Plan). IsAccepted p found.0) plan_is found.1);
+  fits = λ files task text plan bounds before after is_text is_task is_flat accepted answers.
+      let plan_is = plan_of text answers.text plan 1 is_task (same_some (sym answers.is_file ∙ is_text)) answers.says in
+      answers.says.unfound refl bounds (subst (λ (p : Plan). flat p ≡ Some bounds) (sym plan_is) is_flat) (subst (λ (p : Plan). IsAccepted p bounds) (sym plan_is) accepted);
+}
