@@ -33,8 +33,6 @@ use Rattle.commands.specs.Fails.{Fails, LacksMemory, WordsFail, asked_for, not_a
 use Rattle.commands.specs.Faults.{Fault, Refused, No_memory, No_output}
 use Rattle.commands.specs.FaultViews.{fault_of, stop_fault}
 use Rattle.commands.specs.Files.{Files, IsRead, IsTask}
-use Rattle.commands.specs.Judged.{Judges}
-use Rattle.commands.specs.Reports.{Reports}
 use Rattle.commands.specs.Served.{DoesOrder, Serves}
 
 -- ## The events of a schedule have bytes
@@ -99,8 +97,8 @@ limited-ok (Ok all) events is = ap Ok (go (nat_le (length all) 65536) is)
 schedule-events : (text : List ℕ) (events : List Event) → schedule_of text ≡ Ok events → AreEvents events
 schedule-events text events is = lines-events 1 (parts 10 text) events (limited-ok (events_from 1 (parts 10 text)) events is)
 
--- ## Traces, verdicts and expansions
-task-valid : (text : List ℕ) (plan : Plan) → task_of text ≡ Ok plan → is_plan plan ≡ true
+-- ## Traces and expansions
+pub task-valid : (text : List ℕ) (plan : Plan) → task_of text ≡ Ok plan → is_plan plan ≡ true
 unfolding task_of
 task-valid text plan is =
     let p = ok-some Not_toml (document_of text) plan_in plan is in
@@ -147,26 +145,6 @@ expansion-begun files task certificate plan bounds before after is_task is_certi
   status = 0;
   text = begun.text;
   whole = (refl, record { plan = plan; is_task = is_task; value = bounds; is_value = is_certificate; holds = begun.whole });
-  begun = begun.begun;
-}
-
-pub verdict-begun : (files : Files) (task certificate : List ℕ) (plan : Plan) (bounds : Certificate) (before after : Option (List ℕ)) →
-    IsTask files task plan → IsRead files certificate certificate_of_text (Ok bounds) → HasBegun (Judges plan bounds) before after →
-    HasBegun (DoesOrder files (Check task certificate)) before after
-verdict-begun files task certificate plan bounds before after is_task is_certificate begun = record {
-  status = begun.status;
-  text = begun.text;
-  whole = record { plan = plan; is_task = is_task; value = bounds; is_value = is_certificate; holds = begun.whole };
-  begun = begun.begun;
-}
-
-pub report-begun : (files : Files) (task certificate : List ℕ) (plan : Plan) (bounds : Certificate) (before after : Option (List ℕ)) →
-    IsTask files task plan → IsRead files certificate certificate_of_text (Ok bounds) → HasBegun (Reports plan bounds) before after →
-    HasBegun (DoesOrder files (Report task certificate)) before after
-report-begun files task certificate plan bounds before after is_task is_certificate begun = record {
-  status = begun.status;
-  text = begun.text;
-  whole = record { plan = plan; is_task = is_task; value = bounds; is_value = is_certificate; holds = begun.whole };
   begun = begun.begun;
 }
 

@@ -1,35 +1,62 @@
--- A verdict or a report of which a beginning was written.
-use Rattle.std.proofs.Common.{◌≡◌, List, ℕ, ap, refl}
-use Rattle.std.specs.Prelude.{Option, Some, true}
+-- Verdicts that are told, and what a yes means.
+use Rattle.std.proofs.Common.{◌≡◌, ◌∙◌, List, ℕ, refl, subst, sym}
+use Rattle.std.specs.Prelude.{Option, Ok}
 use Rattle.rights.specs.Output.{TookFront}
 use Rattle.certificate.specs.Bounds.{Certificate}
-use Rattle.checker.specs.Verdicts.{Verdict, Yes, IsVerdict}
-use Rattle.task.specs.Plans.{Plan, none_marked}
-use Rattle.task.specs.Confined.{IsConfined}
-use Rattle.task.specs.Sandboxed.{IsSandboxed}
+use Rattle.certificate_text.specs.Readings.{certificate_of_text}
+use Rattle.checker.specs.Verdicts.{Verdict, Yes, No, IsAccepted, IsVerdict}
+use Rattle.command_line.specs.Orders.{Order, Example, Run, Check, Report, Search, Expand, AsksFor, order_words}
+use Rattle.rules.specs.Expansions.{expansion}
+use Rattle.rules.proofs.Sound.{confining, sound}
+use Rattle.task.specs.Plans.{Plan}
 use Rattle.commands.specs.Begun.{HasBegun}
+use Rattle.commands.specs.Files.{Files, IsRead, IsTask, OfFiles}
 use Rattle.commands.specs.Judged.{Judges, verdict_status, verdict_text}
-use Rattle.commands.specs.Reports.{Reports, answer_text}
+use Rattle.commands.specs.Served.{DoesOrder, Serves, StaysInside}
+use Rattle.commands.proofs.Begun.{task-valid}
 
-pub verdict_begun :
-    (plan : Plan) (bounds : Certificate) (verdict : Verdict) (text : List ℕ) (before after : Option (List ℕ))
-    → IsVerdict plan bounds verdict → (verdict ≡ Yes → none_marked plan ≡ true → IsSandboxed plan) → (verdict ≡ Yes → IsConfined plan)
-    → text ≡ verdict_text plan verdict → TookFront before after text → HasBegun (Judges plan bounds) before after
-verdict_begun plan bounds verdict text before after is sound confined told begun = record {
+-- A verdict on two files of which a beginning was told.
+pub judged-begun : (files : Files) (task certificate : List ℕ) (text_of : Plan → Certificate → Verdict → List ℕ) (plan : Plan) (bounds : Certificate)
+    (verdict : Verdict) (before after : Option (List ℕ)) → IsTask files task plan → IsRead files certificate certificate_of_text (Ok bounds) →
+    IsVerdict plan bounds verdict → TookFront before after (text_of plan bounds verdict) →
+    HasBegun (λ status before after. OfFiles files task certificate certificate_of_text (λ plan bounds. Judges plan bounds (text_of plan bounds) status before after)) before after
+judged-begun files task certificate text_of plan bounds verdict before after is_task is_certificate is begun = record {
   status = verdict_status verdict;
-  text = text;
-  whole = record { verdict = verdict; is = is; status_is = refl; sound = sound; confined = confined; writes = ap Some told };
+  text = text_of plan bounds verdict;
+  whole =
+      record {
+        plan = plan;
+        is_task = is_task;
+        value = bounds;
+        is_value = is_certificate;
+        holds = record { verdict = verdict; is = is; status_is = refl; writes = refl };
+      };
   begun = begun;
 }
 
-pub report_begun :
-    (plan : Plan) (bounds : Certificate) (verdict : Verdict) (before after : Option (List ℕ)) → IsVerdict plan bounds verdict
-    → (verdict ≡ Yes → none_marked plan ≡ true → IsSandboxed plan) → (verdict ≡ Yes → IsConfined plan)
-    → TookFront before after (answer_text plan bounds verdict)
-    → HasBegun (Reports plan bounds) before after
-report_begun plan bounds verdict before after is sound confined begun = record {
-  status = verdict_status verdict;
-  text = answer_text plan bounds verdict;
-  whole = record { verdict = verdict; is = is; status_is = refl; sound = sound; confined = confined; writes = refl };
-  begun = begun;
-}
+accepts : (plan : Plan) (bounds : Certificate) (verdict : Verdict) → IsVerdict plan bounds verdict → 0 ≡ verdict_status verdict → IsAccepted plan bounds
+accepts plan bounds Yes is status = is
+accepts plan bounds (No program point rule) is status = absurd cc
+
+same-check : (order : Order) (task certificate : List ℕ) → order_words order ≡ order_words (Check task certificate) → order ≡ Check task certificate
+same-check Example task certificate same = absurd cc
+same-check (Run t s) task certificate same = absurd cc
+same-check (Check t c) task certificate same = cc
+same-check (Report t c) task certificate same = absurd cc
+same-check (Search t) task certificate same = absurd cc
+same-check (Expand t c) task certificate same = absurd cc
+
+-- Where `check` ends with status 0, the task of its file stays inside.
+pub checked-inside : (files : Files) (words : List (List ℕ)) (before after : Option (List ℕ)) (task certificate : List ℕ) →
+    Serves files words 0 before after → AsksFor words (Check task certificate) → StaysInside files task
+checked-inside files words before after task certificate serves asks =
+    let same : serves.order ≡ Check task certificate = same-check serves.order task certificate (sym serves.asked.line ∙ asks.line) in
+    let done : DoesOrder files (Check task certificate) 0 before after = subst (λ (order : Order). DoesOrder files order 0 before after) same serves.done in
+    let valid = task-valid done.is_task.text done.plan done.is_task.is in
+    let accepted = accepts done.plan done.value done.holds.verdict done.holds.is done.holds.status_is in
+    record {
+      plan = done.plan;
+      is_task = done.is_task;
+      confined = confining done.plan (expansion done.plan done.value) valid accepted;
+      sandboxed = λ none. sound done.plan (expansion done.plan done.value) valid none accepted;
+    }

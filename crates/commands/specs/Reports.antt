@@ -1,22 +1,19 @@
 -- What is told of an accepted certificate: at each point the rights that a process may have in each grant, and those that a marked
 -- program may have whatever it does. (own)
-use Rattle.std.specs.Prelude.{◌≡◌, ◌==◌, ◌++◌, ℕ, true, List, [], ◌∷◌, codes, take, Option, Some, None, bit_or, if◌then◌else◌}
+use Rattle.std.specs.Prelude.{◌==◌, ◌++◌, ℕ, List, [], ◌∷◌, codes, take, Option, Some, None, bit_or, if◌then◌else◌}
 use Rattle.std.specs.Fmt.{decimal}
 use Rattle.std.specs.Str.{bytes_eq}
-use Rattle.rights.specs.Output.{Took}
 use Rattle.rights.specs.Sets.{is_within, right_names}
 use Rattle.texts.specs.Bytes.{comma}
 use Rattle.texts.specs.Parts.{joined}
 use Rattle.certificate.specs.Bounds.{Target, In_grant, Any_node, Socket, Unknown, Held, Slot, Bound, Certificate, bound_at, held_in}
 use Rattle.certificate_text.specs.Pieces.{in_order}
-use Rattle.checker.specs.Verdicts.{Verdict, Yes, No, IsVerdict}
+use Rattle.checker.specs.Verdicts.{Verdict, Yes, No}
 use Rattle.rules.specs.Authority.{authority_at, ceiling_in}
 use Rattle.rules.specs.Expansions.{expansion}
 use Rattle.instruction_set.specs.Programs.{Instruction}
-use Rattle.task.specs.Plans.{Grant, NamedProgram, Plan, none_marked}
-use Rattle.task.specs.Confined.{IsConfined}
-use Rattle.task.specs.Sandboxed.{IsSandboxed}
-use Rattle.commands.specs.Judged.{verdict_status, verdict_text}
+use Rattle.task.specs.Plans.{Grant, NamedProgram, Plan}
+use Rattle.commands.specs.Judged.{verdict_text}
 
 -- ## The rights in a grant
 -- The greatest rights of a descriptor in the grant of this name; none is said of one elsewhere.
@@ -99,11 +96,3 @@ report_text plan certificate = in_order (λ n. program_lines plan.grants certifi
 abbrev pub answer_text : Plan → Certificate → Verdict → List ℕ
 answer_text plan certificate Yes = report_text plan (expansion plan certificate)
 answer_text plan certificate (No program point rule) = verdict_text plan (No program point rule)
-
-pub record Reports (plan : Plan) (bounds : Certificate) (status : ℕ) (before after : Option (List ℕ)) : Type 0 where
-  pub verdict : Verdict
-  pub is : IsVerdict plan bounds verdict
-  pub status_is : status ≡ verdict_status verdict
-  pub sound : verdict ≡ Yes → none_marked plan ≡ true → IsSandboxed plan
-  pub confined : verdict ≡ Yes → IsConfined plan
-  pub writes : Took before after (answer_text plan bounds verdict)

@@ -1,15 +1,17 @@
 -- What the program has written when it says that it is done.
-use Rattle.std.specs.Prelude.{◌≡◌, ◌==◌, ◌||◌, ℕ, Bool, List, Option}
+use Rattle.std.specs.Prelude.{◌≡◌, ◌==◌, ◌||◌, ℕ, Bool, true, List, Option}
 use Rattle.command_line.specs.Orders.{Order, Example, Run, Check, Report, Search, Expand, AsksFor}
-use Rattle.task.specs.Plans.{Plan}
+use Rattle.task.specs.Confined.{IsConfined}
+use Rattle.task.specs.Plans.{Plan, none_marked}
+use Rattle.task.specs.Sandboxed.{IsSandboxed}
 use Rattle.certificate_text.specs.Readings.{certificate_of_text}
 use Rattle.simulator.specs.Schedules.{schedule_of}
 use Rattle.simulator.specs.Simulations.{WritesTrace}
 use Rattle.commands.specs.Examples.{example_events, first_plan}
 use Rattle.commands.specs.Expanded.{Expands}
 use Rattle.commands.specs.Files.{Files, IsTask, OfFiles}
-use Rattle.commands.specs.Judged.{Judges}
-use Rattle.commands.specs.Reports.{Reports}
+use Rattle.commands.specs.Judged.{Judges, verdict_text}
+use Rattle.commands.specs.Reports.{answer_text}
 use Rattle.commands.specs.Searched.{Searches}
 
 -- The example writes its trace, and `run` that of a task over the events of a schedule; `check` writes a verdict, `report` a
@@ -19,9 +21,9 @@ DoesOrder files Example status before after = (status ≡ 0) × WritesTrace firs
 DoesOrder files (Run task schedule) status before after =
     (status ≡ 0) × OfFiles files task schedule schedule_of (λ plan events. WritesTrace plan events before after)
 DoesOrder files (Check task certificate) status before after =
-    OfFiles files task certificate certificate_of_text (λ plan bounds. Judges plan bounds status before after)
+    OfFiles files task certificate certificate_of_text (λ plan bounds. Judges plan bounds (verdict_text plan) status before after)
 DoesOrder files (Report task certificate) status before after =
-    OfFiles files task certificate certificate_of_text (λ plan bounds. Reports plan bounds status before after)
+    OfFiles files task certificate certificate_of_text (λ plan bounds. Judges plan bounds (answer_text plan bounds) status before after)
 DoesOrder files (Search task) status before after = (plan : Plan) × IsTask files task plan × Searches plan status before after
 DoesOrder files (Expand task certificate) status before after =
     (status ≡ 0) × OfFiles files task certificate certificate_of_text (λ plan bounds. Expands plan bounds before after)
@@ -31,6 +33,13 @@ pub record Serves (files : Files) (words : List (List ℕ)) (status : ℕ) (befo
   pub order : Order
   pub asked : AsksFor words order
   pub done : DoesOrder files order status before after
+
+-- The text of the file is a task's, every run of which is confined, and sandboxed if no program of it is marked.
+pub record StaysInside (files : Files) (task : List ℕ) : Type 0 where
+  pub plan : Plan
+  pub is_task : IsTask files task plan
+  pub confined : IsConfined plan
+  pub sandboxed : none_marked plan ≡ true → IsSandboxed plan
 
 -- The status of a fault: 2 of one in words or files, 3 of want of memory and of a failed output. That of
 -- a program that is done is 0, or 1 where it answers no.

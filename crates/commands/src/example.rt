@@ -19,9 +19,8 @@ use task::{FirstDescriptor, FirstObject, Grant, NamedProgram, Start, Task, TaskN
 fn work(alloc: Global) -> Result<Vec<Vec<u8>>, AllocError>
     ensures { IfOk result (λ place. names_of place.items ≡ codes "work" ∷ []) }
 {
-    let mut place = Vec::new(alloc);
-    place.push(Vec::from_slice(alloc, b"work")?)?;
-    Ok(place)
+    let name = Vec::from_slice(alloc, b"work")?;
+    Ok(vec![in alloc; name]?)
 }
 
 /// `/work/in`.
@@ -37,79 +36,71 @@ fn work_in(alloc: Global) -> Result<Vec<Vec<u8>>, AllocError>
 fn nodes(alloc: Global) -> Result<Vec<TaskNode>, AllocError>
     ensures { IfOk result (λ nodes. nodes_of nodes.items ≡ small_tree) }
 {
-    let mut nodes = Vec::new(alloc);
-    nodes.push(TaskNode {
+    let root = TaskNode {
         kind: Kind::Dir,
         place: Vec::new(alloc),
         content: Vec::new(alloc),
-    })?;
-    nodes.push(TaskNode {
+    };
+    let directory = TaskNode {
         kind: Kind::Dir,
         place: work(alloc)?,
         content: Vec::new(alloc),
-    })?;
-    nodes.push(TaskNode {
+    };
+    let file = TaskNode {
         kind: Kind::File,
         place: work_in(alloc)?,
         content: Vec::from_slice(alloc, b"AB")?,
-    })?;
-    Ok(nodes)
+    };
+    Ok(vec![in alloc; root, directory, file]?)
 }
 
 fn grants(alloc: Global) -> Result<Vec<Grant>, AllocError>
     ensures { IfOk result (λ grants. grants_of grants.items ≡ work_grant ∷ []) }
 {
-    let mut grants = Vec::new(alloc);
-    grants.push(Grant {
+    let grant = Grant {
         name: String::from_str(alloc, "work")?,
         path: work(alloc)?,
         operations: Vec::from_slice(alloc, &[Op::Look, Op::Read])?,
-    })?;
-    Ok(grants)
+    };
+    Ok(vec![in alloc; grant]?)
 }
 
 fn starts(alloc: Global) -> Result<Vec<Start>, AllocError>
     ensures { IfOk result (λ starts. starts_of starts.items ≡ small_start all_rights ∷ []) }
 {
-    let mut descriptors = Vec::new(alloc);
-    descriptors.push(FirstDescriptor {
+    let access = Access {
+        readable: true,
+        writable: false,
+    };
+    let file = FirstDescriptor {
         number: 2,
-        object: FirstObject::Node {
-            node: 2,
-            access: Access {
-                readable: true,
-                writable: false,
-            },
-        },
+        object: FirstObject::Node { node: 2, access },
         rights: Rights::all(),
         fcntls: Fcntls::all(),
-    })?;
-    let mut starts = Vec::new(alloc);
-    starts.push(Start {
+    };
+    let start = Start {
         program: 0,
         mode: false,
-        descriptors,
-    })?;
-    Ok(starts)
+        descriptors: vec![in alloc; file]?,
+    };
+    Ok(vec![in alloc; start]?)
 }
 
 /// Enters the mode and reads a byte.
 fn enter_and_read(alloc: Global) -> Result<Program, AllocError>
     ensures { IfOk result (λ program. program ≡ enter_and_read) }
 {
-    let mut code = Vec::new(alloc);
-    code.push(Instruction::Invoke {
+    let enter = Instruction::Invoke {
         call: Syscall::CapEnter,
         otherwise: 2,
-    })?;
-    code.push(Instruction::Invoke {
+    };
+    let read = Instruction::Invoke {
         call: Syscall::Read {
             descriptor: Operand::Number(2),
         },
         otherwise: 2,
-    })?;
-    code.push(Instruction::Halt)?;
-    Ok(Program::new(code))
+    };
+    Ok(Program::new(vec![in alloc; enter, read, Instruction::Halt]?))
 }
 
 /// The example's task.
@@ -117,11 +108,11 @@ fn enter_and_read(alloc: Global) -> Result<Program, AllocError>
 pub fn example_task(alloc: Global) -> Result<Task, AllocError>
     ensures { IfOk result (λ task. task ≡ first_plan) }
 {
-    let mut programs = Vec::new(alloc);
-    programs.push(NamedProgram {
+    let main = NamedProgram {
         name: String::from_str(alloc, "main")?,
         program: enter_and_read(alloc)?,
         untrusted: false,
-    })?;
+    };
+    let programs = vec![in alloc; main]?;
     Ok(Task::new(nodes(alloc)?, grants(alloc)?, programs, starts(alloc)?))
 }

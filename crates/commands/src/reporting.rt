@@ -8,22 +8,22 @@ ghost use Rattle.certificate_text.specs.Pieces.{in_order};
 ghost use Rattle.certificate_text.specs.WritingViews.{Writes};
 ghost use Rattle.checker.specs.Views.{verdict_of};
 ghost use Rattle.rights.specs.Output.{Took, TookFront};
-ghost use Rattle.commands.specs.Begun.{HasBegun};
-ghost use Rattle.commands.specs.Reports.{Reports, answer_text, ceiling_line, ceiling_lines, either_set, grant_line, greatest_in, names_in, own_names, parted, point_text, point_lines, program_lines};
+ghost use Rattle.commands.specs.Reports.{answer_text, ceiling_line, ceiling_lines, either_set, grant_line, greatest_in, names_in, own_names, parted, point_text, point_lines, program_lines};
 ghost use Rattle.commands.specs.Reports.{report_text, rights_there, rights_text};
 ghost use Rattle.rules.specs.Authority.{authority_at, ceiling_in};
 ghost use Rattle.rules.specs.Expansions.{expansion};
 ghost use Rattle.task.specs.Views.{grant_of, grants_of, program_of, programs_of};
 ghost use Rattle.instruction_set.specs.Views.{code_of};
 
-use crate::judging::{status_of_verdict, text_of_verdict};
+use crate::judging::write_verdict;
 use bitflags::{Flag, Flags};
 use certificate::{Bound, Cert, Slot, Target};
-use checker::{Verdict, ceiling_at, check, expand, is_expanded};
+use checker::{Verdict, ceiling_at, expand, is_expanded};
 use instruction_set::Instruction;
 use rights::{Out, Rights, Stop, write_all};
 use std::alloc::Global;
 use task::{Grant, NamedProgram, Task};
+use text_checker::Checked;
 use texts::Decimal;
 
 /// The greatest rights of a slot that may be open in the grant of this name.
@@ -363,48 +363,21 @@ pub fn report<W: Out>(alloc: Global, task: &Task, cert: &Cert, out: &mut W) -> R
     write_report(task, &expanded, out)
 }
 
-/// Writes what is answered: the report, or the line of a no.
-fn write_answer<W: Out>(
-    alloc: Global,
-    task: &Task,
-    cert: &Cert,
-    verdict: Verdict,
-    out: &mut W,
-) -> Result<(), Stop>
+/// Writes the report of what was checked, where it is accepted, or else the line of the verdict. Its errors are `Device`, after a
+/// failure of the writer, which then has taken a beginning of that, and `Memory`, before anything is written. (own)
+pub fn write_answer<W: Out>(alloc: Global, checked: &Checked, out: &mut W) -> Result<(), Stop>
     requires { W.faults out.old < 2 ^ 64 - 1 }
-    ensures written { OnOk result (Took (W.taken out.old) (W.taken out.new) (answer_text task.now cert.now (verdict_of verdict))) }
+    ensures written { OnOk result (Took (W.taken out.old) (W.taken out.new)
+        (answer_text checked.now.claim.task checked.now.claim.cert (verdict_of checked.now.verdict))) }
     ensures device { IsErrOf result Stop.Device → W.faults out.old < W.faults out.new }
-    ensures begun { IsErrOf result Stop.Device → TookFront (W.taken out.old) (W.taken out.new) (answer_text task.now cert.now (verdict_of verdict)) }
+    ensures begun { IsErrOf result Stop.Device → TookFront (W.taken out.old) (W.taken out.new)
+        (answer_text checked.now.claim.task checked.now.claim.cert (verdict_of checked.now.verdict)) }
     ensures memory { IsErrOf result Stop.Memory → W.taken out.new ≡ W.taken out.old }
     ensures not_spent { IsErrOf result Stop.Spent → ⊥ }
 {
-    match verdict {
-        Verdict::Yes => report(alloc, task, cert, out),
-        Verdict::No { .. } => {
-            let text = text_of_verdict(alloc, task, verdict)?;
-            write_all(out, &text)
-        }
+    let claim = &checked.claim;
+    match checked.verdict {
+        Verdict::Yes => report(alloc, &claim.task, &claim.cert, out),
+        Verdict::No { .. } => write_verdict(alloc, &claim.task, checked.verdict, out),
     }
-}
-
-/// Checks a certificate against a task, and writes the report, with the status 0, where it is accepted, or else the line of the
-/// verdict, with the status 1. Its errors are `Device`, after a failure of the writer, which then has taken a beginning of that,
-/// and `Memory`, before anything is written. (own)
-#[tactic(auto, using(crate::proofs::Verdicts::report_begun))]
-pub fn report_checked<W: Out>(
-    alloc: Global,
-    task: &Task,
-    cert: &Cert,
-    out: &mut W,
-) -> Result<u8, Stop>
-    requires { W.faults out.old < 2 ^ 64 - 1 }
-    ensures reported { IfOk result (λ status. Reports task.now cert.now status (W.taken out.old) (W.taken out.new)) }
-    ensures device { IsErrOf result Stop.Device → W.faults out.old < W.faults out.new }
-    ensures begun { IsErrOf result Stop.Device → HasBegun (Reports task.now cert.now) (W.taken out.old) (W.taken out.new) }
-    ensures memory { IsErrOf result Stop.Memory → W.taken out.new ≡ W.taken out.old }
-    ensures not_spent { IsErrOf result Stop.Spent → ⊥ }
-{
-    let verdict = check(task, cert);
-    write_answer(alloc, task, cert, verdict, out)?;
-    Ok(status_of_verdict(verdict))
 }

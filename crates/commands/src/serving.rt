@@ -1,21 +1,21 @@
 //! What the program does with its words, and with the files that they name.
 
-ghost use Rattle.std.specs.Prelude.{◌≡◌, ◌<◌, ◌⊎◌, ◌-◌, ◌^◌, IfErr, IfOk, IsTrue, None, OnOk, map, string_bytes};
+ghost use Rattle.std.specs.Prelude.{◌≡◌, ◌<◌, ◌⊎◌, ◌-◌, ◌^◌, ℕ, IfErr, IfOk, IsTrue, List, None, map, string_bytes};
 ghost use Rattle.commands.specs.Begun.{HasBegun};
 ghost use Rattle.commands.specs.Fails.{Fails, RefusesWords, WordsFail};
 ghost use Rattle.commands.specs.Faults.{No_file, No_memory, Refused};
 ghost use Rattle.commands.specs.FaultViews.{fault_of};
 ghost use Rattle.commands.specs.Files.{IsFile, IsMissing};
-ghost use Rattle.commands.specs.Served.{DoesOrder, Serves, is_done_status, is_fault_status, is_status};
-ghost use Rattle.command_line.specs.Orders.{Check, Example, Expand, Report, Run, Search};
+ghost use Rattle.commands.specs.Served.{DoesOrder, Serves, StaysInside, is_done_status, is_fault_status, is_status};
+ghost use Rattle.command_line.specs.Orders.{AsksFor, Check, Example, Expand, Report, Run, Search};
 ghost use Rattle.command_line.specs.OrderViews.{order_of};
 
 use crate::example::example_task;
 use crate::expanding::write_expansion;
 use crate::faults::{Fault, tell};
-use crate::judging::judge;
+use crate::judging::{status_of_verdict, write_verdict};
 use crate::proposing::propose;
-use crate::reporting::report_checked;
+use crate::reporting::write_answer;
 use crate::sources::{Source, Unread};
 use crate::statuses::DONE;
 use command_line::{Order, WordsFault, read_order};
@@ -24,32 +24,25 @@ use simulator::{read_schedule, simulate};
 use std::alloc::Global;
 use syscalls::Event;
 use task_reader::read_task;
-use text_checker::read_texts;
+use text_checker::{check_texts, read_texts};
 
 /// Two events of the first process.
-const EXAMPLE: [Event; 2] = [
-    Event {
-        process: 0,
-        input: 0,
-        refuse: false,
-    },
-    Event {
-        process: 0,
-        input: 0,
-        refuse: false,
-    },
-];
+const EXAMPLE: [Event; 2] = [Event {
+    process: 0,
+    input: 0,
+    refuse: false,
+}; 2];
 
-/// The trace of the example's task on two events.
-fn example<'a, W: Out>(alloc: Global, out: &mut W) -> Result<(), Fault<'a>>
+/// Writes the trace of the example's task on two events, and gives the status.
+fn example<'a, W: Out>(alloc: Global, out: &mut W) -> Result<u8, Fault<'a>>
     requires { W.faults out.old < 2 ^ 64 - 1 }
-    ensures done { OnOk result (DoesOrder None Example 0 (W.taken out.old) (W.taken out.new)) }
+    ensures done { IfOk result (λ status. DoesOrder None Example status (W.taken out.old) (W.taken out.new)) }
     ensures fails { IfErr result (λ fault. Fails None Example
         (W.taken out.old) (W.taken out.new) (W.faults out.old) (W.faults out.new) (fault_of fault)) }
 {
     let task = example_task(alloc)?;
     simulate(alloc, &task, &EXAMPLE, out)?;
-    Ok(())
+    Ok(DONE)
 }
 
 /// The bytes of a file. It fails where there is none, or for want of memory. (own)
@@ -65,16 +58,16 @@ pub fn fetch<'a, S: Source>(files: &mut S, name: &'a str) -> Result<Vec<u8>, Fau
     }
 }
 
-/// Runs the task of a file over the events of another. Both are fetched before either is read.
+/// Runs the task of a file over the events of another, and gives the status. Both are fetched before either is read.
 fn run<'a, S: Source, W: Out>(
     alloc: Global,
     task: &'a str,
     schedule: &'a str,
     files: &mut S,
     out: &mut W,
-) -> Result<(), Fault<'a>>
+) -> Result<u8, Fault<'a>>
     requires { W.faults out.old < 2 ^ 64 - 1 }
-    ensures done { OnOk result (DoesOrder (S.files files.old) (Run task.now schedule.now) 0 (W.taken out.old) (W.taken out.new)) }
+    ensures done { IfOk result (λ status. DoesOrder (S.files files.old) (Run task.now schedule.now) status (W.taken out.old) (W.taken out.new)) }
     ensures fails { IfErr result (λ fault. Fails (S.files files.old) (Run task.now schedule.now)
         (W.taken out.old) (W.taken out.new) (W.faults out.old) (W.faults out.new) (fault_of fault)) }
 {
@@ -83,7 +76,7 @@ fn run<'a, S: Source, W: Out>(
     let plan = read_task(alloc, &task_text)?;
     let events = read_schedule(alloc, &schedule_text)?;
     simulate(alloc, &plan, &events, out)?;
-    Ok(())
+    Ok(DONE)
 }
 
 /// Checks the certificate of a file against the task of another, writes the verdict and gives its status. Both files are
@@ -102,8 +95,9 @@ fn check_files<'a, S: Source, W: Out>(
 {
     let task_bytes = fetch(files, task)?;
     let cert_bytes = fetch(files, cert)?;
-    let claim = read_texts(alloc, &task_bytes, &cert_bytes)?;
-    Ok(judge(alloc, &claim.task, &claim.cert, out)?)
+    let checked = check_texts(alloc, &task_bytes, &cert_bytes)?;
+    write_verdict(alloc, &checked.claim.task, checked.verdict, out)?;
+    Ok(status_of_verdict(checked.verdict))
 }
 
 /// Checks the certificate of a file against the task of another, and writes the report or the line of a no, with the status.
@@ -122,8 +116,9 @@ fn report_files<'a, S: Source, W: Out>(
 {
     let task_file = fetch(files, task)?;
     let cert_file = fetch(files, cert)?;
-    let claim = read_texts(alloc, &task_file, &cert_file)?;
-    Ok(report_checked(alloc, &claim.task, &claim.cert, out)?)
+    let checked = check_texts(alloc, &task_file, &cert_file)?;
+    write_answer(alloc, &checked, out)?;
+    Ok(status_of_verdict(checked.verdict))
 }
 
 /// Searches for a certificate of the task of a file, writes it, or `none`, and gives the status.
@@ -143,23 +138,25 @@ fn search_file<'a, S: Source, W: Out>(
     Ok(propose(alloc, &plan, out)?)
 }
 
-/// Writes the expansion of the certificate of a file, by the task of another. Both files are fetched before either is read.
+/// Writes the expansion of the certificate of a file, by the task of another, and gives the status. Both files are fetched
+/// before either is read.
 fn expand_files<'a, S: Source, W: Out>(
     alloc: Global,
     task: &'a str,
     cert: &'a str,
     files: &mut S,
     out: &mut W,
-) -> Result<(), Fault<'a>>
+) -> Result<u8, Fault<'a>>
     requires { W.faults out.old < 2 ^ 64 - 1 }
-    ensures done { OnOk result (DoesOrder (S.files files.old) (Expand task.now cert.now) 0 (W.taken out.old) (W.taken out.new)) }
+    ensures done { IfOk result (λ status. DoesOrder (S.files files.old) (Expand task.now cert.now) status (W.taken out.old) (W.taken out.new)) }
     ensures fails { IfErr result (λ fault. Fails (S.files files.old) (Expand task.now cert.now)
         (W.taken out.old) (W.taken out.new) (W.faults out.old) (W.faults out.new) (fault_of fault)) }
 {
     let task_source = fetch(files, task)?;
     let cert_source = fetch(files, cert)?;
     let claim = read_texts(alloc, &task_source, &cert_source)?;
-    Ok(write_expansion(alloc, &claim.task, &claim.cert, out)?)
+    write_expansion(alloc, &claim.task, &claim.cert, out)?;
+    Ok(DONE)
 }
 
 /// Does what is asked for, and gives the status.
@@ -175,21 +172,12 @@ fn perform<'a, S: Source, W: Out>(
         (W.taken out.old) (W.taken out.new) (W.faults out.old) (W.faults out.new) (fault_of fault)) }
 {
     match order {
-        Order::Example => {
-            example(alloc, out)?;
-            Ok(DONE)
-        }
-        Order::Run { task, schedule } => {
-            run(alloc, task, schedule, files, out)?;
-            Ok(DONE)
-        }
+        Order::Example => example(alloc, out),
+        Order::Run { task, schedule } => run(alloc, task, schedule, files, out),
         Order::Check { task, cert } => check_files(alloc, task, cert, files, out),
         Order::Report { task, cert } => report_files(alloc, task, cert, files, out),
         Order::Search { task } => search_file(alloc, task, files, out),
-        Order::Expand { task, cert } => {
-            expand_files(alloc, task, cert, files, out)?;
-            Ok(DONE)
-        }
+        Order::Expand { task, cert } => expand_files(alloc, task, cert, files, out),
     }
 }
 
@@ -219,6 +207,8 @@ fn serve_words<'a, S: Source, W: Out>(
 /// With status 2 nothing is written to the output. With 3 a beginning of what is written with 0 or 1 is, where the output failed;
 /// and for want of memory nothing, or of a trace a beginning. Want of memory may be told in place of any fault. `err` takes the
 /// line of a fault and nothing else, and its failures change neither the status nor the output.
+///
+/// Where `check` ends with 0, the task of its file is confined, and sandboxed if no program of it is untrusted.
 pub fn serve<S: Source, W: Out, V: Out>(
     alloc: Global,
     words: &[String],
@@ -236,6 +226,8 @@ pub fn serve<S: Source, W: Out, V: Out>(
     ensures stopped { result ≡ 3 → (W.taken out.new ≡ W.taken out.old)
         ⊎ HasBegun (Serves (S.files files.old) (map string_bytes words.now)) (W.taken out.old) (W.taken out.new) }
     ensures known { IsTrue (is_status result) }
+    ensures inside { result ≡ 0 → (task certificate : List ℕ) → AsksFor (map string_bytes words.now) (Check task certificate)
+        → StaysInside (S.files files.old) task }
 {
     match serve_words(alloc, words, files, out) {
         Ok(status) => status,

@@ -8,6 +8,7 @@ use Rattle.checker.specs.declared.verdicts.Verdict.{Verdict}
 use Rattle.task.specs.Plans.{Plan}
 use Rattle.task_reader.specs.FaultViews.{FaultIs}
 use Rattle.task_reader.specs.Reading.{Mistake}
+use Rattle.text_checker.specs.declared.checking.Checked.{Checked}
 use Rattle.text_checker.specs.declared.checking.Claim.{Claim}
 use Rattle.text_checker.specs.declared.checking.Fault.{Fault}
 use Rattle.text_checker.specs.declared.checking.Fault.TheVariants.{Task, Cert}
@@ -29,9 +30,20 @@ abbrev pub ReadsTexts : Result Claim Fault → Result Plan Mistake → Reading �
 ReadsTexts (Ok claim) task certificate = (task ≡ Ok claim.task) × (certificate ≡ Ok claim.cert)
 ReadsTexts (Err fault) task certificate = HasFault fault task certificate
 
+-- these, and the verdict on them
+abbrev pub ChecksClaim : Result Checked Fault → Result Plan Mistake → Reading → Type 0
+ChecksClaim (Ok checked) task certificate =
+    ReadsTexts (Ok checked.claim) task certificate × IsVerdict checked.claim.task checked.claim.cert (verdict_of checked.verdict)
+ChecksClaim (Err fault) task certificate = HasFault fault task certificate
+
 abbrev pub ChecksTexts : Result Verdict Fault → Result Plan Mistake → Reading → Type 0
 ChecksTexts (Ok verdict) task certificate = IsVerdictOn verdict task certificate
 ChecksTexts (Err fault) task certificate = HasFault fault task certificate
+
+-- the verdict of what was checked
+abbrev pub verdict_in : Result Checked Fault → Result Verdict Fault
+verdict_in (Ok checked) = Ok checked.verdict
+verdict_in (Err fault) = Err fault
 
 abbrev pub SaysYes : Result Verdict Fault → Type 0
 SaysYes (Ok verdict) = verdict_of verdict ≡ Yes

@@ -7,7 +7,7 @@ ghost use Rattle.task.specs.Confined.{IsConfined};
 ghost use Rattle.task.specs.Plans.{Plan, none_marked};
 ghost use Rattle.task.specs.Sandboxed.{IsSandboxed};
 ghost use Rattle.task_reader.specs.Reading.{task_of};
-ghost use Rattle.text_checker.specs.CheckViews.{ChecksTexts, ReadsTexts, SaysYes};
+ghost use Rattle.text_checker.specs.CheckViews.{ChecksClaim, ChecksTexts, ReadsTexts, SaysYes, verdict_in};
 
 use certificate::Cert;
 use certificate_text::{CertFault, read_cert};
@@ -33,6 +33,13 @@ pub struct Claim {
     pub cert: Cert,
 }
 
+/// A claim, and the verdict on it.
+#[derive(Drop)]
+pub struct Checked {
+    pub claim: Claim,
+    pub verdict: Verdict,
+}
+
 /// The task and the certificate that two texts stand for. (own)
 ///
 /// # Errors
@@ -52,7 +59,7 @@ pub fn read_texts(alloc: Global, task: &[u8], cert: &[u8]) -> Result<Claim, Faul
     }
 }
 
-/// The verdict of `check` on the task and the certificate that two texts stand for.
+/// The task and the certificate that two texts stand for, with the verdict of `check` on them.
 ///
 /// A yes means that the first text stands for a task, every run of which is confined: whatever list of events, inputs, schedules
 /// and refusals, and whatever processes of the programs that it says to be untrusted do in capability mode, no process in the mode
@@ -63,11 +70,25 @@ pub fn read_texts(alloc: Global, task: &[u8], cert: &[u8]) -> Result<Claim, Faul
 /// # Errors
 ///
 /// Those of [`read_texts`].
+pub fn check_texts(alloc: Global, task: &[u8], cert: &[u8]) -> Result<Checked, Fault>
+    ensures exact { ChecksClaim result (task_of task.now) (certificate_of_text cert.now) }
+    ensures sound { SaysYes (verdict_in result) → (plan : Plan) × (task_of task.now ≡ Ok plan) × (none_marked plan ≡ true → IsSandboxed plan) }
+    ensures confined { SaysYes (verdict_in result) → (plan : Plan) × (task_of task.now ≡ Ok plan) × IsConfined plan }
+{
+    let claim = read_texts(alloc, task, cert)?;
+    let verdict = check(&claim.task, &claim.cert);
+    Ok(Checked { claim, verdict })
+}
+
+/// The verdict of [`check_texts`], with what a yes means.
+///
+/// # Errors
+///
+/// Those of [`read_texts`].
 pub fn check_text(alloc: Global, task: &[u8], cert: &[u8]) -> Result<Verdict, Fault>
     ensures exact { ChecksTexts result (task_of task.now) (certificate_of_text cert.now) }
     ensures sound { SaysYes result → (plan : Plan) × (task_of task.now ≡ Ok plan) × (none_marked plan ≡ true → IsSandboxed plan) }
     ensures confined { SaysYes result → (plan : Plan) × (task_of task.now ≡ Ok plan) × IsConfined plan }
 {
-    let claim = read_texts(alloc, task, cert)?;
-    Ok(check(&claim.task, &claim.cert))
+    Ok(check_texts(alloc, task, cert)?.verdict)
 }

@@ -3,4 +3,4 @@
 
 pub mod checking;
 
-pub use checking::{Claim, Fault, check_text, read_texts};
+pub use checking::{Checked, Claim, Fault, check_text, check_texts, read_texts};

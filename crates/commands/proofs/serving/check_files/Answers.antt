@@ -1,23 +1,31 @@
-use Rattle.std.proofs.Common.{rules, ap, Err}
+use Rattle.std.proofs.Common.{rules, ap, Err, List, ℕ}
 use Rattle.std.specs.Prelude.{Ok}
+use Rattle.certificate.specs.Bounds.{Certificate}
 use Rattle.certificate_text.specs.Readings.{certificate_of_text}
+use Rattle.checker.specs.Verdicts.{Verdict, IsVerdict}
+use Rattle.checker.specs.Views.{verdict_of}
 use Rattle.command_line.specs.Orders.{Check}
+use Rattle.task.specs.Plans.{Plan}
 use Rattle.commands.specs.Files.{IsRead, IsTask}
-use Rattle.commands.proofs.Begun.{stopped, verdict-begun}
+use Rattle.commands.specs.Judged.{verdict_text}
+use Rattle.commands.proofs.Begun.{stopped}
+use Rattle.commands.proofs.Verdicts.{judged-begun}
 use Rattle.commands.proofs.serving.check_files.Goals as goal
 
-pub returns-in_err-judge-clause-fails : goal.returns-in_err-judge-clause-fails
-returns-in_err-judge-clause-fails g c =
-    let stop = c.in_err-judge.field-0.0 in
+pub returns-in_err-write_verdict-clause-fails : goal.returns-in_err-write_verdict-clause-fails
+returns-in_err-write_verdict-clause-fails g c =
+    let stop = c.in_err-write_verdict.field-0.0 in
     let files = g.S.Source.files c.args.files.now in
     let before = g.W.Out.taken c.args.out.now in
-    let after = g.W.Out.taken c.judge.new.out in
-    let plan = c.in_ok-claim.claim.task in
-    let bounds = c.in_ok-claim.claim.cert in
+    let after = g.W.Out.taken c.write_verdict.new.out in
+    let plan = c.in_ok-checked.checked.claim.task in
+    let bounds = c.in_ok-checked.checked.claim.cert in
+    let verdict = verdict_of c.in_ok-checked.checked.verdict in
     let is_task : IsTask files c.args.task.now plan = search rules in
     let is_certificate : IsRead files c.args.cert.now certificate_of_text (Ok bounds) = search rules in
-    stopped files (Check c.args.task.now c.args.cert.now) before after (g.W.Out.faults c.args.out.now) (g.W.Out.faults c.judge.new.out)
-    _ stop c.from_residual-in_err-judge.ensures
-    (λ is. c.in_err-judge.ensures.device (ap Err is))
-    (λ is. verdict-begun files c.args.task.now c.args.cert.now plan bounds before after is_task is_certificate (c.in_err-judge.ensures.begun (ap Err is)))
-    (λ is. c.in_err-judge.ensures.memory (ap Err is)) (λ is. c.in_err-judge.ensures.not_spent (ap Err is))
+    let is_verdict : IsVerdict plan bounds verdict = search rules in
+    stopped files (Check c.args.task.now c.args.cert.now) before after (g.W.Out.faults c.args.out.now) (g.W.Out.faults c.write_verdict.new.out)
+    _ stop c.from_residual-in_err-write_verdict.ensures
+    (λ is. c.in_err-write_verdict.ensures.device (ap Err is))
+    (λ is. judged-begun files c.args.task.now c.args.cert.now (λ (plan : Plan) (bounds : Certificate). verdict_text plan) plan bounds verdict before after is_task is_certificate is_verdict (c.in_err-write_verdict.ensures.begun (ap Err is)))
+    (λ is. c.in_err-write_verdict.ensures.memory (ap Err is)) (λ is. c.in_err-write_verdict.ensures.not_spent (ap Err is))
