@@ -29,7 +29,7 @@ pub(crate) enum Leads {
 
 /// The outcomes of an instruction, as they are told.
 #[derive(Drop)]
-struct Arrivals {
+struct OutcomeList {
     list: Vec<Arrival>,
     is_cut: bool,
 }
@@ -37,7 +37,7 @@ struct Arrivals {
 /// How many outcomes of one instruction are kept.
 const MOST_ARRIVALS: usize = 512;
 
-impl OutcomeTest for Arrivals {
+impl OutcomeTest for OutcomeList {
     ghost passes = { λ t o. true };
 
     ghost joins = { λ t. None };
@@ -67,7 +67,7 @@ pub(crate) fn arrivals(
     from: &BoundedPoint<'_>,
     leads: Leads,
 ) -> Result<Vec<Arrival>, AllocError> {
-    let mut arrivals = Arrivals {
+    let mut arrivals = OutcomeList {
         list: Vec::new(alloc),
         is_cut: false,
     };

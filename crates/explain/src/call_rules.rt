@@ -220,13 +220,10 @@ fn add_slot(page: &mut Page, told: &Told<'_>, slot: &OpenSlot, need: &Need, rule
             let source = &held.target();
             if let Some(targets) = need.targets {
                 add_number(page, slot);
-                let failing = failing_slots(
-                    page.alloc(),
-                    told.bound,
-                    targets,
-                    &SameGrant { source },
-                );
-                add_moves(page, source, &page.gathered(failing));
+                let test = SameGrant { source };
+                let failing = failing_slots(page.alloc(), told.bound, targets, &test);
+                let failing = page.gathered(failing);
+                add_moves(page, source, &failing);
             }
         }
         SlotRule::Sent => add_sent(page, told, &held.target(), need.passed),
