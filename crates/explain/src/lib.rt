@@ -24,5 +24,5 @@ mod starting;
 mod task_faults;
 mod usage;
 
-pub use answering::serve;
+pub use answering::{NAME, serve};
 pub use questions::{Question, read_question};
