@@ -4,7 +4,8 @@
 ghost use Rattle.std.specs.Prelude.{◌≡◌};
 ghost use Rattle.fd_table.specs.Filled.{IsEndThere, IsNamed};
 ghost use Rattle.fd_table.specs.Kept.{open_files};
-ghost use Rattle.fd_table.specs.Views.{descriptor_seen, side_seen};
+ghost use Rattle.rights.specs.Views.{side_seen};
+ghost use Rattle.fd_table.specs.Views.{descriptor_seen};
 
 use fd_table::{Class, Descriptor, End, Entry, Files, Object, SendFault, Side, Status};
 use file_tree::{NodeId, Tree};

@@ -7,7 +7,7 @@ use Rattle.rights.specs.Limits.{most_programs}
 use Rattle.certificate.specs.declared.names.Name.{Name}
 use Rattle.certificate.specs.declared.program_names.ProgramNames.{ProgramNames}
 use Rattle.certificate.specs.declared.classes.Class.{Class}
-use Rattle.certificate.specs.declared.classes.Side.{Side}
+use Rattle.rights.specs.declared.sides.Side.{Side}
 use Rattle.certificate.specs.declared.bounds.Target.{Target}
 use Rattle.certificate.specs.declared.bounds.Target.TheVariants as target
 use Rattle.certificate.specs.Growth.{programs_of_target}

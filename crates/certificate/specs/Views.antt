@@ -3,8 +3,7 @@ use Rattle.std.specs.Prelude.{ℕ, List, [], ◌∷◌, map, option_map, slice_s
 use Rattle.certificate.specs.declared.names.Name.{Name as NameCode}
 use Rattle.certificate.specs.declared.classes.Class.{Class as ClassCode}
 use Rattle.certificate.specs.declared.classes.Class.TheVariants as class
-use Rattle.certificate.specs.declared.classes.Side.{Side as SideCode}
-use Rattle.certificate.specs.declared.classes.Side.TheVariants as side
+use Rattle.rights.specs.declared.sides.Side.{Side as SideCode}
 use Rattle.certificate.specs.declared.bounds.ModeBound.{ModeBound as ModeBoundCode}
 use Rattle.certificate.specs.declared.bounds.ModeBound.TheVariants as mode
 use Rattle.certificate.specs.declared.bounds.Interval.{Interval as IntervalCode}
@@ -26,6 +25,7 @@ use Rattle.certificate.specs.declared.lines.Line.{Line as LineCode}
 use Rattle.certificate.specs.declared.lines.Line.TheVariants as line
 use Rattle.rights.specs.Classes.{Class, Initial, Made_at}
 use Rattle.rights.specs.Limits.{most_descriptors}
+use Rattle.rights.specs.Views.{side_seen}
 use Rattle.certificate.specs.Bounds.{ModeBound, Off, On, Either, Interval, Target, In_grant, Any_node, Socket, Unknown, Held, Slot, Closed, Open, Maybe, Bound, PointBound}
 use Rattle.certificate.specs.Bounds.{ChannelBound, Ceiling, End, Authority, Version, One, Two, Three, Certificate}
 use Rattle.certificate.specs.Growth.{copies}
@@ -38,10 +38,8 @@ abbrev pub class_of : ClassCode → Class
 class_of (class.Initial pair) = Initial pair.number
 class_of (class.MadeAt program point) = Made_at (name_of program) point
 
--- a is 0 and b is 1
 abbrev pub side_of : SideCode → ℕ
-side_of side.A = 0
-side_of side.B = 1
+side_of side = side_seen side
 
 abbrev pub mode_of : ModeBoundCode → ModeBound
 mode_of mode.Off = Off
@@ -54,7 +52,7 @@ interval_of i = record { low = i.low; high = i.high }
 abbrev pub target_of : TargetCode → Target
 target_of (target.InGrant name) = In_grant (name_of name)
 target_of target.AnyNode = Any_node
-target_of (target.Socket c s) = Socket (class_of c) (side_of s)
+target_of (target.Socket c s) = Socket (class_of c) (side_seen s)
 target_of target.Unknown = Unknown
 
 abbrev pub held_of : HeldCode → Held
@@ -90,7 +88,7 @@ abbrev pub points_of : List PointCode → List PointBound
 points_of points = map point_of points
 
 abbrev pub channel_of : ChannelCode → ChannelBound
-channel_of c = record { class = class_of c.class; side = side_of c.side; sends = option_map held_of c.sends }
+channel_of c = record { class = class_of c.class; side = side_seen c.side; sends = option_map held_of c.sends }
 
 abbrev pub channels_of : List ChannelCode → List ChannelBound
 channels_of channels = map channel_of channels
@@ -99,7 +97,7 @@ abbrev pub ceiling_of : CeilingCode → Ceiling
 ceiling_of c = record { grant = name_of c.grant; rights = c.rights.0 }
 
 abbrev pub held_end_of : EndCode → End
-held_end_of e = record { class = class_of e.class; side = side_of e.side }
+held_end_of e = record { class = class_of e.class; side = side_seen e.side }
 
 abbrev pub authority_of : AuthorityCode → Authority
 authority_of a = record { program = name_of a.program; ceilings = map ceiling_of a.ceilings.items; holds = map held_end_of a.holds.items }

@@ -3,10 +3,10 @@
 ghost use Rattle.std.specs.Prelude.{◌≡◌, map, true};
 ghost use Rattle.certificate.specs.Lines.{is_ceiling};
 
-use crate::classes::{Class, Side};
+use crate::classes::Class;
 use crate::lines::{Refusal, add};
 use crate::names::Name;
-use rights::Rights;
+use rights::{Rights, Side};
 use std::alloc::Global;
 use std::cmp::Ordering;
 
@@ -62,11 +62,13 @@ impl Ceiling {
 
 impl End {
     ghost use Rattle.certificate.specs.Growth.{end_order};
-    ghost use Rattle.certificate.specs.Views.{class_of, held_end_of, side_of};
+    ghost use Rattle.rights.specs.Sides.{other_side};
+    ghost use Rattle.rights.specs.Views.{side_seen};
+    ghost use Rattle.certificate.specs.Views.{class_of, held_end_of};
 
     /// This side of the pairs of this class.
     pub fn new(class: Class, side: Side) -> End
-        ensures { held_end_of result ≡ record { class = class_of class; side = side_of side } }
+        ensures { held_end_of result ≡ record { class = class_of class; side = side_seen side } }
     {
         End { class, side }
     }
@@ -80,13 +82,23 @@ impl End {
 
     /// The side of them.
     pub fn side(&self) -> Side
-        ensures { side_of result ≡ (held_end_of self.now).side }
+        ensures { side_seen result ≡ (held_end_of self.now).side }
     {
         self.side
     }
 
+    /// The other end of its pairs.
+    pub fn other(&self) -> End
+        ensures { held_end_of result ≡ record (held_end_of self.now) { side = other_side (held_end_of self.now).side } }
+    {
+        End {
+            class: self.class,
+            side: self.side.other(),
+        }
+    }
+
     /// How it stands to another: by class and then by side.
-    pub(crate) fn compare(&self, other: &End) -> Ordering
+    pub fn compare(&self, other: &End) -> Ordering
         ensures { result ≡ end_order (held_end_of self.now) (held_end_of other.now) }
     {
         self.class

@@ -3,10 +3,10 @@
 ghost use Rattle.std.specs.Prelude.{◌≡◌, ◌≤◌, true, option_map};
 ghost use Rattle.rights.specs.Sets.{all_commands, all_rights, is_within};
 
-use crate::classes::{Class, Side};
+use crate::classes::Class;
 use crate::names::Name;
 use rights::limits::{MAX_DESCRIPTORS, REGISTERS};
-use rights::{Fcntls, Rights};
+use rights::{Fcntls, Rights, Side};
 
 /// Whether a process is in capability mode.
 #[derive(Clone, Copy, PartialEq, Eq)]
@@ -125,7 +125,8 @@ impl Interval {
 
 impl Target {
     ghost use Rattle.certificate.specs.Kinds.{is_end_of, is_grant_of, is_node};
-    ghost use Rattle.certificate.specs.Views.{class_of, name_of, side_of, target_of};
+    ghost use Rattle.rights.specs.Views.{side_seen};
+    ghost use Rattle.certificate.specs.Views.{class_of, name_of, target_of};
 
     /// Whether it is the grant of this name.
     pub(crate) fn is_grant(&self, name: &Name) -> bool
@@ -149,7 +150,7 @@ impl Target {
 
     /// Whether it is this side of the pairs of this class.
     pub(crate) fn is_end(&self, class: &Class, side: Side) -> bool
-        ensures { result ≡ is_end_of (target_of self.now) (class_of class.now) (side_of side) }
+        ensures { result ≡ is_end_of (target_of self.now) (class_of class.now) (side_seen side) }
     {
         match self {
             Target::Socket(own, end) => own.is(class) && end.is(side),

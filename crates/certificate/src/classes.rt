@@ -1,4 +1,4 @@
-//! Classes of socket pairs and their sides, as a certificate names them.
+//! Classes of socket pairs, as a certificate names them.
 
 ghost use Rattle.std.specs.Prelude.{◌≡◌, ◌==◌, ◌<◌};
 
@@ -21,13 +21,6 @@ pub enum Class {
     MadeAt(Name, u8),
 }
 
-/// One of the two sides of a pair. (socketpair(2))
-#[derive(Clone, Copy, PartialEq, Eq)]
-pub enum Side {
-    A,
-    B,
-}
-
 impl Pair {
     /// The initial pair of this number.
     pub fn new(number: u8) -> Pair
@@ -42,32 +35,6 @@ impl Pair {
         ensures { result ≡ self.number }
     {
         self.number
-    }
-}
-
-impl Side {
-    ghost use Rattle.std.specs.Ordering.{nat_cmp};
-    ghost use Rattle.certificate.specs.Views.{side_of};
-
-    /// Whether it is the same side.
-    pub fn is(self, other: Side) -> bool
-        ensures { result ≡ (side_of self == side_of other) }
-    {
-        match (self, other) {
-            (Side::A, Side::A) | (Side::B, Side::B) => true,
-            (Side::A, Side::B) | (Side::B, Side::A) => false,
-        }
-    }
-
-    /// How it stands to another: `A` is before `B`.
-    pub(crate) fn compare(self, other: Side) -> Ordering
-        ensures { result ≡ nat_cmp (side_of self) (side_of other) }
-    {
-        match (self, other) {
-            (Side::A, Side::A) | (Side::B, Side::B) => Ordering::Equal,
-            (Side::A, Side::B) => Ordering::Less,
-            (Side::B, Side::A) => Ordering::Greater,
-        }
     }
 }
 

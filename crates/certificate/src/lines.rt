@@ -2,13 +2,15 @@
 
 ghost use Rattle.std.specs.Prelude.{◌≡◌, ◌∷◌, ◌++◌, [], option_map, IfErr, OnErr, OnOk};
 ghost use Rattle.certificate.specs.Growth.{channel_order};
-ghost use Rattle.certificate.specs.Views.{channel_of, class_of, held_of, side_of};
+ghost use Rattle.rights.specs.Views.{side_seen};
+ghost use Rattle.certificate.specs.Views.{channel_of, class_of, held_end_of, held_of};
 ghost use Rattle.certificate.specs.declared.lines.Refusal.TheVariants as refusal;
 
 use crate::authorities::{Ceiling, End};
 use crate::bounds::{Held, Interval, ModeBound, Slot};
-use crate::classes::{Class, Side};
+use crate::classes::Class;
 use crate::names::Name;
+use rights::Side;
 use std::alloc::AllocFailed;
 use std::cmp::Ordering;
 use std::fmt;
@@ -26,7 +28,7 @@ impl Channel {
     /// The channel of this class and side.
     pub fn new(class: Class, side: Side, sends: Option<Held>) -> Channel
         ensures { channel_of result
-            ≡ record { class = class_of class; side = side_of side; sends = option_map held_of sends } }
+            ≡ record { class = class_of class; side = side_seen side; sends = option_map held_of sends } }
     {
         Channel { class, side, sends }
     }
@@ -40,9 +42,16 @@ impl Channel {
 
     /// The side of them that sends.
     pub fn side(&self) -> Side
-        ensures { side_of result ≡ (channel_of self.now).side }
+        ensures { side_seen result ≡ (channel_of self.now).side }
     {
         self.side
+    }
+
+    /// The end that sends.
+    pub fn end(&self) -> End
+        ensures { held_end_of result ≡ record { class = (channel_of self.now).class; side = (channel_of self.now).side } }
+    {
+        End::new(self.class, self.side)
     }
 
     /// What descriptors it sends, or that its messages have none.

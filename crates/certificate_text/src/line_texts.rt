@@ -7,7 +7,8 @@ ghost use Rattle.texts.specs.Bytes.{space};
 ghost use Rattle.texts.specs.Hex.{hex_text};
 ghost use Rattle.texts.specs.Parts.{joined};
 ghost use Rattle.certificate.specs.Lines.{Begins_authority, Begins_block, Bounds_channel, Bounds_grant, Bounds_register, Bounds_slot, Holds_end};
-ghost use Rattle.certificate.specs.Views.{ceiling_of, channel_of, class_of, held_end_of, held_of, interval_of, line_of, mode_of, name_of, side_of, slot_of, target_of};
+ghost use Rattle.rights.specs.Views.{side_seen};
+ghost use Rattle.certificate.specs.Views.{ceiling_of, channel_of, class_of, held_end_of, held_of, interval_of, line_of, mode_of, name_of, slot_of, target_of};
 ghost use Rattle.certificate_text.specs.KeywordViews.{keyword_text};
 ghost use Rattle.certificate_text.specs.Spaced.{spaced};
 ghost use Rattle.certificate_text.specs.Texts.{class_word, held_words, line_words, mode_word, side_word, slot_words, target_words};
@@ -62,7 +63,7 @@ fn mode_keyword(mode: ModeBound) -> Keyword
 
 /// The word of a side.
 fn side_keyword(side: Side) -> Keyword
-    ensures { keyword_text result ≡ side_word (side_of side) }
+    ensures { keyword_text result ≡ side_word (side_seen side) }
 {
     match side {
         Side::A => Keyword::A,
@@ -92,7 +93,7 @@ fn push_class(room: &mut Room, class: &Class)
 /// Adds the words of an end of a pair, each behind a space.
 fn push_end(room: &mut Room, class: &Class, side: Side)
     requires { length room.old + 36 ≤ 16384 }
-    ensures words { room.new ≡ room.old ++ spaced (class_word (class_of class.now) ∷ side_word (side_of side) ∷ []) }
+    ensures words { room.new ≡ room.old ++ spaced (class_word (class_of class.now) ∷ side_word (side_seen side) ∷ []) }
     ensures few { length room.new ≤ length room.old + 36 }
 {
     push_class(room, class);

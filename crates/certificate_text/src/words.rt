@@ -5,7 +5,8 @@ ghost use Rattle.std.specs.Result.{result_map_both};
 ghost use Rattle.texts.specs.Hex.{hex_of};
 ghost use Rattle.texts.specs.Numbers.{number_of};
 ghost use Rattle.certificate.specs.Lines.{is_ceiling};
-ghost use Rattle.certificate.specs.Views.{class_of, interval_of, mode_of, name_of, side_of};
+ghost use Rattle.rights.specs.Views.{side_seen};
+ghost use Rattle.certificate.specs.Views.{class_of, interval_of, mode_of, name_of};
 ghost use Rattle.certificate_text.specs.TakingViews.{rise_or_equal, unless_full};
 ghost use Rattle.certificate_text.specs.Views.{fault_of, fcntls_in, rights_in};
 ghost use Rattle.certificate_text.specs.Words.{ceiling_from, class_of_word, fcntls_of_words, interval_from, mode_of_word, name_of_word, point_of_program, rights_of_words, side_of_word, up_to};
@@ -74,7 +75,7 @@ pub(crate) fn read_mode(word: &[u8]) -> Option<ModeBound>
 
 /// A side: `a` or `b`.
 pub(crate) fn read_side(word: &[u8]) -> Option<Side>
-    ensures { option_map side_of result ≡ side_of_word word.now }
+    ensures { option_map side_seen result ≡ side_of_word word.now }
 {
     if is_word(word, Keyword::A) {
         Some(Side::A)

@@ -5,7 +5,7 @@ ghost use Rattle.certificate.specs.Describes.{held_describes, interval_describes
 ghost use Rattle.certificate.specs.Views.{bound_of, class_of, held_of, interval_of, mode_of, side_of, slot_of, target_of};
 ghost use Rattle.certificate.specs.Order.{same_class};
 ghost use Rattle.rights.specs.Classes.{Initial};
-ghost use Rattle.fd_table.specs.Views.{side_seen};
+ghost use Rattle.rights.specs.Views.{side_seen};
 ghost use Rattle.rules.specs.Rules.{all_starts_within, is_bounded_start, first_seen, first_subject, first_table, is_started, marked_at, start_within, starts_program, starts_within};
 ghost use Rattle.file_tree.specs.Nodes.{node};
 ghost use Rattle.file_tree.specs.Views.{names_of};

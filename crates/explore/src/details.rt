@@ -1,7 +1,7 @@
 //! What is missing where a call is refused, as a text.
 
 use crate::breaches::Breach;
-use crate::runners::{Runner, call_of, first_operand, value_of};
+use crate::runners::{Runner, call_of, value_of};
 use bitflags::Flags;
 use fd_table::Descriptor;
 use instruction_set::{Operand, Syscall};
@@ -28,48 +28,31 @@ struct Lack {
     commands: Fcntls,
 }
 
-/// Flags to read with, which only an open looks at.
-fn no_flags() -> Option<OpenFlags> {
-    OpenFlags::new(true, false, false, false, false)
-}
-
-/// The rights that a call needs of its first descriptor, or that it keeps.
-fn first_rights(call: &Syscall, flags: OpenFlags) -> Rights {
-    match call {
-        Syscall::Openat { flags, .. } => needs(Call::Openat, *flags, Position::First, false),
-        Syscall::CapRightsLimit { rights, .. } => *rights,
-        _ => needs(call.call(), flags, Position::First, false),
-    }
-}
-
-/// The fcntl commands that a call goes by, or that it keeps.
-fn first_commands(call: &Syscall) -> Fcntls {
-    match call {
-        Syscall::FcntlGetfl { .. } => Fcntls::GETFL,
-        Syscall::FcntlSetfl { .. } => Fcntls::SETFL,
-        Syscall::CapFcntlsLimit { commands, .. } => *commands,
-        _ => Fcntls::empty(),
-    }
-}
-
-/// What a call needs of its first descriptor.
+/// What a call needs of its first descriptor, or what a limit keeps of it.
 fn first_need(call: &Syscall) -> Option<Need> {
-    let operand = first_operand(call)?;
-    let flags = no_flags()?;
+    let (rights, commands) = match call {
+        Syscall::CapRightsLimit { rights, .. } => (*rights, Fcntls::empty()),
+        Syscall::CapFcntlsLimit { commands, .. } => (Rights::empty(), *commands),
+        _ => (call.first_rights(), call.command()),
+    };
     Some(Need {
-        operand,
-        rights: first_rights(call, flags),
-        commands: first_commands(call),
+        operand: call.first_operand()?,
+        rights,
+        commands,
     })
 }
 
 /// What a move needs of the directory that it moves to, where it replaces a node or not.
 fn second_need(call: &Syscall, replaces: bool) -> Option<Need> {
-    let flags = no_flags()?;
     match call {
         Syscall::Renameat { target, .. } => Some(Need {
             operand: *target,
-            rights: needs(Call::Renameat, flags, Position::Second, replaces),
+            rights: needs(
+                Call::Renameat,
+                OpenFlags::unused(),
+                Position::Second,
+                replaces,
+            ),
             commands: Fcntls::empty(),
         }),
         _ => None,

@@ -40,20 +40,6 @@ pub(crate) fn bytes_to_try(alloc: Global, task: &Task) -> Result<Vec<u8>, Memory
     Ok(bytes)
 }
 
-/// Whether the kernel may refuse a call.
-fn may_be_refused(call: &Syscall) -> bool {
-    matches!(
-        call,
-        Syscall::Open { .. }
-            | Syscall::Openat { .. }
-            | Syscall::Write { .. }
-            | Syscall::Mkdirat { .. }
-            | Syscall::Mkdir { .. }
-            | Syscall::Socketpair
-            | Syscall::Fork
-    )
-}
-
 /// Whether the descriptor that the operand names is an end of a socket pair.
 fn is_end(runner: &Runner<'_>, process: u8, operand: Operand) -> bool {
     match runner.descriptor(process, operand) {
@@ -108,7 +94,7 @@ fn add_events(
         })?,
     }
     if let Instruction::Invoke { call, .. } = instruction {
-        if may_be_refused(call) {
+        if call.may_be_refused() {
             events.push(Event {
                 process,
                 input: 0,

@@ -66,30 +66,6 @@ pub(crate) fn value_of(process: &Process, operand: Operand) -> u32 {
     }
 }
 
-/// The only descriptor that a call goes through or limits, or the first of two.
-pub(crate) fn first_operand(call: &Syscall) -> Option<Operand> {
-    match call {
-        Syscall::Openat { descriptor, .. }
-        | Syscall::Read { descriptor }
-        | Syscall::Write { descriptor, .. }
-        | Syscall::Sendfd { descriptor, .. }
-        | Syscall::Recvfd { descriptor }
-        | Syscall::Lseek { descriptor, .. }
-        | Syscall::Ftruncate { descriptor, .. }
-        | Syscall::Fsync { descriptor }
-        | Syscall::Fstat { descriptor }
-        | Syscall::FcntlGetfl { descriptor }
-        | Syscall::FcntlSetfl { descriptor, .. }
-        | Syscall::Fstatat { descriptor, .. }
-        | Syscall::Mkdirat { descriptor, .. }
-        | Syscall::Unlinkat { descriptor, .. }
-        | Syscall::Renameat { descriptor, .. }
-        | Syscall::CapRightsLimit { descriptor, .. }
-        | Syscall::CapFcntlsLimit { descriptor, .. } => Some(*descriptor),
-        _ => None,
-    }
-}
-
 /// Whether an effect changes the tree.
 fn changes_tree(effects: &[Effect]) -> bool {
     effects.iter().any(|effect| matches!(effect.op, Op::Write | Op::Create | Op::Remove))
@@ -168,16 +144,17 @@ impl<'a> Runner<'a> {
         }
     }
 
+    /// Whether a message is on its way to an end.
+    fn is_awaited(&self, end: &End) -> bool {
+        self.machine.files().front(*end).is_some()
+    }
+
     /// What a call would take through a socket.
     fn taken(&self, process: u8, operand: Operand) -> Transfer {
-        let Some(end) = self.end(process, operand) else {
-            return Transfer::None;
-        };
-        let asked = end;
-        if self.machine.files().front(asked).is_none() {
-            return Transfer::None;
+        match self.end(process, operand) {
+            Some(end) if self.is_awaited(&end) => Transfer::Takes(end),
+            _ => Transfer::None,
         }
-        Transfer::Takes(end)
     }
 
     /// What a call would send through a socket, without a descriptor.
@@ -247,7 +224,7 @@ impl<'a> Runner<'a> {
     fn next_number(&self, process: u8) -> Option<u8> {
         let state = self.machine.processes().get(process as usize)?;
         let call = call_of(self.task, state)?;
-        u8::try_from(value_of(state, first_operand(call)?)).ok()
+        u8::try_from(value_of(state, call.first_operand()?)).ok()
     }
 
     /// Notes what the descriptor of a process is of now, for the messages that carry one of the same description.

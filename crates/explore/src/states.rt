@@ -232,13 +232,12 @@ pub(crate) fn digest_of_state(
         let Some(pair) = met.pairs.get(place).copied() else {
             break;
         };
-        let again = pair;
         let first = End {
             pair,
             side: Side::A,
         };
         let second = End {
-            pair: again,
+            pair,
             side: Side::B,
         };
         add_queue(&mut digest, met, tree, messages, first)?;

@@ -4,7 +4,8 @@ use Rattle.std.specs.Prelude.{Option, Some, None, Bool, false, nat_lt, cond}
 use Rattle.std.specs.Option.{IsSome}
 use Rattle.rights.specs.Maps.{put, put2}
 use Rattle.rights.proofs.Changes.{put-same, put-other}
-use Rattle.fd_table.specs.Descriptions.{Object, At_node, At_end, State, Descriptor, Message, other_side}
+use Rattle.rights.specs.Sides.{other_side}
+use Rattle.fd_table.specs.Descriptions.{Object, At_node, At_end, State, Descriptor, Message}
 use Rattle.fd_table.specs.OpenFiles.{OpenFiles, is_end, names}
 use Rattle.fd_table.specs.Openings.{with_table, with_entry}
 use Rattle.fd_table.specs.Filled.{with_queue, with_row, with_state, sent}

@@ -3,7 +3,8 @@ use Rattle.std.proofs.Common.{◌≡◌, ℕ, ◌<◌, ◌≤◌, Bool, true, fa
 use Rattle.std.specs.Prelude.{Option, Some, None, cond, nat_lt}
 use Rattle.std.specs.Option.{IsSome, option_map}
 use Rattle.std.proofs.lemmas.Bool.{lt-ltb, le-ltb}
-use Rattle.fd_table.specs.Descriptions.{Message, other_side}
+use Rattle.rights.specs.Sides.{other_side}
+use Rattle.fd_table.specs.Descriptions.{Message}
 use Rattle.fd_table.specs.OpenFiles.{OpenFiles, is_open}
 use Rattle.fd_table.specs.Filled.{Closed, Full, send_refusal, front_byte, front_passed}
 use Rattle.fd_table.specs.Changes.{front_message, passed_in}

@@ -1,8 +1,8 @@
 -- The sides of a pair.
 use Rattle.std.proofs.Common.{◌<◌, arith}
-use Rattle.fd_table.specs.declared.ends.Side.{Side}
-use Rattle.fd_table.specs.declared.ends.Side.TheVariants as side
-use Rattle.fd_table.specs.Views.{side_seen}
+use Rattle.rights.specs.declared.sides.Side.{Side}
+use Rattle.rights.specs.declared.sides.Side.TheVariants as side
+use Rattle.rights.specs.Views.{side_seen}
 
 pub side_small : (s : Side) → side_seen s < 2
 side_small side.A = omega arith

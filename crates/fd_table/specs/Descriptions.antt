@@ -1,6 +1,6 @@
 -- Open descriptions, descriptors and messages. (open(2), rights(4), cap_fcntls_limit(2); the parts
 -- are own)
-use Rattle.std.specs.Prelude.{◌+◌, ◌%◌, ◌==◌, ℕ, zero, suc, Bool, true, false, nat_le, List, [], ◌∷◌, Option, Some, None}
+use Rattle.std.specs.Prelude.{◌+◌, ◌%◌, ◌==◌, ℕ, Bool, true, false, nat_le, List, [], ◌∷◌, Option, Some, None}
 use Rattle.rights.specs.Values.{NodeNumber, DescriptionNumber, PairNumber, SideNumber, RightSet, CommandSet}
 
 -- what a file or directory was opened for
@@ -46,10 +46,6 @@ IfHeld Good (Some d) = Good d
 abbrev pub EachPassed : (Descriptor → Type 0) → List Message → Type 0
 EachPassed Good [] = Unit {0}
 EachPassed Good (m ∷ messages) = IfHeld Good m.passed × EachPassed Good messages
-
-abbrev pub other_side : SideNumber → SideNumber
-other_side zero = 1
-other_side (suc n) = 0
 
 -- The status flags as a number: append 1, nonblock 2. (fcntl(2); the numbers are own)
 abbrev pub bit_of : Bool → ℕ → ℕ

@@ -6,7 +6,8 @@ use Rattle.std.specs.Option.{option_map}
 use Rattle.rights.specs.Limits.{most_messages, most_processes, most_descriptors}
 use Rattle.rights.specs.Sets.{all_rights, all_commands, is_within}
 use Rattle.rights.specs.Maps.{put, put2}
-use Rattle.fd_table.specs.Descriptions.{Access, PairClass, At_end, State, Descriptor, Message, other_side, descriptor_of}
+use Rattle.rights.specs.Sides.{other_side}
+use Rattle.fd_table.specs.Descriptions.{Access, PairClass, At_end, State, Descriptor, Message, descriptor_of}
 use Rattle.fd_table.specs.Openings.{with_table, with_entry, described, with_opened}
 use Rattle.fd_table.specs.OpenFiles.{OpenFiles, IsUnnamed, IsUnused, Alike, is_open}
 

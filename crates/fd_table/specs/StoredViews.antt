@@ -8,7 +8,7 @@ use Rattle.fd_table.specs.declared.descriptions.Held.{Held as HeldCode}
 use Rattle.fd_table.specs.declared.pairs.Message.{Message as MessageCode}
 use Rattle.fd_table.specs.declared.pairs.Half.{Half as HalfCode}
 use Rattle.fd_table.specs.declared.pairs.Pair.{Pair as PairCode}
-use Rattle.fd_table.specs.declared.books.Books.{Books}
+use Rattle.fd_table.specs.declared.file_tables.FileTables.{FileTables}
 use Rattle.fd_table.specs.Descriptions.{Object, Descriptor, Message, new_state}
 use Rattle.fd_table.specs.Views.{descriptor_seen, object_seen, state_seen}
 use Rattle.fd_table.specs.Filled.{Entry}
@@ -45,8 +45,8 @@ pair_kept p = record { a = half_kept p.a; b = half_kept p.b }
 abbrev pub pairs_kept : List (Option PairCode) → List (Option Pair)
 pairs_kept slots = map (option_map pair_kept) slots
 
-abbrev pub books_kept : Books → Kept
-books_kept b = record { entries = entries_kept b.entries.items; descriptions = descriptions_kept b.descriptions.slots; pairs = pairs_kept b.pairs.slots }
+abbrev pub tables_kept : FileTables → Kept
+tables_kept b = record { entries = entries_kept b.entries.items; descriptions = descriptions_kept b.descriptions.slots; pairs = pairs_kept b.pairs.slots }
 
 -- the entry, if there is one, is of a table
 abbrev pub IsWithinTables : Option Entry → Type 0

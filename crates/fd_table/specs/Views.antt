@@ -1,6 +1,7 @@
 -- What the values of the code stand for.
 use Rattle.std.specs.Prelude.{None, Some, Option, ◌≢◌, ◌≡◌, ℕ}
 use Rattle.rights.specs.Opens.{OpenRequest}
+use Rattle.rights.specs.Views.{side_seen}
 use Rattle.fd_table.specs.declared.status.Status.{Status}
 use Rattle.fd_table.specs.declared.descriptors.Descriptor.{Descriptor as DescriptorCode}
 use Rattle.fd_table.specs.declared.descriptors.Access.{Access as AccessCode}
@@ -12,8 +13,6 @@ use Rattle.fd_table.specs.declared.descriptors.Description.{Description as Descr
 use Rattle.fd_table.specs.declared.descriptors.Entry.{Entry as EntryCode}
 use Rattle.fd_table.specs.declared.faults.SendFault.{SendFault}
 use Rattle.fd_table.specs.declared.faults.SendFault.TheVariants as fault
-use Rattle.fd_table.specs.declared.ends.Side.{Side as SideCode}
-use Rattle.fd_table.specs.declared.ends.Side.TheVariants as side
 use Rattle.fd_table.specs.declared.ends.Front.{Front as FrontCode}
 use Rattle.fd_table.specs.Descriptions.{Access, PairClass, Initial, Made_at, Made_by, Object, At_node, At_end, State, Descriptor}
 use Rattle.fd_table.specs.Filled.{Entry, Front, SendRefusal, Closed, Full}
@@ -36,11 +35,6 @@ abbrev pub class_seen : ClassCode → PairClass
 class_seen (class.Initial pair) = Initial pair
 class_seen (class.MadeAt program point) = Made_at program point
 class_seen (class.MadeBy program) = Made_by program
-
--- side A is 0, and B is 1
-abbrev pub side_seen : SideCode → ℕ
-side_seen side.A = 0
-side_seen side.B = 1
 
 abbrev pub object_seen : ObjectCode → Object
 object_seen (object.Node node access) = At_node node (access_seen access)

@@ -7,7 +7,8 @@ ghost use Rattle.fd_table.specs.Descriptions.{At_end, At_node};
 ghost use Rattle.fd_table.specs.Kept.{object_in, item_at, state_in};
 ghost use Rattle.fd_table.specs.Holders.{IsFew, IsDescriptionThere, count_in};
 ghost use Rattle.fd_table.specs.Changes.{Changed, IsHeld, described_as, ended_in, lowered, raised};
-ghost use Rattle.fd_table.specs.Views.{access_asked, class_seen, object_seen, side_seen, state_seen};
+ghost use Rattle.rights.specs.Views.{side_seen};
+ghost use Rattle.fd_table.specs.Views.{access_asked, class_seen, object_seen, state_seen};
 ghost use Rattle.fd_table.specs.StoredViews.{description_kept, descriptions_kept, entry_kept, new_description};
 
 use crate::descriptors::{Access, Class, Description, Descriptor, Object};
@@ -52,10 +53,10 @@ pub(crate) fn hold_one(descriptions: &mut Slab<Held>, n: usize)
 }
 
 /// Counts one holder more of what a descriptor names, if there is one.
-pub(crate) fn hold_named(descriptions: &mut Slab<Held>, held: Option<Descriptor>)
-    requires there { IsDescriptionThere (item_at (descriptions_kept descriptions.old.slots)) (entry_kept held) }
-    requires few { IsFew (item_at (descriptions_kept descriptions.old.slots)) (entry_kept held) }
-    ensures { IsHeld (descriptions_kept descriptions.old.slots) (descriptions_kept descriptions.new.slots) (entry_kept held) }
+pub(crate) fn hold_named(descriptions: &mut Slab<Held>, held: &Option<Descriptor>)
+    requires there { IsDescriptionThere (item_at (descriptions_kept descriptions.old.slots)) (entry_kept held.now) }
+    requires few { IsFew (item_at (descriptions_kept descriptions.old.slots)) (entry_kept held.now) }
+    ensures { IsHeld (descriptions_kept descriptions.old.slots) (descriptions_kept descriptions.new.slots) (entry_kept held.now) }
 {
     if let Some(descriptor) = held {
         hold_one(descriptions, descriptor.description.number());

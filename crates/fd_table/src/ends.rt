@@ -1,9 +1,8 @@
 //! Socket pairs and their ends.
 
 ghost use Rattle.std.specs.Prelude.{◌≡◌};
-ghost use Rattle.fd_table.specs.Descriptions.{other_side};
-ghost use Rattle.fd_table.specs.Views.{side_seen};
 
+use rights::Side;
 use std::marker::Model;
 
 /// The number of a socket pair. It may name another pair once no end is open and nothing is on its way. (own)
@@ -35,25 +34,6 @@ impl PairId {
         ensures { result ≡ self }
     {
         self.number
-    }
-}
-
-/// One of the two ends of a pair. (socketpair(2); the names are own)
-#[derive(Clone, Copy, PartialEq, Eq)]
-pub enum Side {
-    A,
-    B,
-}
-
-impl Side {
-    /// The other one.
-    pub fn other(self) -> Side
-        ensures { side_seen result ≡ other_side (side_seen self) }
-    {
-        match self {
-            Side::A => Side::B,
-            Side::B => Side::A,
-        }
     }
 }
 

@@ -3,25 +3,27 @@
 
 ghost use Rattle.std.specs.Prelude.{◌≡◌, ◌+◌, ◌-◌, ◌<◌, ℕ, None, IfErr, IfOk, OnErr, OnOk, option_map};
 ghost use Rattle.std.specs.Option.{IsSome};
-ghost use Rattle.fd_table.specs.Descriptions.{message_of, other_side};
+ghost use Rattle.rights.specs.Sides.{other_side};
+ghost use Rattle.fd_table.specs.Descriptions.{message_of};
 ghost use Rattle.fd_table.specs.OpenFiles.{Alike, is_open as is_end_open, lowest_free as lowest_number, lowest_from};
 ghost use Rattle.fd_table.specs.Openings.{with_entry};
 ghost use Rattle.fd_table.specs.Filled.{AreApart, IsEmpty, IsEndThere, IsFree, IsFreeAt, IsNamed, MayLimit, MayPass, Opens, Pairs, front_byte, front_shown, front_passed};
 ghost use Rattle.fd_table.specs.Filled.{with_limit, send_refusal, sent, with_received, taken_to, with_flags, with_offset, with_row};
 ghost use Rattle.fd_table.specs.Counts.{Counts};
-ghost use Rattle.fd_table.specs.Views.{TellsSendFault, access_asked, class_seen, descriptor_seen, entry_seen, front_seen, object_seen, side_seen, state_seen};
+ghost use Rattle.rights.specs.Views.{side_seen};
+ghost use Rattle.fd_table.specs.Views.{TellsSendFault, access_asked, class_seen, descriptor_seen, entry_seen, front_seen, object_seen, state_seen};
 
-use crate::books::Books;
 use crate::descriptions::{description_of, set_description};
 use crate::descriptors::{Class, Description, DescriptionId, Descriptor, Entry};
-use crate::ends::{End, Front, PairId, Side};
+use crate::ends::{End, Front, PairId};
 use crate::entries::{entry_at, lowest_in};
 use crate::faults::SendFault;
+use crate::file_tables::FileTables;
 use crate::pairs::{front_in, is_end_open, messages_in};
 use crate::status::Status;
 use file_tree::NodeId;
 use rights::limits::MAX_MESSAGES;
-use rights::{Fcntls, Memory, OpenFlags, Rights};
+use rights::{Fcntls, Memory, OpenFlags, Rights, Side};
 use std::alloc::Global;
 use std::marker::Model;
 
@@ -29,19 +31,19 @@ use std::marker::Model;
 /// A clause sees lists, which `open_files` turns into maps. (own)
 #[derive(Drop)]
 pub struct Files {
-    books: Books,
+    tables: FileTables,
 }
 
 impl Model for Files {
     ghost use Rattle.fd_table.specs.Kept.{Kept};
     ghost use Rattle.fd_table.specs.Holders.{IsKept, empty_hand};
-    ghost use Rattle.fd_table.specs.StoredViews.{books_kept};
+    ghost use Rattle.fd_table.specs.StoredViews.{tables_kept};
 
     ghost Value = { Kept };
 
-    ghost view = { λ f. books_kept f.books };
+    ghost view = { λ f. tables_kept f.tables };
 
-    ghost invariant = { λ f. IsKept (books_kept f.books) empty_hand };
+    ghost invariant = { λ f. IsKept (tables_kept f.tables) empty_hand };
 }
 
 impl Files {
@@ -51,8 +53,8 @@ impl Files {
     pub fn new(alloc: Global) -> Result<Files, Memory>
         ensures { IfOk result (λ files. IsEmpty (open_files files)) }
     {
-        let books = Books::new(alloc)?;
-        Ok(Files { books })
+        let tables = FileTables::new(alloc)?;
+        Ok(Files { tables })
     }
 
     /// The descriptor of a process at a number, if there is one.
@@ -60,7 +62,7 @@ impl Files {
     pub fn get(&self, p: u8, n: u8) -> Option<Descriptor>
         ensures { option_map descriptor_seen result ≡ (open_files self.now).table p n }
     {
-        entry_at(self.books.entries.as_slice(), p, n)
+        entry_at(self.tables.entries.as_slice(), p, n)
     }
 
     /// The lowest number that no descriptor of the process has, if one is free. (open(2), dup(2))
@@ -68,7 +70,7 @@ impl Files {
     pub fn lowest_free(&self, p: u8) -> Option<u8>
         ensures { result ≡ lowest_number ((open_files self.now).table p) }
     {
-        lowest_in(self.books.entries.as_slice(), p, 0)
+        lowest_in(self.tables.entries.as_slice(), p, 0)
     }
 
     /// The lowest number above this one that no descriptor of the process has, if one is free. (socketpair(2))
@@ -77,7 +79,7 @@ impl Files {
         requires { n < 16 }
         ensures { result ≡ lowest_from (15 - n) (n + 1) ((open_files self.now).table p) }
     {
-        lowest_in(self.books.entries.as_slice(), p, n + 1)
+        lowest_in(self.tables.entries.as_slice(), p, n + 1)
     }
 
     /// What a description is of, and its state.
@@ -87,7 +89,7 @@ impl Files {
         ensures object { object_seen result.object ≡ (open_files self.now).objects d }
         ensures state { state_seen result ≡ (open_files self.now).states d }
     {
-        description_of(&self.books.descriptions, d.number())
+        description_of(&self.tables.descriptions, d.number())
     }
 
     /// What the end would receive next: the byte, and whether a descriptor comes with it.
@@ -95,7 +97,7 @@ impl Files {
     pub fn front(&self, end: End) -> Option<Front>
         ensures { option_map front_seen result ≡ front_shown ((open_files self.now).queue end.pair (other_side (side_seen end.side))) }
     {
-        front_in(&self.books.pairs, end.pair.number(), end.side.other())
+        front_in(&self.tables.pairs, end.pair.number(), end.side.other())
     }
 
     /// Whether some entry, or a descriptor on its way, is of that end.
@@ -103,7 +105,7 @@ impl Files {
     pub fn is_open(&self, pair: PairId, side: Side) -> bool
         ensures { result ≡ is_end_open (open_files self.now) pair (side_seen side) }
     {
-        is_end_open(&self.books.pairs, End { pair, side })
+        is_end_open(&self.tables.pairs, End { pair, side })
     }
 
     /// Clears an entry. (close(2))
@@ -112,7 +114,7 @@ impl Files {
         requires { IsSome ((open_files self.old).table p n) }
         ensures { Alike (with_entry (open_files self.old) p n None) (open_files self.new) }
     {
-        self.books.put(p, n, None);
+        self.tables.put(p, n, None);
     }
 
     /// Clears all entries of a process.
@@ -121,7 +123,7 @@ impl Files {
         requires { p < 16 }
         ensures { Alike (with_row (open_files self.old) p (λ n. None)) (open_files self.new) }
     {
-        self.books.clear_row(p);
+        self.tables.clear_row(p);
     }
 
     /// Copies an entry to a free one, of the same process or of another. (dup(2))
@@ -131,10 +133,9 @@ impl Files {
         requires free { IsFreeAt (open_files self.old) q m }
         ensures { Alike (with_entry (open_files self.old) q m ((open_files self.old).table p n)) (open_files self.new) }
     {
-        let shared = entry_at(self.books.entries.as_slice(), p, n);
-        let held = shared;
-        self.books.hold(held);
-        self.books.put(q, m, shared);
+        let shared = entry_at(self.tables.entries.as_slice(), p, n);
+        self.tables.hold(&shared);
+        self.tables.put(q, m, shared);
     }
 
     /// Copies the table of a process to one that has no entry. (fork(2))
@@ -145,7 +146,7 @@ impl Files {
         requires free { (n : ℕ) → (open_files self.old).table q n ≡ None }
         ensures { Alike (with_row (open_files self.old) q ((open_files self.old).table p)) (open_files self.new) }
     {
-        self.books.copy_row(p, q);
+        self.tables.copy_row(p, q);
     }
 
     /// Leaves a descriptor these rights and fcntl commands, which are within those that it has.
@@ -155,7 +156,7 @@ impl Files {
         requires { MayLimit ((open_files self.old).table p n) rights.0 fcntls.0 }
         ensures { Alike (with_limit (open_files self.old) p n rights.0 fcntls.0) (open_files self.new) }
     {
-        self.books.limit(p, n, rights, fcntls);
+        self.tables.limit(p, n, rights, fcntls);
     }
 
     /// Sets the offset of a description. (lseek(2))
@@ -165,13 +166,13 @@ impl Files {
         ensures { Alike (with_offset (open_files self.old) d offset) (open_files self.new) }
     {
         let at = d.number();
-        let description = description_of(&self.books.descriptions, at);
+        let description = description_of(&self.tables.descriptions, at);
         let moved = Description {
             object: description.object,
             offset,
             status: description.status,
         };
-        set_description(&mut self.books.descriptions, at, moved);
+        set_description(&mut self.tables.descriptions, at, moved);
     }
 
     /// Sets the status flags of a description. (fcntl(2), F_SETFL)
@@ -181,13 +182,13 @@ impl Files {
         ensures { Alike (with_flags (open_files self.old) d status.append status.nonblock) (open_files self.new) }
     {
         let at = d.number();
-        let description = description_of(&self.books.descriptions, at);
+        let description = description_of(&self.tables.descriptions, at);
         let set = Description {
             object: description.object,
             offset: description.offset,
             status,
         };
-        set_description(&mut self.books.descriptions, at, set);
+        set_description(&mut self.tables.descriptions, at, set);
     }
 
     /// Opens a file or directory through a free entry: a new description, at its beginning. With too little memory
@@ -206,13 +207,13 @@ impl Files {
         ensures ok { OnOk result (Opens (open_files self.old) (open_files self.new) p n node (access_asked flags) flags.append rights.0 fcntls.0) }
         ensures err { OnErr result (open_files self.new ≡ open_files self.old) }
     {
-        let number = self.books.make_node(node, flags)?;
+        let number = self.tables.make_node(node, flags)?;
         let descriptor = Descriptor {
             description: DescriptionId::at(number),
             rights,
             fcntls,
         };
-        self.books.put(p, n, Some(descriptor));
+        self.tables.put(p, n, Some(descriptor));
         Ok(())
     }
 
@@ -230,13 +231,13 @@ impl Files {
             pair: end.pair,
             side: end.side.other(),
         };
-        if !is_end_open(&self.books.pairs, other) {
+        if !is_end_open(&self.tables.pairs, other) {
             return Err(SendFault::Closed);
         }
-        if messages_in(&self.books.pairs, end.pair.number(), end.side) >= MAX_MESSAGES {
+        if messages_in(&self.tables.pairs, end.pair.number(), end.side) >= MAX_MESSAGES {
             return Err(SendFault::Full);
         }
-        self.books.send(end, byte, passed)
+        self.tables.send(end, byte, passed)
     }
 
     /// Takes the next message that the end receives, and gives its byte. A descriptor that came with it is lost.
@@ -247,9 +248,9 @@ impl Files {
         ensures byte { result ≡ front_byte ((open_files self.old).queue end.pair (other_side (side_seen end.side))) }
         ensures taken { Alike (with_received (open_files self.old) end.pair (side_seen end.side)) (open_files self.new) }
     {
-        match self.books.take(end) {
+        match self.tables.take(end) {
             Some(message) => {
-                self.books.release(message.passed);
+                self.tables.release(message.passed);
                 Some(message.byte)
             }
             None => None,
@@ -265,8 +266,8 @@ impl Files {
         requires carries { IsSome (front_passed ((open_files self.old).queue end.pair (other_side (side_seen end.side)))) }
         ensures { Alike (taken_to (open_files self.old) end.pair (side_seen end.side) p n) (open_files self.new) }
     {
-        if let Some(message) = self.books.take(end) {
-            self.books.put(p, n, message.passed);
+        if let Some(message) = self.tables.take(end) {
+            self.tables.put(p, n, message.passed);
         }
     }
 
@@ -285,9 +286,9 @@ impl Files {
         ensures ok { OnOk result (Pairs (open_files self.old) (open_files self.new) (class_seen class) (option_map entry_seen a) (option_map entry_seen b)) }
         ensures err { OnErr result (open_files self.new ≡ open_files self.old) }
     {
-        let (first, second) = self.books.make_ends(class)?;
-        self.books.place(a, first);
-        self.books.place(b, second);
+        let (first, second) = self.tables.make_ends(class)?;
+        self.tables.place(a, first);
+        self.tables.place(b, second);
         Ok(())
     }
 
@@ -296,6 +297,6 @@ impl Files {
     pub fn count(&self) -> usize
         ensures { Counts (open_files self.now) result }
     {
-        self.books.descriptions.len()
+        self.tables.descriptions.len()
     }
 }

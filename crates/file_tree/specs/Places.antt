@@ -21,6 +21,10 @@ is_file_name_byte b = nat_le 33 b && nat_le b 126 && not (nat_eq b quote || nat_
 abbrev pub is_dots : Name → Bool
 is_dots name = bytes_eq name (codes ".") || bytes_eq name (codes "..")
 
+-- A name of a path is a node's name of any length.
+abbrev pub is_path_name : Name → Bool
+is_path_name name = not (nat_eq (length name) 0) && list_all is_file_name_byte name && not (is_dots name)
+
 unfoldable pub is_file_name : Name → Bool
 is_file_name name = not (nat_eq (length name) 0) && nat_le (length name) most_name && list_all is_file_name_byte name && not (is_dots name)
 

@@ -2,7 +2,7 @@
 
 ghost use Rattle.std.specs.Prelude.{◌≡◌};
 ghost use Rattle.std.specs.List.{list_all};
-ghost use Rattle.file_tree.specs.Places.{is_dots, is_file_name, is_file_name_byte, is_target, names_fit};
+ghost use Rattle.file_tree.specs.Places.{is_dots, is_file_name, is_file_name_byte, is_path_name, is_target, names_fit};
 
 use rights::limits::{MAX_NAME, MAX_PATH};
 
@@ -32,15 +32,22 @@ fn has_name_bytes(name: &[u8]) -> bool
     true
 }
 
-/// Whether a node may have the name: 1 to 255 bytes from 33 to 126 without `/`, `"` and `\`, and neither
-/// `.` nor `..`. (own)
+/// Whether a text is a name of a path: bytes from 33 to 126 without `/`, `"` and `\`, one at least, and neither `.` nor `..`.
+/// It may be longer than a node's name. (own)
+pub fn is_path_name(name: &[u8]) -> bool
+    ensures { result ≡ is_path_name name.now }
+{
+    let has_name_bytes = has_name_bytes(name);
+    let is_dot_name = is_dot_name(name);
+    !name.is_empty() && has_name_bytes && !is_dot_name
+}
+
+/// Whether a node may have the name: a name of a path, of 255 bytes at most. (own)
 #[tactic(auto, unfolding(crate::specs::Places::is_file_name))]
 pub fn is_valid_name(name: &[u8]) -> bool
     ensures { result ≡ is_file_name name.now }
 {
-    let has_name_bytes = has_name_bytes(name);
-    let is_dot_name = is_dot_name(name);
-    !name.is_empty() && name.len() <= MAX_NAME && has_name_bytes && !is_dot_name
+    is_path_name(name) && name.len() <= MAX_NAME
 }
 
 /// Whether each name in a text has at most 255 bytes.

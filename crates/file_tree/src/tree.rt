@@ -50,10 +50,11 @@ pub trait Tree: Sized + Drop {
         requires { n < length (nodes self.now) }
         ensures { kind_of result ≡ (node (nodes self.now) n).kind };
 
-    /// Whether the node wasn't removed.
+    /// Whether the node wasn't removed. Who asks for it learns that the nodes are a tree.
     fn is_linked(&self, n: NodeId) -> bool
         requires { n < length (nodes self.now) }
-        ensures { result ≡ (node (nodes self.now) n).linked };
+        ensures linked { result ≡ (node (nodes self.now) n).linked }
+        ensures tree { IsTree (nodes self.now) };
 
     /// The target of a symbolic link, or nothing for other nodes. (readlink(2))
     fn target(&self, n: NodeId) -> Option<&[u8]>

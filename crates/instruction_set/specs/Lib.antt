@@ -1,4 +1,5 @@
 pub mod Assembly
+pub mod CallNeeds
 pub mod Fields
 pub mod Forms
 pub mod Lines

@@ -1,7 +1,8 @@
 //! Copies of instructions, for who has to keep one.
 
-ghost use Rattle.std.specs.Prelude.{◌≡◌, IfOk, false};
-ghost use Rattle.instruction_set.specs.Paths.{has_path};
+ghost use Rattle.std.specs.Prelude.{◌≡◌, IfOk, OnOk, false, true};
+ghost use Rattle.instruction_set.specs.Paths.{calls_with_valid_paths, has_path, has_valid_paths};
+ghost use Rattle.instruction_set.specs.Programs.{is_path};
 ghost use Rattle.instruction_set.specs.Views.{instruction_of, syscall_of};
 
 use crate::instructions::{Instruction, Syscall};
@@ -12,7 +13,8 @@ use std::alloc::Global;
 impl Path {
     /// A copy. Want of memory alone keeps it from being made. (own)
     pub(crate) fn copy(&self, alloc: Global) -> Result<Path, Memory>
-        ensures { IfOk result (λ copied. copied ≡ self.now) }
+        ensures copy { IfOk result (λ copied. copied ≡ self.now) }
+        ensures valid { OnOk result (is_path self.now ≡ true) }
     {
         let bytes = Vec::from_slice(alloc, self.bytes())?;
         Ok(Path::new(bytes))
@@ -68,7 +70,8 @@ impl Syscall {
 
     /// A copy. Want of memory alone keeps it from being made. (own)
     pub(crate) fn copy(&self, alloc: Global) -> Result<Syscall, Memory>
-        ensures { IfOk result (λ copied. syscall_of copied ≡ syscall_of self.now) }
+        ensures copy { IfOk result (λ copied. syscall_of copied ≡ syscall_of self.now) }
+        ensures valid { OnOk result (has_valid_paths (syscall_of self.now) ≡ true) }
     {
         match self {
             Syscall::Open { path, flags } => {
@@ -154,7 +157,8 @@ impl Syscall {
 impl Instruction {
     /// A copy. Want of memory alone keeps it from being made. (own)
     pub fn copy(&self, alloc: Global) -> Result<Instruction, Memory>
-        ensures { IfOk result (λ copied. instruction_of copied ≡ instruction_of self.now) }
+        ensures copy { IfOk result (λ copied. instruction_of copied ≡ instruction_of self.now) }
+        ensures valid { OnOk result (calls_with_valid_paths (instruction_of self.now) ≡ true) }
     {
         match self {
             Instruction::Set { register, value } => Ok(Instruction::Set {

@@ -1,6 +1,7 @@
 //! Programs over the system calls of a Capsicum sandbox, and the language in which they are written.
 #![tactic(auto)]
 
+pub mod call_needs;
 mod copies;
 pub mod instructions;
 pub mod operands;

@@ -16,7 +16,8 @@ use Rattle.fd_table.specs.Descriptions.{Descriptor}
 use Rattle.fd_table.specs.OpenFiles.{any_below}
 use Rattle.kernel.specs.World.{World, Choice, IsFresh}
 use Rattle.kernel.specs.Answers.{Fails, held, unless}
-use Rattle.kernel.specs.Calls.{answer, no_request}
+use Rattle.rights.specs.Opens.{no_request}
+use Rattle.kernel.specs.Calls.{answer}
 use Rattle.kernel.specs.Hostile.{Own, Does, IsAct, about}
 use Rattle.kernel.specs.Steps.{Programs, executed, step, stepped, stepped_at, stepped_by}
 use Rattle.kernel.specs.Walks.{under_way}

@@ -6,7 +6,7 @@ use Rattle.std.proofs.lemmas.Option.{slice_get_within}
 use Rattle.rights.specs.Errors.{Errno, ENOTCAPABLE, ENOTDIR, Cause, MissingRight}
 use Rattle.rights.specs.Errors as errors
 use Rattle.rights.specs.Maps.{put}
-use Rattle.rights.specs.Opens.{OpenRequest}
+use Rattle.rights.specs.Opens.{OpenRequest, no_request}
 use Rattle.rights.specs.Sets.{is_within}
 use Rattle.rights.specs.Needs.{First, Second, needs_of}
 use Rattle.rights.proofs.Changes.{put-other}
@@ -21,7 +21,7 @@ use Rattle.fd_table.specs.Descriptions.{Object, At_node, At_end, Descriptor}
 use Rattle.kernel.specs.World.{World, Choice, IsFresh}
 use Rattle.kernel.specs.Answers.{Event, TableChange, Same_table, Set_entry, Clear_entry, New_file, New_pair, New_process, Answer, Fails, Waits, Gives, Walks, unless, held, at_object}
 use Rattle.kernel.specs.Answers.{at_number, lookup_fails, value_of}
-use Rattle.kernel.specs.Calls.{answer, existing, found_last, in_directory, is_at_last, last_if, looks, looks_twice, lost, made_directory, no_request, opened, opened_as}
+use Rattle.kernel.specs.Calls.{answer, existing, found_last, in_directory, is_at_last, last_if, looks, looks_twice, lost, made_directory, opened, opened_as}
 use Rattle.kernel.specs.Calls.{or_fails, renamed_over, renamed_to, resumed_both, stats_at, unlinks, walked, walked_both}
 use Rattle.kernel.specs.Changes.{changed, files_after, given, processes_after, table_after}
 use Rattle.kernel.specs.Steps.{LineResult, Programs, after_deed, next_instruction, answered, executed, failed, halted, jumped, register, step, stepped, stepped_at, stepped_by, with_process}

@@ -13,7 +13,8 @@ use Rattle.lookup.specs.Walks.{first_handled, handled}
 use Rattle.process.specs.State.{ProcessState, Walking, One, Two}
 use Rattle.instruction_set.specs.Programs.{Syscall, Open, Openat, Read, Write, Sendfd, Recvfd, Lseek, Ftruncate, Fsync, Fstat, Fcntl_getfl, Fcntl_setfl, Fstatat, Stat, Mkdirat, Mkdir}
 use Rattle.instruction_set.specs.Programs.{Unlinkat, Unlink, Renameat, Dup, Close, Cap_rights_limit, Cap_fcntls_limit, Cap_enter, Cap_getmode, Socketpair, Fork}
-use Rattle.fd_table.specs.Descriptions.{Access, PairClass, Object, At_node, At_end, Descriptor, Message, other_side, descriptor_of, IfHeld}
+use Rattle.rights.specs.Sides.{other_side}
+use Rattle.fd_table.specs.Descriptions.{Access, PairClass, Object, At_node, At_end, Descriptor, Message, descriptor_of, IfHeld}
 use Rattle.fd_table.specs.OpenFiles.{lowest_from, lowest_free}
 use Rattle.kernel.specs.World.{World}
 use Rattle.kernel.specs.Answers.{Event, Effect, TableChange, Same_table, Set_entry, Clear_entry, New_file, New_pair, New_process, QueueChange, Same_queue, Push, Pop, Change}

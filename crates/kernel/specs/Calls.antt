@@ -5,7 +5,7 @@ use Rattle.std.specs.List.{slice_get}
 use Rattle.rights.specs.Values.{Place, PathText, Content, NodeNumber, DescriptionNumber, DescriptorNumber, PairNumber, SideNumber, RightSet, CommandSet}
 use Rattle.rights.specs.Sets.{is_within, all_rights, all_commands, getfl_command, setfl_command}
 use Rattle.rights.specs.Needs.{First, Second, needs_of}
-use Rattle.rights.specs.Opens.{OpenRequest, open_request}
+use Rattle.rights.specs.Opens.{OpenRequest, no_request}
 use Rattle.rights.specs.Errors.{Errno, EPERM, ENOENT, EBADF, EEXIST, ENOTDIR, EISDIR, EINVAL, ENFILE, EMFILE, EFBIG, ENOSPC, EPIPE, EAGAIN, ENOTSOCK, ELOOP, ENOTEMPTY, ENOTCAPABLE}
 use Rattle.rights.specs.Errors.{ECAPMODE, Cause, CapMode, MissingRight, Path, Full, Refused}
 use Rattle.rights.specs.Errors as errors
@@ -22,15 +22,12 @@ use Rattle.lookup.specs.Walks.{WalkState, Progress, Done, More, begun, first_han
 use Rattle.process.specs.State.{ProcessState, Walking, One, Two}
 use Rattle.instruction_set.specs.Programs.{Operand, Syscall, Open, Openat, Read, Write, Sendfd, Recvfd, Lseek, Ftruncate, Fsync, Fstat, Fcntl_getfl, Fcntl_setfl, Fstatat, Stat, Mkdirat}
 use Rattle.instruction_set.specs.Programs.{Mkdir, Unlinkat, Unlink, Renameat, Dup, Close, Cap_rights_limit, Cap_fcntls_limit, Cap_enter, Cap_getmode, Socketpair, Fork, called}
-use Rattle.fd_table.specs.Descriptions.{Access, PairClass, Made_at, Made_by, State, Descriptor, Message, other_side, bit_of, status_number, with_status}
+use Rattle.rights.specs.Sides.{other_side}
+use Rattle.fd_table.specs.Descriptions.{Access, PairClass, Made_at, Made_by, State, Descriptor, Message, bit_of, status_number, with_status}
 use Rattle.fd_table.specs.OpenFiles.{is_open, lowest_from, lowest_free}
 use Rattle.kernel.specs.World.{World}
 use Rattle.kernel.specs.Answers.{Event, Effect, Make, Remove, Move, Fill, TreeChange, Same_tree, Set_entry, Clear_entry, New_file, New_pair, New_process, Push, Pop, Set_state}
 use Rattle.kernel.specs.Answers.{Change, Answer, Fails, Waits, Gives, Walks, same, gives, does, unless, held, granted, commanded, through, at_object, at_number, lookup_fails, value_of}
-
--- the flags of a call that opens nothing
-abbrev pub no_request : OpenRequest
-no_request = open_request false false false false false
 
 -- a final name that is made is kept as it is: no link is followed there (own)
 abbrev pub last_if : Bool → Last

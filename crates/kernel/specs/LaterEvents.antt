@@ -11,7 +11,8 @@ use Rattle.instruction_set.specs.Programs.{Syscall, Renameat, called}
 use Rattle.fd_table.specs.Descriptions.{Descriptor}
 use Rattle.kernel.specs.World.{World, Choice, IsFresh}
 use Rattle.kernel.specs.Answers.{Event, IsEvent, Answer, Fails, Waits, Gives, Walks, value_of}
-use Rattle.kernel.specs.Calls.{answer, is_at_last, no_request}
+use Rattle.rights.specs.Opens.{no_request}
+use Rattle.kernel.specs.Calls.{answer, is_at_last}
 use Rattle.kernel.specs.Hostile.{Act, IsAct, step_as}
 use Rattle.kernel.specs.Steps.{Programs}
 use Rattle.kernel.specs.Walks.{under_way}

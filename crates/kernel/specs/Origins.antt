@@ -7,7 +7,8 @@ use Rattle.rights.specs.Opens.{OpenRequest}
 use Rattle.rights.specs.Sets.{is_within, all_rights, all_commands}
 use Rattle.process.specs.State.{ProcessState}
 use Rattle.instruction_set.specs.Programs.{Operand, Syscall, Open, Openat, Sendfd, Recvfd, Dup, Cap_rights_limit, Cap_fcntls_limit, Socketpair, Fork, Instruction}
-use Rattle.fd_table.specs.Descriptions.{Object, At_node, At_end, Descriptor, Message, other_side}
+use Rattle.rights.specs.Sides.{other_side}
+use Rattle.fd_table.specs.Descriptions.{Object, At_node, At_end, Descriptor, Message}
 use Rattle.kernel.specs.World.{World}
 use Rattle.kernel.specs.Answers.{Event, value_of}
 use Rattle.kernel.specs.Steps.{Programs, next_instruction}

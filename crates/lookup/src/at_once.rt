@@ -15,11 +15,13 @@ use file_tree::{Kind, NodeId, Tree, is_valid_name};
 /// Whether the path is one name that may be a node's, and the start a directory that wasn't removed.
 fn may_name<T: Tree>(tree: &T, start: NodeId, path: &[u8]) -> bool
     requires { start < length (T.nodes tree.now) }
-    ensures { result ≡ may_name (T.nodes tree.now) start path.now }
+    ensures tree { IsTree (T.nodes tree.now) }
+    ensures may { result ≡ may_name (T.nodes tree.now) start path.now }
 {
     let is_name = is_valid_name(path);
     let is_directory = tree.kind(start) == Kind::Dir;
-    is_name && is_directory && tree.is_linked(start)
+    let is_linked = tree.is_linked(start);
+    is_name && is_directory && is_linked
 }
 
 /// What the name of a path leads to.
@@ -53,7 +55,6 @@ pub fn find_name<T: Tree>(tree: &T, start: NodeId, path: &[u8], last: Last) -> O
     ensures first { IfSome result (λ found. first_handled (T.nodes tree.now) start path.now Beneath (last_of last) ≡ Done (found_of found)) }
     ensures alone { IfSome result (λ _. path_components path.now ≡ path.now ∷ []) }
 {
-    let _root = tree.root();
     if !may_name(tree, start, path) {
         return None;
     }

@@ -9,6 +9,7 @@ pub mod OperationLists
 pub mod Operations
 pub mod Output
 pub mod Sets
+pub mod Sides
 pub mod StopViews
 pub mod Values
 pub mod Views

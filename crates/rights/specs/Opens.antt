@@ -1,5 +1,5 @@
 -- How a file is opened. (open(2), in five of its flags)
-use Rattle.std.specs.Prelude.{Bool, ◌&&◌, ◌||◌}
+use Rattle.std.specs.Prelude.{Bool, true, false, ◌&&◌, ◌||◌}
 use Rattle.std.proofs.Math.Bool.{not}
 
 -- What an open asks for. To read and to write stands for the manual's O_RDWR.
@@ -25,3 +25,7 @@ open_request read write append create trunc = record {
   create = create;
   trunc = trunc;
 }
+
+-- the flags of a call that opens nothing, which no need of it looks at
+abbrev pub no_request : OpenRequest
+no_request = open_request true false false false false

@@ -9,6 +9,9 @@ use Rattle.rights.specs.declared.operations.Op.{Op as OpCode}
 use Rattle.rights.specs.declared.operations.Op.TheVariants as op
 use Rattle.rights.specs.declared.need_table.Position.{Position as PositionCode}
 use Rattle.rights.specs.declared.need_table.Position.TheVariants as position
+use Rattle.rights.specs.declared.sides.Side.{Side as SideCode}
+use Rattle.rights.specs.declared.sides.Side.TheVariants as side
+use Rattle.rights.specs.Values.{SideNumber}
 use Rattle.rights.specs.Calls as calls
 use Rattle.rights.specs.Errors as errors
 use Rattle.rights.specs.Operations as operations
@@ -85,3 +88,8 @@ operation_of op.Remove = operations.Remove
 abbrev pub position_of : PositionCode → needs.Position
 position_of position.First = needs.First
 position_of position.Second = needs.Second
+
+-- side A is 0, and B is 1
+abbrev pub side_seen : SideCode → SideNumber
+side_seen side.A = 0
+side_seen side.B = 1

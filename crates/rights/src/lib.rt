@@ -1,6 +1,6 @@
 //! What every layer of Capcheck speaks of: sets of rights and of fcntl commands, the system calls
 //! by name, what each needs of a descriptor's rights, errors with their causes, the operations of a
-//! policy, the limits, and the writer that a trace or a certificate goes to.
+//! policy, the sides of a socket pair, the limits, and the writer that a trace or a certificate goes to.
 #![tactic(auto)]
 
 pub mod calls;
@@ -11,6 +11,7 @@ pub mod opens;
 pub mod operations;
 pub mod output;
 pub mod sets;
+pub mod sides;
 pub mod stops;
 
 pub use calls::Call;
@@ -20,4 +21,5 @@ pub use opens::OpenFlags;
 pub use operations::Op;
 pub use output::{Out, OutFault, write_all};
 pub use sets::{Fcntls, Rights};
+pub use sides::Side;
 pub use stops::{Memory, Stop};

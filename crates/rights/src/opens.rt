@@ -1,7 +1,7 @@
 //! How a file is opened.
 
 ghost use Rattle.std.specs.Prelude.{◌≡◌, ◌↔◌, IsSome, IfSome, IsTrue};
-ghost use Rattle.rights.specs.Opens.{OpenRequest, is_valid, open_request};
+ghost use Rattle.rights.specs.Opens.{OpenRequest, is_valid, no_request, open_request};
 
 use std::marker::Model;
 
@@ -49,6 +49,19 @@ impl OpenFlags {
             })
         } else {
             None
+        }
+    }
+
+    /// The flags of a call that opens nothing, which no need of it looks at.
+    pub fn unused() -> OpenFlags
+        ensures { result ≡ no_request }
+    {
+        OpenFlags {
+            read: true,
+            write: false,
+            append: false,
+            create: false,
+            trunc: false,
         }
     }
 

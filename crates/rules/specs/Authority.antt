@@ -9,7 +9,7 @@ use Rattle.rights.specs.Sets.{is_within, read_right, write_right, ftruncate_righ
 use Rattle.rights.specs.Sets.{unlinkat_right, renameat_source_right, renameat_target_right}
 use Rattle.file_tree.specs.Places.{begins}
 use Rattle.file_tree.specs.Nodes.{node}
-use Rattle.fd_table.specs.Descriptions.{other_side}
+use Rattle.rights.specs.Sides.{other_side}
 use Rattle.certificate.specs.Bounds.{Target, In_grant, Any_node, Socket, Unknown, Held, Slot, Closed, Open, Maybe, Bound, Ceiling, End, Authority, Certificate}
 use Rattle.certificate.specs.Order.{same_class, held_within}
 use Rattle.task.specs.Plans.{Grant, FirstObject, On_node, On_end, FirstDescriptor, Start, Plan}

@@ -3,7 +3,7 @@ use Rattle.std.specs.Prelude.{◌==◌, ◌&&◌, Bool, true, false, List, [], �
 use Rattle.std.specs.List.{list_all}
 use Rattle.rights.specs.Values.{SideNumber}
 use Rattle.rights.specs.Classes.{Class}
-use Rattle.fd_table.specs.Descriptions.{other_side}
+use Rattle.rights.specs.Sides.{other_side}
 use Rattle.certificate.specs.Bounds.{Target, In_grant, Any_node, Socket, Unknown, Held, ChannelBound, Certificate}
 use Rattle.certificate.specs.Order.{same_class, held_within}
 use Rattle.rules.specs.Slots.{OpenSlot}

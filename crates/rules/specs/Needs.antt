@@ -4,12 +4,13 @@ use Rattle.std.specs.Prelude.{◌++◌, ℕ, Bool, true, false, List, [], ◌∷
 use Rattle.rights.specs.Values.{RightSet, CommandSet}
 use Rattle.rights.specs.Sets.{getfl_command, setfl_command}
 use Rattle.rights.specs.Calls as calls
-use Rattle.rights.specs.Opens.{OpenRequest, open_request}
-use Rattle.rights.specs.Needs.{First, Second, needs_of}
+use Rattle.rights.specs.Opens.{OpenRequest, no_request}
+use Rattle.rights.specs.Needs.{Second, needs_of}
 use Rattle.rights.specs.Operations.{Operation}
 use Rattle.rights.specs.Operations as operations
 use Rattle.instruction_set.specs.Programs.{Operand, Syscall, Open, Openat, Read, Write, Sendfd, Recvfd, Lseek, Ftruncate, Fsync, Fstat, Fcntl_getfl, Fcntl_setfl, Fstatat, Stat, Mkdirat}
-use Rattle.instruction_set.specs.Programs.{Mkdir, Unlinkat, Unlink, Renameat, Dup, Close, Cap_rights_limit, Cap_fcntls_limit, Cap_enter, Cap_getmode, Socketpair, Fork, called}
+use Rattle.instruction_set.specs.Programs.{Mkdir, Unlinkat, Unlink, Renameat, Dup, Close, Cap_rights_limit, Cap_fcntls_limit, Cap_enter, Cap_getmode, Socketpair, Fork}
+use Rattle.instruction_set.specs.CallNeeds.{first_rights}
 
 -- the slot of an operand is sent, or something is received
 pub data Passed : Type 0 where
@@ -39,14 +40,6 @@ pub record Needs : Type 0 where
   pub second : Option Through
 
 -- ## The needs of each call
--- the flags that an open goes by; other needs don't look at them
-abbrev pub flags_in : Syscall → OpenRequest
-flags_in (Openat x path f) = f
-flags_in _ = open_request true false false false false
-
-abbrev pub first_rights : Syscall → ℕ
-first_rights call = needs_of (called call) (flags_in call) First false
-
 -- what an open through a directory may do beneath it
 abbrev pub operation_if : Bool → Operation → List Operation
 operation_if true operation = operation ∷ []
@@ -86,7 +79,7 @@ naming call operations = record (working call operations) { changes_names = true
 
 abbrev pub moving_to : Need
 moving_to = record no_need {
-  rights = needs_of calls.Renameat (open_request true false false false false) Second true;
+  rights = needs_of calls.Renameat no_request Second true;
   works = true;
   operations = operations.Create ∷ operations.Remove ∷ [];
   changes_names = true;

@@ -10,7 +10,7 @@ use Rattle.certificate.specs.OrderLaws.{bound-refl, bound-trans}
 use Rattle.certificate.specs.Views.{bound_of}
 use Rattle.certificate.specs.declared.bounds.Bound.{Bound as BoundCode}
 use Rattle.rules.specs.Outcomes.{Outcome}
-use Rattle.searcher.specs.SpotViews.{lies_in}
+use Rattle.searcher.specs.PointStateViews.{lies_in}
 use Rattle.certificate.proofs.Growing.{and_left, and_right, both_true}
 
 each_set : (xs ys : List Interval) (n : ℕ) (i : Interval) → each_within interval_within xs ys ≡ true → interval_within (slice_index_or xs n full_interval) i ≡ true

@@ -1,3 +1,3 @@
 pub mod Flat
 pub mod Shortening
-pub mod SpotViews
+pub mod PointStateViews

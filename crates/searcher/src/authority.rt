@@ -6,10 +6,10 @@ ghost use Rattle.certificate.specs.Bounds.{has_authorities};
 ghost use Rattle.task.specs.Limits.{is_start};
 ghost use Rattle.task.specs.Views.{starts_of};
 
-use crate::channels::{Channels, End};
+use crate::channels::Channels;
+use crate::point_states::{PointState, Way};
 use crate::rounds::first_bound;
-use crate::spots::{Spot, Way};
-use certificate::{Bound, Ceiling, Cert, Domain, End as Listed, Held, Line, Name, Refusal, Target};
+use certificate::{Bound, Ceiling, Cert, Domain, End, Held, Line, Name, Refusal, Target};
 use instruction_set::Instruction;
 use rights::Rights;
 use std::alloc::{AllocError, Global};
@@ -42,7 +42,7 @@ fn place_of_end(ends: &[End], end: &End) -> usize
     ensures { result ≤ length ends.now }
 {
     for (place, other) in ends.iter().enumerate() {
-        if !end.order(other).is_gt() {
+        if !end.compare(other).is_gt() {
             return place;
         }
     }
@@ -95,7 +95,7 @@ impl Need {
     fn add_end(&mut self, end: End) -> Result<(), AllocError> {
         let at = place_of_end(&self.ends, &end);
         if let Some(other) = self.ends.get(at) {
-            if end.order(other).is_eq() {
+            if end.compare(other).is_eq() {
                 return Ok(());
             }
         }
@@ -108,7 +108,7 @@ impl Need {
     fn take(&mut self, held: &Held) -> Result<(), AllocError> {
         match held.target() {
             Target::InGrant(grant) => self.add_rights(grant, held),
-            Target::Socket(class, side) => self.add_end(End { class, side }),
+            Target::Socket(class, side) => self.add_end(End::new(class, side)),
             Target::AnyNode | Target::Unknown => Ok(()),
         }
     }
@@ -147,11 +147,11 @@ fn take_entered(need: &mut Need, way: &Way, code: &[Instruction]) -> Result<(), 
             continue;
         }
         if let Some(
-            Spot {
+            PointState {
                 bound: Some(bound),
                 ..
             },
-        ) = way.spots.get(point)
+        ) = way.point_states.get(point)
         {
             need.take_slots(bound)?;
         }
@@ -259,7 +259,7 @@ fn push_ends(cert: &mut Cert, ends: &[End]) -> Result<(), Refusal>
     match ends {
         [] => Ok(()),
         [first, rest @ ..] => {
-            cert.push(&Line::Hold(Listed::new(first.class, first.side)))?;
+            cert.push(&Line::Hold(End::new(first.class(), first.side())))?;
             push_ends(cert, rest)
         }
     }

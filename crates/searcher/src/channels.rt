@@ -3,12 +3,11 @@
 ghost use Rattle.std.specs.Prelude.{◌≡◌, ◌≤◌, length};
 
 use certificate::{
-    Bound, Cert, Channel, Class, Domain, Held, Interval, Refusal, Side, Target, Version,
-    push_channels,
+    Bound, Cert, Channel, Domain, End, Held, Interval, Refusal, Target, Version, push_channels,
 };
 use instruction_set::{Instruction, Operand, Syscall};
+use rights::limits::MAX_DESCRIPTORS;
 use std::alloc::{AllocError, Global};
-use std::cmp::Ordering;
 use transfer::{operand_interval, unknown_held};
 
 /// Channels in their order, and the certificate that has them alone, by which instructions are looked at.
@@ -17,61 +16,6 @@ pub(crate) struct Channels {
     lines: Vec<Channel>,
     pub cert: Cert,
     pub changed: bool,
-}
-
-/// One side of the socket pairs of a class.
-#[derive(Clone, Copy)]
-pub(crate) struct End {
-    pub class: Class,
-    pub side: Side,
-}
-
-/// The number of a side, by which channels stand.
-fn side_number(side: Side) -> u8 {
-    match side {
-        Side::A => 0,
-        Side::B => 1,
-    }
-}
-
-/// How a class stands to another.
-fn compare_classes(class: &Class, other: &Class) -> Ordering {
-    match (class, other) {
-        (Class::Initial(pair), Class::Initial(than)) => pair.number().cmp(&than.number()),
-        (Class::Initial(_), Class::MadeAt(..)) => Ordering::Less,
-        (Class::MadeAt(..), Class::Initial(_)) => Ordering::Greater,
-        (Class::MadeAt(program, point), Class::MadeAt(than, at)) => {
-            program.as_bytes().cmp(than.as_bytes()).then(point.cmp(at))
-        }
-    }
-}
-
-impl End {
-    /// How it stands to another.
-    pub(crate) fn order(&self, other: &End) -> Ordering {
-        let sides = side_number(self.side).cmp(&side_number(other.side));
-        compare_classes(&self.class, &other.class).then(sides)
-    }
-
-    /// How the channel of what it sends stands to another.
-    fn compare(&self, channel: &Channel) -> Ordering {
-        self.order(&End {
-            class: channel.class(),
-            side: channel.side(),
-        })
-    }
-
-    /// The other end.
-    fn other(&self) -> End {
-        let side = match self.side {
-            Side::A => Side::B,
-            Side::B => Side::A,
-        };
-        End {
-            class: self.class,
-            side,
-        }
-    }
 }
 
 /// What a slot holds that may be open, if an operand may name its number.
@@ -85,7 +29,7 @@ fn named_held(bound: &Bound, interval: Interval, number: u32) -> Option<Held> {
 /// The end that a slot may be of, if an operand may name its number.
 fn named_end(bound: &Bound, interval: Interval, number: u32) -> Option<End> {
     match named_held(bound, interval, number)?.target() {
-        Target::Socket(class, side) => Some(End { class, side }),
+        Target::Socket(class, side) => Some(End::new(class, side)),
         Target::InGrant(_) | Target::AnyNode | Target::Unknown => None,
     }
 }
@@ -95,7 +39,7 @@ fn place_of(lines: &[Channel], end: &End) -> usize
     ensures { result ≤ length lines.now }
 {
     for (place, line) in lines.iter().enumerate() {
-        if !end.compare(line).is_gt() {
+        if !end.compare(&line.end()).is_gt() {
             return place;
         }
     }
@@ -121,7 +65,7 @@ impl Channels {
     pub(crate) fn received(&self, end: &End) -> Option<Held> {
         let other = end.other();
         match self.lines.get(place_of(&self.lines, &other)) {
-            Some(line) if other.compare(line).is_eq() => line.sends(),
+            Some(line) if other.compare(&line.end()).is_eq() => line.sends(),
             _ => None,
         }
     }
@@ -152,9 +96,9 @@ impl Channels {
     fn add(&mut self, end: End, sends: Option<Held>) -> Result<(), AllocError> {
         let at = place_of(&self.lines, &end);
         if let Some(line) = self.lines.get_mut(at) {
-            if end.compare(line).is_eq() {
+            if end.compare(&line.end()).is_eq() {
                 if !sends.within(&line.sends()) {
-                    *line = Channel::new(end.class, end.side, line.sends().join(&sends));
+                    *line = Channel::new(end.class(), end.side(), line.sends().join(&sends));
                     self.changed = true;
                 }
                 return Ok(());
@@ -162,14 +106,14 @@ impl Channels {
         }
         self.changed = true;
         self.lines
-            .insert(at, Channel::new(end.class, end.side, sends))?;
+            .insert(at, Channel::new(end.class(), end.side(), sends))?;
         Ok(())
     }
 
     /// Lets it be each slot of a number in an interval.
     fn add_sent(&mut self, bound: &Bound, end: End, sent: Interval) -> Result<(), AllocError> {
         self.add(end, None)?;
-        for number in 0..16 {
+        for number in 0..MAX_DESCRIPTORS as u32 {
             if let Some(held) = named_held(bound, sent, number) {
                 self.add(end, Some(held))?;
             }
@@ -186,7 +130,7 @@ impl Channels {
     ) -> Result<(), AllocError> {
         let interval = operand_interval(bound, descriptor);
         let sent = operand_interval(bound, sent);
-        for number in 0..16 {
+        for number in 0..MAX_DESCRIPTORS as u32 {
             if let Some(end) = named_end(bound, interval, number) {
                 self.add_sent(bound, end, sent)?;
             }
@@ -197,7 +141,7 @@ impl Channels {
     /// Learns what is received there.
     fn learn_received(&mut self, bound: &Bound, descriptor: Operand) -> Result<(), AllocError> {
         let interval = operand_interval(bound, descriptor);
-        for number in 0..16 {
+        for number in 0..MAX_DESCRIPTORS as u32 {
             if let Some(end) = named_end(bound, interval, number) {
                 self.add(end.other(), None)?;
             }

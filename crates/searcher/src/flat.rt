@@ -2,14 +2,12 @@
 
 ghost use Rattle.std.specs.Prelude.{◌≡◌, ◌+◌, ◌≤◌, ◌<◌, length, map, true, false, option_map, not, ◌==◌, IfOk, IfSome};
 ghost use Rattle.std.specs.List.{list_all, list_any};
-ghost use Rattle.certificate.specs.Views.{bound_of, held_of, mode_of, name_of, side_of, target_of};
-ghost use Rattle.fd_table.specs.Views.{side_seen};
-ghost use Rattle.file_tree.specs.Nodes.{node};
+ghost use Rattle.certificate.specs.Views.{bound_of, held_of, mode_of, name_of, target_of};
 ghost use Rattle.file_tree.specs.Views.{names_of};
 ghost use Rattle.instruction_set.specs.Views.{code_of, instruction_of, syscall_of};
 ghost use Rattle.task.specs.Limits.{is_descriptor, is_object, is_start};
 ghost use Rattle.task.specs.Plans.{programs_of_plan};
-ghost use Rattle.task.specs.Views.{first_descriptor_of, first_object_of, grants_of, nodes_of, start_of, starts_of};
+ghost use Rattle.task.specs.Views.{first_descriptor_of, first_object_of, grants_of, start_of, starts_of};
 ghost use Rattle.transfer.specs.Tested.{has_name};
 ghost use Rattle.certificate.specs.Growths.{grown_by};
 ghost use Rattle.certificate.specs.GrowthViews.{Grows};
@@ -18,13 +16,13 @@ ghost use Rattle.searcher.specs.Flat.{first_held, first_target, flat, plain_flat
 ghost use Rattle.searcher.specs.Flat.{next_behind, points_behind, points_from, with_first};
 
 use certificate::{
-    Bound, Cert, Class, FcntlsRange, Held, ModeBound, Name, Pair, Refusal, RightsRange, Side, Slot,
+    Bound, Cert, Class, FcntlsRange, Held, ModeBound, Name, Pair, Refusal, RightsRange, Slot,
     Target, Version, push_block,
 };
 use file_tree::is_front;
 use instruction_set::Instruction;
 use std::alloc::{AllocError, Global};
-use task::{FirstDescriptor, FirstObject, Grant, Start, Task, TaskNode, none_marked};
+use task::{FirstDescriptor, FirstObject, Grant, Start, Task, none_marked, place_of};
 use transfer::enters_mode;
 
 /// The grant that holds a place, if one does.
@@ -44,26 +42,6 @@ fn grant_target(grants: &[Grant], place: &[Vec<u8>]) -> Target
     }
 }
 
-/// The place of a node; the root's for one that isn't there.
-fn place_of(nodes: &[TaskNode], number: u16) -> &[Vec<u8>]
-    ensures { names_of result.now ≡ (node (nodes_of nodes.now) number).place }
-{
-    match nodes.get(number as usize) {
-        Some(node) => &node.place,
-        None => &[],
-    }
-}
-
-/// The side of an end, as a certificate names it.
-fn side_of(side: fd_table::Side) -> Side
-    ensures { side_of result ≡ side_seen side }
-{
-    match side {
-        fd_table::Side::A => Side::A,
-        fd_table::Side::B => Side::B,
-    }
-}
-
 /// What a first descriptor is of.
 fn first_target(task: &Task, object: FirstObject) -> Target
     requires { is_object task.now.nodes (first_object_of object) ≡ true }
@@ -74,9 +52,7 @@ fn first_target(task: &Task, object: FirstObject) -> Target
             let place = place_of(task.nodes(), node);
             grant_target(task.grants(), place)
         }
-        FirstObject::End { pair, side } => {
-            Target::Socket(Class::Initial(Pair::new(pair)), side_of(side))
-        }
+        FirstObject::End { pair, side } => Target::Socket(Class::Initial(Pair::new(pair)), side),
     }
 }
 

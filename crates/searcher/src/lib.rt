@@ -5,11 +5,11 @@ mod authority;
 mod channels;
 mod drawing;
 mod flat;
+mod point_states;
 mod proposing;
 mod rounds;
 mod searching;
 mod shortening;
-mod spots;
 
 pub use proposing::propose;
 pub use searching::{reached, search};

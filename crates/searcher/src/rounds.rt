@@ -9,7 +9,7 @@ ghost use Rattle.transfer.specs.Limits.{leaves_known};
 
 use crate::channels::Channels;
 use crate::flat::with_first;
-use crate::spots::Way;
+use crate::point_states::Way;
 use certificate::{Bound, Interval, ModeBound, Name, Refusal, Slot};
 use instruction_set::{Instruction, Syscall};
 use rights::limits::{MAX_DESCRIPTORS, MAX_INSTRUCTIONS, REGISTERS};

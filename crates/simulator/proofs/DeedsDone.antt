@@ -1,21 +1,23 @@
 -- What a deed needs, and what it comes to.
-use Rattle.std.proofs.Common.{◌≡◌, ℕ, zero, suc, ◌+◌, ◌<◌, ◌≤◌, true, false, List, [], ◌∷◌, length, refl, arith, ap, sym, subst, ◌∙◌, map, Fits, w32}
-use Rattle.std.specs.Prelude.{◌&&◌, ◌||◌, not, is_some, slice_set, Option, Some, None, if◌then◌else◌}
+use Rattle.std.proofs.Common.{◌≡◌, ℕ, zero, suc, ◌+◌, ◌<◌, ◌≤◌, true, false, List, [], ◌∷◌, length, refl, arith, ap, sym, subst, ◌∙◌, map}
+use Rattle.std.specs.Prelude.{◌^◌, ◌&&◌, ◌||◌, not, is_some, slice_set, Option, Some, None, if◌then◌else◌}
 use Rattle.std.specs.List.{slice_get}
 use Rattle.std.specs.Cmp.Derive.{both_true}
 use Rattle.std.proofs.Math.ListN.{get_or, length-set}
-use Rattle.std.proofs.lemmas.Option.{slice_get_within}
+use Rattle.std.proofs.lemmas.Option.{slice_get-get_or, slice_get_past, slice_get_within}
 use Rattle.rights.specs.Limits.{most_processes, register_count}
 use Rattle.rights.proofs.Lists.{slice_get-set_cases}
 use Rattle.process.specs.State.{Deed, ProcessState, handed_to, is_hostile, left_by}
-use Rattle.instruction_set.specs.Programs.{Instruction, Set, Mov, Add, In, Jmp, Jeq, Jlt, Halt, Invoke}
+use Rattle.instruction_set.specs.Paths.{calls_with_valid_paths, has_valid_paths}
+use Rattle.instruction_set.specs.Programs as programs
+use Rattle.instruction_set.specs.Programs.{Instruction, Syscall, Set, Mov, Add, In, Jmp, Jeq, Jlt, Halt, Invoke}
 use Rattle.fd_table.specs.OpenFiles.{Alike}
 use Rattle.kernel.specs.World.{World, Choice}
 use Rattle.kernel.specs.Alike.{AlikeWorlds}
 use Rattle.kernel.specs.Answers.{Event}
 use Rattle.kernel.specs.Steps.{LineResult, Programs, after_deed, changed_at, executed, handed, next_instruction, with_process}
 use Rattle.kernel.specs.Hostile.{IsDeedOf}
-use Rattle.kernel.specs.Walks.{call_in}
+use Rattle.kernel.specs.Walks.{are_paths, call_in, lookups_of}
 use Rattle.kernel.specs.WellFormed.{FitsRegister, HasNone, HasPaths, IfKept, IsKeptDeed, IsPoint, IsProcess, IsProcessIfMade, IsWellFormed}
 use Rattle.kernel.proofs.Deeds.{each_executed}
 use Rattle.kernel.proofs.KeptWalks.{if_walking_later}
@@ -168,11 +170,53 @@ handed_set w p deed x next there read is =
     ap (λ (ys : List ProcessState). record w { processes = ys }) (ap (slice_set w.processes p) is ∙ set_is_changed (handed_to deed) w.processes p x there read)
 
 -- registers hold 32 bits
-pub registers_fit : (registers : List ℕ) → ((r : ℕ) → Fits w32 (get_or registers r 0)) → (r : ℕ) → FitsRegister (slice_get registers r)
+pub registers_fit : (registers : List ℕ) → ((r : ℕ) → get_or registers r 0 < 2 ^ 32) → (r : ℕ) → FitsRegister (slice_get registers r)
 registers_fit [] fit zero = tt
 registers_fit [] fit (suc r) = tt
-registers_fit (x ∷ registers) fit zero = (fit 0).fits
+registers_fit (x ∷ registers) fit zero = fit 0
 registers_fit (x ∷ registers) fit (suc r) = registers_fit registers (λ k. fit (suc k)) r
+
+-- each path that a call looks up is one if each is that it has
+valid_lookups : (call : Syscall) → has_valid_paths call ≡ true → are_paths (lookups_of call) ≡ true
+unfolding lookups_of
+valid_lookups (programs.Open a b) valid = valid
+valid_lookups (programs.Openat a b c) valid = valid
+valid_lookups (programs.Read a) valid = refl
+valid_lookups (programs.Write a b) valid = refl
+valid_lookups (programs.Sendfd a b c) valid = refl
+valid_lookups (programs.Recvfd a) valid = refl
+valid_lookups (programs.Lseek a b) valid = refl
+valid_lookups (programs.Ftruncate a b) valid = refl
+valid_lookups (programs.Fsync a) valid = refl
+valid_lookups (programs.Fstat a) valid = refl
+valid_lookups (programs.Fcntl_getfl a) valid = refl
+valid_lookups (programs.Fcntl_setfl a b) valid = refl
+valid_lookups (programs.Fstatat a b) valid = valid
+valid_lookups (programs.Stat a) valid = valid
+valid_lookups (programs.Mkdirat a b) valid = valid
+valid_lookups (programs.Mkdir a) valid = valid
+valid_lookups (programs.Unlinkat a b c) valid = valid
+valid_lookups (programs.Unlink a b) valid = valid
+valid_lookups (programs.Renameat a b c d) valid = valid
+valid_lookups (programs.Dup a) valid = refl
+valid_lookups (programs.Close a) valid = refl
+valid_lookups (programs.Cap_rights_limit a b) valid = refl
+valid_lookups (programs.Cap_fcntls_limit a b) valid = refl
+valid_lookups programs.Cap_enter valid = refl
+valid_lookups programs.Cap_getmode valid = refl
+valid_lookups programs.Socketpair valid = refl
+valid_lookups programs.Fork valid = refl
+
+pub has_paths : (i : Instruction) → calls_with_valid_paths i ≡ true → HasPaths (call_in (Some i))
+has_paths (Set r value) valid = tt
+has_paths (Mov r source) valid = tt
+has_paths (Add r addend) valid = tt
+has_paths (In r) valid = tt
+has_paths (Jmp target) valid = tt
+has_paths (Jeq r value target) valid = tt
+has_paths (Jlt r value target) valid = tt
+has_paths Halt valid = tt
+has_paths (Invoke call otherwise) valid = valid_lookups call valid
 
 -- what is handed in is a deed of its process, if that may do one
 pub is_deed_of : (programs : Programs) (o : Option ProcessState) (deed : Deed) → HasPaths (call_in (Some deed.instruction)) → length deed.registers ≡ register_count →
@@ -188,3 +232,12 @@ is_deed_of programs (Some s) deed paths eight small may = λ hostile. record {
     point_there : (o : Option Instruction) → is_some o ≡ true → IsPoint o
     point_there None there = absurd cc
     point_there (Some i) there = tt
+
+-- of a process that may do nothing, and of one that isn't there, no deed is asked
+pub no_deed_of : (programs : Programs) (processes : List ProcessState) (p : ℕ) (deed : Deed) → length processes ≤ p → IsDeedOf programs (slice_get processes p) deed
+no_deed_of programs processes p deed past = subst (λ o. IsDeedOf programs o deed) (sym (slice_get_past processes p past)) tt
+
+pub follows_own : (programs : Programs) (processes : List ProcessState) (p : ℕ) (deed : Deed) (x : ProcessState) → p < length processes → x ≡ get_or processes p x →
+    false ≡ is_hostile x → IsDeedOf programs (slice_get processes p) deed
+follows_own programs processes p deed x there read own =
+    subst (λ o. IsDeedOf programs o deed) (sym (slice_get-get_or processes p x there ∙ ap Some (sym read))) (λ hostile. absurd (let clash : false ≡ true = own ∙ hostile in cc))

@@ -12,7 +12,7 @@ use Rattle.task.specs.Limits.{all_apart, are_numbered_apart, is_descriptor, is_o
 use Rattle.task.specs.Begins.{given_by, given_to, with_number}
 use Rattle.task.proofs.FirstWorlds.{checked}
 use Rattle.task.proofs.Openings.{not_a_link, tested}
-use Rattle.simulator.specs.Starts.{Gift, gifts_to, gifts_from, given_in, is_opened, is_gift, gifts_differ, are_gifts, is_below, are_among}
+use Rattle.simulator.specs.Starts.{OwnedDescriptor, owned_by, owned_from, given_in, is_opened, is_owned, owned_differ, are_owned, is_below, are_among}
 use Rattle.simulator.proofs.Waiting.{put2-here, put2-away}
 
 -- ## Over two lists
@@ -43,15 +43,15 @@ object_among : (tree : List Node) (x : FirstObject) → is_object tree x ≡ tru
 object_among tree (On_node n access) test = lt-ltb n (length tree) (there tree n (not_a_link tree n access test))
 object_among tree (On_end pair side) test = refl
 
-own_gifts : (tree : List Node) (p : ℕ) (descriptors : List FirstDescriptor) → p < 16 → list_all (is_descriptor tree) descriptors ≡ true → list_all is_gift (gifts_to p descriptors) ≡ true
-own_gifts tree p [] few all = refl
-own_gifts tree p (d ∷ descriptors) few all =
+each_owned : (tree : List Node) (p : ℕ) (descriptors : List FirstDescriptor) → p < 16 → list_all (is_descriptor tree) descriptors ≡ true → list_all is_owned (owned_by p descriptors) ≡ true
+each_owned tree p [] few all = refl
+each_owned tree p (d ∷ descriptors) few all =
     let own = tested tree d (both_left _ (list_all (is_descriptor tree) descriptors) all) in
     both_true
     (both_true (both_true (both_true (both_true (lt-ltb p 16 few) (lt-ltb d.number 16 own.number)) (object_opened tree d.object own.object)) own.rights) own.fcntls)
-    (own_gifts tree p descriptors few (both_right (is_descriptor tree d) _ all))
+    (each_owned tree p descriptors few (both_right (is_descriptor tree d) _ all))
 
-own_among : (tree : List Node) (p : ℕ) (descriptors : List FirstDescriptor) → list_all (is_descriptor tree) descriptors ≡ true → are_among (length tree) (gifts_to p descriptors) ≡ true
+own_among : (tree : List Node) (p : ℕ) (descriptors : List FirstDescriptor) → list_all (is_descriptor tree) descriptors ≡ true → are_among (length tree) (owned_by p descriptors) ≡ true
 own_among tree p [] all = refl
 own_among tree p (d ∷ descriptors) all =
     both_true (object_among tree d.object (tested tree d (both_left _ (list_all (is_descriptor tree) descriptors) all)).object)
@@ -59,7 +59,7 @@ own_among tree p (d ∷ descriptors) all =
 
 -- those of one process are at numbers of their own
 apart_from : (p : ℕ) (d : FirstDescriptor) (descriptors : List FirstDescriptor) → list_all (are_numbered_apart d) descriptors ≡ true →
-    list_all (gifts_differ (record { process = p; given = d })) (gifts_to p descriptors) ≡ true
+    list_all (owned_differ (record { process = p; given = d })) (owned_by p descriptors) ≡ true
 apart_from p d [] all = refl
 apart_from p d (e ∷ descriptors) all =
     both_true (go (p == p) (d.number == e.number) (not_true _ (both_left _ (list_all (are_numbered_apart d) descriptors) all)))
@@ -70,91 +70,91 @@ apart_from p d (e ∷ descriptors) all =
     go true false is = refl
     go false b is = refl
 
-own_apart : (p : ℕ) (descriptors : List FirstDescriptor) → all_apart are_numbered_apart descriptors ≡ true → all_apart gifts_differ (gifts_to p descriptors) ≡ true
+own_apart : (p : ℕ) (descriptors : List FirstDescriptor) → all_apart are_numbered_apart descriptors ≡ true → all_apart owned_differ (owned_by p descriptors) ≡ true
 own_apart p [] all = refl
 own_apart p (d ∷ descriptors) all =
     both_true (apart_from p d descriptors (both_left _ (all_apart are_numbered_apart descriptors) all))
     (own_apart p descriptors (both_right (list_all (are_numbered_apart d) descriptors) _ all))
 
 -- and those of two processes are of two processes
-other_process : (g h : Gift) → g.process ≢ h.process → gifts_differ g h ≡ true
+other_process : (g h : OwnedDescriptor) → g.process ≢ h.process → owned_differ g h ≡ true
 other_process g h other = ap (λ b. not (b && (g.given.number == h.given.number))) (ne_eqb g.process h.process other)
 
-later_own : (g : Gift) (q : ℕ) (descriptors : List FirstDescriptor) → g.process < q → list_all (gifts_differ g) (gifts_to q descriptors) ≡ true
+later_own : (g : OwnedDescriptor) (q : ℕ) (descriptors : List FirstDescriptor) → g.process < q → list_all (owned_differ g) (owned_by q descriptors) ≡ true
 later_own g q [] low = refl
 later_own g q (d ∷ descriptors) low = both_true (other_process g (record { process = q; given = d }) (λ same. absurd (omega (arith, same)))) (later_own g q descriptors low)
 
-later_all : (g : Gift) (q : ℕ) (starts : List Start) → g.process < q → list_all (gifts_differ g) (gifts_from q starts) ≡ true
+later_all : (g : OwnedDescriptor) (q : ℕ) (starts : List Start) → g.process < q → list_all (owned_differ g) (owned_from q starts) ≡ true
 later_all g q [] low = refl
 later_all g q (s ∷ starts) low =
-    all_both (gifts_differ g) (gifts_to q s.descriptors) (gifts_from (q + 1) starts) (later_own g q s.descriptors low) (later_all g (q + 1) starts (omega arith))
+    all_both (owned_differ g) (owned_by q s.descriptors) (owned_from (q + 1) starts) (later_own g q s.descriptors low) (later_all g (q + 1) starts (omega arith))
 
-across : (p : ℕ) (descriptors : List FirstDescriptor) (starts : List Start) → list_all (λ g. list_all (gifts_differ g) (gifts_from (p + 1) starts)) (gifts_to p descriptors) ≡ true
+across : (p : ℕ) (descriptors : List FirstDescriptor) (starts : List Start) → list_all (λ g. list_all (owned_differ g) (owned_from (p + 1) starts)) (owned_by p descriptors) ≡ true
 across p [] starts = refl
 across p (d ∷ descriptors) starts = both_true (later_all (record { process = p; given = d }) (p + 1) starts (omega arith)) (across p descriptors starts)
 
 -- ## All of them
 all_are : (tree : List Node) (programs p : ℕ) (starts : List Start) → p + length starts ≤ 16 → list_all (is_start tree programs) starts ≡ true →
-    (list_all is_gift (gifts_from p starts) ≡ true) × (all_apart gifts_differ (gifts_from p starts) ≡ true)
-    × (are_among (length tree) (gifts_from p starts) ≡ true)
+    (list_all is_owned (owned_from p starts) ≡ true) × (all_apart owned_differ (owned_from p starts) ≡ true)
+    × (are_among (length tree) (owned_from p starts) ≡ true)
 all_are tree programs p [] few all = (refl, refl, refl)
 all_are tree programs p (s ∷ starts) few all =
     let own = both_right (nat_lt s.program programs) _ (both_left _ (list_all (is_start tree programs) starts) all) in
     let good = both_left _ (all_apart are_numbered_apart s.descriptors) own in
     let rest = all_are tree programs (p + 1) starts (omega arith) (both_right (is_start tree programs s) _ all) in (
-      all_both is_gift (gifts_to p s.descriptors) (gifts_from (p + 1) starts) (own_gifts tree p s.descriptors (omega arith) good) rest.0,
-      all_apart_both gifts_differ (gifts_to p s.descriptors) (gifts_from (p + 1) starts)
+      all_both is_owned (owned_by p s.descriptors) (owned_from (p + 1) starts) (each_owned tree p s.descriptors (omega arith) good) rest.0,
+      all_apart_both owned_differ (owned_by p s.descriptors) (owned_from (p + 1) starts)
           (own_apart p s.descriptors (both_right (list_all (is_descriptor tree) s.descriptors) _ own)) rest.1 (across p s.descriptors starts),
-      all_both (λ (g : Gift). is_below (length tree) g.given.object) (gifts_to p s.descriptors) (gifts_from (p + 1) starts) (own_among tree p s.descriptors good) rest.2,
+      all_both (λ (g : OwnedDescriptor). is_below (length tree) g.given.object) (owned_by p s.descriptors) (owned_from (p + 1) starts) (own_among tree p s.descriptors good) rest.2,
     )
 
 few_starts : (plan : Plan) → is_plan plan ≡ true → 0 + length plan.starts ≤ 16
 few_starts plan test = let few : length plan.starts ≤ 16 = (checked plan test).few in omega arith
 
-pub plan_gifts : (plan : Plan) → is_plan plan ≡ true → are_gifts (gifts_from 0 plan.starts) ≡ true
-plan_gifts plan test =
+pub plan_owned : (plan : Plan) → is_plan plan ≡ true → are_owned (owned_from 0 plan.starts) ≡ true
+plan_owned plan test =
     let all = all_are plan.nodes (length plan.programs) 0 plan.starts (few_starts plan test) (checked plan test).starts in both_true all.0 all.1
 
-pub plan_among : (plan : Plan) → is_plan plan ≡ true → are_among (length plan.nodes) (gifts_from 0 plan.starts) ≡ true
+pub plan_among : (plan : Plan) → is_plan plan ≡ true → are_among (length plan.nodes) (owned_from 0 plan.starts) ≡ true
 plan_among plan test = (all_are plan.nodes (length plan.programs) 0 plan.starts (few_starts plan test) (checked plan test).starts).2
 
 -- ## Each process has there what it is given
-own_given : (p : ℕ) (descriptors : List FirstDescriptor) (rest : List Gift) (n : ℕ) → given_in rest p n ≡ None → given_in (gifts_to p descriptors ++ rest) p n ≡ with_number n descriptors
+own_given : (p : ℕ) (descriptors : List FirstDescriptor) (rest : List OwnedDescriptor) (n : ℕ) → given_in rest p n ≡ None → given_in (owned_by p descriptors ++ rest) p n ≡ with_number n descriptors
 own_given p [] rest n none = none
 own_given p (d ∷ descriptors) rest n none = by_number (eqb_tells d.number n) (own_given p descriptors rest n none)
   where
     by_number : (((d.number == n) ≡ true) × (d.number ≡ n)) ⊎ (((d.number == n) ≡ false) × (d.number ≢ n)) →
-        given_in (gifts_to p descriptors ++ rest) p n ≡ with_number n descriptors →
-        given_in (gifts_to p (d ∷ descriptors) ++ rest) p n ≡ with_number n (d ∷ descriptors)
+        given_in (owned_by p descriptors ++ rest) p n ≡ with_number n descriptors →
+        given_in (owned_by p (d ∷ descriptors) ++ rest) p n ≡ with_number n (d ∷ descriptors)
     by_number (inl own) more =
         let found : with_number n (d ∷ descriptors) ≡ Some d = rw own.0 refl in
-        ap (given_in (gifts_to p (d ∷ descriptors) ++ rest) p) (sym own.1) ∙ put2-here (given_in (gifts_to p descriptors ++ rest)) p d.number (Some d) ∙ sym found
+        ap (given_in (owned_by p (d ∷ descriptors) ++ rest) p) (sym own.1) ∙ put2-here (given_in (owned_by p descriptors ++ rest)) p d.number (Some d) ∙ sym found
     by_number (inr other) more =
         let next : with_number n (d ∷ descriptors) ≡ with_number n descriptors = rw other.0 refl in
-        put2-away (given_in (gifts_to p descriptors ++ rest)) p d.number (Some d) p n (λ _ same. other.1 same) ∙ more ∙ sym next
+        put2-away (given_in (owned_by p descriptors ++ rest)) p d.number (Some d) p n (λ _ same. other.1 same) ∙ more ∙ sym next
 
-other_given : (p : ℕ) (descriptors : List FirstDescriptor) (rest : List Gift) (q n : ℕ) → p ≢ q → given_in (gifts_to p descriptors ++ rest) q n ≡ given_in rest q n
+other_given : (p : ℕ) (descriptors : List FirstDescriptor) (rest : List OwnedDescriptor) (q n : ℕ) → p ≢ q → given_in (owned_by p descriptors ++ rest) q n ≡ given_in rest q n
 other_given p [] rest q n other = refl
 other_given p (d ∷ descriptors) rest q n other =
-    put2-away (given_in (gifts_to p descriptors ++ rest)) p d.number (Some d) q n (λ same _. other same) ∙ other_given p descriptors rest q n other
+    put2-away (given_in (owned_by p descriptors ++ rest)) p d.number (Some d) q n (λ same _. other same) ∙ other_given p descriptors rest q n other
 
-earlier_none : (p : ℕ) (starts : List Start) (q n : ℕ) → q < p → given_in (gifts_from p starts) q n ≡ None
+earlier_none : (p : ℕ) (starts : List Start) (q n : ℕ) → q < p → given_in (owned_from p starts) q n ≡ None
 earlier_none p [] q n low = refl
 earlier_none p (s ∷ starts) q n low =
-    other_given p s.descriptors (gifts_from (p + 1) starts) q n (λ same. absurd (omega (arith, same))) ∙ earlier_none (p + 1) starts q n (omega arith)
+    other_given p s.descriptors (owned_from (p + 1) starts) q n (λ same. absurd (omega (arith, same))) ∙ earlier_none (p + 1) starts q n (omega arith)
 
-given_same : (p : ℕ) (starts : List Start) (k n : ℕ) → given_in (gifts_from p starts) (p + k) n ≡ given_to (slice_get starts k) n
+given_same : (p : ℕ) (starts : List Start) (k n : ℕ) → given_in (owned_from p starts) (p + k) n ≡ given_to (slice_get starts k) n
 given_same p [] k n = refl
 given_same p (s ∷ starts) zero n =
     let zero_more : p + 0 ≡ p = omega arith in
-    ap (λ q. given_in (gifts_from p (s ∷ starts)) q n) zero_more
-    ∙ own_given p s.descriptors (gifts_from (p + 1) starts) n (earlier_none (p + 1) starts p n (omega arith))
+    ap (λ q. given_in (owned_from p (s ∷ starts)) q n) zero_more
+    ∙ own_given p s.descriptors (owned_from (p + 1) starts) n (earlier_none (p + 1) starts p n (omega arith))
 given_same p (s ∷ starts) (suc k) n =
     let step : p + suc k ≡ p + 1 + k = omega arith in
-    ap (λ q. given_in (gifts_from p (s ∷ starts)) q n) step
-    ∙ other_given p s.descriptors (gifts_from (p + 1) starts) (p + 1 + k) n (λ same. absurd (omega (arith, same)))
+    ap (λ q. given_in (owned_from p (s ∷ starts)) q n) step
+    ∙ other_given p s.descriptors (owned_from (p + 1) starts) (p + 1 + k) n (λ same. absurd (omega (arith, same)))
     ∙ given_same (p + 1) starts k n
 
-pub all_given : (starts : List Start) → given_in (gifts_from 0 starts) ≡ given_by starts
+pub all_given : (starts : List Start) → given_in (owned_from 0 starts) ≡ given_by starts
 all_given starts = λ i p n.
-    (let sum : p ≡ 0 + p = omega arith in ap (λ q. given_in (gifts_from 0 starts) q n) sum ∙ given_same 0 starts p n) i
+    (let sum : p ≡ 0 + p = omega arith in ap (λ q. given_in (owned_from 0 starts) q n) sum ∙ given_same 0 starts p n) i

@@ -20,31 +20,31 @@ use Rattle.kernel.proofs.Fresh.{lt_or_le, none_below}
 use Rattle.syscalls.specs.Views.{world_with}
 use Rattle.task.specs.Begins.{end_description, first_entry, first_entries, first_files}
 use Rattle.task.proofs.Openings.{at_end}
-use Rattle.simulator.specs.Starts.{Gift, given_in, is_gift, are_gifts, entry_of, is_on, later_or, last_gift, whole_end, awaiting, nothing_given, if_below, HasPairs, Awaits}
+use Rattle.simulator.specs.Starts.{OwnedDescriptor, given_in, is_owned, are_owned, entry_of, is_on, later_or, last_owned, whole_end, awaiting, nothing_given, if_below, HasPairs, Awaits}
 use Rattle.simulator.proofs.Numbered.{then_alike, differs, retabled, described_same, filled_same, twin_of}
-use Rattle.simulator.proofs.Waiting.{Table, all_gifts, all_wait, at_place, gift_is, last_whole, waits_whole}
+use Rattle.simulator.proofs.Waiting.{Table, all_owned, all_wait, at_place, owned_is, last_whole, waits_whole}
 
-module _ (gifts : List Gift) (valid : are_gifts gifts ≡ true) where
+module _ (owned : List OwnedDescriptor) (valid : are_owned owned ≡ true) where
   abbrev waits : Table
-  waits = awaiting nothing_given gifts
+  waits = awaiting nothing_given owned
 
   abbrev below : ℕ → Table
   below pairs q m = if_below (end_description pairs 0) (waits q m)
 
   abbrev model : ℕ → OpenFiles
-  model pairs = with_table (first_files (given_in gifts)) (below pairs)
+  model pairs = with_table (first_files (given_in owned)) (below pairs)
 
   no_queue : (pairs pair side : ℕ) → (model pairs).queue pair side ≡ []
   unfolding first_files
   no_queue pairs pair side = refl
 
-  state : (n : ℕ) → (first_files (given_in gifts)).states n ≡ new_state false
+  state : (n : ℕ) → (first_files (given_in owned)).states n ≡ new_state false
   unfolding first_files
   state n = refl
 
-  object : (pair side : ℕ) → pair < 32 → side < 2 → (first_files (given_in gifts)).objects (end_description pair side) ≡ At_end pair side (Initial pair)
+  object : (pair side : ℕ) → pair < 32 → side < 2 → (first_files (given_in owned)).objects (end_description pair side) ≡ At_end pair side (Initial pair)
   unfolding first_files
-  object pair side few two = at_end (given_in gifts) pair side few two
+  object pair side few two = at_end (given_in owned) pair side few two
 
   gone : (bound : ℕ) (d : Descriptor) → bound ≤ d.description → if_below bound (Some d) ≡ None
   gone bound d far = rw (le-ltb d.description bound far) refl
@@ -53,16 +53,16 @@ module _ (gifts : List Gift) (valid : are_gifts gifts ≡ true) where
   stays_below bound d low = rw (lt-ltb d.description bound low) refl
 
   -- ## Where the last of a side is
-  placed : (pair side : ℕ) (some : List Gift) (e : Entry) → list_all is_gift some ≡ true → last_gift pair side some ≡ Some e → (e.process < 16) × (e.number < 16)
-  unfolding last_gift
+  placed : (pair side : ℕ) (some : List OwnedDescriptor) (e : Entry) → list_all is_owned some ≡ true → last_owned pair side some ≡ Some e → (e.process < 16) × (e.number < 16)
+  unfolding last_owned
   placed pair side [] e all is = absurd cc
   placed pair side (g ∷ some) e all is =
-      go (last_gift pair side some) (is_on pair side g.given.object) is (placed pair side some e (both_right (is_gift g) _ all))
+      go (last_owned pair side some) (is_on pair side g.given.object) is (placed pair side some e (both_right (is_owned g) _ all))
     where
       go : (o : Option Entry) (on : Bool) → later_or o on g ≡ Some e → (o ≡ Some e → (e.process < 16) × (e.number < 16)) → (e.process < 16) × (e.number < 16)
       go (Some x) on is more = more is
       go None true is more =
-          let own = gift_is g (both_left _ (list_all is_gift some) all) in
+          let own = owned_is g (both_left _ (list_all is_owned some) all) in
           let same : entry_of g ≡ e = cc in
           subst (λ (x : Entry). (x.process < 16) × (x.number < 16)) same (own.process, own.number)
       go None false is more = absurd cc
@@ -81,7 +81,7 @@ module _ (gifts : List Gift) (valid : are_gifts gifts ≡ true) where
     where
       sure : (d : Descriptor) → waits q m ≡ Some d → (nat_lt d.description (end_description pairs 0) ≡ true) → IsEarlier pairs d
       sure d is low =
-          let w = waits_whole gifts q m d (all_gifts gifts valid).0 is in
+          let w = waits_whole owned q m d (all_owned owned valid).0 is in
           let number : d.description ≡ end_description w.pair w.side = ap (λ (x : Descriptor). x.description) w.whole in
           let less : d.description < end_description pairs 0 = ltb-true _ _ low in
           let side_two : w.side < 2 = w.two in
@@ -98,10 +98,10 @@ module _ (gifts : List Gift) (valid : are_gifts gifts ≡ true) where
   -- ## Where the ends of the next pair go
   module _ (pair : ℕ) (few : pair < 32) where
     abbrev to : ℕ → Option Entry
-    to side = last_gift pair side gifts
+    to side = last_owned pair side owned
 
     at_whole : (side : ℕ) (e : Entry) → to side ≡ Some e → waits e.process e.number ≡ Some (whole_end pair side)
-    at_whole side e is = last_whole nothing_given pair side gifts e (all_gifts gifts valid).1 is
+    at_whole side e is = last_whole nothing_given pair side owned e (all_owned owned valid).1 is
 
     not_yet : (side : ℕ) (e : Entry) → to side ≡ Some e → below pair e.process e.number ≡ None
     not_yet side e is =
@@ -126,10 +126,10 @@ module _ (gifts : List Gift) (valid : are_gifts gifts ≡ true) where
         go : (o : Option Descriptor) → waits q m ≡ o → if_below (end_description (pair + 1) 0) o ≡ if_below (end_description pair 0) o
         go None is = refl
         go (Some d) is =
-            let w = waits_whole gifts q m d (all_gifts gifts valid).0 is in
+            let w = waits_whole owned q m d (all_owned owned valid).0 is in
             let number : d.description ≡ end_description w.pair w.side = ap (λ (x : Descriptor). x.description) w.whole in
             let side_two : w.side < 2 = w.two in
-            let not_this : w.pair ≢ pair = λ same. away w.side w.two (ap (λ p. last_gift p w.side gifts) (sym same) ∙ w.last) in
+            let not_this : w.pair ≢ pair = λ same. away w.side w.two (ap (λ p. last_owned p w.side owned) (sym same) ∙ w.last) in
             by_order (lt_or_le w.pair pair) not_this number side_two
           where
             past : {a : ℕ} (b : ℕ) → pair ≤ a → a ≢ pair → d.description ≡ end_description a b → end_description (pair + 1) 0 ≤ d.description
@@ -143,7 +143,7 @@ module _ (gifts : List Gift) (valid : are_gifts gifts ≡ true) where
                 gone (end_description (pair + 1) 0) d (past b high not_this number) ∙ sym (gone (end_description pair 0) d (omega (arith, number)))
 
     -- ## The pair is opened
-    module _ (f : OpenFiles) (b : HasPairs gifts pair f) where
+    module _ (f : OpenFiles) (b : HasPairs owned pair f) where
       abbrev r : Renaming
       r = b.renaming
 
@@ -153,7 +153,7 @@ module _ (gifts : List Gift) (valid : are_gifts gifts ≡ true) where
           go : (o : Option Entry) → to side ≡ o → IsFree f o
           go None is = tt
           go (Some e) is =
-              let at = placed pair side gifts e (all_gifts gifts valid).0 is in
+              let at = placed pair side owned e (all_owned owned valid).0 is in
               (at.0, at.1, b.files.table e.process e.number ∙ ap (renamed_entry r) (not_yet side e is))
 
       pub apart_ends : (to 0 ≡ None → to 1 ≡ None → ⊥) → AreApart (to 0) (to 1)
@@ -168,7 +168,7 @@ module _ (gifts : List Gift) (valid : are_gifts gifts ≡ true) where
       none_some : {A : Type 0} {x : A} → None ≡ Some x → ⊥
       none_some is = absurd cc
 
-      pub not_listed : to 0 ≡ None → to 1 ≡ None → HasPairs gifts (pair + 1) f
+      pub not_listed : to 0 ≡ None → to 1 ≡ None → HasPairs owned (pair + 1) f
       not_listed one other =
           differs r (model (pair + 1)) f
           (retabled r (model pair) f (below (pair + 1)) (λ q m. other_entry q m (neither_side q m)) (no_queue pair) b.files)
@@ -202,8 +202,8 @@ module _ (gifts : List Gift) (valid : are_gifts gifts ≡ true) where
             go : (o : Option Descriptor) → waits q m ≡ o → names_end f.objects x.pair side (f.table q m) ≡ false
             go None is = ap (names_end f.objects x.pair side) (b.files.table q m ∙ ap (λ e. renamed_entry r (if_below (end_description pair 0) e)) is)
             go (Some d) is =
-                let w = waits_whole gifts q m d (all_gifts gifts valid).0 is in
-                let at = placed w.pair w.side gifts (record { process = q; number = m }) (all_gifts gifts valid).0 w.last in
+                let w = waits_whole owned q m d (all_owned owned valid).0 is in
+                let at = placed w.pair w.side owned (record { process = q; number = m }) (all_owned owned valid).0 w.last in
                 none_below 16 (λ n. names_end f.objects x.pair side (f.table q n)) (none_below 16 (λ p. any_below 16 (λ n. names_end f.objects x.pair side (f.table p n))) scan q at.0) m at.1
 
         separate : (e : Option Descriptor) → IfHeld (λ d. SameObject r (model pair) f d.description) e → IfHeld (IsEarlier pair) e →
@@ -215,8 +215,8 @@ module _ (gifts : List Gift) (valid : are_gifts gifts ≡ true) where
             let number : d.description ≡ end_description old.pair old.side = ap (λ (y : Descriptor). y.description) old.whole in
             let low : old.pair < pair = old.low in
             let two : old.side < 2 = old.two in
-            let own : (first_files (given_in gifts)).objects d.description ≡ At_end old.pair old.side (Initial old.pair) = ap
-            (first_files (given_in gifts)).objects number ∙ object old.pair old.side old.few old.two in
+            let own : (first_files (given_in owned)).objects d.description ≡ At_end old.pair old.side (Initial old.pair) = ap
+            (first_files (given_in owned)).objects number ∙ object old.pair old.side old.few old.two in
             record {
               twin = twin;
               here = record {
@@ -315,14 +315,14 @@ module _ (gifts : List Gift) (valid : are_gifts gifts ≡ true) where
             neither_side one other (suc zero) two is = other is
             neither_side one other (suc (suc side)) two is = absurd (omega arith)
 
-        pub pair_opened : HasPairs gifts (pair + 1) next
+        pub pair_opened : HasPairs owned (pair + 1) next
         pair_opened =
             then_alike (model (pair + 1)) _ next
             (differs turned _ _ (retabled turned (with_table (model pair) (end_entered after_first (to 1) (end_description pair 1))) _ (below (pair + 1)) table_next (no_queue pair) same_next))
             x.alike
 
   -- ## Before any, and after all
-  pub no_pair : (f : OpenFiles) → IsEmpty f → HasPairs gifts 0 f
+  pub no_pair : (f : OpenFiles) → IsEmpty f → HasPairs owned 0 f
   no_pair f empty =
       alike_share (world_with [] (model 0) []) (world_with [] f []) (record {
         tree = refl;
@@ -343,11 +343,11 @@ module _ (gifts : List Gift) (valid : are_gifts gifts ≡ true) where
           go None = refl
           go (Some d) = gone 0 d (omega arith)
 
-  pub all_pairs : (f : OpenFiles) → HasPairs gifts 32 f → Awaits gifts gifts f
+  pub all_pairs : (f : OpenFiles) → HasPairs owned 32 f → Awaits owned owned f
   all_pairs f b =
       differs b.renaming _ f
-      (retabled b.renaming (model 32) f (awaiting (first_entries (given_in gifts)) gifts)
-      (λ q m. all_wait (first_entries (given_in gifts)) gifts q m (λ none. ap (option_map (first_entry q)) none) ∙ sym (all_below q m)) (no_queue 32) b.files)
+      (retabled b.renaming (model 32) f (awaiting (first_entries (given_in owned)) owned)
+      (λ q m. all_wait (first_entries (given_in owned)) owned q m (λ none. ap (option_map (first_entry q)) none) ∙ sym (all_below q m)) (no_queue 32) b.files)
     where
       all_below : (q m : ℕ) → below 32 q m ≡ waits q m
       all_below q m = go (waits q m) refl
@@ -355,7 +355,7 @@ module _ (gifts : List Gift) (valid : are_gifts gifts ≡ true) where
           go : (o : Option Descriptor) → waits q m ≡ o → if_below (end_description 32 0) o ≡ o
           go None is = refl
           go (Some d) is =
-              let w = waits_whole gifts q m d (all_gifts gifts valid).0 is in
+              let w = waits_whole owned q m d (all_owned owned valid).0 is in
               let number : d.description ≡ end_description w.pair w.side = ap (λ (x : Descriptor). x.description) w.whole in
               let few : w.pair < 32 = w.few in
               let two : w.side < 2 = w.two in

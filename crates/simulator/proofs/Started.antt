@@ -18,7 +18,7 @@ use Rattle.task.specs.Begins.{first_files, first_process, first_world}
 use Rattle.task.proofs.AsGiven.{first_is_first}
 use Rattle.kernel.specs.Walks.{IsWalkerIfMade}
 use Rattle.task.proofs.FirstWorlds.{first_well_formed, none_walks}
-use Rattle.simulator.specs.Starts.{Awaits, awaiting, gifts_from}
+use Rattle.simulator.specs.Starts.{Awaits, awaiting, owned_from}
 use Rattle.simulator.proofs.Given.{all_given}
 
 -- ## Well-formed worlds
@@ -114,7 +114,7 @@ module _ (plan : Plan) (test : is_plan plan ≡ true) (w : World) (d : DiffersIn
   }
 
 -- where all are open as they are given, the world is the model's but for numbers
-pub begun_world : (plan : Plan) (tree : List Node) (f : OpenFiles) (processes : List ProcessState) → Awaits (gifts_from 0 plan.starts) [] f →
+pub begun_world : (plan : Plan) (tree : List Node) (f : OpenFiles) (processes : List ProcessState) → Awaits (owned_from 0 plan.starts) [] f →
     tree ≡ plan.nodes → processes ≡ map (first_process plan.programs) plan.starts → DiffersInNumbers (first_world plan) (world_with tree f processes)
 unfolding first_world awaiting first_files
 begun_world plan tree f processes b same_tree same_processes =

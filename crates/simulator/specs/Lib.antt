@@ -6,7 +6,7 @@ pub mod Traces
 pub mod Simulations
 pub mod Machines
 pub mod Starts
-pub mod GiftViews
+pub mod OwnedViews
 pub mod Schedules
 pub mod ScheduleViews
 pub mod Pages

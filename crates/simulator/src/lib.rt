@@ -6,9 +6,9 @@
 mod actions;
 mod building;
 mod deeds;
-mod gifts;
 pub mod lines;
 pub mod machine;
+mod owned;
 mod page;
 pub mod schedule;
 pub mod simulation;

@@ -1,7 +1,6 @@
 //! Schedules: who runs, step by step.
 
 ghost use Rattle.std.specs.Prelude.{◌≡◌, ◌<◌, IfSome, MatchOption, length, option_map};
-ghost use Rattle.texts.specs.Numbers.{begins_well};
 ghost use Rattle.simulator.specs.FirstEvents.{BeginsWithEvent, BeginsWithFault, BeginsWithNumber};
 ghost use Rattle.simulator.specs.Schedules.{event_of_line, schedule_of};
 ghost use Rattle.simulator.specs.ScheduleViews.{ReadsSchedule, fault_number};
@@ -11,7 +10,7 @@ ghost use Rattle.simulator.specs.declared.schedule.ScheduleFault.TheVariants as 
 use rights::limits::{MAX_EVENTS, MAX_PROCESSES};
 use std::alloc::{AllocFailed, Global};
 use syscalls::Event;
-use texts::{first_part, number_up_to};
+use texts::{begins_well, first_part, number_up_to};
 use thiserror::Error;
 
 /// The bytes of the shortest line of an event, with its line feed.
@@ -72,23 +71,12 @@ fn read_event(line: &[u8]) -> Option<Event>
         }
     };
     let process = number_up_to(process, MAX_PROCESSES as u32 - 1).ok()?;
-    let input = number_up_to(input, 255).ok()?;
+    let input = number_up_to(input, u32::from(u8::MAX)).ok()?;
     Some(Event {
         process: process as u8,
         input: input as u8,
         refuse,
     })
-}
-
-/// Whether a number may begin with these digits: there is one at least, and a zero is not followed by more.
-fn may_begin(digits: &[u8]) -> bool
-    ensures { result ≡ begins_well digits.now }
-{
-    match digits {
-        [] => false,
-        [b'0', _, ..] => false,
-        [_, ..] => true,
-    }
 }
 
 /// The number that the text begins with, if it is one digit and this byte ends it, and what is behind the byte.
@@ -116,7 +104,7 @@ fn first_number(text: &[u8], end: u8) -> Option<(u32, &[u8])>
     let mut number: u32 = 0;
     for (at, byte) in text.iter().enumerate() {
         if *byte == end {
-            if !may_begin(&text[..at]) {
+            if !begins_well(&text[..at]) {
                 return None;
             }
             return Some((number, &text[at + 1..]));
@@ -135,7 +123,7 @@ fn plain_event(text: &[u8]) -> Option<(Event, &[u8])>
 {
     let (process, rest) = first_number(text, b' ')?;
     let (input, rest) = first_number(rest, b'\n')?;
-    if process > MAX_PROCESSES as u32 - 1 || input > 255 {
+    if process > MAX_PROCESSES as u32 - 1 || input > u32::from(u8::MAX) {
         return None;
     }
     let event = Event {

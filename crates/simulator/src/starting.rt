@@ -4,7 +4,8 @@ ghost use Rattle.std.specs.Prelude.{◌≡◌, ◌||◌, ◌+◌, ◌<◌, ◌�
 ghost use Rattle.std.specs.List.{slice_get};
 ghost use Rattle.fd_table.specs.Filled.{IsEmpty, IsFreeAt, Opens};
 ghost use Rattle.fd_table.specs.Kept.{open_files};
-ghost use Rattle.fd_table.specs.Views.{access_seen, side_seen};
+ghost use Rattle.rights.specs.Views.{side_seen};
+ghost use Rattle.fd_table.specs.Views.{access_seen};
 ghost use Rattle.kernel.specs.Renamings.{DiffersInNumbers};
 ghost use Rattle.kernel.specs.WellFormed.{IsWellFormed};
 ghost use Rattle.syscalls.specs.Views.{world_of};
@@ -12,11 +13,11 @@ ghost use Rattle.task.specs.Begins.{first_process, first_world};
 ghost use Rattle.task.specs.Limits.{is_plan};
 ghost use Rattle.task.specs.Plans.{programs_of_plan};
 ghost use Rattle.task.specs.Views.{programs_of, start_of, starts_of};
-ghost use Rattle.simulator.specs.GiftViews.{gifts_of};
-ghost use Rattle.simulator.specs.Starts.{AreNumbers, Awaits, HasPairs, IsGiftOfEnd, are_among, are_gifts, gifts_from};
+ghost use Rattle.simulator.specs.OwnedViews.{owned_descriptors_of};
+ghost use Rattle.simulator.specs.Starts.{AreNumbers, Awaits, HasPairs, IsOwnedEnd, are_among, are_owned, owned_from};
 
 use crate::building::build_tree;
-use crate::gifts::{Gift, last_of, list_gifts};
+use crate::owned::{OwnedDescriptor, last_of, list_owned};
 use fd_table::{Access, Class, Files, Side};
 use file_tree::{NodeId, Tree};
 use process::Process;
@@ -28,14 +29,14 @@ use task::{FirstObject, NamedProgram, Start, Task};
 
 /// Opens an initial pair, if some descriptor is of it. Each of its sides goes to the last descriptor of that side, with all
 /// rights, or nowhere.
-fn open_initial(files: &mut Files, gifts: &[Gift], pair: u8) -> Result<(), Memory>
+fn open_initial(files: &mut Files, owned: &[OwnedDescriptor], pair: u8) -> Result<(), Memory>
     requires few { pair < 32 }
-    requires gifts { are_gifts (gifts_of gifts.now) ≡ true }
-    requires begun { HasPairs (gifts_of gifts.now) pair (open_files files.old) }
-    ensures { OnOk result (HasPairs (gifts_of gifts.now) (pair + 1) (open_files files.new)) }
+    requires owned { are_owned (owned_descriptors_of owned.now) ≡ true }
+    requires begun { HasPairs (owned_descriptors_of owned.now) pair (open_files files.old) }
+    ensures { OnOk result (HasPairs (owned_descriptors_of owned.now) (pair + 1) (open_files files.new)) }
 {
-    let a = last_of(gifts, pair, Side::A);
-    let b = last_of(gifts, pair, Side::B);
+    let a = last_of(owned, pair, Side::A);
+    let b = last_of(owned, pair, Side::B);
     if a.is_none() && b.is_none() {
         return Ok(());
     }
@@ -43,53 +44,53 @@ fn open_initial(files: &mut Files, gifts: &[Gift], pair: u8) -> Result<(), Memor
 }
 
 /// Opens the initial pairs that some descriptor is of.
-fn open_initials(files: &mut Files, gifts: &[Gift]) -> Result<(), Memory>
-    requires gifts { are_gifts (gifts_of gifts.now) ≡ true }
+fn open_initials(files: &mut Files, owned: &[OwnedDescriptor]) -> Result<(), Memory>
+    requires owned { are_owned (owned_descriptors_of owned.now) ≡ true }
     requires empty { IsEmpty (open_files files.old) }
-    ensures { OnOk result (Awaits (gifts_of gifts.now) (gifts_of gifts.now) (open_files files.new)) }
+    ensures { OnOk result (Awaits (owned_descriptors_of owned.now) (owned_descriptors_of owned.now) (open_files files.new)) }
 {
     for pair in 0..MAX_PAIRS {
-        open_initial(files, gifts, pair)?;
+        open_initial(files, owned, pair)?;
     }
     Ok(())
 }
 
 /// Opens a first descriptor of a side of an initial pair, where all before it are open: it shares the description of the last of
 /// that side, if that is another, and is limited.
-fn open_end(files: &mut Files, gifts: &[Gift], at: usize, pair: u8, side: Side)
-    requires there { at < length gifts.now }
-    requires gifts { are_gifts (gifts_of gifts.now) ≡ true }
-    requires end { IsGiftOfEnd (slice_get (gifts_of gifts.now) at) pair (side_seen side) }
-    requires begun { Awaits (gifts_of gifts.now) (drop at (gifts_of gifts.now)) (open_files files.old) }
-    ensures { Awaits (gifts_of gifts.now) (drop (at + 1) (gifts_of gifts.now)) (open_files files.new) }
+fn open_end(files: &mut Files, owned: &[OwnedDescriptor], at: usize, pair: u8, side: Side)
+    requires there { at < length owned.now }
+    requires owned { are_owned (owned_descriptors_of owned.now) ≡ true }
+    requires end { IsOwnedEnd (slice_get (owned_descriptors_of owned.now) at) pair (side_seen side) }
+    requires begun { Awaits (owned_descriptors_of owned.now) (drop at (owned_descriptors_of owned.now)) (open_files files.old) }
+    ensures { Awaits (owned_descriptors_of owned.now) (drop (at + 1) (owned_descriptors_of owned.now)) (open_files files.new) }
 {
-    let gift = gifts[at];
-    let given = gift.given;
-    if let Some(entry) = last_of(&gifts[at + 1..], pair, side) {
-        files.share(entry.process, entry.number, gift.process, given.number);
+    let own = owned[at];
+    let given = own.given;
+    if let Some(entry) = last_of(&owned[at + 1..], pair, side) {
+        files.share(entry.process, entry.number, own.process, given.number);
     }
-    files.limit(gift.process, given.number, given.rights, given.fcntls);
+    files.limit(own.process, given.number, given.rights, given.fcntls);
 }
 
 /// Opens a node of the tree for a first descriptor.
 fn open_node(
     files: &mut Files,
     numbers: &[NodeId],
-    gift: Gift,
+    own: OwnedDescriptor,
     node: u16,
     access: Access,
 ) -> Result<(), Memory>
     requires numbers { AreNumbers numbers.now }
     requires there { node < length numbers.now }
     requires used { (access.readable || access.writable) ≡ true }
-    requires free { IsFreeAt (open_files files.old) gift.process gift.given.number }
-    ensures { OnOk result (Opens (open_files files.old) (open_files files.new) gift.process gift.given.number node (access_seen access) false
-        gift.given.rights.0 gift.given.fcntls.0) }
+    requires free { IsFreeAt (open_files files.old) own.process own.given.number }
+    ensures { OnOk result (Opens (open_files files.old) (open_files files.new) own.process own.given.number node (access_seen access) false
+        own.given.rights.0 own.given.fcntls.0) }
 {
-    let given = gift.given;
+    let given = own.given;
     match OpenFlags::new(access.readable, access.writable, false, false, false) {
         Some(flags) => files.open_node(
-            gift.process,
+            own.process,
             given.number,
             numbers[node as usize],
             flags,
@@ -105,21 +106,21 @@ fn open_node(
 fn open_first(
     files: &mut Files,
     numbers: &[NodeId],
-    gifts: &[Gift],
+    owned: &[OwnedDescriptor],
     at: usize,
 ) -> Result<(), Memory>
-    requires there { at < length gifts.now }
+    requires there { at < length owned.now }
     requires numbers { AreNumbers numbers.now }
-    requires gifts { are_gifts (gifts_of gifts.now) ≡ true }
-    requires among { are_among (length numbers.now) (gifts_of gifts.now) ≡ true }
-    requires begun { Awaits (gifts_of gifts.now) (drop at (gifts_of gifts.now)) (open_files files.old) }
-    ensures { OnOk result (Awaits (gifts_of gifts.now) (drop (at + 1) (gifts_of gifts.now)) (open_files files.new)) }
+    requires owned { are_owned (owned_descriptors_of owned.now) ≡ true }
+    requires among { are_among (length numbers.now) (owned_descriptors_of owned.now) ≡ true }
+    requires begun { Awaits (owned_descriptors_of owned.now) (drop at (owned_descriptors_of owned.now)) (open_files files.old) }
+    ensures { OnOk result (Awaits (owned_descriptors_of owned.now) (drop (at + 1) (owned_descriptors_of owned.now)) (open_files files.new)) }
 {
-    let gift = gifts[at];
-    match gift.given.object {
-        FirstObject::Node { node, access } => open_node(files, numbers, gift, node, access),
+    let own = owned[at];
+    match own.given.object {
+        FirstObject::Node { node, access } => open_node(files, numbers, own, node, access),
         FirstObject::End { pair, side } => {
-            open_end(files, gifts, at, pair, side);
+            open_end(files, owned, at, pair, side);
             Ok(())
         }
     }
@@ -129,15 +130,15 @@ fn open_first(
 fn open_all(alloc: Global, numbers: &[NodeId], starts: &[Start]) -> Result<Files, Memory>
     requires few { length starts.now ≤ 16 }
     requires numbers { AreNumbers numbers.now }
-    requires gifts { are_gifts (gifts_from 0 (starts_of starts.now)) ≡ true }
-    requires among { are_among (length numbers.now) (gifts_from 0 (starts_of starts.now)) ≡ true }
-    ensures { IfOk result (λ files. Awaits (gifts_from 0 (starts_of starts.now)) [] (open_files files)) }
+    requires owned { are_owned (owned_from 0 (starts_of starts.now)) ≡ true }
+    requires among { are_among (length numbers.now) (owned_from 0 (starts_of starts.now)) ≡ true }
+    ensures { IfOk result (λ files. Awaits (owned_from 0 (starts_of starts.now)) [] (open_files files)) }
 {
-    let gifts = list_gifts(alloc, starts)?;
+    let owned = list_owned(alloc, starts)?;
     let mut files = Files::new(alloc)?;
-    open_initials(&mut files, &gifts)?;
-    for at in 0..gifts.len() {
-        open_first(&mut files, numbers, &gifts, at)?;
+    open_initials(&mut files, &owned)?;
+    for at in 0..owned.len() {
+        open_first(&mut files, numbers, &owned, at)?;
     }
     Ok(files)
 }

@@ -15,7 +15,7 @@ ghost use Rattle.simulator.specs.Steps.{DoesAs, Executes, MayExecute, StepsMachi
 ghost use Rattle.simulator.specs.Views.{line_of, result_of};
 
 use crate::actions::{Action, act};
-use crate::deeds::{finish_deed, hand, note_paths, note_registers};
+use crate::deeds::{finish_deed, hand};
 use crate::lines::{Acted, Line, LineResult, result_of_call};
 use file_tree::Tree;
 use instruction_set::Instruction;
@@ -158,11 +158,6 @@ fn step_process<T: Tree>(
     Ok(done)
 }
 
-/// Notes that what an event gives is a byte, as its type says.
-fn note_byte(event: Event)
-    ensures { event.input < 256 }
-{}
-
 /// The step of an event, and its line.
 pub(crate) fn step_world<T: Tree>(
     alloc: Global,
@@ -176,7 +171,6 @@ pub(crate) fn step_world<T: Tree>(
         (world_of T.nodes world.new)) }
     ensures byte { event.input < 256 }
 {
-    note_byte(event);
     let Some(process) = world.processes.get(event.process as usize) else {
         return Ok(Line {
             process: event.process,
@@ -216,8 +210,6 @@ pub(crate) fn step_world_as<T: Tree>(
     ensures good { OnOk result (IsWellFormed (programs_of_plan task.now) (world_of T.nodes world.new)) }
     ensures byte { event.input < 256 }
 {
-    note_paths(instruction);
-    note_registers(&registers);
-    hand(alloc, world, event.process, instruction, registers, point)?;
+    hand(alloc, world, event.process, instruction, &registers, point)?;
     step_world(alloc, task, world, event)
 }

@@ -2,7 +2,8 @@
 use Rattle.std.proofs.Common.{◌≡◌, ℕ, Bool, true, false, List, [], ◌∷◌, refl, ap, sym, subst, ◌∙◌}
 use Rattle.std.specs.Prelude.{Option, Some, None, is_some, nat_lt, length, if◌then◌else◌}
 use Rattle.process.specs.State.{ProcessState}
-use Rattle.fd_table.specs.Descriptions.{Descriptor, Message, other_side}
+use Rattle.rights.specs.Sides.{other_side}
+use Rattle.fd_table.specs.Descriptions.{Descriptor, Message}
 use Rattle.fd_table.specs.OpenFiles.{is_open}
 use Rattle.fd_table.specs.Filled.{Front, SendRefusal, Closed, Full, front_shown, front_passed, send_refusal}
 use Rattle.kernel.specs.World.{World}

@@ -4,7 +4,8 @@ use Rattle.fd_table.specs.Descriptions.{Access, Object, At_node, At_end}
 use Rattle.file_tree.specs.Nodes.{Node, node, is_link}
 use Rattle.fd_table.specs.Filled.{IsEndThere, IsNamed}
 use Rattle.fd_table.specs.OpenFiles.{OpenFiles}
-use Rattle.fd_table.specs.Views.{access_seen, side_seen}
+use Rattle.rights.specs.Views.{side_seen}
+use Rattle.fd_table.specs.Views.{access_seen}
 use Rattle.fd_table.specs.declared.ends.End.{End}
 use Rattle.kernel.specs.Answers.{Answer, at_object}
 use Rattle.syscalls.specs.declared.operands.OpenNode.{OpenNode}

@@ -4,8 +4,8 @@ use Rattle.rights.specs.Limits.{most_descriptors, most_processes}
 use Rattle.rights.specs.declared.calls.Call.{Call}
 use Rattle.rights.specs.Needs.{First, Second, needs_of}
 use Rattle.rights.specs.Sets.{is_within}
-use Rattle.rights.specs.Opens.{open_request}
-use Rattle.rights.specs.Views.{call_of, errno_of, cause_of}
+use Rattle.rights.specs.Opens.{open_request, no_request}
+use Rattle.rights.specs.Views.{call_of, errno_of, cause_of, side_seen}
 use Rattle.process.specs.State.{ProcessState}
 use Rattle.file_tree.specs.Nodes.{Node, node, is_link}
 use Rattle.file_tree.specs.WellFormed.{IsTree}
@@ -28,9 +28,9 @@ use Rattle.syscalls.specs.declared.outcomes.Besides.{Besides}
 use Rattle.syscalls.specs.declared.outcomes.Success.{Success}
 use Rattle.syscalls.specs.declared.outcomes.Refusal.{Refusal}
 use Rattle.syscalls.specs.declared.outcomes.Refusal.TheVariants as refusal
-use Rattle.fd_table.specs.Views.{access_seen, side_seen}
+use Rattle.fd_table.specs.Views.{access_seen}
 use Rattle.instruction_set.specs.Programs.{Syscall, Read, Write, Lseek, Ftruncate, Fsync, Fstat, called}
-use Rattle.kernel.specs.Calls.{answer, lost, no_request, existing}
+use Rattle.kernel.specs.Calls.{answer, lost, existing}
 use Rattle.syscalls.specs.declared.paths.Beneath.{Beneath}
 use Rattle.syscalls.specs.declared.lookups.Both.{Both}
 use Rattle.syscalls.specs.declared.operands.Caller.{Caller}

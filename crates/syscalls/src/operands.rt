@@ -3,7 +3,6 @@
 ghost use Rattle.std.specs.Prelude.{◌%◌, ◌<◌, ◌≡◌, Err, IfOk, IfSome, List, None, Some, false, length, option_map, true};
 ghost use Rattle.rights.specs.Calls as calls;
 ghost use Rattle.rights.specs.Needs.{second_needs};
-ghost use Rattle.rights.specs.Opens.{open_request};
 ghost use Rattle.file_tree.specs.Nodes.{File, Node, is_link, node};
 ghost use Rattle.fd_table.specs.Filled.{IsNamed};
 ghost use Rattle.fd_table.specs.Kept.{open_files};
@@ -63,10 +62,7 @@ fn entry(files: &Files, caller: &Caller<'_>, number: u32) -> Option<Numbered>
     ensures entry { option_map held_seen result ≡ (open_files files.now).table caller.now.number number }
     ensures number { IfSome result (λ held. held.number ≡ number) }
 {
-    if number > 255 {
-        return None;
-    }
-    let number = number as u8;
+    let number = u8::try_from(number).ok()?;
     match files.get(caller.number, number) {
         None => None,
         Some(descriptor) => Some(Numbered {
@@ -98,28 +94,23 @@ pub(crate) fn held(
     }
 }
 
-/// Flags for a call that opens nothing: an open alone looks at them.
-fn no_flags() -> OpenFlags
-    ensures { result ≡ open_request true false false false false }
-{
-    match OpenFlags::new(true, false, false, false, false) {
-        None => unreachable!(),
-        Some(flags) => flags,
-    }
-}
-
 /// What a call needs of the rights of its first descriptor. (rights(4))
 pub(crate) fn need_of(call: Call) -> Rights
     ensures { result.0 ≡ need call }
 {
-    needs(call, no_flags(), Position::First, false)
+    needs(call, OpenFlags::unused(), Position::First, false)
 }
 
 /// What a rename needs of its second descriptor, where it replaces a node or not. (rights(4), renameat(2))
 pub(crate) fn second_need(replaces: bool) -> Rights
     ensures { result.0 ≡ second_needs calls.Renameat replaces }
 {
-    needs(Call::Renameat, no_flags(), Position::Second, replaces)
+    needs(
+        Call::Renameat,
+        OpenFlags::unused(),
+        Position::Second,
+        replaces,
+    )
 }
 
 /// The descriptor of an operand, if it has the rights that the call needs.

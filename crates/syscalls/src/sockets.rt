@@ -3,10 +3,11 @@
 ghost use Rattle.std.specs.Prelude.{◌<◌, ◌≡◌, List, None, Some, if◌then◌else◌, option_map};
 ghost use Rattle.rights.specs.Errors.{EAGAIN, Refused};
 ghost use Rattle.file_tree.specs.Nodes.{Node};
-ghost use Rattle.fd_table.specs.Descriptions.{other_side};
+ghost use Rattle.rights.specs.Sides.{other_side};
 ghost use Rattle.fd_table.specs.Filled.{IsEndThere, IsFreeAt, IsNamed, MayPass};
 ghost use Rattle.fd_table.specs.Kept.{open_files};
-ghost use Rattle.fd_table.specs.Views.{class_seen, descriptor_seen, side_seen};
+ghost use Rattle.rights.specs.Views.{side_seen};
+ghost use Rattle.fd_table.specs.Views.{class_seen, descriptor_seen};
 ghost use Rattle.instruction_set.specs.Programs as programs;
 ghost use Rattle.instruction_set.specs.Views.{operand_of};
 ghost use Rattle.kernel.specs.Answers as answers;

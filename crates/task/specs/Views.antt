@@ -1,9 +1,9 @@
 -- What the values of the code stand for.
 use Rattle.std.specs.Prelude.{true, List, map, string_bytes}
-use Rattle.rights.specs.Views.{operation_of}
+use Rattle.rights.specs.Views.{operation_of, side_seen}
 use Rattle.file_tree.specs.Nodes.{Node}
 use Rattle.file_tree.specs.Views.{kind_of, names_of}
-use Rattle.fd_table.specs.Views.{access_seen, side_seen}
+use Rattle.fd_table.specs.Views.{access_seen}
 use Rattle.task.specs.declared.nodes.TaskNode.{TaskNode}
 use Rattle.task.specs.declared.grants.Grant.{Grant as GrantCode}
 use Rattle.task.specs.declared.programs.NamedProgram.{NamedProgram as NamedProgramCode}

@@ -16,13 +16,13 @@ use Rattle.std.proofs.Math.Seq.{get_or-append_seam, take-append_seam}
 use Rattle.std.proofs.lemmas.List.Folds.{list_any-append}
 use Rattle.file_tree.specs.Refusals.{new_tree}
 use Rattle.file_tree.specs.Nodes.{Node, Dir, nowhere, node, node_at, node_from, is_dir, stands_at}
-use Rattle.file_tree.specs.Places.{same_place, names_text, place_text, above, at_name}
+use Rattle.file_tree.specs.Places.{same_place, names_text, place_text, above, at_name, is_path_name}
 use Rattle.file_tree.specs.WellFormed.{is_directory_at, has_directory}
 use Rattle.file_tree.proofs.PlaceLaws.{above_at_name, other_place}
 use Rattle.file_tree.proofs.NodeLaws.{linked_there, node_at_found, node_at_none, stands_is, stands_from, any_at}
 use Rattle.texts.specs.Parts.{parts}
 use Rattle.task_reader.specs.IndexViews.{number_in, is_directory, IsIndex, IsPath}
-use Rattle.task_reader.specs.Paths.{is_path_name, path_names, names_behind, place_of}
+use Rattle.task_reader.specs.Paths.{path_names, names_behind, place_of}
 use Rattle.task_reader.specs.Reading.{can_grant, can_stand, granted_place, node_behind, node_made, node_placed, number_of_path}
 use Rattle.task_reader.specs.Written.{WrittenNode}
 use Rattle.task_reader.proofs.Stages.{ap2}

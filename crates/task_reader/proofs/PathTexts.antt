@@ -4,9 +4,9 @@ use Rattle.std.specs.Prelude.{◌==◌, ◌&&◌, ◌||◌, not, nat_eq, nat_le}
 use Rattle.std.specs.List.{list_all}
 use Rattle.std.proofs.lemmas.Bool.{eqb-true}
 use Rattle.rights.proofs.Tests.{both_left, both_right}
-use Rattle.file_tree.specs.Places.{is_file_name_byte, is_dots, names_text, place_text}
+use Rattle.file_tree.specs.Places.{is_file_name_byte, is_dots, names_text, place_text, is_path_name}
 use Rattle.texts.specs.Parts.{parts, parts_from}
-use Rattle.task_reader.specs.Paths.{is_path_name, names_behind, path_names, place_of}
+use Rattle.task_reader.specs.Paths.{names_behind, path_names, place_of}
 use Rattle.task_reader.proofs.WrittenLaws.{some-equal, if-some, map-some}
 
 -- what is parted at each `/` is joined by them

@@ -1,10 +1,10 @@
 -- Laws of the reading of tasks.
 use Rattle.std.specs.Prelude.{◌≡◌, ℕ, true, List, Some, Ok}
 use Rattle.std.specs.List.{list_all}
-use Rattle.file_tree.specs.Places.{place_text}
+use Rattle.file_tree.specs.Places.{place_text, is_path_name}
 use Rattle.task.specs.Plans.{Plan}
 use Rattle.task.specs.Limits.{is_plan}
-use Rattle.task_reader.specs.Paths.{is_path_name, place_of}
+use Rattle.task_reader.specs.Paths.{place_of}
 use Rattle.task_reader.specs.Reading.{task_of}
 
 -- What is read as a task is one.

@@ -1,12 +1,7 @@
 -- The place that a task's path is. (own)
-use Rattle.std.specs.Prelude.{ℕ, ◌==◌, Bool, ◌&&◌, not, nat_eq, List, [], ◌∷◌, length, Option, Some, None, option_map, if◌then◌else◌}
-use Rattle.std.specs.List.{list_all}
-use Rattle.file_tree.specs.Places.{is_file_name_byte, is_dots, slash}
+use Rattle.std.specs.Prelude.{ℕ, ◌==◌, List, [], ◌∷◌, Option, Some, None, option_map, if◌then◌else◌}
+use Rattle.file_tree.specs.Places.{is_path_name, slash}
 use Rattle.texts.specs.Parts.{parts}
-
--- A name of a path: a node's name of any length.
-abbrev pub is_path_name : List ℕ → Bool
-is_path_name name = not (nat_eq (length name) 0) && list_all is_file_name_byte name && not (is_dots name)
 
 abbrev pub path_names : List (List ℕ) → Option (List (List ℕ))
 path_names [] = Some []

@@ -1,7 +1,8 @@
 -- What the code's values of placed processes stand for.
 use Rattle.std.specs.Prelude.{◌^◌, ◌&&◌, nat_lt, Bool, true, List, map}
 use Rattle.std.specs.List.{list_all}
-use Rattle.fd_table.specs.Views.{access_seen, side_seen}
+use Rattle.rights.specs.Views.{side_seen}
+use Rattle.fd_table.specs.Views.{access_seen}
 use Rattle.task_reader.specs.declared.placed_starts.PlacedObject.{PlacedObject}
 use Rattle.task_reader.specs.declared.placed_starts.PlacedObject.TheVariants as object
 use Rattle.task_reader.specs.declared.placed_starts.PlacedDescriptor.{PlacedDescriptor}

@@ -1,8 +1,8 @@
 -- What the code's values of a written task stand for.
 use Rattle.std.specs.Prelude.{List, map}
-use Rattle.rights.specs.Views.{operation_of}
+use Rattle.rights.specs.Views.{operation_of, side_seen}
 use Rattle.file_tree.specs.Views.{kind_of}
-use Rattle.fd_table.specs.Views.{access_seen, side_seen}
+use Rattle.fd_table.specs.Views.{access_seen}
 use Rattle.task_reader.specs.declared.written.WrittenNode.{WrittenNode as NodeCode}
 use Rattle.task_reader.specs.declared.written.WrittenGrant.{WrittenGrant as GrantCode}
 use Rattle.task_reader.specs.declared.written.WrittenProgram.{WrittenProgram as ProgramCode}

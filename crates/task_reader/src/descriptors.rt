@@ -2,7 +2,8 @@
 
 ghost use Rattle.std.specs.Prelude.{◌≡◌, option_map};
 ghost use Rattle.rights.specs.Sets.{all_commands, all_rights, command_names, right_names};
-ghost use Rattle.fd_table.specs.Views.{access_seen, side_seen};
+ghost use Rattle.rights.specs.Views.{side_seen};
+ghost use Rattle.fd_table.specs.Views.{access_seen};
 ghost use Rattle.toml.specs.View.{table_view, view};
 ghost use Rattle.task_reader.specs.Documents.{read_or};
 ghost use Rattle.task_reader.specs.FaultViews.{ReadsTask};

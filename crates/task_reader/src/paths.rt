@@ -1,49 +1,13 @@
 //! The places that a task's paths are.
 
 ghost use Rattle.std.specs.Prelude.{◌≡◌, IfOk, option_map};
-ghost use Rattle.std.specs.List.{list_all};
 ghost use Rattle.texts.specs.Parts.{parts};
-ghost use Rattle.file_tree.specs.Places.{is_dots, is_file_name_byte};
 ghost use Rattle.file_tree.specs.Views.{names_of};
-ghost use Rattle.task_reader.specs.Paths.{is_path_name, names_behind, path_names, place_of};
+ghost use Rattle.task_reader.specs.Paths.{names_behind, path_names, place_of};
 
+use file_tree::is_path_name;
 use std::alloc::{AllocError, Global};
 use texts::first_part;
-
-/// Whether a byte may stand in a node's name.
-fn may_stand_in_name(byte: u8) -> bool
-    ensures { result ≡ is_file_name_byte byte }
-{
-    byte >= 33 && byte <= 126 && !(byte == b'"' || byte == b'/' || byte == b'\\')
-}
-
-/// Whether each byte may stand in a node's name.
-fn has_name_bytes(name: &[u8]) -> bool
-    ensures { result ≡ list_all is_file_name_byte name.now }
-{
-    for byte in name {
-        if !may_stand_in_name(*byte) {
-            return false;
-        }
-    }
-    true
-}
-
-/// Whether a name is `.` or `..`.
-fn is_dot_name(name: &[u8]) -> bool
-    ensures { result ≡ is_dots name.now }
-{
-    matches!(name, [b'.'] | [b'.', b'.'])
-}
-
-/// Whether a text is a name of a path: a node's name of any length. (own)
-fn is_path_name(name: &[u8]) -> bool
-    ensures { result ≡ is_path_name name.now }
-{
-    let has_name_bytes = has_name_bytes(name);
-    let is_dot_name = is_dot_name(name);
-    !name.is_empty() && has_name_bytes && !is_dot_name
-}
 
 /// How many parts a text has between each `/`.
 fn count_parts(text: &[u8]) -> usize {

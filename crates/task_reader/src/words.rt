@@ -3,8 +3,8 @@
 ghost use Rattle.std.specs.Prelude.{⊤, ◌≡◌, map, option_map};
 ghost use Rattle.std.specs.List.{list_all};
 ghost use Rattle.rights.specs.Sets.{command_names, right_names};
-ghost use Rattle.rights.specs.Views.{operation_of};
-ghost use Rattle.fd_table.specs.Views.{access_seen, side_seen};
+ghost use Rattle.rights.specs.Views.{operation_of, side_seen};
+ghost use Rattle.fd_table.specs.Views.{access_seen};
 ghost use Rattle.instruction_set.specs.Fields.{set_of_word};
 ghost use Rattle.task_reader.specs.FaultViews.{ReadsTask};
 ghost use Rattle.task_reader.specs.Reading.{Wrong_field, or_mistake};

@@ -7,6 +7,7 @@ use crate::near::{is_known, meant};
 use crate::pages::Piece::{Bytes, Text};
 use crate::places::part;
 use crate::tokens::{Token, TokenKind};
+use rights::limits::{MAX_DESCRIPTORS, MAX_NAME};
 use std::alloc::{AllocError, Global};
 use texts::{is_number, number_up_to};
 
@@ -118,7 +119,7 @@ fn name_fault(name: Name) -> Option<&'static str> {
     if name.length == 0 {
         return Some("has two slashes in a row");
     }
-    if name.length > 255 {
+    if name.length > MAX_NAME {
         return Some("has a name of more than 255 bytes");
     }
     if name.dots == name.length && name.length < 3 {
@@ -284,7 +285,7 @@ fn opened_fault(items: &[Item], item: &Item) -> Option<&'static str> {
 /// Tells of the faults of a descriptor.
 fn add_descriptor(faults: &mut Faults<'_>, items: &[Item], number: usize, item: &Item) {
     let digits = item.number.bytes.as_slice();
-    if is_number(digits) && number_up_to(digits, 15).is_err() {
+    if is_number(digits) && number_up_to(digits, MAX_DESCRIPTORS as u32 - 1).is_err() {
         faults.add_of(item.number.place, digits, "is no number from 0 to 15");
     }
     if !digits.is_empty() && is_number_twice(items, number, item) {

@@ -18,7 +18,7 @@ pub enum NumberFault {
 }
 
 /// Whether a number may begin so: it isn't empty, and a zero is not followed by more.
-fn begins_well(word: &[u8]) -> bool
+pub fn begins_well(word: &[u8]) -> bool
     ensures { result ≡ begins_well word.now }
 {
     match word {

@@ -1,7 +1,8 @@
 //! Where each call may lead, but for errors.
 
 ghost use Rattle.std.specs.Prelude.{◌≡◌, ◌-◌, true};
-ghost use Rattle.certificate.specs.Views.{bound_of, held_of, interval_of, mode_of, side_of};
+ghost use Rattle.rights.specs.Views.{side_seen};
+ghost use Rattle.certificate.specs.Views.{bound_of, held_of, interval_of, mode_of};
 ghost use Rattle.instruction_set.specs.Programs.{Cap_enter, Fork, Socketpair};
 ghost use Rattle.instruction_set.specs.Views.{syscall_of};
 ghost use Rattle.rules.specs.Outcomes.{is_formed, is_surely_on, mode_interval};
@@ -57,7 +58,7 @@ fn is_formed(site: &Site<'_>, call: &Syscall) -> bool
 
 /// An end of a pair that is made at this point.
 fn end_at(site: &Site<'_>, side: Side) -> Held
-    ensures { held_of result ≡ end_at site.now (side_of side) }
+    ensures { held_of result ≡ end_at site.now (side_seen side) }
 {
     all_held(Target::Socket(Class::MadeAt(*site.name, site.point), side))
 }

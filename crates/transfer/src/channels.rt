@@ -1,8 +1,9 @@
 //! The channels of a certificate that a call uses.
 
 ghost use Rattle.std.specs.Prelude.{◌≡◌, option_map};
-ghost use Rattle.fd_table.specs.Descriptions.{other_side};
-ghost use Rattle.certificate.specs.Views.{bound_of, channel_of, channels_of, class_of, side_of, target_of};
+ghost use Rattle.rights.specs.Sides.{other_side};
+ghost use Rattle.rights.specs.Views.{side_seen};
+ghost use Rattle.certificate.specs.Views.{bound_of, channel_of, channels_of, class_of, target_of};
 ghost use Rattle.instruction_set.specs.Views.{syscall_of};
 ghost use Rattle.rules.specs.Channels.{all_have_channels, channel_at, has_channel, line_in, receives_known, sends_known};
 ghost use Rattle.rules.specs.Uses.{uses};
@@ -14,18 +15,15 @@ use instruction_set::Syscall;
 
 /// The other side of a pair. (own)
 pub fn other(side: Side) -> Side
-    ensures { side_of result ≡ other_side (side_of side) }
+    ensures { side_seen result ≡ other_side (side_seen side) }
 {
-    match side {
-        Side::A => Side::B,
-        Side::B => Side::A,
-    }
+    side.other()
 }
 
 /// The first of these channels that is of this class and side.
 fn line_among<'a>(channels: &'a [Channel], class: &Class, side: Side) -> Option<&'a Channel>
     ensures { option_map (λ c. (channel_of c.now).sends) result
-        ≡ line_in (channels_of channels.now) (class_of class.now) (side_of side) }
+        ≡ line_in (channels_of channels.now) (class_of class.now) (side_seen side) }
 {
     match channels {
         [] => None,
@@ -42,7 +40,7 @@ fn line_among<'a>(channels: &'a [Channel], class: &Class, side: Side) -> Option<
 #[tactic(auto, unfolding(rules::specs::Channels::channel_at))]
 pub fn channel_at<'a>(cert: &'a Cert, class: &Class, side: Side) -> Option<&'a Channel>
     ensures { option_map (λ c. (channel_of c.now).sends) result
-        ≡ channel_at cert.now (class_of class.now) (side_of side) }
+        ≡ channel_at cert.now (class_of class.now) (side_seen side) }
 {
     line_among(cert.channels(), class, side)
 }
@@ -64,7 +62,7 @@ fn receives_known(cert: &Cert, target: &Target) -> bool
 {
     match target {
         Target::InGrant(_) | Target::AnyNode | Target::Unknown => true,
-        Target::Socket(class, side) => channel_at(cert, class, other(*side)).is_some(),
+        Target::Socket(class, side) => channel_at(cert, class, side.other()).is_some(),
     }
 }
 

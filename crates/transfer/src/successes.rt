@@ -13,7 +13,7 @@ ghost use Rattle.transfer.specs.OutcomeViews.{bound_changed, outcome_of};
 ghost use Rattle.transfer.specs.SiteViews.{acted, left_by_limit, received_at, taken_at};
 ghost use Rattle.transfer.specs.Tested.{slot_at};
 
-use crate::channels::{channel_at, other};
+use crate::channels::channel_at;
 use crate::intervals::only;
 use crate::outcomes::{Change, Outcome};
 use crate::slots::{FreeNumbers, Takes, free_numbers, holds_number, operand_interval};
@@ -131,7 +131,7 @@ fn received_passes<T: OutcomeTest>(site: &Site<'_>, target: &Target, test: &mut 
 {
     match target {
         Target::InGrant(_) | Target::AnyNode => true,
-        Target::Socket(class, side) => match channel_at(site.cert, class, other(*side)) {
+        Target::Socket(class, side) => match channel_at(site.cert, class, side.other()) {
             None => true,
             Some(channel) => match channel.sends() {
                 None => true,

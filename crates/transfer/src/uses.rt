@@ -4,8 +4,7 @@ ghost use Rattle.std.specs.Prelude.{◌≡◌, ◌∷◌, [], Some, false, optio
 ghost use Rattle.rights.specs.Operations.{Remove};
 ghost use Rattle.rights.specs.Views.{operation_of};
 ghost use Rattle.instruction_set.specs.Views.{operand_of, syscall_of};
-ghost use Rattle.rights.specs.Opens.{open_request};
-ghost use Rattle.rules.specs.Needs.{Received, Sent, first_rights, flags_in, moving_to, needs, through_none, no_need, through_one, open_operations, operation_if};
+ghost use Rattle.rules.specs.Needs.{Received, Sent, moving_to, needs, through_none, no_need, through_one, open_operations, operation_if};
 ghost use Rattle.transfer.specs.Views.{need_of, needs_in, operation_list, through_of};
 
 use instruction_set::{Operand, Syscall};
@@ -75,33 +74,6 @@ impl Need {
             passed: Passed::Nothing,
         }
     }
-}
-
-/// Flags for a call that opens nothing: an open alone looks at them.
-fn no_flags() -> OpenFlags
-    ensures { result ≡ open_request true false false false false }
-{
-    match OpenFlags::new(true, false, false, false, false) {
-        None => unreachable!(),
-        Some(flags) => flags,
-    }
-}
-
-/// The flags that the rights go by which a call needs.
-fn flags_in(call: &Syscall) -> OpenFlags
-    ensures { result ≡ flags_in (syscall_of call.now) }
-{
-    match call {
-        Syscall::Openat { flags, .. } => *flags,
-        _ => no_flags(),
-    }
-}
-
-/// The rights that a call needs of its first descriptor. (rights(4))
-fn first_rights(call: &Syscall) -> Rights
-    ensures { result.0 ≡ first_rights (syscall_of call.now) }
-{
-    rights::needs(call.call(), flags_in(call), Position::First, false)
 }
 
 /// A call through one operand.
@@ -189,7 +161,7 @@ fn opening(rights: Rights, flags: OpenFlags) -> Need
 fn moving_to() -> Need
     ensures { need_of result ≡ moving_to }
 {
-    let rights = rights::needs(Call::Renameat, no_flags(), Position::Second, true);
+    let rights = rights::needs(Call::Renameat, OpenFlags::unused(), Position::Second, true);
     Need {
         works: true,
         operation: Some(Op::Create),
@@ -289,7 +261,7 @@ fn moving(rights: Rights, descriptor: &Operand, target: &Operand) -> Needs
 pub fn needed(call: &Syscall) -> Needs
     ensures { needs_in result ≡ needs (syscall_of call.now) }
 {
-    let rights = first_rights(call);
+    let rights = call.first_rights();
     match call {
         Syscall::Openat {
             descriptor,
@@ -312,9 +284,9 @@ pub fn needed(call: &Syscall) -> Needs
         Syscall::Fstat { descriptor } | Syscall::Fstatat { descriptor, .. } => {
             one(*descriptor, working(rights, Some(Op::Look)))
         }
-        Syscall::FcntlGetfl { descriptor } => one(*descriptor, commanding(rights, Fcntls::GETFL)),
+        Syscall::FcntlGetfl { descriptor } => one(*descriptor, commanding(rights, call.command())),
         Syscall::FcntlSetfl { descriptor, .. } => {
-            one(*descriptor, commanding(rights, Fcntls::SETFL))
+            one(*descriptor, commanding(rights, call.command()))
         }
         Syscall::Mkdirat { descriptor, .. } => one(*descriptor, naming(rights, Op::Create)),
         Syscall::Unlinkat { descriptor, .. } => one(*descriptor, naming(rights, Op::Remove)),

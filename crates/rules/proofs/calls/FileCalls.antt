@@ -15,7 +15,8 @@ use Rattle.file_tree.proofs.KeptByCreate.{limits_of}
 use Rattle.process.specs.State.{ProcessState}
 use Rattle.certificate.specs.Bounds.{Certificate}
 use Rattle.certificate.specs.Describes.{interval_describes}
-use Rattle.fd_table.specs.Descriptions.{Access, At_node, Descriptor, Message, other_side, with_status}
+use Rattle.rights.specs.Sides.{other_side}
+use Rattle.fd_table.specs.Descriptions.{Access, At_node, Descriptor, Message, with_status}
 use Rattle.fd_table.specs.OpenFiles.{is_open}
 use Rattle.instruction_set.specs.Programs.{Operand, Read, Write, Lseek, Ftruncate, Fstat, Fcntl_setfl, Invoke}
 use Rattle.kernel.specs.World.{World, Choice}

@@ -18,7 +18,8 @@ use Rattle.lookup.specs.Paths.{last_component}
 use Rattle.instruction_set.specs.Programs.{Operand, Renameat, Invoke, called}
 use Rattle.kernel.specs.World.{World, Choice}
 use Rattle.kernel.specs.Answers.{Event, Effect, Answer, Same_tree, Move, Same_queue, Same_state, Gives, gives, granted, value_of}
-use Rattle.kernel.specs.Calls.{no_request, answer, moves, renamed_free, renamed_over, renamed_to, existing}
+use Rattle.rights.specs.Opens.{no_request}
+use Rattle.kernel.specs.Calls.{answer, moves, renamed_free, renamed_over, renamed_to, existing}
 use Rattle.kernel.specs.Walks.{lookups_of}
 use Rattle.task.specs.Plans.{Plan}
 use Rattle.task.specs.Policies.{grant_holds}

@@ -8,7 +8,8 @@ use Rattle.rights.specs.Limits.{most_processes, most_messages, most_descriptors}
 use Rattle.rights.specs.Classes.{Class}
 use Rattle.rights.specs.Classes as classes
 use Rattle.process.specs.State.{ProcessState, forked}
-use Rattle.fd_table.specs.Descriptions.{PairClass, Initial, Made_at, Made_by, At_end, Descriptor, Message, IfHeld, other_side}
+use Rattle.rights.specs.Sides.{other_side}
+use Rattle.fd_table.specs.Descriptions.{PairClass, Initial, Made_at, Made_by, At_end, Descriptor, Message, IfHeld}
 use Rattle.fd_table.specs.OpenFiles.{lowest_from, lowest_free}
 use Rattle.instruction_set.specs.Programs.{Operand, Syscall, Sendfd, Recvfd, Socketpair, Fork, Invoke}
 use Rattle.certificate.specs.Bounds.{with_interval, Socket, Held, with_slot, Bound, Certificate}

@@ -3,7 +3,7 @@ use Rattle.std.proofs.Common.{◌≡◌, ◌%◌, ◌<◌, ℕ, Bool, true, fals
 use Rattle.std.specs.Prelude.{◌==◌, ◌&&◌, not, nat_lt, nat_le, Option, Some, None, if◌then◌else◌}
 use Rattle.std.specs.List.{slice_get}
 use Rattle.rights.specs.Needs.{Second, needs_of}
-use Rattle.rights.specs.Opens.{OpenRequest}
+use Rattle.rights.specs.Opens.{OpenRequest, no_request}
 use Rattle.rights.specs.Operations.{Operation, Look, Read as Reads, Write as Writes, Create as Creates, Remove as Removes}
 use Rattle.rights.specs.Sets.{is_within, read_right, write_right, ftruncate_right, fstat_right, fstatat_right, mkdirat_right, unlinkat_right}
 use Rattle.rights.specs.Sets.{renameat_source_right, renameat_target_right}
@@ -16,12 +16,13 @@ use Rattle.lookup.specs.Paths.{last_component}
 use Rattle.process.specs.State.{ProcessState}
 use Rattle.instruction_set.specs.Programs.{Operand, Syscall, Open, Openat, Read, Write, Sendfd, Recvfd, Lseek, Ftruncate, Fsync, Fstat, Fcntl_getfl, Fcntl_setfl, Fstatat, Stat, Mkdirat, Mkdir}
 use Rattle.instruction_set.specs.Programs.{Unlinkat, Unlink, Renameat, Dup, Close, Cap_rights_limit, Cap_fcntls_limit, Cap_enter, Cap_getmode, Socketpair, Fork, called}
-use Rattle.fd_table.specs.Descriptions.{Access, At_node, Descriptor, other_side}
+use Rattle.rights.specs.Sides.{other_side}
+use Rattle.fd_table.specs.Descriptions.{Access, At_node, Descriptor}
 use Rattle.fd_table.specs.OpenFiles.{lowest_free}
 use Rattle.certificate.specs.Bounds.{Certificate}
 use Rattle.kernel.specs.World.{World, Choice}
 use Rattle.kernel.specs.Answers.{Answer, Effect, Event, Gives, Same_tree, Make, Remove, Move, Fill, gives, granted, same, value_of}
-use Rattle.kernel.specs.Calls.{answer, last_if, made_directory, moves, no_request, renamed_free, existing, renamed_over, renamed_to, stats, stats_at, unlinks, unlinks_as}
+use Rattle.kernel.specs.Calls.{answer, last_if, made_directory, moves, renamed_free, existing, renamed_over, renamed_to, stats, stats_at, unlinks, unlinks_as}
 use Rattle.kernel.specs.Walks.{lookups_of}
 use Rattle.task.specs.Plans.{Plan}
 use Rattle.task.specs.Policies.{grant_holds}

@@ -12,7 +12,7 @@ use Rattle.rights.proofs.Lists.{list_all-slice_get}
 use Rattle.rights.proofs.Subsets.{is_within-trans}
 use Rattle.rights.proofs.Tests.{both_left, both_right, not_true}
 use Rattle.rights.proofs.Words.{same_bytes}
-use Rattle.fd_table.specs.Descriptions.{other_side}
+use Rattle.rights.specs.Sides.{other_side}
 use Rattle.certificate.specs.Bounds.{Authority, Ceiling, Certificate, End, Held, In_grant, Any_node, Open, Socket, Target, Unknown}
 use Rattle.certificate.specs.Describes.{End_of, Holds, Node_at, Own_end, Seen, Subject, held_describes, target_describes}
 use Rattle.certificate.specs.Order.{held_within, same_class}

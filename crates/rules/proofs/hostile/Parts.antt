@@ -18,7 +18,8 @@ use Rattle.lookup.specs.Paths.{last_component}
 use Rattle.process.specs.State.{ProcessState}
 use Rattle.instruction_set.specs.Programs.{Operand, Syscall, Open, Openat, Read, Write, Sendfd, Recvfd, Lseek, Ftruncate, Fsync, Fstat, Fcntl_getfl, Fcntl_setfl, Fstatat, Stat, Mkdirat, Mkdir}
 use Rattle.instruction_set.specs.Programs.{Unlinkat, Unlink, Renameat, Dup, Close, Cap_rights_limit, Cap_fcntls_limit, Cap_enter, Cap_getmode, Socketpair, Fork}
-use Rattle.fd_table.specs.Descriptions.{PairClass, Initial, Made_at, Made_by, Access, At_node, At_end, Descriptor, Message, IfHeld, other_side}
+use Rattle.rights.specs.Sides.{other_side}
+use Rattle.fd_table.specs.Descriptions.{PairClass, Initial, Made_at, Made_by, Access, At_node, At_end, Descriptor, Message, IfHeld}
 use Rattle.certificate.specs.Bounds.{Certificate}
 use Rattle.kernel.specs.World.{World, Choice}
 use Rattle.certificate.specs.Describes.{End_of, Node_at, Own_end, Subject}

@@ -9,7 +9,7 @@ use Rattle.std.proofs.lemmas.Bool.{eqb-true}
 use Rattle.rights.proofs.Tests.{both_left, both_right}
 use Rattle.certificate.specs.Order.{same_class}
 use Rattle.process.specs.State.{ProcessState}
-use Rattle.fd_table.specs.Descriptions.{other_side}
+use Rattle.rights.specs.Sides.{other_side}
 use Rattle.instruction_set.specs.Programs.{Operand, Open, Openat, Sendfd, Recvfd, Renameat, Dup, Close, Cap_rights_limit, Cap_fcntls_limit, Socketpair, Invoke}
 use Rattle.rights.specs.Opens.{OpenRequest}
 use Rattle.kernel.specs.Answers.{value_of}

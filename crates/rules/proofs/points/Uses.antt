@@ -8,7 +8,7 @@ use Rattle.rights.proofs.Subsets.{is_within-trans}
 use Rattle.process.specs.State.{ProcessState}
 use Rattle.instruction_set.specs.Programs.{Operand, Syscall, Renameat, Invoke, called}
 use Rattle.kernel.specs.Answers.{value_of}
-use Rattle.kernel.specs.Calls.{no_request}
+use Rattle.rights.specs.Opens.{no_request}
 use Rattle.task.specs.Plans.{Plan}
 use Rattle.task.specs.Policies.{grant_holds}
 use Rattle.certificate.specs.Bounds.{Bound, Certificate}

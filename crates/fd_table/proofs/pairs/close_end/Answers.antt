@@ -1,5 +1,5 @@
 use Rattle.std.proofs.Common.{refl, sym, ap, ◌∙◌, None, Some}
-use Rattle.fd_table.specs.Views.{side_seen}
+use Rattle.rights.specs.Views.{side_seen}
 use Rattle.fd_table.specs.Changes.{after_close, unless_idle}
 use Rattle.fd_table.specs.StoredViews.{pair_kept}
 use Rattle.fd_table.proofs.SlabLaws.{changed_twice, idle_gone, idle_stays, slots_set, slots_update, some_map}

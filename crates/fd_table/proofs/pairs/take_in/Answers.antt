@@ -1,5 +1,5 @@
 use Rattle.std.proofs.Common.{ap, sym, Some}
-use Rattle.fd_table.specs.Views.{side_seen}
+use Rattle.rights.specs.Views.{side_seen}
 use Rattle.fd_table.specs.Changes.{with_less}
 use Rattle.fd_table.specs.StoredViews.{pair_kept}
 use Rattle.fd_table.proofs.SlabLaws.{slots_set}

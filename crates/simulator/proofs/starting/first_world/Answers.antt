@@ -6,14 +6,14 @@ use Rattle.syscalls.specs.Views.{world_with}
 use Rattle.task.specs.Begins.{first_process, first_world}
 use Rattle.task.specs.Views.{node_of, starts_of}
 use Rattle.task.specs.Plans.{Plan}
-use Rattle.simulator.specs.Starts.{Awaits, are_among, are_gifts, gifts_from}
-use Rattle.simulator.proofs.Given.{plan_gifts, plan_among}
+use Rattle.simulator.specs.Starts.{Awaits, are_among, are_owned, owned_from}
+use Rattle.simulator.proofs.Given.{plan_owned, plan_among}
 use Rattle.simulator.proofs.Started.{begun_world, started_good}
 use Rattle.simulator.proofs.starting.first_world.Goals as goal
 
-pub open_all-requires-clause-gifts : goal.open_all-requires-clause-gifts
-open_all-requires-clause-gifts g c =
-    subst (λ starts. are_gifts (gifts_from 0 starts) ≡ true) (sym c.starts.ensures) (plan_gifts c.args.task.now c.nodes.ensures.valid)
+pub open_all-requires-clause-owned : goal.open_all-requires-clause-owned
+open_all-requires-clause-owned g c =
+    subst (λ starts. are_owned (owned_from 0 starts) ≡ true) (sym c.starts.ensures) (plan_owned c.args.task.now c.nodes.ensures.valid)
 
 pub open_all-requires-clause-among : goal.open_all-requires-clause-among
 open_all-requires-clause-among g c =
@@ -21,15 +21,15 @@ open_all-requires-clause-among g c =
     let count : length c.deref.result.now ≡ length plan.nodes =
     ap length c.deref.ensures.value ∙ c.in_ok-built.ensures.count ∙ sym (length-map c.nodes.result.now node_of) ∙ ap length c.nodes.ensures.nodes
     in
-    subst (λ n. are_among n (gifts_from 0 (starts_of c.starts.result.now)) ≡ true) (sym count)
-    (subst (λ starts. are_among (length plan.nodes) (gifts_from 0 starts) ≡ true) (sym c.starts.ensures) (plan_among plan c.nodes.ensures.valid))
+    subst (λ n. are_among n (owned_from 0 (starts_of c.starts.result.now)) ≡ true) (sym count)
+    (subst (λ starts. are_among (length plan.nodes) (owned_from 0 starts) ≡ true) (sym c.starts.ensures) (plan_among plan c.nodes.ensures.valid))
 
 same : (g : _) (c : goal.After-drop-built-2 g) →
     DiffersInNumbers (first_world c.args.task.now)
     (world_with (g.T.Tree.nodes c.in_ok-built.built.tree) (open_files c.in_ok-files.files) c.in_ok-processes.processes.items)
 same g c =
     begun_world c.args.task.now (g.T.Tree.nodes c.in_ok-built.built.tree) (open_files c.in_ok-files.files) c.in_ok-processes.processes.items
-    (subst (λ starts. Awaits (gifts_from 0 starts) [] (open_files c.in_ok-files.files)) c.starts.ensures c.in_ok-files.ensures)
+    (subst (λ starts. Awaits (owned_from 0 starts) [] (open_files c.in_ok-files.files)) c.starts.ensures c.in_ok-files.ensures)
     (c.in_ok-built.ensures.nodes ∙ c.nodes.ensures.nodes)
     (c.in_ok-processes.ensures ∙ (λ i. map (first_process (c.programs.ensures.programs i)) (c.starts-2.ensures i)))
 

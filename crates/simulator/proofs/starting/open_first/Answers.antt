@@ -4,11 +4,11 @@ use Rattle.fd_table.specs.Kept.{open_files}
 use Rattle.fd_table.proofs.QueueLaws.{on_ok_so}
 use Rattle.task.specs.declared.starts.FirstObject.TheVariants as object
 use Rattle.task.specs.Views.{first_object_of}
-use Rattle.simulator.specs.declared.gifts.Gift.{Gift as GiftCode}
+use Rattle.simulator.specs.declared.owned.OwnedDescriptor.{OwnedDescriptor as OwnedCode}
 use Rattle.simulator.proofs.Begun.{used, is_there, is_free, awaits_opened}
 use Rattle.simulator.proofs.starting.open_first.Goals as goal
 
-abbrev none : GiftCode
+abbrev none : OwnedCode
 none = record {
   process = 0;
   given = record {
@@ -21,20 +21,20 @@ none = record {
 
 pub open_node-requires-clause-there : goal.open_node-requires-clause-there
 open_node-requires-clause-there c =
-    is_there c.args.gifts.now c.args.at none c.requires.there c.requires.gifts c.in-Node.node (access_seen c.in-Node.access)
+    is_there c.args.owned.now c.args.at none c.requires.there c.requires.owned c.in-Node.node (access_seen c.in-Node.access)
     (ap first_object_of c.in-Node.is) (length c.args.numbers.now) c.requires.among
 
 pub open_node-requires-clause-used : goal.open_node-requires-clause-used
 open_node-requires-clause-used c =
-    used c.args.gifts.now c.args.at none c.requires.there c.requires.gifts c.in-Node.node (access_seen c.in-Node.access) (ap first_object_of c.in-Node.is)
+    used c.args.owned.now c.args.at none c.requires.there c.requires.owned c.in-Node.node (access_seen c.in-Node.access) (ap first_object_of c.in-Node.is)
 
 pub open_node-requires-clause-free : goal.open_node-requires-clause-free
 open_node-requires-clause-free c =
-    is_free c.args.gifts.now c.args.at none c.requires.there c.requires.gifts c.in-Node.node (access_seen c.in-Node.access)
+    is_free c.args.owned.now c.args.at none c.requires.there c.requires.owned c.in-Node.node (access_seen c.in-Node.access)
     (ap first_object_of c.in-Node.is) (open_files c.args.files.now) c.requires.begun
 
 pub returns-in-Node : goal.returns-in-Node
 returns-in-Node c =
     on_ok_so c.open_node.result c.open_node.ensures
-    (awaits_opened c.args.gifts.now c.args.at none c.requires.there c.requires.gifts c.in-Node.node (access_seen c.in-Node.access)
+    (awaits_opened c.args.owned.now c.args.at none c.requires.there c.requires.owned c.in-Node.node (access_seen c.in-Node.access)
     (ap first_object_of c.in-Node.is) (open_files c.args.files.now) c.requires.begun (open_files c.open_node.new.files))

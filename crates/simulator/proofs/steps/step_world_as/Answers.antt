@@ -22,12 +22,6 @@ use Rattle.simulator.proofs.DeedsDone.{is_deed_of}
 use Rattle.simulator.proofs.Tracing.{steps_good}
 use Rattle.simulator.proofs.steps.step_world_as.Goals as goal
 
-handed_good : (programs : Programs) (w : World) (p : ℕ) (deed : Deed) → IsWellFormed programs w → HasPaths (call_in (Some deed.instruction)) →
-    length deed.registers ≡ register_count → ((r : ℕ) → FitsRegister (slice_get deed.registers r)) → may_stand_at programs (slice_get w.processes p) deed.point ≡ true →
-    IsWellFormed programs (handed w p deed)
-handed_good programs w p deed good paths eight small placed =
-    about_well_formed programs w p (Does deed) good (is_deed_of programs (slice_get w.processes p) deed paths eight small placed)
-
 stays_good : {A E : Type 0} (programs : Programs) (w next : World) (e : Event) (line : A → Line) (r : Result A E) → ArePrograms programs → IsWellFormed programs w → IsEvent e →
     IfOk r (λ told. StepsMachine programs w e (line told) next) → OnOk r (IsWellFormed programs next)
 stays_good programs w next e line (Ok told) valid good byte is = steps_good programs w next e (line told) valid good byte is
@@ -35,22 +29,22 @@ stays_good programs w next e line (Err error) valid good byte is = tt
 
 pub step_world-requires : goal.step_world-requires
 step_world-requires g c =
-    subst (IsWellFormed (programs_of_plan c.args.task.now)) (sym c.in_ok-hand.ensures)
-    (handed_good (programs_of_plan c.args.task.now) (world_of g.T.Tree.nodes c.args.world.now) c.args.event.process
-    (record { instruction = instruction_of c.args.instruction.now; registers = c.args.registers; point = c.args.point })
-    c.requires.good c.note_paths.ensures c.note_registers.ensures.count c.note_registers.ensures.small c.requires.placed)
+    subst (IsWellFormed (programs_of_plan c.args.task.now)) (sym c.in_ok-hand.ensures.handed)
+    (about_well_formed (programs_of_plan c.args.task.now) (world_of g.T.Tree.nodes c.args.world.now) c.args.event.process
+    (Does (record { instruction = instruction_of c.args.instruction.now; registers = c.args.registers; point = c.args.point }))
+    c.requires.good (c.in_ok-hand.ensures.deed (programs_of_plan c.args.task.now) c.requires.placed))
 
 pub returns-clause-step : goal.returns-clause-step
 returns-clause-step g c =
     subst (λ (v : World). IfOk c.step_world.result (λ line. StepsMachine (programs_of_plan c.args.task.now) v (event_of c.args.event) (line_of line)
-    (world_of g.T.Tree.nodes c.step_world.new.world))) c.in_ok-hand.ensures c.step_world.ensures.step
+    (world_of g.T.Tree.nodes c.step_world.new.world))) c.in_ok-hand.ensures.handed c.step_world.ensures.step
 
 pub returns-clause-good : goal.returns-clause-good
 returns-clause-good g c =
     stays_good (programs_of_plan c.args.task.now) (world_of g.T.Tree.nodes c.hand.new.world) (world_of g.T.Tree.nodes c.step_world.new.world) (event_of c.args.event) line_of
     c.step_world.result (first_well_formed c.args.task.now c.requires.valid).0
-    (subst (IsWellFormed (programs_of_plan c.args.task.now)) (sym c.in_ok-hand.ensures)
-    (handed_good (programs_of_plan c.args.task.now) (world_of g.T.Tree.nodes c.args.world.now) c.args.event.process
-    (record { instruction = instruction_of c.args.instruction.now; registers = c.args.registers; point = c.args.point })
-    c.requires.good c.note_paths.ensures c.note_registers.ensures.count c.note_registers.ensures.small c.requires.placed))
+    (subst (IsWellFormed (programs_of_plan c.args.task.now)) (sym c.in_ok-hand.ensures.handed)
+    (about_well_formed (programs_of_plan c.args.task.now) (world_of g.T.Tree.nodes c.args.world.now) c.args.event.process
+    (Does (record { instruction = instruction_of c.args.instruction.now; registers = c.args.registers; point = c.args.point }))
+    c.requires.good (c.in_ok-hand.ensures.deed (programs_of_plan c.args.task.now) c.requires.placed)))
     c.step_world.ensures.byte c.step_world.ensures.step

@@ -2,7 +2,7 @@ use Rattle.std.proofs.Common.{sym, subst, ap, ◌∙◌}
 use Rattle.std.specs.Prelude.{None, not}
 use Rattle.fd_table.specs.Descriptions.{message_of}
 use Rattle.fd_table.specs.Kept.{open_files}
-use Rattle.fd_table.specs.Views.{side_seen}
+use Rattle.rights.specs.Views.{side_seen}
 use Rattle.kernel.specs.Calls.{sent_end}
 use Rattle.syscalls.specs.AnswerViews.{Meets}
 use Rattle.syscalls.specs.Views.{world_with}

@@ -7,7 +7,8 @@ use Rattle.lookup.specs.Views.{found_of}
 use Rattle.rights.specs.Needs.{Second, needs_of}
 use Rattle.instruction_set.specs.Programs.{called}
 use Rattle.kernel.specs.Answers.{gives, granted}
-use Rattle.kernel.specs.Calls.{renamed_free, renamed_over, no_request}
+use Rattle.rights.specs.Opens.{no_request}
+use Rattle.kernel.specs.Calls.{renamed_free, renamed_over}
 use Rattle.syscalls.specs.AnswerViews.{Meets}
 use Rattle.syscalls.specs.Views.{world_with, effects_of}
 use Rattle.syscalls.proofs.Tests.{passes, equal, unequal}

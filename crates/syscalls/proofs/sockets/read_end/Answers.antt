@@ -1,8 +1,9 @@
 use Rattle.std.proofs.Common.{sym, subst, refl, ap, ◌∙◌, []}
 use Rattle.std.specs.Prelude.{if◌then◌else◌}
-use Rattle.fd_table.specs.Descriptions.{other_side}
+use Rattle.rights.specs.Sides.{other_side}
 use Rattle.fd_table.specs.Kept.{open_files}
-use Rattle.fd_table.specs.Views.{side_seen, front_seen}
+use Rattle.rights.specs.Views.{side_seen}
+use Rattle.fd_table.specs.Views.{front_seen}
 use Rattle.kernel.specs.Answers.{gives, Pop}
 use Rattle.fd_table.specs.OpenFiles.{is_open}
 use Rattle.kernel.specs.Calls.{blocked}

@@ -1,10 +1,11 @@
 use Rattle.std.proofs.Common.{sym, subst, refl, ap, ◌∙◌}
-use Rattle.fd_table.specs.Descriptions.{other_side}
+use Rattle.rights.specs.Sides.{other_side}
 use Rattle.fd_table.specs.OpenFiles.{Alike, is_open}
 use Rattle.fd_table.specs.Openings.{with_entry}
 use Rattle.fd_table.specs.Filled.{with_received}
 use Rattle.fd_table.specs.Kept.{open_files}
-use Rattle.fd_table.specs.Views.{side_seen, front_seen}
+use Rattle.rights.specs.Views.{side_seen}
+use Rattle.fd_table.specs.Views.{front_seen}
 use Rattle.kernel.specs.Answers.{Pop}
 use Rattle.kernel.specs.Calls.{blocked}
 use Rattle.kernel.specs.Changes.{files_after}

@@ -3,7 +3,7 @@ use Rattle.std.specs.Prelude.{Some}
 use Rattle.rights.specs.Sets.{is_within}
 use Rattle.fd_table.specs.Descriptions.{message_of}
 use Rattle.fd_table.specs.Kept.{open_files}
-use Rattle.fd_table.specs.Views.{side_seen}
+use Rattle.rights.specs.Views.{side_seen}
 use Rattle.kernel.specs.Calls.{answer, sent_end}
 use Rattle.syscalls.specs.AnswerViews.{Meets, held_seen}
 use Rattle.syscalls.specs.Views.{world_with}

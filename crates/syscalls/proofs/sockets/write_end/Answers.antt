@@ -2,7 +2,8 @@ use Rattle.std.proofs.Common.{sym, subst, refl, ap, ◌∙◌, []}
 use Rattle.std.specs.Prelude.{option_map}
 use Rattle.fd_table.specs.Descriptions.{message_of}
 use Rattle.fd_table.specs.Kept.{open_files}
-use Rattle.fd_table.specs.Views.{descriptor_seen, side_seen}
+use Rattle.rights.specs.Views.{side_seen}
+use Rattle.fd_table.specs.Views.{descriptor_seen}
 use Rattle.kernel.specs.Answers.{Push}
 use Rattle.kernel.specs.Calls.{blocked}
 use Rattle.kernel.specs.Changes.{files_after}

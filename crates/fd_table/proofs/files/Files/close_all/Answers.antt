@@ -1,6 +1,6 @@
-use Rattle.fd_table.specs.StoredViews.{books_kept}
+use Rattle.fd_table.specs.StoredViews.{tables_kept}
 use Rattle.fd_table.proofs.Answering.{alike_follows}
 use Rattle.fd_table.proofs.files.Files.close_all.Goals as goal
 
 pub returns : goal.returns
-returns c = rw (← c.self.view_is) (alike_follows _ (books_kept c.clear_row.new.self) c.clear_row.ensures)
+returns c = rw (← c.self.view_is) (alike_follows _ (tables_kept c.clear_row.new.self) c.clear_row.ensures)

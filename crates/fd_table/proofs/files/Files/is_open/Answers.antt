@@ -1,8 +1,8 @@
 use Rattle.std.proofs.Common.{◌∙◌, sym}
-use Rattle.fd_table.specs.Views.{side_seen}
-use Rattle.fd_table.specs.StoredViews.{books_kept}
+use Rattle.rights.specs.Views.{side_seen}
+use Rattle.fd_table.specs.StoredViews.{tables_kept}
 use Rattle.fd_table.proofs.Answering.{open_is}
 use Rattle.fd_table.proofs.files.Files.is_open.Goals as goal
 
 pub returns : goal.returns
-returns c = rw (← c.self.view_is) (c.is_end_open.ensures ∙ sym (open_is (books_kept c.self.inside.books) c.args.pair (side_seen c.args.side) c.self.invariant))
+returns c = rw (← c.self.view_is) (c.is_end_open.ensures ∙ sym (open_is (tables_kept c.self.inside.tables) c.args.pair (side_seen c.args.side) c.self.invariant))

@@ -1,6 +1,6 @@
 use Rattle.fd_table.specs.Views.{descriptor_seen}
 use Rattle.fd_table.specs.Holders.{empty_hand}
-use Rattle.fd_table.specs.StoredViews.{books_kept}
+use Rattle.fd_table.specs.StoredViews.{tables_kept}
 use Rattle.fd_table.proofs.Answering.{alike_follows}
 use Rattle.fd_table.proofs.files.Files.open_node.Goals as goal
 
@@ -21,5 +21,5 @@ returns-clause-ok c =
     (record {
       description = c.in_ok-number.number;
       fresh = c.in_ok-number.ensures.fresh;
-      alike = rw c.at.ensures at (alike_follows _ (books_kept c.put.new.self) opened);
+      alike = rw c.at.ensures at (alike_follows _ (tables_kept c.put.new.self) opened);
     })

@@ -3,7 +3,7 @@ use Rattle.rights.specs.Sets.{all_commands, all_rights}
 use Rattle.fd_table.specs.Descriptions.{descriptor_of}
 use Rattle.fd_table.specs.Holders.{empty_hand, with_hand}
 use Rattle.std.proofs.Common.{Some}
-use Rattle.fd_table.specs.StoredViews.{books_kept}
+use Rattle.fd_table.specs.StoredViews.{tables_kept}
 use Rattle.fd_table.proofs.Answering.{alike_follows}
 use Rattle.fd_table.proofs.files.Files.open_pair.Goals as goal
 
@@ -38,5 +38,5 @@ returns-clause-ok c =
       second_fresh = c.in_ok-first.ensures.made.second_fresh;
       apart = c.in_ok-first.ensures.made.apart;
       unused = c.in_ok-first.ensures.made.unused;
-      alike = alike_follows _ (books_kept c.place-2.new.self) (c.place-2.ensures _ empty_hand first);
+      alike = alike_follows _ (tables_kept c.place-2.new.self) (c.place-2.ensures _ empty_hand first);
     })

@@ -1,5 +1,0 @@
-use Rattle.std.proofs.Common.{length}
-use Rattle.simulator.proofs.gifts.+last_of.Given as goal
-
-abbrev pub decreases-last_of : goal.decreases-last_of
-decreases-last_of l = length l.gifts.now
