@@ -17,12 +17,11 @@ ghost use Rattle.rules.specs.Channels.{channel_at};
 ghost use Rattle.task.specs.Policies.{grant_lists};
 ghost use Rattle.task.specs.Views.{first_descriptor_of, first_object_of, grant_of, grants_of, start_of, starts_of};
 
-use crate::starts::place_of;
 use certificate::{Authority, Ceiling, Cert, Class, Domain, End, Held, Name, Side, Slot, Target};
 use file_tree::is_front;
 use rights::{Op, Rights};
-use task::{FirstDescriptor, FirstObject, Grant, Start, Task, grant_lists};
-use transfer::{channel_at, other, unknown_held};
+use task::{FirstDescriptor, FirstObject, Grant, Start, Task, grant_lists, place_of};
+use transfer::{channel_at, unknown_held};
 
 /// What a program may hold: nodes of grants with rights up to their ceilings, and ends. (own)
 #[derive(Clone, Copy)]
@@ -169,22 +168,18 @@ fn is_below_one(
 }
 
 /// Whether an end is this side of an initial pair.
-fn is_initial(end: &End, pair: u8, side: fd_table::Side) -> bool
+fn is_initial(end: &End, pair: u8, side: Side) -> bool
     ensures { result ≡ (same_class (held_end_of end.now).class (Initial pair) && ((held_end_of end.now).side == side_seen side)) }
 {
     let is_pair = match end.class() {
         Class::Initial(own) => own.number() == pair,
         Class::MadeAt(..) => false,
     };
-    is_pair
-        && match side {
-            fd_table::Side::A => end.side().is(Side::A),
-            fd_table::Side::B => end.side().is(Side::B),
-        }
+    is_pair && end.side().is(side)
 }
 
 /// Whether one of these ends is.
-fn lists_initial(ends: &[End], pair: u8, side: fd_table::Side) -> bool
+fn lists_initial(ends: &[End], pair: u8, side: Side) -> bool
     ensures { result ≡ lists_end (map held_end_of ends.now) (Initial pair) (side_seen side) }
 {
     match ends {
@@ -327,7 +322,7 @@ pub(crate) fn all_may_come(cert: &Cert, allowance: &Allowance<'_>, ends: &[End])
     match ends {
         [] => true,
         [first, rest @ ..] => {
-            may_come(cert, allowance, &first.class(), other(first.side()))
+            may_come(cert, allowance, &first.class(), first.side().other())
                 && all_may_come(cert, allowance, rest)
         }
     }

@@ -7,15 +7,13 @@ ghost use Rattle.certificate.specs.Order.{same_class};
 ghost use Rattle.rights.specs.Classes.{Initial};
 ghost use Rattle.rights.specs.Views.{side_seen};
 ghost use Rattle.rules.specs.Rules.{all_starts_within, is_bounded_start, first_seen, first_subject, first_table, is_started, marked_at, start_within, starts_program, starts_within};
-ghost use Rattle.file_tree.specs.Nodes.{node};
-ghost use Rattle.file_tree.specs.Views.{names_of};
 ghost use Rattle.task.specs.Begins.{with_number};
 ghost use Rattle.task.specs.Policies.{grant_holds};
 ghost use Rattle.task.specs.Views.{first_descriptor_of, first_object_of, grants_of, nodes_of, start_of, starts_of};
 
 use certificate::{Bound, Class, Held, Interval, ModeBound, Slot, Target};
-use rights::Rights;
-use task::{FirstDescriptor, FirstObject, Grant, Start, Task, TaskNode, grant_holds};
+use rights::{Rights, Side};
+use task::{FirstDescriptor, FirstObject, Grant, Start, Task, TaskNode, grant_holds, place_of};
 
 /// Whether a process may be in this mode. (own)
 pub fn mode_describes(bound: ModeBound, mode: bool) -> bool
@@ -50,29 +48,15 @@ fn registers_describe(intervals: &[Interval], values: &[u32]) -> bool
     }
 }
 
-/// The place of a node; the root's for one that isn't there.
-pub(crate) fn place_of(nodes: &[TaskNode], number: u16) -> &[Vec<u8>]
-    ensures { names_of result.now ≡ (node (nodes_of nodes.now) number).place }
-{
-    match nodes.get(number as usize) {
-        Some(node) => &node.place,
-        None => &[],
-    }
-}
-
 /// Whether a side of an initial pair is this side of a class.
-fn is_side(class: &Class, side: certificate::Side, pair: u8, its: fd_table::Side) -> bool
+fn is_side(class: &Class, side: Side, pair: u8, its: Side) -> bool
     ensures { result ≡ (same_class (Initial pair) (class_of class.now) && (side_seen its == side_of side)) }
 {
     let is_pair = match class {
         Class::Initial(own) => own.number() == pair,
         Class::MadeAt(..) => false,
     };
-    is_pair
-        && match its {
-            fd_table::Side::A => side.is(certificate::Side::A),
-            fd_table::Side::B => side.is(certificate::Side::B),
-        }
+    is_pair && its.is(side)
 }
 
 /// Whether what a first descriptor is of may be of this target.

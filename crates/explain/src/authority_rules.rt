@@ -11,7 +11,7 @@ use checker::{Allowance, AuthorityRule, allowance_at, ceiling_at};
 use task::{Grant, Start};
 use task_text::Page;
 use task_text::Piece::{Bytes, Number, Text};
-use transfer::{channel_at, enters_mode, other};
+use transfer::{channel_at, enters_mode};
 
 /// Adds the ceiling of a descriptor's grant, or that it is an end that isn't listed, or that nothing can be said of it.
 fn add_ceiling(page: &mut Page, scene: &Scene<'_>, allowed: &Allowance<'_>, target: &Target) {
@@ -154,7 +154,7 @@ fn add_line(page: &mut Page, channel: Option<&Channel>, class: &Class, side: Sid
 fn add_received(page: &mut Page, scene: &Scene<'_>, allowed: &Allowance<'_>) {
     let ends = received_beyond(page.alloc(), scene.cert, allowed);
     for end in &page.gathered(ends) {
-        let (class, side) = (end.class(), other(end.side()));
+        let (class, side) = (end.class(), end.side().other());
         let channel = channel_at(scene.cert, &class, side);
         add_line(page, channel, &class, side);
         if let Some(held) = channel.and_then(|channel| channel.sends()) {

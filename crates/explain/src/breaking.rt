@@ -7,7 +7,7 @@ ghost use Rattle.checker.specs.AllowanceViews.{allowance_of};
 ghost use Rattle.checker.specs.KeptUses.{arrives};
 ghost use Rattle.checker.specs.RuleViews.{keeps_at_slot};
 ghost use Rattle.explain.specs.Breaking.{passes_at, registers_beyond, registers_not_begun, slots_beyond, slots_not_begun};
-ghost use Rattle.fd_table.specs.Descriptions.{other_side};
+ghost use Rattle.rights.specs.Sides.{other_side};
 ghost use Rattle.instruction_set.specs.Views.{instruction_of, syscall_of};
 ghost use Rattle.rights.specs.Limits.{most_descriptors};
 ghost use Rattle.rules.specs.Authority.{is_widest, keeps_ceiling, may_come, may_have_slot, may_start_with, stays_in};
@@ -34,7 +34,7 @@ use rights::limits::{MAX_DESCRIPTORS, REGISTERS};
 use std::alloc::{AllocError, Global};
 use task::{FirstDescriptor, Start, Task};
 use transfer::{
-    OpenSlot, Outcome, OutcomeTest, Site, failing_through, failure, needed, other, successes_pass,
+    OpenSlot, Outcome, OutcomeTest, Site, failing_through, failure, needed, successes_pass,
 };
 
 /// The slots that break a rule, of each operand that a call goes through.
@@ -253,7 +253,7 @@ pub(crate) fn received_beyond(
         .ends
         .iter()
         .copied()
-        .filter(|end| !may_come(cert, allowed, &end.class(), other(end.side())))
+        .filter(|end| !may_come(cert, allowed, &end.class(), end.side().other()))
         .collect(alloc)
 }
 

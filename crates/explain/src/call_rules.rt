@@ -16,7 +16,7 @@ use task_text::Page;
 use task_text::Piece::{Number, Text};
 use transfer::{
     Need, OpenSlot, Passed, SlotTest, Through, channel_at, demanded, failing_slots, is_single,
-    needed, operand_interval, other,
+    needed, operand_interval,
 };
 
 /// A call at a point with a bound.
@@ -175,7 +175,7 @@ fn add_no_channel(page: &mut Page, slot: &OpenSlot, passed: Passed) {
         return page.text(" may be the end of any pair, so no line says what may be sent by it");
     };
     let (does, side) = match passed {
-        Passed::Received => ("what comes by ", other(*side)),
+        Passed::Received => ("what comes by ", side.other()),
         Passed::Sent(_) | Passed::Nothing => ("what is sent by ", *side),
     };
     page.text(does);

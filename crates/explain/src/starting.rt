@@ -5,6 +5,7 @@ use crate::naming::{add_interval, add_rights, add_slot, mode_name};
 use crate::scenes::Scene;
 use certificate::{Bound, Slot};
 use checker::starts::{mode_describes, with_number};
+use rights::Side;
 use task::{FirstDescriptor, FirstObject, Start};
 use task_text::Page;
 use task_text::Piece::{Bytes, Number, Text};
@@ -26,8 +27,8 @@ pub(crate) fn add_object(page: &mut Page, scene: &Scene<'_>, object: FirstObject
         }
         FirstObject::End { pair, side } => {
             let side = match side {
-                fd_table::Side::A => " a",
-                fd_table::Side::B => " b",
+                Side::A => " a",
+                Side::B => " b",
             };
             page.pieces(&[Text("sock @"), Number(u32::from(pair)), Text(side)])
         }

@@ -13,13 +13,6 @@ use crate::uses::{Need, Passed};
 use certificate::{Bound, Cert, Channel, Class, Held, Side, Target};
 use instruction_set::Syscall;
 
-/// The other side of a pair. (own)
-pub fn other(side: Side) -> Side
-    ensures { side_seen result ≡ other_side (side_seen side) }
-{
-    side.other()
-}
-
 /// The first of these channels that is of this class and side.
 fn line_among<'a>(channels: &'a [Channel], class: &Class, side: Side) -> Option<&'a Channel>
     ensures { option_map (λ c. (channel_of c.now).sends) result

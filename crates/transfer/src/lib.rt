@@ -19,7 +19,7 @@ pub mod uses;
 
 pub use asks::{SlotTest, UseTest, all_slots_pass, all_uses_pass};
 pub use carrying::carried_on;
-pub use channels::{HasChannel, all_have_channels, channel_at, other};
+pub use channels::{HasChannel, all_have_channels, channel_at};
 pub use demands::{Demands, demanded, keeps_beneath, keeps_numbers, keeps_single};
 pub use failing::{OpenSlot, failing_slots, failing_through};
 pub use instructions::{enters_mode, failure, successes_pass};
