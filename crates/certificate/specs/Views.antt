@@ -3,7 +3,6 @@ use Rattle.std.specs.Prelude.{ℕ, List, [], ◌∷◌, map, option_map, slice_s
 use Rattle.certificate.specs.declared.names.Name.{Name as NameCode}
 use Rattle.certificate.specs.declared.classes.Class.{Class as ClassCode}
 use Rattle.certificate.specs.declared.classes.Class.TheVariants as class
-use Rattle.rights.specs.declared.sides.Side.{Side as SideCode}
 use Rattle.certificate.specs.declared.bounds.ModeBound.{ModeBound as ModeBoundCode}
 use Rattle.certificate.specs.declared.bounds.ModeBound.TheVariants as mode
 use Rattle.certificate.specs.declared.bounds.Interval.{Interval as IntervalCode}
@@ -37,9 +36,6 @@ name_of n = take n.length n.bytes
 abbrev pub class_of : ClassCode → Class
 class_of (class.Initial pair) = Initial pair.number
 class_of (class.MadeAt program point) = Made_at (name_of program) point
-
-abbrev pub side_of : SideCode → ℕ
-side_of side = side_seen side
 
 abbrev pub mode_of : ModeBoundCode → ModeBound
 mode_of mode.Off = Off

@@ -4,7 +4,7 @@ ghost use Rattle.std.specs.Prelude.{◌≡◌, ◌==◌, ◌&&◌, ◌||◌, [],
 ghost use Rattle.std.specs.List.{list_all, list_any};
 ghost use Rattle.certificate.specs.Growth.{IsCertificate};
 ghost use Rattle.certificate.specs.Order.{same_class};
-ghost use Rattle.certificate.specs.Views.{authorities_of, authority_of, ceiling_of, class_of, held_end_of, held_of, name_of, side_of, slot_of, target_of};
+ghost use Rattle.certificate.specs.Views.{authorities_of, authority_of, ceiling_of, class_of, held_end_of, held_of, name_of, slot_of, target_of};
 ghost use Rattle.checker.specs.AllowanceViews.{allowance_of};
 ghost use Rattle.file_tree.specs.Views.{names_of};
 ghost use Rattle.rights.specs.Classes.{Initial};
@@ -98,7 +98,7 @@ pub fn ceiling_at(cert: &Cert, program: &[u8], grant: &[u8]) -> Rights
 
 /// Whether one of these ends is this side of this class.
 fn lists_end(ends: &[End], class: &Class, side: Side) -> bool
-    ensures { result ≡ lists_end (map held_end_of ends.now) (class_of class.now) (side_of side) }
+    ensures { result ≡ lists_end (map held_end_of ends.now) (class_of class.now) (side_seen side) }
 {
     match ends {
         [] => false,
@@ -303,7 +303,7 @@ pub(crate) fn all_stay(sources: &[Ceiling], targets: &[Ceiling]) -> bool
 
 /// Whether what this side of a class sends is known, and is within. (own)
 pub fn may_come(cert: &Cert, allowance: &Allowance<'_>, class: &Class, side: Side) -> bool
-    ensures { result ≡ may_come (allowance_of allowance.now) (channel_at cert.now (class_of class.now) (side_of side)) }
+    ensures { result ≡ may_come (allowance_of allowance.now) (channel_at cert.now (class_of class.now) (side_seen side)) }
 {
     match channel_at(cert, class, side) {
         None => false,
@@ -342,7 +342,7 @@ pub(crate) fn all_widest(cert: &Cert, ends: &[End]) -> bool
 
 /// Whether anything is expected from this side of a class. (own)
 pub fn is_widest(cert: &Cert, class: &Class, side: Side) -> bool
-    ensures { result ≡ is_widest (channel_at cert.now (class_of class.now) (side_of side)) }
+    ensures { result ≡ is_widest (channel_at cert.now (class_of class.now) (side_seen side)) }
 {
     match channel_at(cert, class, side) {
         None => false,

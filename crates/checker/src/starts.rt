@@ -2,7 +2,7 @@
 
 ghost use Rattle.std.specs.Prelude.{◌≡◌, ◌==◌, ◌&&◌, ◌+◌, ◌≤◌, length, map, option_map, true};
 ghost use Rattle.certificate.specs.Describes.{held_describes, interval_describes, mode_describes, registers_describe, slot_describes, slots_describe, target_describes};
-ghost use Rattle.certificate.specs.Views.{bound_of, class_of, held_of, interval_of, mode_of, side_of, slot_of, target_of};
+ghost use Rattle.certificate.specs.Views.{bound_of, class_of, held_of, interval_of, mode_of, slot_of, target_of};
 ghost use Rattle.certificate.specs.Order.{same_class};
 ghost use Rattle.rights.specs.Classes.{Initial};
 ghost use Rattle.rights.specs.Views.{side_seen};
@@ -50,7 +50,7 @@ fn registers_describe(intervals: &[Interval], values: &[u32]) -> bool
 
 /// Whether a side of an initial pair is this side of a class.
 fn is_side(class: &Class, side: Side, pair: u8, its: Side) -> bool
-    ensures { result ≡ (same_class (Initial pair) (class_of class.now) && (side_seen its == side_of side)) }
+    ensures { result ≡ (same_class (Initial pair) (class_of class.now) && (side_seen its == side_seen side)) }
 {
     let is_pair = match class {
         Class::Initial(own) => own.number() == pair,

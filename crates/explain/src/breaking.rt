@@ -2,7 +2,7 @@
 
 ghost use Rattle.std.specs.Prelude.{◌≡◌, ◌||◌, ◌==◌, IfOk, None, filter, map, not, option_map, true};
 ghost use Rattle.certificate.specs.Bounds.{slot};
-ghost use Rattle.certificate.specs.Views.{bound_of, ceiling_of, class_of, held_end_of, side_of};
+ghost use Rattle.certificate.specs.Views.{bound_of, ceiling_of, class_of, held_end_of};
 ghost use Rattle.checker.specs.AllowanceViews.{allowance_of};
 ghost use Rattle.checker.specs.KeptUses.{arrives};
 ghost use Rattle.checker.specs.RuleViews.{keeps_at_slot};
