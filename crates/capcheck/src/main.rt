@@ -6,7 +6,7 @@ use console::{Console, Session, tell};
 use std::process::ExitCode;
 
 fn main(rt: HostRuntime) -> ExitCode {
-    let mut session = match Session::begin(&rt) {
+    let session = &mut match Session::begin(&rt) {
         Ok(session) => session,
         Err(fault) => return ExitCode::from(tell(
             rt.alloc(),

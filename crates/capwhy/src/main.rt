@@ -25,7 +25,7 @@ impl<'a> Watcher for Progress<'a> {
 }
 
 fn main(rt: HostRuntime) -> ExitCode {
-    let mut session = match Session::begin(&rt) {
+    let session = &mut match Session::begin(&rt) {
         Ok(session) => session,
         Err(fault) => return ExitCode::from(tell(
             rt.alloc(),

@@ -1,5 +1,5 @@
 -- What is read as a fault is no task, and a fault's status is no answer's.
-use Rattle.std.proofs.Common.{◌≡◌, ◌≢◌, false, true, inl, inr, refl, sym, ◌∙◌}
+use Rattle.std.proofs.Common.{◌≡◌, ◌≢◌, ◌∙◌, ℕ, false, true, inl, inr, refl, sym}
 use Rattle.std.specs.Prelude.{Option, Some, None, Result, Ok}
 use Rattle.console.specs.Faults.{Fault, Refused, No_memory, No_output, fault_status}
 use Rattle.console.specs.Statuses.{is_done_status, verdict_status}
