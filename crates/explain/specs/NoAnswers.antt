@@ -10,7 +10,7 @@ use Rattle.explain.specs.Answered.{Answers}
 use Rattle.explain.specs.Questions.{Broken, Unfound}
 
 -- status 0 to `no` of a certificate that isn't accepted, and 1 of one that is
-pub record NoSaysWhether : Type 1 where
+pub record NoSaysWhether : Type 0 where
   pub refused : (files : List ℕ → Option (List ℕ)) (task certificate text bounds_text : List ℕ) (plan : Plan) (bounds : Certificate) (before after : Option (List ℕ))
       → files task ≡ Some text → files certificate ≡ Some bounds_text → task_of text ≡ Ok plan → certificate_of_text bounds_text ≡ Ok bounds
       → (IsAccepted plan bounds → ⊥) → Answers (Some files) (Broken task certificate) 0 before after → ⊥
@@ -19,7 +19,7 @@ pub record NoSaysWhether : Type 1 where
       → IsAccepted plan bounds → Answers (Some files) (Broken task certificate) 1 before after → ⊥
 
 -- status 0 to `none` of a task that no certificate fits, and 1 of one whose flat certificate is accepted
-pub record NoneSaysWhether : Type 1 where
+pub record NoneSaysWhether : Type 0 where
   pub unfit : (files : List ℕ → Option (List ℕ)) (task text : List ℕ) (plan : Plan) (before after : Option (List ℕ)) → files task ≡ Some text → task_of text ≡ Ok plan
       → ((bounds : Certificate) → IsAccepted plan bounds → ⊥) → Answers (Some files) (Unfound task) 0 before after → ⊥
   pub fits : (files : List ℕ → Option (List ℕ)) (task text : List ℕ) (plan : Plan) (bounds : Certificate) (before after : Option (List ℕ)) → files task ≡ Some text
