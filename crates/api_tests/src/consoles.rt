@@ -1,7 +1,7 @@
 //! Streams that take little or fail, under a console, and what the program makes of them.
 
 use crate::serving::empty_shelf;
-use commands::{Console, Unread, closed, fetched};
+use console::{Console, Fault, closed, fetched};
 use rights::{Stop, write_all};
 use std::alloc::Global;
 use std::io;
@@ -92,7 +92,7 @@ fn a_failed_flush_is_a_failed_output(rt: HostRuntime) {
     for (status, flushed, last, told) in rows {
         let mut err = empty_shelf(rt.alloc(), 5, 0, true);
         assert!(rt;
-            closed(status, flushed, &mut err) == last,
+            closed("capcheck", status, flushed, &mut err) == last,
             "{status} {flushed}"
         );
         assert!(rt; err.bytes.as_slice() == told, "{status} {flushed}");
@@ -102,19 +102,19 @@ fn a_failed_flush_is_a_failed_output(rt: HostRuntime) {
 #[test]
 fn a_file_that_is_not_read_has_no_bytes(rt: HostRuntime) -> Result<(), Fail> {
     let rows = [
-        (ErrorKind::NotFound, Unread::NotThere),
-        (ErrorKind::PermissionDenied, Unread::NotThere),
-        (ErrorKind::IsADirectory, Unread::NotThere),
-        (ErrorKind::Interrupted, Unread::NotThere),
-        (ErrorKind::OutOfMemory, Unread::Memory),
+        (ErrorKind::NotFound, false),
+        (ErrorKind::PermissionDenied, false),
+        (ErrorKind::IsADirectory, false),
+        (ErrorKind::Interrupted, false),
+        (ErrorKind::OutOfMemory, true),
     ];
-    for (kind, unread) in rows {
-        match fetched(Err(Error::from(kind))) {
+    for (kind, is_memory) in rows {
+        match fetched("file", Err(Error::from(kind))) {
             Ok(_) => panic!(rt; "it was read"),
-            Err(why) => assert!(rt; why == unread),
+            Err(why) => assert!(rt; matches!(why, Fault::Memory) == is_memory),
         }
     }
-    match fetched(Ok(Vec::new(rt.alloc()))) {
+    match fetched("file", Ok(Vec::new(rt.alloc()))) {
         Ok(bytes) => assert!(rt; bytes.is_empty()),
         Err(_) => panic!(rt; "it was not read"),
     }

@@ -3,7 +3,8 @@
 ghost use Rattle.std.specs.Prelude.{◌≡◌, Some, None, codes, option_map, if◌then◌else◌};
 ghost use Rattle.std.specs.Str.{bytes_eq};
 
-use commands::{Source, Unread, serve};
+use commands::serve;
+use console::{Fault, Source};
 use rights::{Out, OutFault};
 use std::alloc::{AllocError, Global};
 
@@ -71,19 +72,16 @@ impl<'a> Source for TwoFiles<'a> {
         if bytes_eq name (codes "task") then option_map (λ text. text.now) two.task
         else (if bytes_eq name (codes "schedule") then option_map (λ text. text.now) two.schedule else None)) };
 
-    fn fetch(&mut self, name: &str) -> Result<Vec<u8>, Unread> {
+    fn fetch<'b>(&mut self, name: &'b str) -> Result<Vec<u8>, Fault<'b>> {
         let text = match name {
             "task" => self.task,
             "schedule" => self.schedule,
-            "huge" => return Err(Unread::Memory),
+            "huge" => return Err(Fault::Memory),
             _ => None,
         };
         match text {
-            Some(bytes) => match Vec::from_slice(self.alloc, bytes) {
-                Ok(bytes) => Ok(bytes),
-                Err(_) => Err(Unread::Memory),
-            },
-            None => Err(Unread::NotThere),
+            Some(bytes) => Ok(Vec::from_slice(self.alloc, bytes)?),
+            None => Err(Fault::File(name)),
         }
     }
 }

@@ -1,69 +1,26 @@
 //! Capcheck, the program: it does what its words say with the files of the system, standard output and standard error.
 #![tactic(auto)]
 
-ghost use Rattle.std.specs.Prelude.{None};
-
-use commands::statuses::{REFUSED, STOPPED};
-use commands::{Console, Source, Unread, closed, fetched, serve};
-use rights::write_all;
-use std::io::{BufWriter, ErrorKind};
+use commands::{NAME, serve};
+use console::{Console, Session, tell};
 use std::process::ExitCode;
-use std::{env, fs};
-
-/// Files of the system, by path.
-#[derive(Drop)]
-struct Disk<'a> {
-    rt: &'a HostRuntime,
-}
-
-impl<'a> Source for Disk<'a> {
-    ghost files = { λ _. None };
-
-    fn fetch(&mut self, name: &str) -> Result<Vec<u8>, Unread> {
-        fetched(fs::read(self.rt, name))
-    }
-}
-
-/// The program's own words.
-fn words(rt: &HostRuntime) -> Result<Vec<String>, Unread> {
-    match env::args(rt) {
-        Ok(args) => match args.skip(1).collect(rt.alloc()) {
-            Ok(words) => Ok(words),
-            Err(_) => Err(Unread::Memory),
-        },
-        Err(error) => {
-            if error.kind() == ErrorKind::OutOfMemory {
-                return Err(Unread::Memory);
-            }
-            Err(Unread::NotThere)
-        }
-    }
-}
-
-/// Serves the words, and hands on what standard output still holds.
-fn run(rt: &HostRuntime) -> u8 {
-    let mut err = Console::new(rt.stderr());
-    let words = match words(rt) {
-        Ok(words) => words,
-        Err(Unread::NotThere) => {
-            let _ = write_all(&mut err, b"capcheck: words\n");
-            return REFUSED;
-        }
-        Err(Unread::Memory) => {
-            let _ = write_all(&mut err, b"capcheck: memory\n");
-            return STOPPED;
-        }
-    };
-    let Ok(stream) = BufWriter::new(rt.alloc(), rt.stdout()) else {
-        let _ = write_all(&mut err, b"capcheck: memory\n");
-        return STOPPED;
-    };
-    let mut out = Console::new(stream);
-    let mut disk = Disk { rt };
-    let status = serve(rt.alloc(), &words, &mut disk, &mut out, &mut err);
-    closed(status, out.flush(), &mut Console::new(rt.stderr()))
-}
 
 fn main(rt: HostRuntime) -> ExitCode {
-    ExitCode::from(run(&rt))
+    let session = &mut match Session::begin(&rt) {
+        Ok(session) => session,
+        Err(fault) => return ExitCode::from(tell(
+            rt.alloc(),
+            NAME,
+            &fault,
+            &mut Console::new(rt.stderr()),
+        )),
+    };
+    let status = serve(
+        rt.alloc(),
+        &session.words,
+        &mut session.files,
+        &mut session.out,
+        &mut session.err,
+    );
+    ExitCode::from(session.end(NAME, status))
 }

@@ -26,13 +26,13 @@ use Rattle.simulator.specs.Simulations.{WritesFront, WritesTrace}
 use Rattle.simulator.specs.Traces.{trace_text}
 use Rattle.command_line.specs.Orders.{Order, Example, Run, Check, Report, Search, Expand, AsksFor}
 use Rattle.commands.specs.Begun.{HasBegun}
-use Rattle.commands.specs.declared.faults.Fault.{Fault as FaultCode}
+use Rattle.console.specs.declared.faults.Fault.{Fault as FaultCode}
 use Rattle.commands.specs.Expanded.{Expands}
 use Rattle.commands.specs.Examples.{first_plan, example_events}
 use Rattle.commands.specs.Fails.{Fails, LacksMemory, WordsFail, asked_for, not_asked, unread}
-use Rattle.commands.specs.Faults.{Fault, Refused, No_memory, No_output}
-use Rattle.commands.specs.FaultViews.{fault_of, stop_fault}
-use Rattle.commands.specs.Files.{Files, IsRead, IsTask}
+use Rattle.console.specs.Faults.{Fault, Refused, No_memory, No_output}
+use Rattle.console.specs.FaultViews.{fault_of, stop_fault}
+use Rattle.console.specs.Files.{Files, IsRead, IsTask}
 use Rattle.commands.specs.Served.{DoesOrder, Serves}
 
 -- ## The events of a schedule have bytes

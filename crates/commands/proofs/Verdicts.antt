@@ -10,8 +10,9 @@ use Rattle.rules.specs.Expansions.{expansion}
 use Rattle.rules.proofs.Sound.{confining, sound}
 use Rattle.task.specs.Plans.{Plan}
 use Rattle.commands.specs.Begun.{HasBegun}
-use Rattle.commands.specs.Files.{Files, IsRead, IsTask, OfFiles}
-use Rattle.commands.specs.Judged.{Judges, verdict_status, verdict_text}
+use Rattle.console.specs.Files.{Files, IsRead, IsTask, OfFiles}
+use Rattle.commands.specs.Judged.{Judges}
+use Rattle.console.specs.Statuses.{verdict_status}
 use Rattle.commands.specs.Served.{DoesOrder, Serves, StaysInside}
 use Rattle.commands.proofs.Begun.{task-valid}
 

@@ -1,14 +1,14 @@
 -- When the program has which fault. (own)
-use Rattle.std.specs.Prelude.{◌≡◌, ◌<◌, ◌⊎◌, ℕ, List, Option, Err}
-use Rattle.rights.specs.Output.{Took, TookFront}
+use Rattle.std.specs.Prelude.{◌≡◌, ◌<◌, ◌⊎◌, ℕ, List, Option, Err, codes}
 use Rattle.command_line.specs.Orders.{Order, Example, Run, Check, Report, Search, Expand, AsksFor}
 use Rattle.task.specs.Plans.{Plan}
 use Rattle.task_reader.specs.Reading.{Mistake, task_of}
 use Rattle.certificate_text.specs.Readings.{certificate_of_text}
 use Rattle.simulator.specs.Schedules.{schedule_of}
 use Rattle.commands.specs.Begun.{HasBegun}
-use Rattle.commands.specs.Faults.{Fault, Refusal, Wrong_words, No_file, No_task, No_schedule, No_certificate, Refused, No_memory, No_output, fault_status, fault_text}
-use Rattle.commands.specs.Files.{Files, IsMissing, IsRead, IsTask, IsFileThere}
+use Rattle.console.specs.Faults.{Fault, Refusal, Wrong_words, No_file, No_task, No_schedule, No_certificate, Refused, No_memory, No_output}
+use Rattle.console.specs.Told.{IsTold}
+use Rattle.console.specs.Files.{Files, IsMissing, IsRead, IsTask, IsFileThere}
 use Rattle.commands.specs.Served.{DoesOrder}
 
 -- Of two files this one isn't there. Both are fetched before either text is read, in this order.
@@ -78,22 +78,10 @@ pub data WordsFail (files : Files) (words : List (List ℕ)) (before after : Opt
   not_asked : ((order : Order) → AsksFor words order → ⊥) → after ≡ before → WordsFail files words before after failures failed (Refused Wrong_words)
   unread : after ≡ before → WordsFail files words before after failures failed No_memory
 
--- The line was written, or a beginning of it before a failure of the writer.
-abbrev pub TellsLine : Option (List ℕ) → Option (List ℕ) → ℕ → ℕ → List ℕ → Type 0
-TellsLine before after failures failed line = Took before after line ⊎ (TookFront before after line × (failures < failed))
-
--- The fault, or in its place want of memory, was told so, with its status.
-abbrev pub IsToldAs : Fault → ℕ → Option (List ℕ) → Option (List ℕ) → ℕ → ℕ → Type 0
-IsToldAs fault status before after failures failed = (status ≡ fault_status fault) × TellsLine before after failures failed (fault_text fault)
-
-abbrev pub IsTold : Fault → ℕ → Option (List ℕ) → Option (List ℕ) → ℕ → ℕ → Type 0
-IsTold fault status before after failures failed =
-    IsToldAs fault status before after failures failed ⊎ IsToldAs No_memory status before after failures failed
-
 -- There is a fault, and it was told.
 pub record RefusesWords (files : Files) (words : List (List ℕ)) (status : ℕ)
     (before after : Option (List ℕ)) (failures failed : ℕ)
     (told_before told_after : Option (List ℕ)) (told_failures told_failed : ℕ) : Type 0 where
   pub fault : Fault
   pub fails : WordsFail files words before after failures failed fault
-  pub told : IsTold fault status told_before told_after told_failures told_failed
+  pub told : IsTold (codes "capcheck") fault status told_before told_after told_failures told_failed

@@ -4,9 +4,6 @@ pub mod Begun
 pub mod Examples
 pub mod Expanded
 pub mod Fails
-pub mod FaultViews
-pub mod Faults
-pub mod Files
 pub mod Judged
 pub mod ReportRows
 pub mod Reports

@@ -1,5 +1,5 @@
 -- What the program has written when it says that it is done.
-use Rattle.std.specs.Prelude.{◌≡◌, ◌==◌, ◌||◌, ℕ, Bool, true, List, Option}
+use Rattle.std.specs.Prelude.{◌≡◌, ℕ, true, List, Option}
 use Rattle.command_line.specs.Orders.{Order, Example, Run, Check, Report, Search, Expand, AsksFor}
 use Rattle.task.specs.Confined.{IsConfined}
 use Rattle.task.specs.Plans.{Plan, none_marked}
@@ -9,7 +9,7 @@ use Rattle.simulator.specs.Schedules.{schedule_of}
 use Rattle.simulator.specs.Simulations.{WritesTrace}
 use Rattle.commands.specs.Examples.{example_events, first_plan}
 use Rattle.commands.specs.Expanded.{Expands}
-use Rattle.commands.specs.Files.{Files, IsTask, OfFiles}
+use Rattle.console.specs.Files.{Files, IsTask, OfFiles}
 use Rattle.commands.specs.Judged.{Judges, verdict_text}
 use Rattle.commands.specs.Reports.{answer_text}
 use Rattle.commands.specs.Searched.{Searches}
@@ -40,14 +40,3 @@ pub record StaysInside (files : Files) (task : List ℕ) : Type 0 where
   pub is_task : IsTask files task plan
   pub confined : IsConfined plan
   pub sandboxed : none_marked plan ≡ true → IsSandboxed plan
-
--- The status of a fault: 2 of one in words or files, 3 of want of memory and of a failed output. That of
--- a program that is done is 0, or 1 where it answers no.
-abbrev pub is_fault_status : ℕ → Bool
-is_fault_status status = (status == 2) || (status == 3)
-
-abbrev pub is_done_status : ℕ → Bool
-is_done_status status = (status == 0) || (status == 1)
-
-abbrev pub is_status : ℕ → Bool
-is_status status = is_done_status status || is_fault_status status

@@ -1,25 +1,14 @@
 //! How verdicts on tasks and certificates are told.
 
 ghost use Rattle.std.specs.Prelude.{◌≡◌, ◌<◌, ◌-◌, ◌^◌, IsErrOf, OnOk};
-ghost use Rattle.commands.specs.Judged.{verdict_status, verdict_text};
+ghost use Rattle.commands.specs.Judged.{verdict_text};
 ghost use Rattle.rights.specs.Output.{Took, TookFront};
 ghost use Rattle.checker.specs.Views.{verdict_of};
 
-use crate::statuses::{BROKEN, DONE};
 use checker::Verdict;
 use rights::{Out, Stop, write_all};
 use std::alloc::Global;
 use task::Task;
-
-/// The status of a verdict.
-pub(crate) fn status_of_verdict(verdict: Verdict) -> u8
-    ensures { result ≡ verdict_status (verdict_of verdict) }
-{
-    match verdict {
-        Verdict::Yes => DONE,
-        Verdict::No { .. } => BROKEN,
-    }
-}
 
 /// Writes the line of a verdict on a task: `yes`, or `no` with the program's name, the point, and the rule that is broken. Its
 /// errors are `Device`, after a failure of the writer, which then has taken a beginning of that, and `Memory`, before anything is

@@ -6,24 +6,17 @@
 //! `none`; for `expand TASK CERT` a certificate with all bounds that it leaves to be carried. TASK, SCHEDULE and CERT name files.
 #![tactic(auto)]
 
-pub mod console;
 pub mod example;
 pub mod expanding;
-pub mod faults;
 pub mod judging;
 pub mod laws;
 pub mod proposing;
 pub mod reporting;
 pub mod serving;
-pub mod sources;
-pub mod statuses;
 
-pub use console::{Console, closed};
 pub use example::example_task;
 pub use expanding::write_expansion;
-pub use faults::Fault;
 pub use judging::write_verdict;
 pub use proposing::propose;
 pub use reporting::{report, write_answer};
-pub use serving::{fetch, serve};
-pub use sources::{Source, Unread, fetched};
+pub use serving::{NAME, serve};

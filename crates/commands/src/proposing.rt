@@ -6,8 +6,8 @@ ghost use Rattle.certificate_text.specs.Texts.{certificate_text};
 ghost use Rattle.commands.specs.Begun.{HasBegun};
 ghost use Rattle.commands.specs.Searched.{Searches};
 
-use crate::statuses::{BROKEN, DONE};
 use certificate_text::write_cert;
+use console::statuses::{BROKEN, DONE};
 use rights::{Out, Stop, write_all};
 use searcher::search;
 use std::alloc::Global;

@@ -19,8 +19,9 @@ use crate::judging::write_verdict;
 use bitflags::{Flag, Flags};
 use certificate::{Bound, Cert, Slot, Target};
 use checker::{Verdict, ceiling_at, expand, is_expanded};
+use console::write_bytes;
 use instruction_set::Instruction;
-use rights::{Out, Rights, Stop, write_all};
+use rights::{Out, Rights, Stop};
 use std::alloc::Global;
 use task::{Grant, NamedProgram, Task};
 use text_checker::Checked;
@@ -62,14 +63,6 @@ fn rights_in(slots: &[Slot], grant: &[u8]) -> Option<Rights>
         [] => None,
         [slot, rest @ ..] => either_set(greatest_in(slot, grant), rights_in(rest, grant)),
     }
-}
-
-/// Writes some bytes.
-fn write_bytes<W: Out>(out: &mut W, bytes: &[u8]) -> Result<(), Stop>
-    requires { W.faults out.old < 2 ^ 64 - 1 }
-    ensures { Writes result (W.taken out.old) (W.taken out.new) (W.faults out.old) (W.faults out.new) bytes.now }
-{
-    write_all(out, bytes)
 }
 
 /// Writes the beginning of a line: a program, a point or a sign for all that it does, and a grant.

@@ -3,28 +3,29 @@
 ghost use Rattle.std.specs.Prelude.{◌≡◌, ◌<◌, ◌⊎◌, ◌-◌, ◌^◌, ℕ, IfErr, IfOk, IsTrue, List, None, map, string_bytes};
 ghost use Rattle.commands.specs.Begun.{HasBegun};
 ghost use Rattle.commands.specs.Fails.{Fails, RefusesWords, WordsFail};
-ghost use Rattle.commands.specs.Faults.{No_file, No_memory, Refused};
-ghost use Rattle.commands.specs.FaultViews.{fault_of};
-ghost use Rattle.commands.specs.Files.{IsFile, IsMissing};
-ghost use Rattle.commands.specs.Served.{DoesOrder, Serves, StaysInside, is_done_status, is_fault_status, is_status};
+ghost use Rattle.commands.specs.Served.{DoesOrder, Serves, StaysInside};
+ghost use Rattle.console.specs.FaultViews.{fault_of};
+ghost use Rattle.console.specs.Statuses.{is_done_status, is_fault_status, is_status};
 ghost use Rattle.command_line.specs.Orders.{AsksFor, Check, Example, Expand, Report, Run, Search};
 ghost use Rattle.command_line.specs.OrderViews.{order_of};
 
 use crate::example::example_task;
 use crate::expanding::write_expansion;
-use crate::faults::{Fault, tell};
-use crate::judging::{status_of_verdict, write_verdict};
+use crate::judging::write_verdict;
 use crate::proposing::propose;
 use crate::reporting::write_answer;
-use crate::sources::{Source, Unread};
-use crate::statuses::DONE;
 use command_line::{Order, WordsFault, read_order};
+use console::statuses::DONE;
+use console::{Fault, Source, status_of_verdict, tell};
 use rights::Out;
 use simulator::{read_schedule, simulate};
 use std::alloc::Global;
 use syscalls::Event;
 use task_reader::read_task;
 use text_checker::{check_texts, read_texts};
+
+/// The name by which the program tells its faults.
+pub const NAME: &str = "capcheck";
 
 /// Two events of the first process.
 const EXAMPLE: [Event; 2] = [Event {
@@ -45,19 +46,6 @@ fn example<'a, W: Out>(alloc: Global, out: &mut W) -> Result<u8, Fault<'a>>
     Ok(DONE)
 }
 
-/// The bytes of a file. It fails where there is none, or for want of memory. (own)
-pub fn fetch<'a, S: Source>(files: &mut S, name: &'a str) -> Result<Vec<u8>, Fault<'a>>
-    ensures text { IfOk result (λ bytes. IsFile (S.files files.old) name.now bytes.items) }
-    ensures missing { IfErr result (λ fault. (fault_of fault ≡ No_memory) ⊎ ((fault_of fault ≡ Refused (No_file name.now)) × IsMissing (S.files files.old) name.now)) }
-    ensures same { S.files files.new ≡ S.files files.old }
-{
-    match files.fetch(name) {
-        Ok(bytes) => Ok(bytes),
-        Err(Unread::NotThere) => Err(Fault::File(name)),
-        Err(Unread::Memory) => Err(Fault::Memory),
-    }
-}
-
 /// Runs the task of a file over the events of another, and gives the status. Both are fetched before either is read.
 fn run<'a, S: Source, W: Out>(
     alloc: Global,
@@ -71,8 +59,8 @@ fn run<'a, S: Source, W: Out>(
     ensures fails { IfErr result (λ fault. Fails (S.files files.old) (Run task.now schedule.now)
         (W.taken out.old) (W.taken out.new) (W.faults out.old) (W.faults out.new) (fault_of fault)) }
 {
-    let task_text = fetch(files, task)?;
-    let schedule_text = fetch(files, schedule)?;
+    let task_text = files.fetch(task)?;
+    let schedule_text = files.fetch(schedule)?;
     let plan = read_task(alloc, &task_text)?;
     let events = read_schedule(alloc, &schedule_text)?;
     simulate(alloc, &plan, &events, out)?;
@@ -93,8 +81,8 @@ fn check_files<'a, S: Source, W: Out>(
     ensures fails { IfErr result (λ fault. Fails (S.files files.old) (Check task.now cert.now)
         (W.taken out.old) (W.taken out.new) (W.faults out.old) (W.faults out.new) (fault_of fault)) }
 {
-    let task_bytes = fetch(files, task)?;
-    let cert_bytes = fetch(files, cert)?;
+    let task_bytes = files.fetch(task)?;
+    let cert_bytes = files.fetch(cert)?;
     let checked = check_texts(alloc, &task_bytes, &cert_bytes)?;
     write_verdict(alloc, &checked.claim.task, checked.verdict, out)?;
     Ok(status_of_verdict(checked.verdict))
@@ -114,8 +102,8 @@ fn report_files<'a, S: Source, W: Out>(
     ensures fails { IfErr result (λ fault. Fails (S.files files.old) (Report task.now cert.now)
         (W.taken out.old) (W.taken out.new) (W.faults out.old) (W.faults out.new) (fault_of fault)) }
 {
-    let task_file = fetch(files, task)?;
-    let cert_file = fetch(files, cert)?;
+    let task_file = files.fetch(task)?;
+    let cert_file = files.fetch(cert)?;
     let checked = check_texts(alloc, &task_file, &cert_file)?;
     write_answer(alloc, &checked, out)?;
     Ok(status_of_verdict(checked.verdict))
@@ -133,7 +121,7 @@ fn search_file<'a, S: Source, W: Out>(
     ensures fails { IfErr result (λ fault. Fails (S.files files.old) (Search task.now)
         (W.taken out.old) (W.taken out.new) (W.faults out.old) (W.faults out.new) (fault_of fault)) }
 {
-    let text = fetch(files, task)?;
+    let text = files.fetch(task)?;
     let plan = read_task(alloc, &text)?;
     Ok(propose(alloc, &plan, out)?)
 }
@@ -152,8 +140,8 @@ fn expand_files<'a, S: Source, W: Out>(
     ensures fails { IfErr result (λ fault. Fails (S.files files.old) (Expand task.now cert.now)
         (W.taken out.old) (W.taken out.new) (W.faults out.old) (W.faults out.new) (fault_of fault)) }
 {
-    let task_source = fetch(files, task)?;
-    let cert_source = fetch(files, cert)?;
+    let task_source = files.fetch(task)?;
+    let cert_source = files.fetch(cert)?;
     let claim = read_texts(alloc, &task_source, &cert_source)?;
     write_expansion(alloc, &claim.task, &claim.cert, out)?;
     Ok(DONE)
@@ -231,6 +219,6 @@ pub fn serve<S: Source, W: Out, V: Out>(
 {
     match serve_words(alloc, words, files, out) {
         Ok(status) => status,
-        Err(fault) => tell(alloc, &fault, err),
+        Err(fault) => tell(alloc, NAME, &fault, err),
     }
 }

@@ -5,8 +5,9 @@
 ghost use Rattle.std.specs.Prelude.{◌≡◌, None};
 
 use anyhow::{Context, Result, bail};
-use commands::statuses::{DONE, STOPPED};
-use commands::{Source, Unread, fetched, serve};
+use commands::serve;
+use console::statuses::{DONE, STOPPED};
+use console::{Disk, Fault, Source};
 use explore::Watcher;
 use rights::{Out, OutFault};
 use serde::Deserialize;
@@ -58,13 +59,10 @@ struct Files<'a> {
 impl<'a> Source for Files<'a> {
     ghost files = { λ _. None };
 
-    fn fetch(&mut self, name: &str) -> Result<Vec<u8>, Unread> {
+    fn fetch<'b>(&mut self, name: &'b str) -> std::result::Result<Vec<u8>, Fault<'b>> {
         match self.found {
-            Some(cert) if name == FOUND => match Vec::from_slice(self.rt.alloc(), cert) {
-                Ok(bytes) => Ok(bytes),
-                Err(_) => Err(Unread::Memory),
-            },
-            _ => fetched(fs::read(self.rt, name)),
+            Some(cert) if name == FOUND => Ok(Vec::from_slice(self.rt.alloc(), cert)?),
+            _ => Disk::new(self.rt).fetch(name),
         }
     }
 }

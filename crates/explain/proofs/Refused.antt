@@ -1,8 +1,8 @@
 -- What is read as a fault is no task, and a fault's status is no answer's.
-use Rattle.std.proofs.Common.{◌≡◌, ◌≢◌, ◌<◌, ◌≤◌, ℕ, false, [], ◌∷◌, inl, inr, arith, length, map, refl, sym, ◌∙◌}
+use Rattle.std.proofs.Common.{◌≡◌, ◌≢◌, ◌∙◌, ℕ, false, true, inl, inr, refl, sym}
 use Rattle.std.specs.Prelude.{Option, Some, None, Result, Ok}
-use Rattle.commands.specs.Faults.{Fault, Refused, No_memory, No_output, fault_status}
-use Rattle.commands.specs.Served.{is_done_status}
+use Rattle.console.specs.Faults.{Fault, Refused, No_memory, No_output, fault_status}
+use Rattle.console.specs.Statuses.{is_done_status, verdict_status}
 use Rattle.instruction_set.specs.Assembly as assembly
 use Rattle.task_reader.specs.declared.faults.TaskFault.{TaskFault}
 use Rattle.task_reader.specs.declared.faults.TaskFault.TheVariants as code
@@ -11,12 +11,7 @@ use Rattle.task_reader.specs.Reading.{Mistake}
 use Rattle.std.specs.Prelude.{List, string_bytes}
 use Rattle.task_reader.specs.Reading.{task_of}
 use Rattle.certificate.specs.Bounds.{Certificate}
-use Rattle.checker.specs.FindingViews.{broken_rule_of}
-use Rattle.checker.specs.Findings.{findings}
-use Rattle.checker.specs.declared.findings.BrokenRule.{BrokenRule as BrokenRuleCode}
-use Rattle.checker.specs.Verdicts.{IsAccepted}
-use Rattle.checker.proofs.FindingLaws.{none_meets}
-use Rattle.rules.specs.Expansions.{expansion}
+use Rattle.checker.specs.Verdicts.{Verdict, Yes, No, IsAccepted, IsVerdict}
 use Rattle.task.specs.Plans.{Plan}
 use Rattle.explain.specs.Answered.{IsTaskText, SaysWhether}
 
@@ -37,16 +32,14 @@ no_task code.Memory read y is other good = other refl
 pub refused_text : (text : List ℕ) (fault : TaskFault) → FaultIs fault (task_of text) → fault ≢ code.Memory → IsTaskText text → ⊥
 refused_text text fault is other good = no_task fault (task_of text) good.0 is other good.1
 
--- what the rules that are broken say
-pub none_says : (plan : Plan) (c : Certificate) (found : List BrokenRuleCode) → length found < 1 → map broken_rule_of found ≡ findings plan (expansion plan c)
-    → SaysWhether 0 (IsAccepted plan c)
-none_says plan c [] below is = inl (refl, (none_meets plan (expansion plan c)).0 (sym is))
-none_says plan c (x ∷ xs) below is = absurd (omega (arith, below))
+-- what a verdict says
+pub says_verdict : (plan : Plan) (bounds : Certificate) (verdict : Verdict) → IsVerdict plan bounds verdict → SaysWhether (verdict_status verdict) (IsAccepted plan bounds)
+says_verdict plan bounds Yes is = inl (refl, is)
+says_verdict plan bounds (No program point rule) is = inr (refl, λ accepted. let clash = sym is.found ∙ accepted program point in cc)
 
-pub some_says : (plan : Plan) (c : Certificate) (found : List BrokenRuleCode) → 1 ≤ length found → map broken_rule_of found ≡ findings plan (expansion plan c)
-    → SaysWhether 1 (IsAccepted plan c)
-some_says plan c [] least is = absurd (omega (arith, least))
-some_says plan c (x ∷ xs) least is = inr (refl, λ accepted. let clash = is ∙ (none_meets plan (expansion plan c)).1 accepted in absurd cc)
+pub verdict_done : (verdict : Verdict) → is_done_status (verdict_status verdict) ≡ true
+verdict_done Yes = refl
+verdict_done (No program point rule) = refl
 
 pub no_answer : (fault : Fault) → is_done_status (fault_status fault) ≡ false
 no_answer (Refused why) = refl

@@ -5,8 +5,8 @@ use Rattle.certificate.specs.Bounds.{Certificate}
 use Rattle.certificate_text.specs.Readings.{certificate_of_text}
 use Rattle.certificate_text.specs.Texts.{certificate_text}
 use Rattle.checker.specs.Verdicts.{IsAccepted}
-use Rattle.commands.specs.Files.{Files, IsFile}
-use Rattle.commands.specs.Served.{is_done_status}
+use Rattle.console.specs.Files.{Files, IsFile}
+use Rattle.console.specs.Statuses.{is_done_status}
 use Rattle.kernel.specs.Answers.{Event}
 use Rattle.task.specs.Plans.{Plan}
 use Rattle.task_reader.specs.Reading.{task_of}

@@ -1,11 +1,7 @@
 //! What is answered to a question, and how.
 
 ghost use Rattle.std.specs.Prelude.{◌≡◌, ◌<◌, ◌-◌, ◌^◌, IfOk, IsTrue, Ok, false, map, string_bytes, true};
-ghost use Rattle.checker.specs.FindingViews.{broken_rule_of};
-ghost use Rattle.checker.specs.Findings.{findings};
-ghost use Rattle.checker.specs.Verdicts.{IsAccepted};
-ghost use Rattle.commands.specs.Served.{is_done_status, is_status};
-ghost use Rattle.rules.specs.Expansions.{expansion};
+ghost use Rattle.console.specs.Statuses.{is_done_status, is_status};
 ghost use Rattle.task.specs.Plans.{Plan};
 ghost use Rattle.task_reader.specs.Reading.{task_of};
 ghost use Rattle.explain.specs.Answered.{Answers, IsTaskText, SaysBroken, SaysFound, SaysOffered, SaysWhether, AnswersWords};
@@ -23,17 +19,19 @@ use crate::usage::USAGE;
 use certificate::{Cert, Version};
 use certificate_text::write_cert;
 use checker::{BrokenRule, all_findings, expand};
-use commands::faults::{Fault, status_of, words_of};
-use commands::statuses::{BROKEN, DONE, STOPPED};
-use commands::{Source, fetch};
+use console::statuses::{BROKEN, DONE};
+use console::{Fault, Source, status_of_verdict, tell};
 use explore::Watcher;
 use rights::{Memory, Out, write_all};
 use searcher::propose;
-use std::alloc::{AllocError, Global};
+use std::alloc::Global;
 use task::Task;
 use task_reader::read_task;
 use task_text::{Page, texts_of_file};
-use text_checker::read_texts;
+use text_checker::{check_texts, read_texts};
+
+/// The name by which the program tells its faults.
+pub const NAME: &str = "capwhy";
 
 /// An answer: its text, and the status that the program ends with.
 #[derive(Drop)]
@@ -86,18 +84,6 @@ fn listing_with<'a>(alloc: Global, file: &[u8], cert: &[u8]) -> Result<Answer, F
     Ok(Answer { page, status: DONE })
 }
 
-/// The status of an answer that tells these rules.
-fn status_of_rules(task: &Task, cert: &Cert, found: &[BrokenRule]) -> u8
-    requires { map broken_rule_of found.now ≡ findings task.now (expansion task.now cert.now) }
-    ensures says { SaysWhether result (IsAccepted task.now cert.now) }
-    ensures done { is_done_status result ≡ true }
-{
-    match found {
-        [] => DONE,
-        [_first, ..] => BROKEN,
-    }
-}
-
 /// Adds all rules that a certificate breaks.
 fn add_broken(
     alloc: Global,
@@ -114,14 +100,16 @@ fn add_broken(
 }
 
 /// All rules that a certificate breaks.
+#[tactic(auto, using(crate::proofs::Refused::says_verdict, crate::proofs::Refused::verdict_done))]
 fn broken<'a>(alloc: Global, file: &[u8], cert: &[u8]) -> Result<Answer, Fault<'a>>
     ensures { IfOk result (λ answer. SaysBroken answer.status file.now cert.now) }
 {
-    let claim = read_texts(alloc, file, cert)?;
+    let checked = check_texts(alloc, file, cert)?;
+    let claim = &checked.claim;
     let texts = texts_of_file(alloc, file)?;
     let expanded = expanded(alloc, &claim.task, &claim.cert)?;
     let found = all_findings(alloc, &claim.task, &claim.cert)?;
-    let status = status_of_rules(&claim.task, &claim.cert, &found);
+    let status = status_of_verdict(checked.verdict);
     let mut page = Page::new(alloc);
     let scene = Scene {
         file,
@@ -227,64 +215,37 @@ fn reply<'a, S: Source, W: Out, P: Watcher>(
     match question {
         Question::Usage => written(usage(alloc)?, out),
         Question::Listing { task, cert: None } => {
-            let task_text = fetch(files, task)?;
+            let task_text = files.fetch(task)?;
             written(listing_alone(alloc, &task_text)?, out)
         }
         Question::Listing {
             task,
             cert: Some(cert),
         } => {
-            let task_text = fetch(files, task)?;
-            let cert_text = fetch(files, cert)?;
+            let task_text = files.fetch(task)?;
+            let cert_text = files.fetch(cert)?;
             written(listing_with(alloc, &task_text, &cert_text)?, out)
         }
         Question::Broken { task, cert } => {
-            let task_text = fetch(files, task)?;
-            let cert_text = fetch(files, cert)?;
+            let task_text = files.fetch(task)?;
+            let cert_text = files.fetch(cert)?;
             written(broken(alloc, &task_text, &cert_text)?, out)
         }
         Question::Unfound { task } => {
-            let task_text = fetch(files, task)?;
+            let task_text = files.fetch(task)?;
             written(unfound(alloc, &task_text)?, out)
         }
         Question::Breach { task, states } => {
-            let task_text = fetch(files, task)?;
+            let task_text = files.fetch(task)?;
             answer_breach(alloc, &task_text, states, out, watcher)
         }
         Question::Proposed { task } => {
-            let task_text = fetch(files, task)?;
+            let task_text = files.fetch(task)?;
             offer(alloc, &task_text, out)
         }
         Question::Faulty { task } => {
-            let task_text = fetch(files, task)?;
+            let task_text = files.fetch(task)?;
             written(faulty(alloc, &task_text)?, out)
-        }
-    }
-}
-
-/// The line that tells a fault.
-fn line_of(alloc: Global, fault: &Fault<'_>) -> Result<Vec<u8>, AllocError> {
-    let mut line = Vec::from_slice(alloc, b"capwhy: ")?;
-    line.extend_from_slice(&words_of(alloc, fault)?)?;
-    line.extend_from_slice(b"\n")?;
-    Ok(line)
-}
-
-/// Tells a fault, and gives its status.
-#[tactic(auto, using(crate::proofs::Refused::no_answer))]
-fn tell<V: Out>(alloc: Global, fault: &Fault<'_>, err: &mut V) -> u8
-    requires { V.faults err.old < 2 ^ 64 - 1 }
-    ensures told { is_done_status result ≡ false }
-    ensures known { IsTrue (is_status result) }
-{
-    match line_of(alloc, fault) {
-        Ok(line) => {
-            let _ = write_all(err, &line);
-            status_of(fault)
-        }
-        Err(_) => {
-            let _ = write_all(err, b"capwhy: memory\n");
-            STOPPED
         }
     }
 }
@@ -292,6 +253,7 @@ fn tell<V: Out>(alloc: Global, fault: &Fault<'_>, err: &mut V) -> u8
 /// The program: answers what its words ask, or tells the fault on the error stream, and gives the status: 0; or 1 where rules are
 /// broken, so that the certificate isn't accepted, no certificate is found or the text is no task's; or 2 for a fault in words or files, or 3 for want of memory or a
 /// failed output. Faults are told as `capcheck` tells them. The watcher is told how many states a search for a run has met. (own)
+#[tactic(auto, using(crate::proofs::Refused::no_answer))]
 pub fn serve<S: Source, W: Out, V: Out, P: Watcher>(
     alloc: Global,
     words: &[String],
@@ -307,10 +269,10 @@ pub fn serve<S: Source, W: Out, V: Out, P: Watcher>(
     ensures known { IsTrue (is_status result) }
 {
     let Some(question) = read_question(words) else {
-        return tell(alloc, &Fault::Words, err);
+        return tell(alloc, NAME, &Fault::Words, err);
     };
     match reply(alloc, question, files, out, watcher) {
         Ok(status) => status,
-        Err(fault) => tell(alloc, &fault, err),
+        Err(fault) => tell(alloc, NAME, &fault, err),
     }
 }

@@ -1,14 +1,14 @@
 //! The run that breaks a task's sandbox.
 
 ghost use Rattle.std.specs.Prelude.{◌≡◌, ◌<◌, ◌-◌, ◌^◌, IfOk, Ok, true};
-ghost use Rattle.commands.specs.Served.{is_done_status};
+ghost use Rattle.console.specs.Statuses.{is_done_status};
 ghost use Rattle.task.specs.Plans.{Plan};
 ghost use Rattle.task_reader.specs.Reading.{task_of};
 ghost use Rattle.explain.specs.Answered.{SaysRefuted};
 
 use crate::scenes::short;
-use commands::faults::Fault;
-use commands::statuses::{BROKEN, DONE};
+use console::Fault;
+use console::statuses::{BROKEN, DONE};
 use explore::{Explored, Watcher, explore, write_breach};
 use rights::{Out, write_all};
 use std::alloc::Global;

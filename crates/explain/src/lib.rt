@@ -23,5 +23,5 @@ mod task_faults;
 mod usage;
 mod uses;
 
-pub use answering::serve;
+pub use answering::{NAME, serve};
 pub use questions::{Question, read_question};

@@ -4,7 +4,7 @@ ghost use Rattle.std.specs.Prelude.{◌≡◌, ◌≢◌, IfOk, false, true};
 ghost use Rattle.task_reader.specs.declared.faults.TaskFault.TheVariants as code;
 ghost use Rattle.explain.specs.Answered.{IsTaskText};
 
-use commands::faults::{Fault, words_of};
+use console::{Fault, words_of};
 use std::alloc::Global;
 use task_reader::{TaskFault, read_task};
 use task_text::{Page, add_faults};
@@ -19,7 +19,7 @@ fn add_refusal(
     let is_toml = !matches!(fault, TaskFault::NotToml);
     add_faults(alloc, page, file, is_toml)?;
     page.text("the task is refused: ");
-    page.bytes(&words_of(alloc, &Fault::Task(fault))?);
+    page.text(words_of(alloc, &Fault::Task(fault))?.as_str());
     page.text("\n");
     Ok(())
 }

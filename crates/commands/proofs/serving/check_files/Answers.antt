@@ -6,7 +6,7 @@ use Rattle.checker.specs.Verdicts.{Verdict, IsVerdict}
 use Rattle.checker.specs.Views.{verdict_of}
 use Rattle.command_line.specs.Orders.{Check}
 use Rattle.task.specs.Plans.{Plan}
-use Rattle.commands.specs.Files.{IsRead, IsTask}
+use Rattle.console.specs.Files.{IsRead, IsTask}
 use Rattle.commands.specs.Judged.{verdict_text}
 use Rattle.commands.proofs.Begun.{stopped}
 use Rattle.commands.proofs.Verdicts.{judged-begun}

@@ -2,7 +2,7 @@ use Rattle.std.proofs.Common.{rules, ap, Err}
 use Rattle.std.specs.Prelude.{Ok}
 use Rattle.certificate_text.specs.Readings.{certificate_of_text}
 use Rattle.command_line.specs.Orders.{Expand}
-use Rattle.commands.specs.Files.{IsRead, IsTask}
+use Rattle.console.specs.Files.{IsRead, IsTask}
 use Rattle.commands.proofs.Begun.{expansion-begun, stopped}
 use Rattle.commands.proofs.serving.expand_files.Goals as goal
 

@@ -6,7 +6,7 @@ use Rattle.checker.specs.Verdicts.{Verdict, IsVerdict}
 use Rattle.checker.specs.Views.{verdict_of}
 use Rattle.command_line.specs.Orders.{Report}
 use Rattle.task.specs.Plans.{Plan}
-use Rattle.commands.specs.Files.{IsRead, IsTask}
+use Rattle.console.specs.Files.{IsRead, IsTask}
 use Rattle.commands.specs.Reports.{answer_text}
 use Rattle.commands.proofs.Begun.{stopped}
 use Rattle.commands.proofs.Verdicts.{judged-begun}

@@ -5,7 +5,7 @@ use Rattle.simulator.specs.Simulations.{WritesFront}
 use Rattle.syscalls.specs.declared.events.Event.{Event as EventCode}
 use Rattle.syscalls.specs.Views.{event_of}
 use Rattle.command_line.specs.Orders.{Run}
-use Rattle.commands.specs.Files.{IsRead, IsTask}
+use Rattle.console.specs.Files.{IsRead, IsTask}
 use Rattle.commands.proofs.Begun.{run-begun, stopped}
 use Rattle.commands.proofs.serving.run.Goals as goal
 

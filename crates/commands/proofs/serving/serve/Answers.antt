@@ -1,6 +1,6 @@
 use Rattle.std.proofs.Common.{map, subst, ℕ}
 use Rattle.std.specs.Prelude.{string_bytes}
-use Rattle.commands.specs.FaultViews.{fault_of}
+use Rattle.console.specs.FaultViews.{fault_of}
 use Rattle.commands.specs.Served.{Serves}
 use Rattle.commands.proofs.Begun.{words-begun}
 use Rattle.commands.proofs.Verdicts.{checked-inside}

@@ -2,11 +2,13 @@
 
 ghost use Rattle.std.specs.Prelude.{◌≡◌, ◌<◌, ◌≤◌, ◌-◌, ◌^◌, true, false, Ok, None, length, IfOk, OnErr, OnOk};
 ghost use Rattle.std.specs.Io.KnownBytes.{Keeps, WriteAppends};
-ghost use Rattle.commands.specs.Fails.{TellsLine};
-ghost use Rattle.commands.specs.Faults.{No_output, fault_status, fault_text};
+ghost use Rattle.certificate_text.specs.WritingViews.{Writes};
+ghost use Rattle.console.specs.Faults.{No_output, fault_status, fault_text};
+ghost use Rattle.console.specs.Told.{TellsLine};
 
+use crate::faults::write_line;
 use crate::statuses::{REFUSED, STOPPED};
-use rights::{Out, OutFault, write_all};
+use rights::{Out, OutFault, Stop, write_all};
 use std::io::Write;
 
 /// A stream of the process, as a writer that counts its failures. `taken` tells nothing of it; where the stream underneath
@@ -67,21 +69,30 @@ impl<W: Write + Drop> Out for Console<W> {
     }
 }
 
-/// The status that the program ends with once the output was flushed: the one that it had; or 3 where the flush failed, and
-/// that is told unless a fault was told before.
-pub fn closed<V: Out>(status: u8, flushed: bool, err: &mut V) -> u8
+/// Writes some bytes, or a beginning of them where the writer fails. It takes no memory.
+pub fn write_bytes<W: Out>(out: &mut W, bytes: &[u8]) -> Result<(), Stop>
+    requires { W.faults out.old < 2 ^ 64 - 1 }
+    ensures { Writes result (W.taken out.old) (W.taken out.new) (W.faults out.old) (W.faults out.new) bytes.now }
+{
+    write_all(out, bytes)
+}
+
+/// The status that a program of this name ends with once the output was flushed: the one that it had; or 3 where the flush failed,
+/// and that is told unless a fault was told before.
+pub fn closed<V: Out>(name: &str, status: u8, flushed: bool, err: &mut V) -> u8
     requires { V.faults err.old < 2 ^ 64 - 1 }
     ensures kept { flushed ≡ true → (result ≡ status) × (V.taken err.new ≡ V.taken err.old) }
     ensures failed { flushed ≡ false → result ≡ fault_status No_output }
     ensures told { flushed ≡ false → status < 2
-        → TellsLine (V.taken err.old) (V.taken err.new) (V.faults err.old) (V.faults err.new) (fault_text No_output) }
+        → TellsLine (V.taken err.old) (V.taken err.new) (V.faults err.old) (V.faults err.new) (fault_text name.now No_output) }
     ensures told_before { flushed ≡ false → 2 ≤ status → V.taken err.new ≡ V.taken err.old }
 {
     if flushed {
         return status;
     }
-    if status < REFUSED {
-        let _ = write_all(err, b"capcheck: output\n");
+    if status >= REFUSED {
+        return STOPPED;
     }
+    let _ = write_line(name, "output", err);
     STOPPED
 }

@@ -15,9 +15,9 @@ use Rattle.text_checker.specs.declared.checking.Fault.{Fault as TextFault}
 use Rattle.text_checker.specs.declared.checking.Fault.TheVariants as text
 use Rattle.rights.specs.declared.stops.Stop.{Stop}
 use Rattle.rights.specs.declared.stops.Stop.TheVariants.{Memory, Device, Spent}
-use Rattle.commands.specs.declared.faults.Fault.{Fault as FaultCode}
-use Rattle.commands.specs.declared.faults.Fault.TheVariants as code
-use Rattle.commands.specs.Faults.{Fault, Wrong_words, No_file, No_task, No_schedule, No_certificate, Refused, No_memory, No_output}
+use Rattle.console.specs.declared.faults.Fault.{Fault as FaultCode}
+use Rattle.console.specs.declared.faults.Fault.TheVariants as code
+use Rattle.console.specs.Faults.{Fault, Wrong_words, No_file, No_task, No_schedule, No_certificate, Refused, No_memory, No_output}
 
 -- a program is refused for its text, or there was no memory for it
 abbrev pub program_fault : List ℕ → Option assembly.Fault → Fault

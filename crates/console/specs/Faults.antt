@@ -1,4 +1,4 @@
--- Why the program doesn't do what its words say, and how it tells that. (own)
+-- Why a program doesn't do what its words say, and how it tells that. (own)
 use Rattle.std.specs.Prelude.{◌++◌, ℕ, List, codes}
 use Rattle.std.specs.Fmt.{decimal}
 use Rattle.instruction_set.specs.Assembly as assembly
@@ -6,7 +6,7 @@ use Rattle.certificate_text.specs.Faults as certificates
 use Rattle.simulator.specs.Schedules as schedules
 use Rattle.task_reader.specs.Reading as tasks
 
--- words or files are at fault: the words are no line of the program, a file isn't there, or a text is no task, no
+-- words or files are at fault: the words are none of its own, a file isn't there, or a text is no task, no
 -- schedule or no certificate
 pub data Refusal : Type 0 where
   Wrong_words : Refusal
@@ -70,9 +70,12 @@ fault_words (Refused refusal) = refusal_words refusal
 fault_words No_memory = codes "memory"
 fault_words No_output = codes "output"
 
--- its line
-abbrev pub fault_text : Fault → List ℕ
-fault_text fault = codes "capcheck: " ++ fault_words fault ++ codes "\n"
+-- the line of the program of this name: `capcheck: memory`
+abbrev pub told_line : List ℕ → List ℕ → List ℕ
+told_line name words = name ++ (codes ": " ++ (words ++ codes "\n"))
+
+abbrev pub fault_text : List ℕ → Fault → List ℕ
+fault_text name fault = told_line name (fault_words fault)
 
 abbrev pub fault_status : Fault → ℕ
 fault_status (Refused refusal) = 2

@@ -1,0 +1,5 @@
+pub mod Faults
+pub mod FaultViews
+pub mod Files
+pub mod Statuses
+pub mod Told
