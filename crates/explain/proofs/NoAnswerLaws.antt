@@ -14,8 +14,8 @@ use Rattle.explain.specs.NoAnswers.{NoSaysWhether, NoneSaysWhether}
 same_some : {A : Type 0} {x y : A} → Some x ≡ Some y → x ≡ y
 same_some same = cc
 
-same_ok : {A E : Type 0} {x y : A} → Ok {A} {E} x ≡ Ok y → x ≡ y
-same_ok same = cc
+same_ok : {A E : Type 0} {x y : A} (r : Result A E) → r ≡ Ok x → r ≡ Ok y → x ≡ y
+same_ok r first second = let same = sym first ∙ second in cc
 
 never_both : (Holds : Type 0) → SaysWhether 0 Holds → Holds
 never_both Holds (inl says) = says.1
@@ -28,14 +28,14 @@ denied Holds (inr says) holds = says.1 holds
 module _ (text bounds_text : List ℕ) (plan : Plan) (bounds : Certificate) (is_task : task_of text ≡ Ok plan) (is_bounds : certificate_of_text bounds_text ≡ Ok bounds) where
   accepted_if : (told told_bounds : List ℕ) (is : told ≡ text) (is_told : told_bounds ≡ bounds_text) → SaysBroken 0 told told_bounds → IsAccepted plan bounds
   accepted_if told told_bounds is is_told says =
-      let plan_is : says.plan ≡ plan = same_ok (sym says.is_task ∙ (λ k. task_of (is k)) ∙ is_task) in
-      let bounds_is : says.bounds ≡ bounds = same_ok (sym says.is_certificate ∙ (λ k. certificate_of_text (is_told k)) ∙ is_bounds) in
+      let plan_is : says.plan ≡ plan = same_ok (task_of text) (sym (λ k. task_of (is k)) ∙ says.is_task) is_task in
+      let bounds_is : says.bounds ≡ bounds = same_ok (certificate_of_text bounds_text) (sym (λ k. certificate_of_text (is_told k)) ∙ says.is_certificate) is_bounds in
       subst (λ (b : Certificate). IsAccepted plan b) bounds_is (subst (λ (p : Plan). IsAccepted p says.bounds) plan_is (never_both (IsAccepted says.plan says.bounds) says.says))
 
   refused_if : (told told_bounds : List ℕ) (is : told ≡ text) (is_told : told_bounds ≡ bounds_text) → SaysBroken 1 told told_bounds → IsAccepted plan bounds → ⊥
   refused_if told told_bounds is is_told says accepted =
-      let plan_is : says.plan ≡ plan = same_ok (sym says.is_task ∙ (λ k. task_of (is k)) ∙ is_task) in
-      let bounds_is : says.bounds ≡ bounds = same_ok (sym says.is_certificate ∙ (λ k. certificate_of_text (is_told k)) ∙ is_bounds) in
+      let plan_is : says.plan ≡ plan = same_ok (task_of text) (sym (λ k. task_of (is k)) ∙ says.is_task) is_task in
+      let bounds_is : says.bounds ≡ bounds = same_ok (certificate_of_text bounds_text) (sym (λ k. certificate_of_text (is_told k)) ∙ says.is_certificate) is_bounds in
       denied (IsAccepted says.plan says.bounds) says.says
       (subst (λ (p : Plan). IsAccepted p says.bounds) (sym plan_is) (subst (λ (b : Certificate). IsAccepted plan b) (sym bounds_is) accepted))
 
@@ -50,7 +50,7 @@ no_says = record {
 }
 
 plan_of : (text told : List ℕ) (plan : Plan) (status : ℕ) → task_of text ≡ Ok plan → told ≡ text → (says : SaysFound status told) → says.plan ≡ plan
-plan_of text told plan status is_task is says = same_ok (sym says.is_task ∙ (λ k. task_of (is k)) ∙ is_task)
+plan_of text told plan status is_task is says = same_ok (task_of text) (sym (λ k. task_of (is k)) ∙ says.is_task) is_task
 
 pub none_says : NoneSaysWhether
 none_says = record {
