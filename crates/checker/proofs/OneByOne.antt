@@ -16,7 +16,7 @@ use Rattle.rules.specs.Slots.{may_be_on}
 use Rattle.rules.specs.Uses.{uses}
 use Rattle.rules.proofs.expansions.Channelled.{expansion_marks, expansion_without}
 use Rattle.rules.specs.Verdicts.{found_at, found_with}
-use Rattle.checker.specs.Asked.{all_numbers, first_unkept, is_kept, unkept_at}
+use Rattle.checker.specs.Asked.{all_numbers, first_unkept, is_rule_kept, unkept_at}
 use Rattle.checker.specs.Findings.{findings_in, tests_there, tests_with}
 use Rattle.checker.specs.RuleViews.{authority_rule_number, call_rule_number, keeps_at_slot, rule_number, slot_rule_number}
 use Rattle.checker.specs.SiteViews.{tests_of_call}
@@ -91,12 +91,12 @@ pub not_true : (b : Bool) → not b ≡ true → b ≡ false
 not_true true is = cc
 not_true false is = refl
 
-none_asked : (ts : List Test) (rule : ℕ) → list_all (λ (t : Test). t.kept) ts ≡ true → is_kept ts rule ≡ true
+none_asked : (ts : List Test) (rule : ℕ) → list_all (λ (t : Test). t.kept) ts ≡ true → is_rule_kept ts rule ≡ true
 none_asked [] rule all = refl
 none_asked (t ∷ ts) rule all =
     go (t.rule == rule) (and_left t.kept (list_all (λ (t : Test). t.kept) ts) all) (none_asked ts rule (and_right t.kept (list_all (λ (t : Test). t.kept) ts) all))
   where
-    go : (here : Bool) → t.kept ≡ true → is_kept ts rule ≡ true → cond here t.kept (is_kept ts rule) ≡ true
+    go : (here : Bool) → t.kept ≡ true → is_rule_kept ts rule ≡ true → cond here t.kept (is_rule_kept ts rule) ≡ true
     go true kept rest = kept
     go false kept rest = rest
 
@@ -116,7 +116,7 @@ module _ (plan : Plan) (c : Certificate) (program point : ℕ) (b : Bound) where
   all_kept Halt none = rw (or_true (not (may_be_on b.mode))) refl
   all_kept (Invoke call otherwise) none = absurd (nothing_in none)
 
-  middle_is : (i : Instruction) (rule : ℕ) → is_kept (tests_of_call plan c point b i) rule ≡ is_kept (middle i) rule
+  middle_is : (i : Instruction) (rule : ℕ) → is_rule_kept (tests_of_call plan c point b i) rule ≡ is_rule_kept (middle i) rule
   unfolding tests
   middle_is (Set r value) rule = sym (none_asked (middle (Set r value)) rule (all_kept (Set r value) refl))
   middle_is (Mov r source) rule = sym (none_asked (middle (Mov r source)) rule (all_kept (Mov r source) refl))
@@ -128,7 +128,7 @@ module _ (plan : Plan) (c : Certificate) (program point : ℕ) (b : Bound) where
   middle_is Halt rule = sym (none_asked (middle Halt) rule (all_kept Halt refl))
   middle_is (Invoke call otherwise) rule = refl
 
-  in_middle : (i : Instruction) (rule : CallRule) → is_kept (middle i) (call_rule_number rule) ≡ is_kept (tests plan c program point i b) (call_rule_number rule)
+  in_middle : (i : Instruction) (rule : CallRule) → is_rule_kept (middle i) (call_rule_number rule) ≡ is_rule_kept (tests plan c program point i b) (call_rule_number rule)
   unfolding tests
   in_middle i calls.OneNumber = refl
   in_middle i calls.FreeNumbers = refl
@@ -143,13 +143,13 @@ module _ (plan : Plan) (c : Certificate) (program point : ℕ) (b : Bound) where
   in_middle i (calls.OfSlot slots.Sent) = refl
   in_middle i (calls.OfSlot slots.Channel) = refl
 
-  pub of_call : (i : Instruction) (rule : CallRule) → is_kept (tests_of_call plan c point b i) (call_rule_number rule) ≡ is_kept (tests plan c program point i b) (call_rule_number rule)
+  pub of_call : (i : Instruction) (rule : CallRule) → is_rule_kept (tests_of_call plan c point b i) (call_rule_number rule) ≡ is_rule_kept (tests plan c program point i b) (call_rule_number rule)
   of_call i rule = middle_is i (call_rule_number rule) ∙ in_middle i rule
 
 -- what is asked of each slot
 module _ (plan : Plan) (c : Certificate) (point : ℕ) (b : Bound) (call : Syscall) where
   abbrev kept : SlotRule → Bool
-  kept rule = is_kept (tests_of_call plan c point b (Invoke call 0)) (slot_rule_number rule)
+  kept rule = is_rule_kept (tests_of_call plan c point b (Invoke call 0)) (slot_rule_number rule)
 
   abbrev on_each : SlotRule → Bool
   on_each rule = list_all (keeps_at_slot rule plan c) (uses b call)
@@ -187,44 +187,44 @@ module _ (plan : Plan) (c : Certificate) (program point : ℕ) (i : Instruction)
   abbrev there : List Test
   there = tests_with plan c program point (Some i) (Some b)
 
-  pub at_1 : starts_within plan program point b ≡ is_kept there 1
+  pub at_1 : starts_within plan program point b ≡ is_rule_kept there 1
   unfolding tests_with tests
   at_1 = refl
 
-  pub at_2 : (name : List ℕ) → name ≡ program_name plan program → all_within c name (successes_in plan c name point b i) ≡ is_kept there 2
+  pub at_2 : (name : List ℕ) → name ≡ program_name plan program → all_within c name (successes_in plan c name point b i) ≡ is_rule_kept there 2
   unfolding tests_with tests
   at_2 name named = λ k. all_within c (named k) (successes_in plan c (named k) point b i)
 
-  pub at_3 : (name : List ℕ) → name ≡ program_name plan program → all_within c name (error_outcomes b i) ≡ is_kept there 3
+  pub at_3 : (name : List ℕ) → name ≡ program_name plan program → all_within c name (error_outcomes b i) ≡ is_rule_kept there 3
   unfolding tests_with tests
   at_3 name named = λ k. all_within c (named k) (error_outcomes b i)
 
-  pub at_call : (rule : CallRule) → is_kept (tests_of_call plan c point b i) (call_rule_number rule) ≡ is_kept there (call_rule_number rule)
+  pub at_call : (rule : CallRule) → is_rule_kept (tests_of_call plan c point b i) (call_rule_number rule) ≡ is_rule_kept there (call_rule_number rule)
   unfolding tests_with
   at_call rule = of_call plan c program point b i rule
 
   pub at_16 : (name : List ℕ) → name ≡ program_name plan program
-      → (all_there c name (successes_in plan c name point b i) && all_there c name (error_outcomes b i)) ≡ is_kept there 16
+      → (all_there c name (successes_in plan c name point b i) && all_there c name (error_outcomes b i)) ≡ is_rule_kept there 16
   unfolding tests_with tests
   at_16 name named = λ k. all_there c (named k) (successes_in plan c (named k) point b i) && all_there c (named k) (error_outcomes b i)
 
-  pub at_17 : (not (marked_at plan program) || not (may_be_on b.mode)) ≡ is_kept there 17
+  pub at_17 : (not (marked_at plan program) || not (may_be_on b.mode)) ≡ is_rule_kept there 17
   unfolding tests_with tests mark_tests
   at_17 = refl
 
 at_18 : (plan : Plan) (c : Certificate) (program point : ℕ) (i : Instruction) (b : Bound)
     → (not (marked_at plan program) || (enters_within (authority_at c (program_name plan program)) i b && starts_in_authority plan (authority_at c (program_name plan program)) program point))
-    ≡ is_kept (tests plan c program point i b) 18
+    ≡ is_rule_kept (tests plan c program point i b) 18
 unfolding tests mark_tests
 at_18 plan c program point i b = refl
 
 module _ (plan : Plan) (c : Certificate) (program point : ℕ) (i : Instruction) (b : Bound) where
-  in_expansion : is_kept (tests plan c program point i b) 18 ≡ is_kept (tests plan (expansion plan c) program point i b) 18
+  in_expansion : is_rule_kept (tests plan c program point i b) 18 ≡ is_rule_kept (tests plan (expansion plan c) program point i b) 18
   unfolding tests
-  in_expansion = ap (λ ts. is_kept ts 18) (sym (expansion_marks plan c program point i b))
+  in_expansion = ap (λ ts. is_rule_kept ts 18) (sym (expansion_marks plan c program point i b))
 
   pub at_taking : (not (marked_at plan program) || (enters_within (authority_at c (program_name plan program)) i b && starts_in_authority plan (authority_at c (program_name plan program)) program point))
-      ≡ is_kept (tests_with plan (expansion plan c) program point (Some i) (Some b)) 18
+      ≡ is_rule_kept (tests_with plan (expansion plan c) program point (Some i) (Some b)) 18
   unfolding tests_with
   at_taking = at_18 plan c program point i b ∙ in_expansion
 
@@ -235,7 +235,7 @@ module _ (plan : Plan) (c : Certificate) (program point : ℕ) where
   same_authority c = ap (drop 2) (expansion_without plan c program point)
 
   at_with : (c : Certificate) (i : Instruction) (b : Bound) (rule : AuthorityRule)
-      → is_kept (authority_tests plan c program point) (authority_rule_number rule) ≡ is_kept (tests plan c program point i b) (authority_rule_number rule)
+      → is_rule_kept (authority_tests plan c program point) (authority_rule_number rule) ≡ is_rule_kept (tests plan c program point i b) (authority_rule_number rule)
   unfolding tests mark_tests
   at_with c i b authorities.Ceilings = refl
   at_with c i b authorities.Moves = refl
@@ -243,24 +243,24 @@ module _ (plan : Plan) (c : Certificate) (program point : ℕ) where
   at_with c i b authorities.Sent = refl
 
   at_without : (c : Certificate) (rule : AuthorityRule)
-      → is_kept (authority_tests plan c program point) (authority_rule_number rule) ≡ is_kept (tests_without plan c program point) (authority_rule_number rule)
+      → is_rule_kept (authority_tests plan c program point) (authority_rule_number rule) ≡ is_rule_kept (tests_without plan c program point) (authority_rule_number rule)
   unfolding tests_without
   at_without c authorities.Ceilings = refl
   at_without c authorities.Moves = refl
   at_without c authorities.Received = refl
   at_without c authorities.Sent = refl
 
-  pub of_authority : (i : Instruction) (b : Bound) (rule : AuthorityRule) → is_kept (authority_tests plan c program point) (authority_rule_number rule)
-      ≡ is_kept (tests_with plan (expansion plan c) program point (Some i) (Some b)) (authority_rule_number rule)
+  pub of_authority : (i : Instruction) (b : Bound) (rule : AuthorityRule) → is_rule_kept (authority_tests plan c program point) (authority_rule_number rule)
+      ≡ is_rule_kept (tests_with plan (expansion plan c) program point (Some i) (Some b)) (authority_rule_number rule)
   unfolding tests_with
-  of_authority i b rule = ap (λ ts. is_kept ts (authority_rule_number rule)) (sym (same_authority c)) ∙ at_with (expansion plan c) i b rule
+  of_authority i b rule = ap (λ ts. is_rule_kept ts (authority_rule_number rule)) (sym (same_authority c)) ∙ at_with (expansion plan c) i b rule
 
-  pub of_authority_without : (rule : AuthorityRule) → is_kept (authority_tests plan c program point) (authority_rule_number rule)
-      ≡ is_kept (tests_without plan (expansion plan c) program point) (authority_rule_number rule)
-  of_authority_without rule = ap (λ ts. is_kept ts (authority_rule_number rule)) (sym (same_authority c)) ∙ at_without (expansion plan c) rule
+  pub of_authority_without : (rule : AuthorityRule) → is_rule_kept (authority_tests plan c program point) (authority_rule_number rule)
+      ≡ is_rule_kept (tests_without plan (expansion plan c) program point) (authority_rule_number rule)
+  of_authority_without rule = ap (λ ts. is_rule_kept ts (authority_rule_number rule)) (sym (same_authority c)) ∙ at_without (expansion plan c) rule
 
   -- a point without a bound is asked no rule on calls
-  pub not_asked : (rule : CallRule) → true ≡ is_kept (tests_without plan c program point) (call_rule_number rule)
+  pub not_asked : (rule : CallRule) → true ≡ is_rule_kept (tests_without plan c program point) (call_rule_number rule)
   unfolding tests_without authority_tests
   not_asked calls.OneNumber = refl
   not_asked calls.FreeNumbers = refl
@@ -277,15 +277,15 @@ module _ (plan : Plan) (c : Certificate) (program point : ℕ) where
 
   pub untested : (rule : Rule)
       → (rule ≡ rules.StartsWithin) ⊎ ((rule ≡ rules.SuccessesWithin) ⊎ ((rule ≡ rules.ErrorsWithin) ⊎ (((r : CallRule) × (rule ≡ rules.OfCall r)) ⊎ (rule ≡ rules.BoundsOutside))))
-      → true ≡ is_kept (tests_without plan c program point) (rule_number rule)
+      → true ≡ is_rule_kept (tests_without plan c program point) (rule_number rule)
   unfolding tests_without authority_tests
-  untested rule (inl is) = subst (λ r. true ≡ is_kept (tests_without plan c program point) (rule_number r)) (sym is) refl
-  untested rule (inr (inl is)) = subst (λ r. true ≡ is_kept (tests_without plan c program point) (rule_number r)) (sym is) refl
-  untested rule (inr (inr (inl is))) = subst (λ r. true ≡ is_kept (tests_without plan c program point) (rule_number r)) (sym is) refl
-  untested rule (inr (inr (inr (inl of)))) = subst (λ r. true ≡ is_kept (tests_without plan c program point) (rule_number r)) (sym of.1) (not_asked of.0)
-  untested rule (inr (inr (inr (inr is)))) = subst (λ r. true ≡ is_kept (tests_without plan c program point) (rule_number r)) (sym is) refl
+  untested rule (inl is) = subst (λ r. true ≡ is_rule_kept (tests_without plan c program point) (rule_number r)) (sym is) refl
+  untested rule (inr (inl is)) = subst (λ r. true ≡ is_rule_kept (tests_without plan c program point) (rule_number r)) (sym is) refl
+  untested rule (inr (inr (inl is))) = subst (λ r. true ≡ is_rule_kept (tests_without plan c program point) (rule_number r)) (sym is) refl
+  untested rule (inr (inr (inr (inl of)))) = subst (λ r. true ≡ is_rule_kept (tests_without plan c program point) (rule_number r)) (sym of.1) (not_asked of.0)
+  untested rule (inr (inr (inr (inr is)))) = subst (λ r. true ≡ is_rule_kept (tests_without plan c program point) (rule_number r)) (sym is) refl
 
-  pub sent_kept : point ≡ 0 → marked_at plan program ≡ true → keeps_sent c (authority_at c (program_name plan program)) ≡ is_kept (authority_tests plan c program point) 22
+  pub sent_kept : point ≡ 0 → marked_at plan program ≡ true → keeps_sent c (authority_at c (program_name plan program)) ≡ is_rule_kept (authority_tests plan c program point) 22
   unfolding authority_tests
   sent_kept first marked = rw (first, marked) refl
 
@@ -298,17 +298,17 @@ module _ (plan : Plan) (c : Certificate) (program point : ℕ) where
   abbrev mark_numbers : List ℕ
   mark_numbers = 17 ∷ 18 ∷ 19 ∷ 20 ∷ 21 ∷ 22 ∷ []
 
-  each_kept : (ts : List Test) (rules : List ℕ) → list_all (is_kept ts) rules ≡ true → first_unkept ts rules ≡ None
+  each_kept : (ts : List Test) (rules : List ℕ) → list_all (is_rule_kept ts) rules ≡ true → first_unkept ts rules ≡ None
   each_kept ts [] all = refl
   each_kept ts (rule ∷ rules) all =
-      let here : is_kept ts rule ≡ true = and_left (is_kept ts rule) (list_all (is_kept ts) rules) all in
-      ap (λ b. cond b (first_unkept ts rules) (Some rule)) here ∙ each_kept ts rules (and_right (is_kept ts rule) (list_all (is_kept ts) rules) all)
+      let here : is_rule_kept ts rule ≡ true = and_left (is_rule_kept ts rule) (list_all (is_rule_kept ts) rules) all in
+      ap (λ b. cond b (first_unkept ts rules) (Some rule)) here ∙ each_kept ts rules (and_right (is_rule_kept ts rule) (list_all (is_rule_kept ts) rules) all)
 
   marks_in_turn : (i : Instruction) (b : Bound) → first_unkept (tests plan c program point i b) mark_numbers ≡ least_broken (mark_tests plan c program point i b)
   unfolding tests mark_tests authority_tests
   marks_in_turn i b = refl
 
-  pub marked_kept : (i : Instruction) (b : Bound) → list_all (is_kept (tests plan c program point i b)) mark_numbers ≡ true → least_broken (mark_tests plan c program point i b) ≡ None
+  pub marked_kept : (i : Instruction) (b : Bound) → list_all (is_rule_kept (tests plan c program point i b)) mark_numbers ≡ true → least_broken (mark_tests plan c program point i b) ≡ None
   marked_kept i b all = sym (marks_in_turn i b) ∙ each_kept (tests plan c program point i b) mark_numbers all
 
   -- a point without a bound that isn't point 0 is asked nothing

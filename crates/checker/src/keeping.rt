@@ -3,7 +3,7 @@
 ghost use Rattle.std.specs.Prelude.{◌≡◌, ◌==◌, ◌&&◌, ◌||◌, Some, map, not, option_map, true};
 ghost use Rattle.std.specs.List.{list_all};
 ghost use Rattle.certificate.specs.Views.{bound_of};
-ghost use Rattle.checker.specs.Asked.{first_unkept, is_kept};
+ghost use Rattle.checker.specs.Asked.{first_unkept, is_rule_kept};
 ghost use Rattle.checker.specs.Findings.{tests_with};
 ghost use Rattle.checker.specs.PointViews.{expansion_of, instruction_of_point, tests_of};
 ghost use Rattle.checker.specs.RuleViews.{authority_rule_number, call_rule_number, rule_number, slot_rule_number};
@@ -33,7 +33,7 @@ use transfer::{
 
 /// Whether a call keeps a rule that is asked of each slot that it goes through.
 fn keeps_slot_rule(rule: SlotRule, site: &Site<'_>, call: &Syscall) -> bool
-    ensures { result ≡ is_kept (call_tests site.now (syscall_of call.now)) (slot_rule_number rule) }
+    ensures { result ≡ is_rule_kept (call_tests site.now (syscall_of call.now)) (slot_rule_number rule) }
 {
     let (task, cert, bound) = (site.task, site.cert, site.bound);
     let test = &KeepsRule { rule, task, cert };
@@ -54,7 +54,7 @@ fn keeps_slot_rule(rule: SlotRule, site: &Site<'_>, call: &Syscall) -> bool
 /// Whether it keeps a rule on calls.
 #[tactic(auto, unfolding(rules::specs::Rules::tests))]
 fn keeps_call_rule(rule: CallRule, site: &Site<'_>, call: &Syscall) -> bool
-    ensures { result ≡ is_kept (call_tests site.now (syscall_of call.now)) (call_rule_number rule) }
+    ensures { result ≡ is_rule_kept (call_tests site.now (syscall_of call.now)) (call_rule_number rule) }
 {
     match rule {
         CallRule::OneNumber => keeps_single(site.bound, call),
@@ -67,7 +67,7 @@ fn keeps_call_rule(rule: CallRule, site: &Site<'_>, call: &Syscall) -> bool
 /// Whether a program's authority keeps a rule, which is asked at point 0 of a marked one.
 #[tactic(auto, unfolding(rules::specs::Rules::authority_tests))]
 fn keeps_authority_rule(rule: AuthorityRule, at: &AskedPoint<'_>) -> bool
-    ensures { result ≡ is_kept (authority_tests at.now.of.now.task.now at.now.of.now.cert.now at.now.of.now.program at.now.point) (authority_rule_number rule) }
+    ensures { result ≡ is_rule_kept (authority_tests at.now.of.now.task.now at.now.of.now.cert.now at.now.of.now.program at.now.point) (authority_rule_number rule) }
 {
     if at.point != 0 || !at.of.marked {
         return true;
@@ -127,7 +127,7 @@ fn leads_to_bounds(site: &Site<'_>, next: &Option<Bound>, instruction: &Instruct
 
 /// Whether an instruction keeps a rule on calls, as each keeps that is none.
 fn keeps_if_call(rule: CallRule, site: &Site<'_>, instruction: &Instruction) -> bool
-    ensures { result ≡ is_kept (call_tests_of site.now (instruction_of instruction.now)) (call_rule_number rule) }
+    ensures { result ≡ is_rule_kept (call_tests_of site.now (instruction_of instruction.now)) (call_rule_number rule) }
 {
     let Instruction::Invoke { call, .. } = instruction else {
         return true;
@@ -137,7 +137,7 @@ fn keeps_if_call(rule: CallRule, site: &Site<'_>, instruction: &Instruction) -> 
 
 /// Whether a point that has this bound keeps a rule.
 fn keeps_with(rule: Rule, at: &AskedPoint<'_>, bound: &Bound) -> bool
-    ensures { result ≡ is_kept (tests_with at.now.of.now.task.now (expansion_of at.now.of.now) at.now.of.now.program at.now.point
+    ensures { result ≡ is_rule_kept (tests_with at.now.of.now.task.now (expansion_of at.now.of.now) at.now.of.now.program at.now.point
         (Some (instruction_of_point at.now)) (Some (bound_of bound.now))) (rule_number rule) }
 {
     let (of, instruction, next) = (at.of, at.instruction, at.next);
@@ -170,7 +170,7 @@ fn is_begun(at: &AskedPoint<'_>) -> bool
 /// Whether a point without a bound does. It is claimed not to be reached, so few are asked of it.
 #[tactic(auto, unfolding(rules::specs::Rules::tests_without))]
 fn keeps_without(rule: Rule, at: &AskedPoint<'_>) -> bool
-    ensures { result ≡ is_kept (tests_without at.now.of.now.task.now (expansion_of at.now.of.now) at.now.of.now.program at.now.point) (rule_number rule) }
+    ensures { result ≡ is_rule_kept (tests_without at.now.of.now.task.now (expansion_of at.now.of.now) at.now.of.now.program at.now.point) (rule_number rule) }
 {
     match rule {
         Rule::LeadsToBounds => !is_begun(at),
@@ -186,7 +186,7 @@ fn keeps_without(rule: Rule, at: &AskedPoint<'_>) -> bool
 
 /// Whether a point keeps a rule: that is the rule's test in the definition.
 pub(crate) fn keeps(rule: Rule, at: &AskedPoint<'_>) -> bool
-    ensures { result ≡ is_kept (tests_of at.now) (rule_number rule) }
+    ensures { result ≡ is_rule_kept (tests_of at.now) (rule_number rule) }
 {
     match at.bound {
         Some(bound) => keeps_with(rule, at, bound),
@@ -196,7 +196,7 @@ pub(crate) fn keeps(rule: Rule, at: &AskedPoint<'_>) -> bool
 
 /// Whether a point keeps all of these rules.
 pub(crate) fn keeps_each(rules: &[Rule], at: &AskedPoint<'_>) -> bool
-    ensures { result ≡ list_all (is_kept (tests_of at.now)) (map rule_number rules.now) }
+    ensures { result ≡ list_all (is_rule_kept (tests_of at.now)) (map rule_number rules.now) }
 {
     match rules {
         [] => true,

@@ -1,6 +1,6 @@
 use Rattle.std.proofs.Common.{◌≡◌, ◌∙◌, ap, sym, Some, List, [], ◌∷◌}
 use Rattle.std.specs.List.{list_all}
-use Rattle.checker.specs.Asked.{is_kept}
+use Rattle.checker.specs.Asked.{is_rule_kept}
 use Rattle.std.specs.Prelude.{Option, option_map}
 use Rattle.certificate.specs.Views.{bound_of}
 use Rattle.certificate.specs.declared.bounds.Bound.{Bound as BoundCode}
@@ -40,4 +40,4 @@ returns-else-not-at c = λ kept.
     let of = at.of.now in
     ap least_broken (with_bound at c.in-Some.bound c.in-Some.is) ∙ c.keeps_first.ensures c.if-keeps_first.true
     ∙ marked_kept of.task.now (expansion_of of) of.program at.point (instruction_of_point at) (bound_of c.in-Some.bound)
-    (ap (λ (ts : List Test). list_all (is_kept ts) (17 ∷ 18 ∷ 19 ∷ 20 ∷ 21 ∷ 22 ∷ [])) (sym (with_bound at c.in-Some.bound c.in-Some.is)) ∙ sym c.keeps_each.ensures ∙ kept)
+    (ap (λ (ts : List Test). list_all (is_rule_kept ts) (17 ∷ 18 ∷ 19 ∷ 20 ∷ 21 ∷ 22 ∷ [])) (sym (with_bound at c.in-Some.bound c.in-Some.is)) ∙ sym c.keeps_each.ensures ∙ kept)

@@ -1,7 +1,7 @@
 use Rattle.std.proofs.Common.{◌≡◌, ◌∙◌, Bool, Some, subst, sym}
 use Rattle.certificate.specs.Views.{bound_of, name_of}
 use Rattle.certificate.specs.declared.bounds.Bound.{Bound as BoundCode}
-use Rattle.checker.specs.Asked.{is_kept}
+use Rattle.checker.specs.Asked.{is_rule_kept}
 use Rattle.checker.specs.Findings.{tests_with}
 use Rattle.checker.specs.PointViews.{expansion_of, instruction_of_point}
 use Rattle.checker.specs.RuleViews.{rule_number}
@@ -11,10 +11,10 @@ use Rattle.checker.proofs.OneByOne.{at_1, at_2, at_3, at_16, at_17, at_call, at_
 use Rattle.checker.proofs.keeping.keeps_with.Goals as goal
 
 by_rule : (at : AskedPoint) (b : BoundCode) (result : Bool) (rule is : Rule) → rule ≡ is
-    → result ≡ is_kept (tests_with at.of.now.task.now (expansion_of at.of.now) at.of.now.program at.point (Some (instruction_of_point at)) (Some (bound_of b))) (rule_number is)
-    → result ≡ is_kept (tests_with at.of.now.task.now (expansion_of at.of.now) at.of.now.program at.point (Some (instruction_of_point at)) (Some (bound_of b))) (rule_number rule)
+    → result ≡ is_rule_kept (tests_with at.of.now.task.now (expansion_of at.of.now) at.of.now.program at.point (Some (instruction_of_point at)) (Some (bound_of b))) (rule_number is)
+    → result ≡ is_rule_kept (tests_with at.of.now.task.now (expansion_of at.of.now) at.of.now.program at.point (Some (instruction_of_point at)) (Some (bound_of b))) (rule_number rule)
 by_rule at b result rule is same =
-    subst (λ r. result ≡ is_kept (tests_with at.of.now.task.now (expansion_of at.of.now) at.of.now.program at.point (Some (instruction_of_point at)) (Some (bound_of b))) (rule_number r))
+    subst (λ r. result ≡ is_rule_kept (tests_with at.of.now.task.now (expansion_of at.of.now) at.of.now.program at.point (Some (instruction_of_point at)) (Some (bound_of b))) (rule_number r))
     (sym same)
 
 pub returns-in-StartsWithin : goal.returns-in-StartsWithin
