@@ -9,7 +9,7 @@ use certificate::{Bound, Domain};
 use std::alloc::{AllocError, Global};
 use task_text::Page;
 use task_text::Piece::{Number, Text};
-use transfer::{Outcome, OutcomeTest, failure, successes_pass};
+use transfer::{Outcome, OutcomeTest, Site, failure, successes_pass};
 
 /// An outcome of an instruction: the point that it goes to, and the bound that it has there.
 #[derive(Clone, Copy)]
@@ -71,8 +71,15 @@ pub(crate) fn arrivals(
         list: Vec::new(alloc),
         is_cut: false,
     };
+    let site = Site {
+        task: scene.task,
+        cert: scene.cert,
+        name: from.name,
+        point: from.point,
+        bound: from.bound,
+    };
     if leads != Leads::ByError {
-        successes_pass(&from.site(scene), from.instruction, &mut arrivals);
+        successes_pass(&site, from.instruction, &mut arrivals);
     }
     if leads != Leads::BySuccess {
         if let Some(outcome) = failure(from.bound, from.instruction) {

@@ -123,13 +123,11 @@ fn add_moves(page: &mut Page, allowed: &Allowance<'_>) {
     for source in allowed.ceilings {
         let targets = moved_into(page.alloc(), source, allowed);
         for target in &page.gathered(targets) {
-            page.pieces(&[
-                Text("; the ceiling on "),
-                Bytes(source.grant().as_bytes()),
-                Text(" has RENAMEAT_SOURCE, the one on "),
-                Bytes(target.grant().as_bytes()),
-                Text(" has RENAMEAT_TARGET"),
-            ]);
+            page.text("; the ceiling on ");
+            page.bytes(source.grant().as_bytes());
+            page.text(" has RENAMEAT_SOURCE, the one on ");
+            page.bytes(target.grant().as_bytes());
+            page.text(" has RENAMEAT_TARGET");
         }
     }
 }
