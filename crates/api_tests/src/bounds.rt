@@ -1,6 +1,7 @@
 //! Bounds and their order.
 
-use certificate::{Domain, Interval, ModeBound, Name};
+use certificate::{Domain, Interval, ModeBound};
+use texts::Name;
 
 #[test]
 fn names_are_words(rt: HostRuntime) {

@@ -19,6 +19,7 @@ use std::process::Abort;
 use std::test::Fail;
 use syscalls::Event;
 use task::{FirstDescriptor, FirstObject, NamedProgram, Start, Task, TaskNode};
+use texts::Name;
 
 /// The root alone.
 fn root(alloc: Global) -> Result<Vec<TaskNode>, AllocError>
@@ -40,12 +41,12 @@ fn programs(alloc: Global, main: Program, child: Program) -> Result<Vec<NamedPro
 {
     let mut programs = Vec::new(alloc);
     programs.push(NamedProgram {
-        name: String::from_str(alloc, "main")?,
+        name: Name::new(b"main"),
         program: main,
         untrusted: false,
     })?;
     programs.push(NamedProgram {
-        name: String::from_str(alloc, "child")?,
+        name: Name::new(b"child"),
         program: child,
         untrusted: true,
     })?;

@@ -44,8 +44,8 @@ fn the_base_task_is_read(rt: HostRuntime) -> Result<(), Fail> {
     }
     match task.grants() {
         [work, log] => {
-            assert!(rt; work.name.as_str() == "work");
-            assert!(rt; log.name.as_str() == "log");
+            assert!(rt; work.name.as_bytes() == b"work".as_slice());
+            assert!(rt; log.name.as_bytes() == b"log".as_slice());
             assert!(rt; matches!(work.operations.as_slice(), [Op::Look, Op::Read]));
             assert!(rt; log.operations.len() == 3);
         }

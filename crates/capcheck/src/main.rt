@@ -2,18 +2,13 @@
 #![tactic(auto)]
 
 use commands::{NAME, serve};
-use console::{Console, Session, tell};
+use console::Session;
 use std::process::ExitCode;
 
 fn main(rt: HostRuntime) -> ExitCode {
-    let session = &mut match Session::begin(&rt) {
+    let session = &mut match Session::begin(&rt, NAME) {
         Ok(session) => session,
-        Err(fault) => return ExitCode::from(tell(
-            rt.alloc(),
-            NAME,
-            &fault,
-            &mut Console::new(rt.stderr()),
-        )),
+        Err(status) => return ExitCode::from(status),
     };
     let status = serve(
         rt.alloc(),
@@ -22,5 +17,5 @@ fn main(rt: HostRuntime) -> ExitCode {
         &mut session.out,
         &mut session.err,
     );
-    ExitCode::from(session.end(NAME, status))
+    ExitCode::from(session.end(status))
 }

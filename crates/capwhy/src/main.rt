@@ -1,7 +1,7 @@
 //! Capwhy, the program: it answers what its words ask with the files of the system, standard output and standard error.
 #![tactic(auto)]
 
-use console::{Console, Session, tell};
+use console::{Console, Session};
 use explain::{NAME, serve};
 use explore::Watcher;
 use rights::write_all;
@@ -25,14 +25,9 @@ impl<'a> Watcher for Progress<'a> {
 }
 
 fn main(rt: HostRuntime) -> ExitCode {
-    let session = &mut match Session::begin(&rt) {
+    let session = &mut match Session::begin(&rt, NAME) {
         Ok(session) => session,
-        Err(fault) => return ExitCode::from(tell(
-            rt.alloc(),
-            NAME,
-            &fault,
-            &mut Console::new(rt.stderr()),
-        )),
+        Err(status) => return ExitCode::from(status),
     };
     let mut progress = Progress {
         rt: &rt,
@@ -49,5 +44,5 @@ fn main(rt: HostRuntime) -> ExitCode {
     if progress.is_told {
         let _ = write_all(&mut Console::new(rt.stderr()), b"\n");
     }
-    ExitCode::from(session.end(NAME, status))
+    ExitCode::from(session.end(status))
 }

@@ -4,7 +4,7 @@ use Rattle.std.specs.Prelude.{Option, Some, None}
 use Rattle.std.proofs.lemmas.List.{take_more_set}
 use Rattle.std.specs.Str.{bytes_eq}
 use Rattle.rights.specs.Limits.{most_programs}
-use Rattle.certificate.specs.declared.names.Name.{Name}
+use Rattle.texts.specs.declared.names.Name.{Name}
 use Rattle.certificate.specs.declared.program_names.ProgramNames.{ProgramNames}
 use Rattle.certificate.specs.declared.classes.Class.{Class}
 use Rattle.rights.specs.declared.sides.Side.{Side}
@@ -14,7 +14,8 @@ use Rattle.certificate.specs.Growth.{programs_of_target}
 use Rattle.certificate.specs.Room.{listed_with}
 use Rattle.certificate.specs.GrowthViews.{names_there}
 use Rattle.certificate.specs.CountViews.{programs_listed}
-use Rattle.certificate.specs.Views.{name_of, target_of}
+use Rattle.certificate.specs.Views.{target_of}
+use Rattle.texts.specs.Views.{name_of}
 use Rattle.certificate.proofs.Distinct.{listed_nothing}
 
 pub programs_few : (p : ProgramNames) → length (programs_listed p) ≤ most_programs

@@ -1,11 +1,11 @@
 -- What the code's growing of a certificate comes to.
 use Rattle.std.specs.Prelude.{◌≡◌, ℕ, List, [], ◌∷◌, Option, Some, None, Result, Ok, Err}
-use Rattle.certificate.specs.declared.names.Name.{Name as NameCode}
+use Rattle.texts.specs.declared.names.Name.{Name as NameCode}
 use Rattle.certificate.specs.declared.lines.Refusal.{Refusal}
 use Rattle.certificate.specs.declared.lines.Refusal.TheVariants.{Limit, Order, Memory}
 use Rattle.certificate.specs.Bounds.{Certificate}
 use Rattle.certificate.specs.Growth.{Refused, No_room, Out_of_order}
-use Rattle.certificate.specs.Views.{name_of}
+use Rattle.texts.specs.Views.{name_of}
 
 -- What a line makes of a certificate: what taking it gives, or the certificate as it was, with the reason.
 abbrev pub LineTaken : Result (Unit {0}) Refusal → Certificate → Certificate → Result Certificate Refused → Type 0

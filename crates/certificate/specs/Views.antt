@@ -1,6 +1,5 @@
 -- What the values of the code stand for.
-use Rattle.std.specs.Prelude.{ℕ, List, [], ◌∷◌, map, option_map, slice_set, take}
-use Rattle.certificate.specs.declared.names.Name.{Name as NameCode}
+use Rattle.std.specs.Prelude.{ℕ, List, [], ◌∷◌, map, option_map, slice_set}
 use Rattle.certificate.specs.declared.classes.Class.{Class as ClassCode}
 use Rattle.certificate.specs.declared.classes.Class.TheVariants as class
 use Rattle.certificate.specs.declared.bounds.ModeBound.{ModeBound as ModeBoundCode}
@@ -28,10 +27,8 @@ use Rattle.rights.specs.Views.{side_seen}
 use Rattle.certificate.specs.Bounds.{ModeBound, Off, On, Either, Interval, Target, In_grant, Any_node, Socket, Unknown, Held, Slot, Closed, Open, Maybe, Bound, PointBound}
 use Rattle.certificate.specs.Bounds.{ChannelBound, Ceiling, End, Authority, Version, One, Two, Three, Certificate}
 use Rattle.certificate.specs.Growth.{copies}
+use Rattle.texts.specs.Views.{name_of}
 use Rattle.certificate.specs.Lines.{Line, Begins_block, Bounds_register, Bounds_slot, Bounds_channel, Begins_authority, Bounds_grant, Holds_end}
-
-abbrev pub name_of : NameCode → List ℕ
-name_of n = take n.length n.bytes
 
 abbrev pub class_of : ClassCode → Class
 class_of (class.Initial pair) = Initial pair.number

@@ -5,10 +5,10 @@ ghost use Rattle.certificate.specs.Lines.{is_ceiling};
 
 use crate::classes::Class;
 use crate::lines::{Refusal, add};
-use crate::names::Name;
 use rights::{Rights, Side};
 use std::alloc::Global;
 use std::cmp::Ordering;
+use texts::Name;
 
 /// The most rights that a program's descriptors of nodes in a grant may have; there are some. (own)
 #[derive(Clone, Copy)]
@@ -35,7 +35,8 @@ pub struct Authority {
 }
 
 impl Ceiling {
-    ghost use Rattle.certificate.specs.Views.{ceiling_of, name_of};
+    ghost use Rattle.certificate.specs.Views.{ceiling_of};
+    ghost use Rattle.texts.specs.Views.{name_of};
 
     /// These rights as the ceiling of the grant of this name.
     pub fn new(grant: Name, rights: Rights) -> Ceiling
@@ -110,7 +111,8 @@ impl End {
 impl Authority {
     ghost use Rattle.std.specs.Prelude.{IfErr, OnErr, OnOk};
     ghost use Rattle.certificate.specs.Growth.{open_authority, with_ceiling, with_held_end};
-    ghost use Rattle.certificate.specs.Views.{authority_of, ceiling_of, held_end_of, name_of};
+    ghost use Rattle.certificate.specs.Views.{authority_of, ceiling_of, held_end_of};
+    ghost use Rattle.texts.specs.Views.{name_of};
     ghost use Rattle.certificate.specs.declared.lines.Refusal.TheVariants as refusal;
 
     /// The authority with which a program's lines begin: it holds nothing. Takes no memory.

@@ -4,7 +4,8 @@ ghost use Rattle.std.specs.Prelude.{◌≡◌, ◌+◌, ◌≤◌, ◌<◌, leng
 ghost use Rattle.certificate.specs.Bounds.{Version, has_authorities};
 ghost use Rattle.certificate.specs.Lines.{Begins_authority, Bounds_channel, Bounds_grant, Bounds_register, Bounds_slot, Holds_end, authority_lines, block_lines, is_closed, is_full, is_line};
 ghost use Rattle.certificate.specs.Lines.{is_of_version, register_lines, slot_lines};
-ghost use Rattle.certificate.specs.Views.{authorities_of, authority_of, bound_of, ceiling_of, channel_of, channels_of, held_end_of, interval_of, line_of, name_of, slot_of};
+ghost use Rattle.certificate.specs.Views.{authorities_of, authority_of, bound_of, ceiling_of, channel_of, channels_of, held_end_of, interval_of, line_of, slot_of};
+ghost use Rattle.texts.specs.Views.{name_of};
 ghost use Rattle.certificate.specs.Growths.{grown, grown_with};
 ghost use Rattle.certificate.specs.GrowthViews.{Grows};
 
@@ -12,7 +13,7 @@ use crate::authorities::{Authority, Ceiling, End};
 use crate::bounds::{Bound, Interval, Slot};
 use crate::certs::Cert;
 use crate::lines::{Channel, Line, Refusal};
-use crate::names::Name;
+use texts::Name;
 
 /// The line of a register that isn't full.
 fn register_line(register: u8, interval: Interval) -> Line

@@ -4,9 +4,9 @@ ghost use Rattle.std.specs.Prelude.{◌≡◌, ◌≤◌, true, option_map};
 ghost use Rattle.rights.specs.Sets.{all_commands, all_rights, is_within};
 
 use crate::classes::Class;
-use crate::names::Name;
 use rights::limits::{MAX_DESCRIPTORS, REGISTERS};
 use rights::{Fcntls, Rights, Side};
+use texts::Name;
 
 /// Whether a process is in capability mode.
 #[derive(Clone, Copy, PartialEq, Eq)]
@@ -126,7 +126,8 @@ impl Interval {
 impl Target {
     ghost use Rattle.certificate.specs.Kinds.{is_end_of, is_grant_of, is_node};
     ghost use Rattle.rights.specs.Views.{side_seen};
-    ghost use Rattle.certificate.specs.Views.{class_of, name_of, target_of};
+    ghost use Rattle.certificate.specs.Views.{class_of, target_of};
+    ghost use Rattle.texts.specs.Views.{name_of};
 
     /// Whether it is the grant of this name.
     pub(crate) fn is_grant(&self, name: &Name) -> bool

@@ -7,6 +7,7 @@ ghost use Rattle.certificate.specs.Views.{point_of, points_of};
 
 use crate::authorities::Authority;
 use crate::bounds::Bound;
+use crate::classes::compare_point;
 use crate::growth::{classes_with, extend, programs_with, stands};
 use crate::lines::{Channel, Line, Refusal};
 use crate::points::Point;
@@ -83,7 +84,7 @@ fn point_among<'a>(points: &'a [Point], program: &[u8], point: usize) -> Option<
     }
     let middle = points.len() / 2;
     let found = &points[middle];
-    match found.program.compare_point(found.point, program, point) {
+    match compare_point(&found.program, found.point, program, point) {
         Ordering::Less => point_among(&points[middle + 1..], program, point),
         Ordering::Equal => Some(found),
         Ordering::Greater => point_among(&points[..middle], program, point),
@@ -151,13 +152,6 @@ impl Cert {
         ensures { version_of result ≡ self.now.version }
     {
         self.version
-    }
-
-    /// Notes that it is a certificate, as each value of the type is, for a proof that goes on from there. It does nothing.
-    pub fn note_made(&self)
-        ensures { IsCertificate self.now }
-    {
-        let _points = &self.points;
     }
 
     /// Its points, rising. Who asks for them learns that it is a certificate.

@@ -1,9 +1,11 @@
 //! Classes of socket pairs, as a certificate names them.
 
 ghost use Rattle.std.specs.Prelude.{◌≡◌, ◌==◌, ◌<◌};
+ghost use Rattle.certificate.specs.Growth.{point_order};
+ghost use Rattle.texts.specs.Views.{name_of};
 
-use crate::names::Name;
 use std::cmp::Ordering;
+use texts::Name;
 
 /// The number of an initial pair, of which a task may have 32. (own)
 #[derive(Clone, Copy)]
@@ -19,6 +21,13 @@ pub enum Class {
     Initial(Pair),
     /// A point of the program of this name.
     MadeAt(Name, u8),
+}
+
+/// How a point of the program of a name stands to a point of another: by name and then by point.
+pub(crate) fn compare_point(program: &Name, point: u8, than: &[u8], at: usize) -> Ordering
+    ensures { result ≡ point_order (name_of program.now) point than.now at }
+{
+    program.as_bytes().cmp(than).then((point as usize).cmp(&at))
 }
 
 impl Pair {
@@ -67,7 +76,7 @@ impl Class {
             (Class::Initial(_), Class::MadeAt(..)) => Ordering::Less,
             (Class::MadeAt(..), Class::Initial(_)) => Ordering::Greater,
             (Class::MadeAt(program, point), Class::MadeAt(than, at)) => {
-                program.compare_point(*point, than.as_bytes(), *at as usize)
+                compare_point(program, *point, than.as_bytes(), *at as usize)
             }
         }
     }

@@ -14,16 +14,17 @@ ghost use Rattle.certificate.specs.Growth.{stands, with_ceiling, with_held_end, 
 ghost use Rattle.certificate.specs.Room.{listed_with};
 ghost use Rattle.certificate.specs.CountViews.{programs_listed};
 ghost use Rattle.certificate.specs.Views.{authorities_of, ceiling_of, certificate_with, channel_of, channels_of, class_of, held_end_of, held_of};
-ghost use Rattle.certificate.specs.Views.{interval_of, line_of, mode_of, name_of, point_of, points_of, slot_of};
+ghost use Rattle.certificate.specs.Views.{interval_of, line_of, mode_of, point_of, points_of, slot_of};
+ghost use Rattle.texts.specs.Views.{name_of};
 ghost use Rattle.certificate.specs.declared.lines.Refusal.TheVariants as refusal;
 
 use crate::authorities::{Authority, Ceiling, End};
 use crate::bounds::{Held, Interval, ModeBound, Slot, Target};
-use crate::classes::Class;
+use crate::classes::{Class, compare_point};
 use crate::lines::{Channel, Line, Refusal, add};
-use crate::names::Name;
 use crate::points::{NumberedSlot, Point};
 use crate::program_names::ProgramNames;
+use texts::Name;
 
 /// The classes that a certificate's channels and the ends of its authorities may be of.
 const MAX_CLASSES: usize = 32;
@@ -155,10 +156,15 @@ fn is_above_blocks(points: &[Point], program: &Name, point: u8) -> bool
 {
     match points.split_last() {
         None => true,
-        Some((last, _)) => last
-            .program
-            .compare_point(last.point, program.as_bytes(), point as usize)
-            .is_lt(),
+        Some((last, _)) => {
+            compare_point(
+                &last.program,
+                last.point,
+                program.as_bytes(),
+                point as usize,
+            )
+            .is_lt()
+        }
     }
 }
 

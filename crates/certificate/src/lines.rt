@@ -9,11 +9,11 @@ ghost use Rattle.certificate.specs.declared.lines.Refusal.TheVariants as refusal
 use crate::authorities::{Ceiling, End};
 use crate::bounds::{Held, Interval, ModeBound, Slot};
 use crate::classes::Class;
-use crate::names::Name;
 use rights::Side;
 use std::alloc::AllocFailed;
 use std::cmp::Ordering;
 use std::fmt;
+use texts::Name;
 use thiserror::Error;
 
 /// What one side of the socket pairs of a class sends, if it sends descriptors at all. (own)

@@ -5,9 +5,9 @@ ghost use Rattle.certificate.specs.Views.{slot_of, slots_with};
 
 use crate::bounds::{Bound, Interval, ModeBound, Slot};
 use crate::lines::{Refusal, add};
-use crate::names::Name;
 use rights::limits::{MAX_DESCRIPTORS, REGISTERS};
 use std::alloc::Global;
+use texts::Name;
 
 /// A number of a process's table, and what it may be.
 #[derive(Clone, Copy)]
@@ -55,7 +55,8 @@ impl Point {
     ghost use Rattle.std.specs.Prelude.{IfErr, OnErr, OnOk};
     ghost use Rattle.certificate.specs.Bounds.{with_interval, with_slot};
     ghost use Rattle.certificate.specs.Growth.{open_bound};
-    ghost use Rattle.certificate.specs.Views.{bound_of, interval_of, mode_of, name_of, point_of};
+    ghost use Rattle.certificate.specs.Views.{bound_of, interval_of, mode_of, point_of};
+    ghost use Rattle.texts.specs.Views.{name_of};
     ghost use Rattle.certificate.specs.declared.lines.Refusal.TheVariants as refusal;
 
     /// The point with which a block begins: full registers and closed slots. Takes no memory.

@@ -6,10 +6,10 @@ ghost use Rattle.std.specs.Str.{bytes_eq};
 ghost use Rattle.rights.specs.Limits.{most_programs};
 ghost use Rattle.certificate.specs.Room.{listed_with};
 ghost use Rattle.certificate.specs.GrowthViews.{names_there};
-ghost use Rattle.certificate.specs.Views.{name_of};
+ghost use Rattle.texts.specs.Views.{name_of};
 
-use crate::names::Name;
 use rights::limits::MAX_PROGRAMS;
+use texts::Name;
 
 /// Up to eight different names of programs, without memory of their own. (own)
 #[derive(Clone, Copy)]

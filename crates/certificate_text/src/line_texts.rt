@@ -8,7 +8,8 @@ ghost use Rattle.texts.specs.Hex.{hex_text};
 ghost use Rattle.texts.specs.Parts.{joined};
 ghost use Rattle.certificate.specs.Lines.{Begins_authority, Begins_block, Bounds_channel, Bounds_grant, Bounds_register, Bounds_slot, Holds_end};
 ghost use Rattle.rights.specs.Views.{side_seen};
-ghost use Rattle.certificate.specs.Views.{ceiling_of, channel_of, class_of, held_end_of, held_of, interval_of, line_of, mode_of, name_of, slot_of, target_of};
+ghost use Rattle.certificate.specs.Views.{ceiling_of, channel_of, class_of, held_end_of, held_of, interval_of, line_of, mode_of, slot_of, target_of};
+ghost use Rattle.texts.specs.Views.{name_of};
 ghost use Rattle.certificate_text.specs.KeywordViews.{keyword_text};
 ghost use Rattle.certificate_text.specs.Spaced.{spaced};
 ghost use Rattle.certificate_text.specs.Texts.{class_word, held_words, line_words, mode_word, side_word, slot_words, target_words};
@@ -17,10 +18,10 @@ use crate::gathering::Room;
 use crate::keywords::Keyword;
 use bitflags::Flags;
 use certificate::{
-    Ceiling, Channel, Class, End, Held, Interval, Line, ModeBound, Name, Side, Slot, Target,
+    Ceiling, Channel, Class, End, Held, Interval, Line, ModeBound, Side, Slot, Target,
 };
 use rights::{Fcntls, Rights};
-use texts::{Decimal, four_digits, one_digit};
+use texts::{Decimal, Name, four_digits, one_digit};
 
 /// Adds a number in decimal digits.
 fn push_digits(room: &mut Room, number: u32)

@@ -6,7 +6,8 @@ ghost use Rattle.texts.specs.Hex.{hex_of};
 ghost use Rattle.texts.specs.Numbers.{number_of};
 ghost use Rattle.certificate.specs.Lines.{is_ceiling};
 ghost use Rattle.rights.specs.Views.{side_seen};
-ghost use Rattle.certificate.specs.Views.{class_of, interval_of, mode_of, name_of};
+ghost use Rattle.certificate.specs.Views.{class_of, interval_of, mode_of};
+ghost use Rattle.texts.specs.Views.{name_of};
 ghost use Rattle.certificate_text.specs.TakingViews.{rise_or_equal, unless_full};
 ghost use Rattle.certificate_text.specs.Views.{fault_of, fcntls_in, rights_in};
 ghost use Rattle.certificate_text.specs.Words.{ceiling_from, class_of_word, fcntls_of_words, interval_from, mode_of_word, name_of_word, point_of_program, rights_of_words, side_of_word, up_to};
@@ -16,11 +17,11 @@ use crate::faults::LineFault;
 use crate::keywords::Keyword;
 use crate::taking::{both, is_word};
 use bitflags::Flags;
-use certificate::{Class, FcntlsRange, Interval, ModeBound, Name, Pair, RightsRange, Side};
+use certificate::{Class, FcntlsRange, Interval, ModeBound, Pair, RightsRange, Side};
 use rights::limits::{MAX_INSTRUCTIONS, MAX_PAIRS};
 use rights::{Fcntls, Rights};
 use std::cmp::Ordering;
-use texts::{NumberFault, compare_numbers, first_part, number_up_to, read_hex};
+use texts::{Name, NumberFault, compare_numbers, first_part, number_up_to, read_hex};
 
 /// The number of the last instruction that a program may have.
 pub(crate) const LAST_INSTRUCTION: u8 = (MAX_INSTRUCTIONS - 1) as u8;

@@ -11,7 +11,8 @@ use Rattle.certificate.specs.declared.lines.Refusal.{Refusal}
 use Rattle.certificate.specs.declared.lines.Refusal.TheVariants.{Limit, Order, Memory}
 use Rattle.certificate.specs.Growths.{grown, grown_by, then_grown}
 use Rattle.certificate.specs.GrowthViews.{Grows}
-use Rattle.certificate.specs.Views.{name_of, points_of}
+use Rattle.certificate.specs.Views.{points_of}
+use Rattle.texts.specs.Views.{name_of}
 use Rattle.certificate.specs.Growth.{IsCertificate, empty}
 use Rattle.certificate.specs.Lines.{block_lines, lines_of, rest_lines}
 use Rattle.certificate.proofs.Growths.{by_append, grown_append}

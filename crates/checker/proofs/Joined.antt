@@ -6,8 +6,8 @@ use Rattle.instruction_set.specs.Programs.{Instruction, Set, Mov, Add, In, Jmp, 
 use Rattle.rules.specs.Outcomes.{error_outcomes, successes_in}
 use Rattle.rules.specs.Slots.{may_be_on}
 use Rattle.rules.specs.Rules.{Test, all_there, all_within, least_broken, mark_tests, starts_within, tests}
+use Rattle.checker.specs.KeptUses.{tests_of_call}
 use Rattle.task.specs.Plans.{Plan, program_name}
-use Rattle.checker.specs.SiteViews.{tests_of_call}
 
 broken_later : (ts later : List Test) → least_broken ts ≡ None → least_broken (ts ++ later) ≡ least_broken later
 broken_later [] later is = refl

@@ -11,8 +11,7 @@ use Rattle.rules.specs.Demands.{demands, keeps_beneath, keeps_numbers, keeps_sin
 use Rattle.rules.specs.Rules.{keeps_commands, keeps_limit, keeps_policy, keeps_rights, moves_within, names_known, works_on_known, least_broken, tests}
 use Rattle.rules.specs.Slots.{may_be_on}
 use Rattle.rules.specs.Uses.{Use, uses}
-use Rattle.checker.specs.KeptUses.{keeps_all, keeps_call_rules}
-use Rattle.checker.specs.SiteViews.{tests_of_call}
+use Rattle.checker.specs.KeptUses.{keeps_all, keeps_call_rules, tests_of_call}
 
 pub all_both : {A : Type 0} (p q : A → Bool) (us : List A) → list_all (λ u. p u && q u) us ≡ true → (list_all p us ≡ true) × (list_all q us ≡ true)
 all_both p q [] all = (refl, refl)

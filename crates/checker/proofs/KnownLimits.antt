@@ -15,7 +15,7 @@ pub all_known : (code : List InstructionCode) {program : List Instruction} → c
 all_known code {program} is valid = ap (list_all leaves_known) is ∙ program_known program valid
 
 -- of the instruction at a point, if there is one
-pub known_there : {A : Type 0} (seen : A → Instruction) (found : Option A) (code : List Instruction) (point : ℕ) → is_program code ≡ true
+pub known_there : {A : Type 0} (seen : A → Instruction) (found : Option A) (code : List Instruction) (point : ℕ) → list_all leaves_known code ≡ true
     → option_map seen found ≡ slice_get code point → IfSome found (λ i. leaves_known (seen i) ≡ true)
-known_there seen None code point valid is = tt
-known_there seen (Some i) code point valid is = list_all-slice_get leaves_known code point (seen i) (program_known code valid) (sym is)
+known_there seen None code point known is = tt
+known_there seen (Some i) code point known is = list_all-slice_get leaves_known code point (seen i) known (sym is)

@@ -1,3 +1,7 @@
+pub mod Arriving
+pub mod Folds
+pub mod Found
+pub mod Made
 pub mod Joined
 pub mod KeptRules
 pub mod PastEnds
@@ -5,7 +9,6 @@ pub mod Named
 pub mod Standing
 pub mod KnownLimits
 pub mod Along
-pub mod Asking
 pub mod OneByOne
 pub mod Apart
 pub mod FindingLaws

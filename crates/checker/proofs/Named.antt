@@ -1,7 +1,9 @@
 -- The programs of a valid plan have names.
-use Rattle.std.proofs.Common.{◌≡◌, ℕ, true, false, refl}
+use Rattle.std.proofs.Common.{◌≡◌, ◌<◌, ◌≤◌, ◌⊎◌, ℕ, ap, false, inl, inr, refl, true}
 use Rattle.std.specs.Prelude.{◌&&◌, length, nat_le, Option, Some, None}
 use Rattle.std.specs.List.{list_all, slice_get}
+use Rattle.std.proofs.lemmas.Option.{slice_get_past}
+use Rattle.kernel.proofs.Fresh.{lt_or_le}
 use Rattle.rights.specs.Limits.{most_programs}
 use Rattle.rights.proofs.Lists.{list_all-slice_get}
 use Rattle.rights.proofs.Tests.{both_left, both_right}
@@ -32,3 +34,11 @@ none_there plan program point (Some p) is named unnamed =
 pub unnamed_empty : (plan : Plan) (program point : ℕ) → is_plan plan ≡ true → is_name (program_name plan program) ≡ false → instruction_at plan program point ≡ None
 unnamed_empty plan program point valid unnamed =
     none_there plan program point (slice_get plan.programs program) refl (programs_named plan valid) unnamed
+
+-- and where one has a name, it is there
+pub named_there : (plan : Plan) (program : ℕ) → is_name (program_name plan program) ≡ true → program < length plan.programs
+named_there plan program named = go (lt_or_le program (length plan.programs))
+  where
+    go : (program < length plan.programs) ⊎ (length plan.programs ≤ program) → program < length plan.programs
+    go (inl below) = below
+    go (inr past) = let unnamed = ap (λ o. is_name (name_in o)) (slice_get_past plan.programs program past) in absurd cc

@@ -7,7 +7,7 @@ use Rattle.certificate.proofs.Growing.{and_left, and_right}
 use Rattle.instruction_set.specs.Programs.{Syscall, Instruction, Set, Mov, Add, In, Jmp, Jeq, Jlt, Halt, Invoke}
 use Rattle.task.specs.Plans.{Plan, program_name}
 use Rattle.rules.specs.Points.{instruction_at}
-use Rattle.rules.specs.Authority.{authority_at, keeps_sent}
+use Rattle.rules.specs.Authority.{authority_at}
 use Rattle.rules.specs.Demands.{demands}
 use Rattle.rules.specs.Outcomes.{error_outcomes, successes_in}
 use Rattle.rules.specs.Rules.{Test, all_there, all_within, authority_tests, enters_within, in_the_mode, least_broken, mark_tests, marked_at, starts_in_authority, starts_within, tests, tests_without}
@@ -17,9 +17,9 @@ use Rattle.rules.specs.Uses.{uses}
 use Rattle.rules.proofs.expansions.Channelled.{expansion_marks, expansion_without}
 use Rattle.rules.specs.Verdicts.{found_at, found_with}
 use Rattle.checker.specs.Asked.{all_numbers, first_unkept, is_rule_kept, unkept_at}
+use Rattle.checker.specs.KeptUses.{tests_of_call}
 use Rattle.checker.specs.Findings.{findings_in, tests_there, tests_with}
-use Rattle.checker.specs.RuleViews.{authority_rule_number, call_rule_number, keeps_at_slot, rule_number, slot_rule_number}
-use Rattle.checker.specs.SiteViews.{tests_of_call}
+use Rattle.checker.specs.RuleViews.{authority_rule_number, call_rule_number, keeps_at_slot, keeps_in_authority, rule_number, slot_rule_number}
 use Rattle.checker.specs.declared.rule.AuthorityRule.{AuthorityRule}
 use Rattle.checker.specs.declared.rule.AuthorityRule.TheVariants as authorities
 use Rattle.checker.specs.declared.rule.CallRule.{CallRule}
@@ -212,21 +212,24 @@ module _ (plan : Plan) (c : Certificate) (program point : ℕ) (i : Instruction)
   unfolding tests_with tests mark_tests
   at_17 = refl
 
-at_18 : (plan : Plan) (c : Certificate) (program point : ℕ) (i : Instruction) (b : Bound)
-    → (not (marked_at plan program) || (enters_within (authority_at c (program_name plan program)) i b && starts_in_authority plan (authority_at c (program_name plan program)) program point))
-    ≡ is_rule_kept (tests plan c program point i b) 18
-unfolding tests mark_tests
-at_18 plan c program point i b = refl
+-- what is asked of what a marked program takes into the mode
+abbrev takes_within : Plan → Certificate → ℕ → ℕ → Instruction → Bound → Bool
+takes_within plan c program point i b =
+    let a = authority_at c (program_name plan program) in
+    not (marked_at plan program) || (enters_within a i b && starts_in_authority plan a program point)
 
 module _ (plan : Plan) (c : Certificate) (program point : ℕ) (i : Instruction) (b : Bound) where
+  at_18 : takes_within plan c program point i b ≡ is_rule_kept (tests plan c program point i b) 18
+  unfolding tests mark_tests
+  at_18 = refl
+
   in_expansion : is_rule_kept (tests plan c program point i b) 18 ≡ is_rule_kept (tests plan (expansion plan c) program point i b) 18
   unfolding tests
   in_expansion = ap (λ ts. is_rule_kept ts 18) (sym (expansion_marks plan c program point i b))
 
-  pub at_taking : (not (marked_at plan program) || (enters_within (authority_at c (program_name plan program)) i b && starts_in_authority plan (authority_at c (program_name plan program)) program point))
-      ≡ is_rule_kept (tests_with plan (expansion plan c) program point (Some i) (Some b)) 18
+  pub at_taking : takes_within plan c program point i b ≡ is_rule_kept (tests_with plan (expansion plan c) program point (Some i) (Some b)) 18
   unfolding tests_with
-  at_taking = at_18 plan c program point i b ∙ in_expansion
+  at_taking = at_18 ∙ in_expansion
 
 -- ## The rules on authorities
 module _ (plan : Plan) (c : Certificate) (program point : ℕ) where
@@ -285,9 +288,13 @@ module _ (plan : Plan) (c : Certificate) (program point : ℕ) where
   untested rule (inr (inr (inr (inl of)))) = subst (λ r. true ≡ is_rule_kept (tests_without plan c program point) (rule_number r)) (sym of.1) (not_asked of.0)
   untested rule (inr (inr (inr (inr is)))) = subst (λ r. true ≡ is_rule_kept (tests_without plan c program point) (rule_number r)) (sym is) refl
 
-  pub sent_kept : point ≡ 0 → marked_at plan program ≡ true → keeps_sent c (authority_at c (program_name plan program)) ≡ is_rule_kept (authority_tests plan c program point) 22
+  pub first_kept : point ≡ 0 → marked_at plan program ≡ true → (rule : AuthorityRule)
+      → keeps_in_authority rule plan c (authority_at c (program_name plan program)) ≡ is_rule_kept (authority_tests plan c program point) (authority_rule_number rule)
   unfolding authority_tests
-  sent_kept first marked = rw (first, marked) refl
+  first_kept first marked authorities.Ceilings = rw (first, marked) refl
+  first_kept first marked authorities.Moves = rw (first, marked) refl
+  first_kept first marked authorities.Received = rw (first, marked) refl
+  first_kept first marked authorities.Sent = rw (first, marked) refl
 
 -- ## The rules on marked programs
 module _ (plan : Plan) (c : Certificate) (program point : ℕ) where

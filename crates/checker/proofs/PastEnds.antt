@@ -1,20 +1,18 @@
 -- Nothing is found past the ends of the list of programs and of a program.
-use Rattle.std.proofs.Common.{◌≡◌, ℕ, ◌<◌, ◌≤◌, ◌⊎◌, inl, inr, arith, true, List, ap, sym, ◌∙◌, length, refl}
+use Rattle.std.proofs.Common.{◌≡◌, ℕ, ◌<◌, ◌≤◌, ◌⊎◌, inl, inr, arith, true, List, ap, sym, ◌∙◌, length}
 use Rattle.std.proofs.Math.ListN.{length-map}
 use Rattle.kernel.proofs.Fresh.{lt_or_le}
 use Rattle.std.specs.Prelude.{None}
-use Rattle.std.specs.Option.{option_map}
-use Rattle.std.specs.List.{slice_get, slice_index_or, list_all}
+use Rattle.std.specs.List.{slice_get, list_all}
 use Rattle.std.proofs.lemmas.Bool.{leb-true}
-use Rattle.std.proofs.lemmas.Option.{slice_get_past, slice_get_read, slice_get-map}
+use Rattle.std.proofs.lemmas.Option.{slice_get_past}
 use Rattle.rights.proofs.Tests.{both_left}
 use Rattle.certificate.specs.Bounds.{Certificate, bound_at}
 use Rattle.instruction_set.specs.Programs.{Instruction, is_program, is_instruction, ends_well}
 use Rattle.task.specs.declared.programs.NamedProgram.{NamedProgram as NamedProgramCode}
-use Rattle.task.specs.Plans.{Plan, code_in, programs_of_plan}
+use Rattle.task.specs.Plans.{Plan, code_in, program_name}
 use Rattle.task.specs.Views.{program_of, programs_of}
 use Rattle.rules.specs.Points.{instruction_at}
-use Rattle.task.specs.Plans.{program_name}
 use Rattle.rules.specs.Verdicts.{MeetsRules, found_with, found_at}
 
 pub no_instruction : (plan : Plan) (certificate : Certificate) (program point : ℕ) → instruction_at plan program point ≡ None → found_at plan certificate program point ≡ None
@@ -25,21 +23,6 @@ no_instruction plan certificate program point none =
 pub past_programs : (plan : Plan) (certificate : Certificate) (program point : ℕ) → length plan.programs ≤ program → found_at plan certificate program point ≡ None
 past_programs plan certificate program point past =
     no_instruction plan certificate program point (ap (λ p. slice_get (code_in p) point) (slice_get_past plan.programs program past))
-
--- the code of a program at a place of the list
-pub program_here : (plan : Plan) (items : List NamedProgramCode) (n : ℕ) (x : NamedProgramCode) → programs_of items ≡ plan.programs →
-    n < length items → x ≡ slice_index_or items n x → programs_of_plan plan n ≡ x.program
-program_here plan items n x same below is =
-    ap (λ programs. code_in (slice_get programs n)) (sym same)
-    ∙ ap code_in (slice_get-map program_of items n)
-    ∙ ap (λ p. code_in (option_map program_of p)) (slice_get_read items (length items) n x refl below is)
-
-pub past_points : (plan : Plan) (certificate : Certificate) (items : List NamedProgramCode) (n point : ℕ) (x : NamedProgramCode) →
-    programs_of items ≡ plan.programs → n < length items → x ≡ slice_index_or items n x → length x.program ≤ point →
-    found_at plan certificate n point ≡ None
-past_points plan certificate items n point x same below is past =
-    no_instruction plan certificate n point
-    (ap (λ code. slice_get code point) (program_here plan items n x same below is) ∙ slice_get_past x.program point past)
 
 -- a program has at most 256 points
 pub few_points : (code : List Instruction) → is_program code ≡ true → length code ≤ 256

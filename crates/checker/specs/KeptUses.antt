@@ -1,12 +1,12 @@
 -- What several rules ask at once.
-use Rattle.std.specs.Prelude.{◌&&◌, ◌||◌, not, Bool, Option, is_some}
+use Rattle.std.specs.Prelude.{◌&&◌, ◌||◌, not, ℕ, Bool, List, [], Option, drop, is_some, take}
 use Rattle.std.specs.List.{list_all}
 use Rattle.certificate.specs.Bounds.{Bound, Certificate}
-use Rattle.instruction_set.specs.Programs.{Syscall}
+use Rattle.instruction_set.specs.Programs.{Syscall, Instruction, Invoke}
 use Rattle.task.specs.Plans.{Plan}
 use Rattle.rules.specs.Channels.{all_have_channels, keeps_channel_bound}
 use Rattle.rules.specs.Demands.{demands, keeps_beneath, keeps_numbers, keeps_single}
-use Rattle.rules.specs.Rules.{keeps_commands, keeps_limit, keeps_policy, keeps_rights, moves_within, names_known, within_if_there, works_on_known}
+use Rattle.rules.specs.Rules.{Test, tests, keeps_commands, keeps_limit, keeps_policy, keeps_rights, moves_within, names_known, within_if_there, works_on_known}
 use Rattle.rules.specs.Slots.{may_be_on}
 use Rattle.rules.specs.Uses.{Use, uses}
 
@@ -34,3 +34,9 @@ keeps_call_rules plan c b call =
     && not (demands call).changes_global_names
     && list_all (keeps_all plan c (may_be_on b.mode)) (uses b call)
     && all_have_channels c (uses b call)
+
+-- The tests of a call alone, which are the same in each program and wherever its errors go: those of the rules 4 to 15. What is
+-- no call has none.
+abbrev pub tests_of_call : Plan → Certificate → ℕ → Bound → Instruction → List Test
+tests_of_call plan c point b (Invoke call otherwise) = take 12 (drop 3 (tests plan c 0 point (Invoke call 0) b))
+tests_of_call plan c point b _ = []

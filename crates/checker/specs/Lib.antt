@@ -1,10 +1,10 @@
 pub mod AllowanceViews
+pub mod ArrivalViews
 pub mod Asked
 pub mod FindingViews
 pub mod Findings
 pub mod KeptUses
 pub mod PointViews
 pub mod RuleViews
-pub mod SiteViews
 pub mod Verdicts
 pub mod Views

@@ -1,7 +1,8 @@
 -- The rules of the code, by their numbers; and what each asks of a slot.
 use Rattle.std.specs.Prelude.{ℕ, Bool}
-use Rattle.certificate.specs.Bounds.{Certificate}
+use Rattle.certificate.specs.Bounds.{Authority, Certificate}
 use Rattle.task.specs.Plans.{Plan}
+use Rattle.rules.specs.Authority.{keeps_ceilings, keeps_moves, keeps_received, keeps_sent}
 use Rattle.rules.specs.Channels.{has_channel, keeps_channel_bound}
 use Rattle.rules.specs.Rules.{keeps_commands, keeps_limit, keeps_policy, keeps_rights, moves_within, names_known, works_on_known}
 use Rattle.rules.specs.Uses.{Use}
@@ -58,3 +59,10 @@ keeps_at_slot slots.KnownNames plan c u = names_known u
 keeps_at_slot slots.Moves plan c u = moves_within u
 keeps_at_slot slots.Sent plan c u = keeps_channel_bound c u u.passing
 keeps_at_slot slots.Channel plan c u = has_channel c u u.passing
+
+-- what a rule asks of an authority
+abbrev pub keeps_in_authority : AuthorityRule → Plan → Certificate → Authority → Bool
+keeps_in_authority authorities.Ceilings plan c a = keeps_ceilings plan.grants a
+keeps_in_authority authorities.Moves plan c a = keeps_moves a
+keeps_in_authority authorities.Received plan c a = keeps_received c a
+keeps_in_authority authorities.Sent plan c a = keeps_sent c a

@@ -1,253 +1,80 @@
 //! The rules on where an instruction leads.
 
-ghost use Rattle.std.specs.Prelude.{◌≡◌, ◌+◌, None, is_some, option_map, true};
-ghost use Rattle.certificate.specs.Bounds.{bound_at};
-ghost use Rattle.certificate.specs.Views.{bound_of, name_of};
-ghost use Rattle.checker.specs.KeptUses.{arrives};
-ghost use Rattle.checker.specs.SiteViews.{CarriesOn, SiteHas, expansion_at, site_name, expanded_successes};
-ghost use Rattle.instruction_set.specs.Views.{instruction_of};
-ghost use Rattle.rules.specs.Expansions.{bound_met};
+ghost use Rattle.std.specs.Prelude.{◌≡◌, None, option_map};
+ghost use Rattle.certificate.specs.Views.{bound_of};
+ghost use Rattle.checker.specs.ArrivalViews.{all_arrive, arrives_as};
+ghost use Rattle.checker.specs.PointViews.{expansion_of, instruction_of_point, met_from, name_of_point, successes_from};
 ghost use Rattle.rules.specs.Outcomes.{error_outcomes};
-ghost use Rattle.rules.specs.Rules.{all_there, all_within, within_if_there};
-ghost use Rattle.transfer.specs.CallViews.{successes_at};
 ghost use Rattle.transfer.specs.OutcomeViews.{outcome_of};
-ghost use Rattle.transfer.specs.Limits.{leaves_known};
 
-use certificate::{Bound, Cert, Name};
-use instruction_set::Instruction;
-use transfer::{Outcome, OutcomeTest, Site, failure, successes_pass};
+use crate::asked::AskedPoint;
+use certificate::Bound;
+use transfer::{Outcome, OutcomeVisitor, Site, failure, successes_pass};
 
-/// The bounds that the outcomes of a point meet: those that are given, and at the next point what is carried on to it.
+/// What is asked of an outcome, by the bound of the point that it goes to.
 #[derive(Clone, Copy)]
-struct Met<'a> {
-    cert: &'a Cert,
-    name: &'a Name,
-    next: usize,
-    carried: &'a Option<Bound>,
+pub(crate) enum Arrival {
+    /// It is within the bound, if there is one.
+    Within,
+    /// There is one.
+    There,
+    /// There is one, which it is within.
+    WithinThere,
 }
 
-/// Whether an outcome is within a bound, if there is one.
-fn is_within_if_there(outcome: &Outcome<'_>, there: &Option<Bound>) -> bool
-    ensures { result ≡ within_if_there (outcome_of outcome.now).bound (option_map bound_of there.now) }
-{
-    match there {
-        None => true,
-        Some(bound) => outcome.is_within(bound),
-    }
-}
-
-/// Whether there is a bound, which an outcome is within.
-fn is_there_and_within(outcome: &Outcome<'_>, there: &Option<Bound>) -> bool
-    ensures { result ≡ arrives (outcome_of outcome.now).bound (option_map bound_of there.now) }
-{
-    match there {
-        None => false,
-        Some(bound) => outcome.is_within(bound),
-    }
-}
-
-impl<'a> Met<'a> {
-    /// Those that the outcomes of this point meet.
-    fn of(site: &Site<'a>, carried: &'a Option<Bound>) -> Met<'a>
-        ensures cert { result.cert.now ≡ site.now.cert.now }
-        ensures name { result.name.now ≡ site.now.name.now }
-        ensures next { result.next ≡ site.now.point + 1 }
-        ensures held { result.carried.now ≡ carried.now }
+impl Arrival {
+    /// Whether an outcome is so where its point has this bound.
+    fn holds(self, outcome: &Outcome<'_>, there: &Option<Bound>) -> bool
+        ensures { result ≡ arrives_as self (outcome_of outcome.now).bound (option_map bound_of there.now) }
     {
-        Met {
-            cert: site.cert,
-            name: site.name,
-            next: site.point as usize + 1,
-            carried,
+        match (self, there) {
+            (Arrival::Within, None) | (Arrival::There, Some(_)) => true,
+            (Arrival::There | Arrival::WithinThere, None) => false,
+            (Arrival::Within | Arrival::WithinThere, Some(bound)) => outcome.is_within(bound),
         }
     }
-
-    /// Whether an outcome is within the bound of its point, if that has one.
-    fn holds(&self, outcome: &Outcome<'_>) -> bool
-        ensures { result ≡ within_if_there (outcome_of outcome.now).bound
-            (bound_met self.now.cert.now (name_of self.now.name.now) self.now.next (option_map bound_of self.now.carried.now) outcome.now.point) }
-    {
-        match self.cert.point_at(self.name.as_bytes(), outcome.point) {
-            Some(found) => outcome.is_within(&found.bound()),
-            None => outcome.point != self.next || is_within_if_there(outcome, self.carried),
-        }
-    }
-
-    /// Whether an outcome's point has a bound, which it is within.
-    fn takes(&self, outcome: &Outcome<'_>) -> bool
-        ensures { result ≡ arrives (outcome_of outcome.now).bound
-            (bound_met self.now.cert.now (name_of self.now.name.now) self.now.next (option_map bound_of self.now.carried.now) outcome.now.point) }
-    {
-        match self.cert.point_at(self.name.as_bytes(), outcome.point) {
-            Some(found) => outcome.is_within(&found.bound()),
-            None => outcome.point == self.next && is_there_and_within(outcome, self.carried),
-        }
-    }
-
-    /// Whether there is a bound at a point.
-    fn has_bound(&self, point: usize) -> bool
-        ensures { result ≡ is_some (bound_met self.now.cert.now (name_of self.now.name.now) self.now.next (option_map bound_of self.now.carried.now) point) }
-    {
-        self.cert.has_bound(self.name.as_bytes(), point)
-            || point == self.next && self.carried.is_some()
-    }
 }
 
-/// The test whether an outcome is within the bound of the point that it goes to, if that has one.
-#[derive(Clone, Copy)]
-struct IsWithin<'a> {
-    met: Met<'a>,
-}
-
-impl<'a> OutcomeTest for IsWithin<'a> {
-    ghost passes = { λ t o. within_if_there o.bound
-        (bound_met t.met.cert.now (name_of t.met.name.now) t.met.next (option_map bound_of t.met.carried.now) o.point) };
-
-    ghost joins = { λ t. None };
-
-    ghost kept = { λ t. None };
-
-    fn asks(&mut self, outcome: &Outcome<'_>) -> bool {
-        self.met.holds(outcome)
-    }
-}
-
-/// The test whether the point that an outcome goes to has a bound.
-#[derive(Clone, Copy)]
-struct IsThere<'a> {
-    met: Met<'a>,
-}
-
-impl<'a> OutcomeTest for IsThere<'a> {
-    ghost passes = { λ t o. is_some
-        (bound_met t.met.cert.now (name_of t.met.name.now) t.met.next (option_map bound_of t.met.carried.now) o.point) };
-
-    ghost joins = { λ t. None };
-
-    ghost kept = { λ t. None };
-
-    fn asks(&mut self, outcome: &Outcome<'_>) -> bool {
-        self.met.has_bound(outcome.point)
-    }
-}
-
-/// The test whether the point that an outcome goes to has a bound, which the outcome is within.
+/// The visitor that asks whether the outcomes of a point arrive so.
 #[derive(Clone, Copy)]
 struct Arrives<'a> {
-    met: Met<'a>,
+    arrival: Arrival,
+    at: &'a AskedPoint<'a>,
 }
 
-impl<'a> OutcomeTest for Arrives<'a> {
-    ghost passes = { λ t o. arrives o.bound
-        (bound_met t.met.cert.now (name_of t.met.name.now) t.met.next (option_map bound_of t.met.carried.now) o.point) };
+impl<'a> OutcomeVisitor for Arrives<'a> {
+    ghost passes = { λ t o. arrives_as t.arrival o.bound (met_from t.at.now o.point) };
 
     ghost joins = { λ t. None };
 
     ghost kept = { λ t. None };
 
-    fn asks(&mut self, outcome: &Outcome<'_>) -> bool {
-        self.met.takes(outcome)
+    fn visit(&mut self, outcome: &Outcome<'_>) -> bool {
+        self.arrival
+            .holds(outcome, &self.at.bound_met(outcome.point))
     }
 }
 
-/// Whether the point of each success has a bound, which it is within.
-pub(crate) fn successes_arrive(
-    site: &Site<'_>,
-    carried: &Option<Bound>,
-    instruction: &Instruction,
-) -> bool
-    requires stands { SiteHas site.now (instruction_of instruction.now) }
-    requires carries { CarriesOn site.now carried.now }
-    requires known { leaves_known (instruction_of instruction.now) ≡ true }
-    ensures within { result ≡ true → all_within (expansion_at site.now) (site_name site.now) (expanded_successes site.now (instruction_of instruction.now)) ≡ true }
-    ensures there { result ≡ true → all_there (expansion_at site.now) (site_name site.now) (expanded_successes site.now (instruction_of instruction.now)) ≡ true }
+/// Whether each success arrives so, of a point with this bound.
+pub(crate) fn successes_arrive(at: &AskedPoint<'_>, bound: &Bound, arrival: Arrival) -> bool
+    ensures { result ≡ all_arrive arrival (expansion_of at.now.of.now) (name_of_point at.now) (successes_from at.now (bound_of bound.now)) }
 {
-    site.task.note_valid();
-    site.cert.note_made();
-    let mut test = Arrives {
-        met: Met::of(site, carried),
+    let site = &Site {
+        task: at.of.task,
+        cert: at.of.cert,
+        name: &at.of.name,
+        point: at.point,
+        bound,
     };
-    successes_pass(site, instruction, &mut test)
+    successes_pass(site, at.instruction, &mut Arrives { arrival, at })
 }
 
-/// Whether each success is within the bound of its point, if that has one.
-pub(crate) fn successes_within(
-    site: &Site<'_>,
-    carried: &Option<Bound>,
-    instruction: &Instruction,
-) -> bool
-    requires stands { SiteHas site.now (instruction_of instruction.now) }
-    requires carries { CarriesOn site.now carried.now }
-    requires known { leaves_known (instruction_of instruction.now) ≡ true }
-    ensures { result ≡ all_within (expansion_at site.now) (site_name site.now) (expanded_successes site.now (instruction_of instruction.now)) }
+/// Whether its error does, if it may fail.
+pub(crate) fn error_arrives(at: &AskedPoint<'_>, bound: &Bound, arrival: Arrival) -> bool
+    ensures { result ≡ all_arrive arrival (expansion_of at.now.of.now) (name_of_point at.now) (error_outcomes (bound_of bound.now) (instruction_of_point at.now)) }
 {
-    site.task.note_valid();
-    site.cert.note_made();
-    let mut test = IsWithin {
-        met: Met::of(site, carried),
-    };
-    successes_pass(site, instruction, &mut test)
-}
-
-/// Whether the point of each success has a bound.
-pub(crate) fn successes_there(
-    site: &Site<'_>,
-    carried: &Option<Bound>,
-    instruction: &Instruction,
-) -> bool
-    requires stands { SiteHas site.now (instruction_of instruction.now) }
-    requires carries { CarriesOn site.now carried.now }
-    requires known { leaves_known (instruction_of instruction.now) ≡ true }
-    ensures { result ≡ all_there (expansion_at site.now) (site_name site.now) (expanded_successes site.now (instruction_of instruction.now)) }
-{
-    site.task.note_valid();
-    site.cert.note_made();
-    let mut test = IsThere {
-        met: Met::of(site, carried),
-    };
-    successes_pass(site, instruction, &mut test)
-}
-
-/// Whether the outcome of a failure, if there is one, is within the bound of its point, if that has one.
-pub(crate) fn failure_within(
-    site: &Site<'_>,
-    carried: &Option<Bound>,
-    instruction: &Instruction,
-) -> bool
-    requires stands { SiteHas site.now (instruction_of instruction.now) }
-    requires carries { CarriesOn site.now carried.now }
-    ensures { result ≡ all_within (expansion_at site.now) (site_name site.now)
-        (error_outcomes (bound_of site.now.bound.now) (instruction_of instruction.now)) }
-{
-    site.task.note_valid();
-    site.cert.note_made();
-    let mut test = IsWithin {
-        met: Met::of(site, carried),
-    };
-    match failure(site.bound, instruction) {
+    match failure(bound, at.instruction) {
         None => true,
-        Some(outcome) => test.asks(&outcome),
-    }
-}
-
-/// Whether its point has a bound.
-pub(crate) fn failure_there(
-    site: &Site<'_>,
-    carried: &Option<Bound>,
-    instruction: &Instruction,
-) -> bool
-    requires stands { SiteHas site.now (instruction_of instruction.now) }
-    requires carries { CarriesOn site.now carried.now }
-    ensures { result ≡ all_there (expansion_at site.now) (site_name site.now)
-        (error_outcomes (bound_of site.now.bound.now) (instruction_of instruction.now)) }
-{
-    site.task.note_valid();
-    site.cert.note_made();
-    let mut test = IsThere {
-        met: Met::of(site, carried),
-    };
-    match failure(site.bound, instruction) {
-        None => true,
-        Some(outcome) => test.asks(&outcome),
+        Some(outcome) => Arrives { arrival, at }.visit(&outcome),
     }
 }

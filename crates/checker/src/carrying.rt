@@ -2,29 +2,31 @@
 
 ghost use Rattle.std.specs.Prelude.{◌≡◌, option_map, true};
 ghost use Rattle.std.specs.List.{list_all};
-ghost use Rattle.certificate.specs.Views.{bound_of, name_of};
+ghost use Rattle.certificate.specs.Views.{bound_of};
+ghost use Rattle.texts.specs.Views.{name_of};
 ghost use Rattle.instruction_set.specs.Views.{code_of};
 ghost use Rattle.certificate.specs.Bounds.{bound_at};
 ghost use Rattle.rules.specs.Expansions.{carried_past, code_named, or_carried};
 ghost use Rattle.transfer.specs.Limits.{leaves_known};
 
 use crate::points::{instruction_in, may_carry};
-use certificate::{Bound, Cert, Name};
+use certificate::{Bound, Cert};
 use instruction_set::Instruction;
 use task::Task;
+use texts::Name;
 use transfer::{Site, carried_on};
 
 /// The bound of a point: the one that the certificate gives, or else what is carried there.
 pub(crate) fn bound_with(
     cert: &Cert,
     name: &Name,
-    point: u8,
+    point: usize,
     carried: &Option<Bound>,
 ) -> Option<Bound>
     ensures { option_map bound_of result
         ≡ or_carried (bound_at cert.now (name_of name.now) point) (option_map bound_of carried.now) }
 {
-    match cert.point_at(name.as_bytes(), point as usize) {
+    match cert.point_at(name.as_bytes(), point) {
         Some(found) => Some(found.bound()),
         None => *carried,
     }
@@ -49,7 +51,7 @@ pub(crate) fn carried_past(
     if !may_carry(cert.version(), code, point as usize + 1) {
         return None;
     }
-    let bound = bound_with(cert, name, point, carried)?;
+    let bound = bound_with(cert, name, point as usize, carried)?;
     let site = Site {
         task,
         cert,

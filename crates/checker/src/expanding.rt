@@ -2,10 +2,12 @@
 
 ghost use Rattle.std.specs.Prelude.{◌≡◌, ◌↔◌, None, IfOk, option_map, true};
 ghost use Rattle.std.specs.List.{flat_map};
+ghost use Rattle.certificate.specs.Growth.{IsCertificate};
 ghost use Rattle.certificate.specs.Growths.{grown, grown_by};
 ghost use Rattle.certificate.specs.GrowthViews.{Grows};
 ghost use Rattle.certificate.specs.Lines.{lines_of, rest_lines};
-ghost use Rattle.certificate.specs.Views.{bound_of, name_of, points_of, version_of};
+ghost use Rattle.certificate.specs.Views.{bound_of, points_of, version_of};
+ghost use Rattle.texts.specs.Views.{name_of};
 ghost use Rattle.certificate.specs.Bounds.{One, has_authorities};
 ghost use Rattle.checker.specs.Verdicts.{Verdict, IsVerdict};
 ghost use Rattle.rights.specs.Limits.{most_instructions};
@@ -14,12 +16,13 @@ ghost use Rattle.rules.specs.Expansions.{expanded_points, expanded_version, expa
 use crate::carrying::{bound_with, carried_past};
 use crate::points::code_named;
 use certificate::{
-    Bound, Cert, Name, Point, Refusal, Version, push_authorities, push_block, push_channels,
+    Bound, Cert, Point, Refusal, Version, push_authorities, push_block, push_channels,
 };
 use rights::Memory;
 use rights::limits::MAX_INSTRUCTIONS;
 use std::alloc::Global;
 use task::Task;
+use texts::Name;
 
 /// Adds a point, if it has a bound.
 #[tactic(auto, unfolding(certificate::specs::Growths::grown_by))]
@@ -44,13 +47,9 @@ fn push_program(expanded: &mut Cert, task: &Task, cert: &Cert, name: &Name) -> R
     let code = code_named(task, name.as_bytes());
     let mut carried = None;
     for point in 0..MAX_INSTRUCTIONS {
+        let bound = bound_with(cert, name, point, &carried);
         let point = point as u8;
-        push_point(
-            expanded,
-            name,
-            point,
-            bound_with(cert, name, point, &carried),
-        )?;
+        push_point(expanded, name, point, bound)?;
         carried = carried_past(task, cert, name, code, point, &carried);
     }
     Ok(())
@@ -80,10 +79,11 @@ fn push_behind(
     }
 }
 
-/// Adds the points of the expansion of a certificate in which bounds are carried.
+/// Adds the points of the expansion of a certificate in which bounds are carried. Who asks learns that it is a certificate.
 #[tactic(auto, using(certificate::proofs::Growths::by_append), unfolding(certificate::specs::Growths::grown_by))]
 fn push_programs(expanded: &mut Cert, task: &Task, cert: &Cert) -> Result<(), Refusal>
-    ensures { Grows result expanded.new (grown_by (expanded_points task.now cert.now) expanded.old) }
+    ensures grows { Grows result expanded.new (grown_by (expanded_points task.now cert.now) expanded.old) }
+    ensures valid { IsCertificate cert.now }
 {
     match cert.points() {
         [] => Ok(()),
@@ -108,9 +108,10 @@ fn push_points(expanded: &mut Cert, points: &[Point]) -> Result<(), Refusal>
     }
 }
 
-/// Adds the points of the expansion.
+/// Adds the points of the expansion. Who asks learns that it is of a certificate.
 fn push_expanded(expanded: &mut Cert, task: &Task, cert: &Cert) -> Result<(), Refusal>
-    ensures { Grows result expanded.new (grown_by (expansion task.now cert.now).points expanded.old) }
+    ensures grows { Grows result expanded.new (grown_by (expansion task.now cert.now).points expanded.old) }
+    ensures valid { IsCertificate cert.now }
 {
     match cert.version() {
         Version::One => push_points(expanded, cert.points()),
@@ -130,10 +131,11 @@ fn push_rest(expanded: &mut Cert, cert: &Cert) -> Result<(), Refusal>
     push_authorities(expanded, cert.authorities())
 }
 
-/// Adds the lines of the expansion.
+/// Adds the lines of the expansion. Who asks learns that it is of a certificate.
 fn push_expansion(expanded: &mut Cert, task: &Task, cert: &Cert) -> Result<(), Refusal>
     requires { expanded.old.version ≡ expanded_version cert.now.version }
-    ensures { Grows result expanded.new (grown (lines_of (expansion task.now cert.now)) expanded.old) }
+    ensures grows { Grows result expanded.new (grown (lines_of (expansion task.now cert.now)) expanded.old) }
+    ensures valid { IsCertificate cert.now }
 {
     push_expanded(expanded, task, cert)?;
     push_rest(expanded, cert)
@@ -167,7 +169,6 @@ pub fn expand(alloc: Global, task: &Task, cert: &Cert) -> Result<Cert, Memory>
     ensures value { IfOk result (λ expanded. expanded ≡ expansion task.now cert.now) }
     ensures same { IfOk result (λ expanded. (verdict : Verdict) → IsVerdict task.now expanded verdict ↔ IsVerdict task.now cert.now verdict) }
 {
-    cert.note_made();
     let mut expanded = Cert::new(alloc, version_of_expansion(cert.version()));
     match push_expansion(&mut expanded, task, cert) {
         Ok(()) => Ok(expanded),

@@ -1,7 +1,7 @@
 //! The rules, by name.
 
-ghost use Rattle.std.specs.Prelude.{◌≡◌, map};
-ghost use Rattle.checker.specs.RuleViews.{authority_rule_number, call_rule_number, rule_number, slot_rule_number};
+ghost use Rattle.std.specs.Prelude.{◌≡◌};
+ghost use Rattle.checker.specs.RuleViews.{rule_number};
 
 /// A rule of the checker. (own)
 #[derive(Clone, Copy, PartialEq, Eq)]
@@ -99,53 +99,6 @@ pub const RULES: [Rule; 22] = [
     Rule::OfAuthority(AuthorityRule::Sent),
 ];
 
-impl SlotRule {
-    /// Its number, from 7 to 15.
-    pub fn number(self) -> u8
-        ensures { result ≡ slot_rule_number self }
-    {
-        match self {
-            SlotRule::Rights => 7,
-            SlotRule::Commands => 8,
-            SlotRule::Limit => 9,
-            SlotRule::KnownObject => 10,
-            SlotRule::Policy => 11,
-            SlotRule::KnownNames => 12,
-            SlotRule::Moves => 13,
-            SlotRule::Sent => 14,
-            SlotRule::Channel => 15,
-        }
-    }
-}
-
-impl CallRule {
-    /// Its number, from 4 to 15.
-    pub fn number(self) -> u8
-        ensures { result ≡ call_rule_number self }
-    {
-        match self {
-            CallRule::OneNumber => 4,
-            CallRule::FreeNumbers => 5,
-            CallRule::NoGlobalPath => 6,
-            CallRule::OfSlot(rule) => rule.number(),
-        }
-    }
-}
-
-impl AuthorityRule {
-    /// Its number, from 19 to 22.
-    pub fn number(self) -> u8
-        ensures { result ≡ authority_rule_number self }
-    {
-        match self {
-            AuthorityRule::Ceilings => 19,
-            AuthorityRule::Moves => 20,
-            AuthorityRule::Received => 21,
-            AuthorityRule::Sent => 22,
-        }
-    }
-}
-
 impl Rule {
     /// Its number, from 1 to 22.
     pub fn number(self) -> u8
@@ -155,11 +108,25 @@ impl Rule {
             Rule::StartsWithin => 1,
             Rule::SuccessesWithin => 2,
             Rule::ErrorsWithin => 3,
-            Rule::OfCall(rule) => rule.number(),
+            Rule::OfCall(CallRule::OneNumber) => 4,
+            Rule::OfCall(CallRule::FreeNumbers) => 5,
+            Rule::OfCall(CallRule::NoGlobalPath) => 6,
+            Rule::OfCall(CallRule::OfSlot(SlotRule::Rights)) => 7,
+            Rule::OfCall(CallRule::OfSlot(SlotRule::Commands)) => 8,
+            Rule::OfCall(CallRule::OfSlot(SlotRule::Limit)) => 9,
+            Rule::OfCall(CallRule::OfSlot(SlotRule::KnownObject)) => 10,
+            Rule::OfCall(CallRule::OfSlot(SlotRule::Policy)) => 11,
+            Rule::OfCall(CallRule::OfSlot(SlotRule::KnownNames)) => 12,
+            Rule::OfCall(CallRule::OfSlot(SlotRule::Moves)) => 13,
+            Rule::OfCall(CallRule::OfSlot(SlotRule::Sent)) => 14,
+            Rule::OfCall(CallRule::OfSlot(SlotRule::Channel)) => 15,
             Rule::LeadsToBounds => 16,
             Rule::BoundsOutside => 17,
             Rule::TakesWithin => 18,
-            Rule::OfAuthority(rule) => rule.number(),
+            Rule::OfAuthority(AuthorityRule::Ceilings) => 19,
+            Rule::OfAuthority(AuthorityRule::Moves) => 20,
+            Rule::OfAuthority(AuthorityRule::Received) => 21,
+            Rule::OfAuthority(AuthorityRule::Sent) => 22,
         }
     }
 }

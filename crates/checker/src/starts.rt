@@ -2,17 +2,18 @@
 
 ghost use Rattle.std.specs.Prelude.{◌≡◌, ◌==◌, ◌&&◌, ◌+◌, ◌≤◌, length, map, option_map, true};
 ghost use Rattle.certificate.specs.Describes.{held_describes, interval_describes, mode_describes, registers_describe, slot_describes, slots_describe, target_describes};
-ghost use Rattle.certificate.specs.Views.{bound_of, class_of, held_of, interval_of, mode_of, slot_of, target_of};
-ghost use Rattle.certificate.specs.Order.{same_class};
-ghost use Rattle.rights.specs.Classes.{Initial};
-ghost use Rattle.rights.specs.Views.{side_seen};
-ghost use Rattle.rules.specs.Rules.{all_starts_within, is_bounded_start, first_seen, first_subject, first_table, is_started, marked_at, start_within, starts_program, starts_within};
+ghost use Rattle.certificate.specs.Views.{bound_of, held_of, interval_of, mode_of, slot_of, target_of};
+ghost use Rattle.rights.specs.Limits.{most_descriptors};
+ghost use Rattle.rules.specs.Rules.{is_bounded_start, first_seen, first_subject, first_table, is_started, start_within, starts_within};
 ghost use Rattle.task.specs.Begins.{with_number};
 ghost use Rattle.task.specs.Policies.{grant_holds};
-ghost use Rattle.task.specs.Views.{first_descriptor_of, first_object_of, grants_of, nodes_of, start_of, starts_of};
+ghost use Rattle.task.specs.Views.{first_descriptor_of, first_object_of, grants_of, nodes_of, start_of};
 
-use certificate::{Bound, Class, Held, Interval, ModeBound, Slot, Target};
-use rights::{Rights, Side};
+use crate::allowances::is_initial;
+use crate::asked::{AskedPoint, AskedProgram};
+use certificate::{Bound, Held, Interval, ModeBound, Slot, Target};
+use rights::Rights;
+use rights::limits::{MAX_DESCRIPTORS, REGISTERS};
 use task::{FirstDescriptor, FirstObject, Grant, Start, Task, TaskNode, grant_holds, place_of};
 
 /// Whether a process may be in this mode. (own)
@@ -48,17 +49,6 @@ fn registers_describe(intervals: &[Interval], values: &[u32]) -> bool
     }
 }
 
-/// Whether a side of an initial pair is this side of a class.
-fn is_side(class: &Class, side: Side, pair: u8, its: Side) -> bool
-    ensures { result ≡ (same_class (Initial pair) (class_of class.now) && (side_seen its == side_seen side)) }
-{
-    let is_pair = match class {
-        Class::Initial(own) => own.number() == pair,
-        Class::MadeAt(..) => false,
-    };
-    is_pair && its.is(side)
-}
-
 /// Whether what a first descriptor is of may be of this target.
 fn target_describes(
     grants: &[Grant],
@@ -74,7 +64,7 @@ fn target_describes(
             grant_holds(grants, name.as_bytes(), place_of(nodes, node))
         }
         (Target::Socket(class, side), FirstObject::End { pair, side: its }) => {
-            is_side(class, *side, pair, its)
+            is_initial(class, pair) && its.is(*side)
         }
         (Target::AnyNode, FirstObject::Node { .. }) | (Target::Unknown, _) => true,
         (Target::InGrant(_) | Target::AnyNode, FirstObject::End { .. })
@@ -104,15 +94,10 @@ pub fn with_number(descriptors: &[FirstDescriptor], number: usize) -> Option<Fir
     ensures { option_map first_descriptor_of result
         ≡ with_number number (map first_descriptor_of descriptors.now) }
 {
-    match descriptors {
-        [] => None,
-        [first, rest @ ..] => {
-            if first.number as usize == number {
-                return Some(*first);
-            }
-            with_number(rest, number)
-        }
-    }
+    descriptors
+        .iter()
+        .copied()
+        .find(|first| first.number as usize == number)
 }
 
 /// Whether a number of a table is as its slot says. (own)
@@ -127,18 +112,16 @@ pub fn slot_describes(
 {
     match slot {
         Slot::Closed => descriptor.is_none(),
-        Slot::Open(held) => match descriptor {
-            None => false,
-            Some(descriptor) => held_describes(grants, nodes, held, descriptor),
-        },
-        Slot::Maybe(held) => match descriptor {
-            None => true,
-            Some(descriptor) => held_describes(grants, nodes, held, descriptor),
-        },
+        Slot::Open(held) => descriptor.is_some_and(|descriptor| held_describes(
+            grants, nodes, held, descriptor,
+        )),
+        Slot::Maybe(held) => descriptor.is_none_or(|descriptor| held_describes(
+            grants, nodes, held, descriptor,
+        )),
     }
 }
 
-/// Whether each number from one on, up to sixteen, is as its slot says.
+/// Whether each number of a table from this one on is as its slot says.
 fn slots_describe(
     grants: &[Grant],
     nodes: &[TaskNode],
@@ -146,12 +129,12 @@ fn slots_describe(
     slots: &[Slot],
     start: &Start,
 ) -> bool
-    requires { number + length slots.now ≤ 16 }
+    requires { number + length slots.now ≤ most_descriptors }
     ensures { result ≡ slots_describe (grant_holds (grants_of grants.now)) number (map slot_of slots.now)
         (first_table (nodes_of nodes.now) (start_of start.now)) }
 {
     match slots {
-        [] => number == 16,
+        [] => number == MAX_DESCRIPTORS,
         [first, rest @ ..] => {
             slot_describes(
                 grants,
@@ -168,7 +151,7 @@ fn start_within(task: &Task, bound: &Bound, start: &Start) -> bool
     ensures { result ≡ start_within task.now (bound_of bound.now) (start_of start.now) }
 {
     mode_describes(bound.mode(), start.mode)
-        && registers_describe(bound.registers(), &[0; 8])
+        && registers_describe(bound.registers(), &[0; REGISTERS])
         && slots_describe(task.grants(), task.nodes(), 0, bound.slots(), start)
 }
 
@@ -179,55 +162,23 @@ pub fn is_bounded_start(marked: bool, program: u8, start: &Start) -> bool
     !(marked && start.mode) && start.program == program
 }
 
-/// Whether the bound describes each such process of these.
-fn all_starts_within(
-    task: &Task,
-    marked: bool,
-    program: u8,
-    bound: &Bound,
-    starts: &[Start],
-) -> bool
-    ensures { result ≡ all_starts_within task.now marked program (bound_of bound.now) (starts_of starts.now) }
+/// At point 0, whether a bound describes each such process of the program at its start. (own)
+pub(crate) fn starts_within(at: &AskedPoint<'_>, bound: &Bound) -> bool
+    ensures { result ≡ starts_within at.now.of.now.task.now at.now.of.now.program at.now.point (bound_of bound.now) }
 {
-    match starts {
-        [] => true,
-        [first, rest @ ..] => {
-            (!is_bounded_start(marked, program, first) || start_within(task, bound, first))
-                && all_starts_within(task, marked, program, bound, rest)
-        }
-    }
-}
-
-/// At point 0, whether the bound describes each such process of the program at its start. (own)
-pub(crate) fn starts_within(
-    task: &Task,
-    marked: bool,
-    program: u8,
-    point: u8,
-    bound: &Bound,
-) -> bool
-    requires { marked ≡ marked_at task.now program }
-    ensures { result ≡ starts_within task.now program point (bound_of bound.now) }
-{
-    point != 0 || all_starts_within(task, marked, program, bound, task.starts())
-}
-
-/// Whether one of these processes starts with the program and is bounded by its points.
-fn starts_program(marked: bool, program: u8, starts: &[Start]) -> bool
-    ensures { result ≡ starts_program marked program (starts_of starts.now) }
-{
-    match starts {
-        [] => false,
-        [first, rest @ ..] => {
-            is_bounded_start(marked, program, first) || starts_program(marked, program, rest)
-        }
-    }
+    let of = at.of;
+    at.point != 0
+        || of.task.starts().iter().all(|start| {
+            !is_bounded_start(of.marked, of.program, start) || start_within(of.task, bound, start)
+        })
 }
 
 /// Whether some process starts the program and is bounded by its points.
-pub(crate) fn is_started(task: &Task, marked: bool, program: u8) -> bool
-    requires { marked ≡ marked_at task.now program }
-    ensures { result ≡ is_started task.now program }
+pub(crate) fn is_started(of: &AskedProgram<'_>) -> bool
+    ensures { result ≡ is_started of.now.task.now of.now.program }
 {
-    starts_program(marked, program, task.starts())
+    of.task
+        .starts()
+        .iter()
+        .any(|start| is_bounded_start(of.marked, of.program, start))
 }

@@ -1,8 +1,7 @@
 //! The rules on each slot that a call may go through.
 
-ghost use Rattle.std.specs.Prelude.{◌≡◌, ◌++◌, option_map};
+ghost use Rattle.std.specs.Prelude.{◌≡◌, option_map};
 ghost use Rattle.std.specs.List.{list_all};
-ghost use Rattle.rights.specs.Views.{operation_of};
 ghost use Rattle.certificate.specs.Order.{held_within};
 ghost use Rattle.certificate.specs.Views.{bound_of, held_of, target_of};
 ghost use Rattle.checker.specs.KeptUses.{keeps_all};
@@ -129,6 +128,7 @@ pub struct KeepsRule<'a> {
 impl<'a> UseTest for KeepsRule<'a> {
     ghost passes = { λ t u. keeps_at_slot t.rule t.task.now (expansion t.task.now t.cert.now) u };
 
+    #[inline(always)]
     #[tactic(auto, using(rules::proofs::expansions::Channelled::expansion_keeps, rules::proofs::expansions::Channelled::expansion_has))]
     fn asks(&self, bound: &Bound, need: &Need, number: u8, held: &Held) -> bool {
         let cert = self.cert;

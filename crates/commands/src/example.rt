@@ -14,13 +14,13 @@ use instruction_set::{Instruction, Operand, Program, Syscall};
 use rights::{Fcntls, Op, Rights};
 use std::alloc::{AllocError, Global};
 use task::{FirstDescriptor, FirstObject, Grant, NamedProgram, Start, Task, TaskNode};
+use texts::Name;
 
 /// `/work`.
 fn work(alloc: Global) -> Result<Vec<Vec<u8>>, AllocError>
     ensures { IfOk result (λ place. names_of place.items ≡ codes "work" ∷ []) }
 {
-    let name = Vec::from_slice(alloc, b"work")?;
-    Ok(vec![in alloc; name]?)
+    Ok(vec![in alloc; Vec::from_slice(alloc, b"work")?]?)
 }
 
 /// `/work/in`.
@@ -58,7 +58,7 @@ fn grants(alloc: Global) -> Result<Vec<Grant>, AllocError>
     ensures { IfOk result (λ grants. grants_of grants.items ≡ work_grant ∷ []) }
 {
     let grant = Grant {
-        name: String::from_str(alloc, "work")?,
+        name: Name::new(b"work"),
         path: work(alloc)?,
         operations: Vec::from_slice(alloc, &[Op::Look, Op::Read])?,
     };
@@ -109,7 +109,7 @@ pub fn example_task(alloc: Global) -> Result<Task, AllocError>
     ensures { IfOk result (λ task. task ≡ first_plan) }
 {
     let main = NamedProgram {
-        name: String::from_str(alloc, "main")?,
+        name: Name::new(b"main"),
         program: enter_and_read(alloc)?,
         untrusted: false,
     };

@@ -1,8 +1,6 @@
 //! Certificates that are proposed, and how they are told.
 
-ghost use Rattle.std.specs.Prelude.{◌≡◌, ◌<◌, ◌-◌, ◌^◌, IfOk, IsErrOf, OnOk, codes};
-ghost use Rattle.rights.specs.Output.{Took};
-ghost use Rattle.certificate_text.specs.Texts.{certificate_text};
+ghost use Rattle.std.specs.Prelude.{◌≡◌, ◌<◌, ◌-◌, ◌^◌, IfOk, IsErrOf};
 ghost use Rattle.commands.specs.Begun.{HasBegun};
 ghost use Rattle.commands.specs.Searched.{Searches};
 
@@ -24,7 +22,6 @@ pub fn propose<W: Out>(alloc: Global, task: &Task, out: &mut W) -> Result<u8, St
     ensures memory { IsErrOf result Stop.Memory → W.taken out.new ≡ W.taken out.old }
     ensures not_spent { IsErrOf result Stop.Spent → ⊥ }
 {
-    task.note_valid();
     match search(alloc, task)? {
         Some(cert) => {
             write_cert(&cert, out)?;

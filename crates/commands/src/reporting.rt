@@ -1,31 +1,29 @@
 //! What an accepted certificate says of the task's grants.
 
-ghost use Rattle.std.specs.Prelude.{◌≡◌, ◌==◌, ◌++◌, ◌<◌, ◌≤◌, ◌-◌, ◌^◌, [], if◌then◌else◌, IfOk, IsErrOf, OnOk, codes, length, map, option_map};
-ghost use Rattle.std.specs.Fmt.{decimal};
+ghost use Rattle.std.specs.Prelude.{◌≡◌, ◌++◌, ◌<◌, ◌-◌, ◌^◌, IsErrOf, OnOk, codes, map, option_map};
 ghost use Rattle.certificate.specs.Bounds.{bound_at, held_in};
 ghost use Rattle.certificate.specs.Views.{bound_of, slot_of};
 ghost use Rattle.certificate_text.specs.Pieces.{in_order};
 ghost use Rattle.certificate_text.specs.WritingViews.{Writes};
 ghost use Rattle.checker.specs.Views.{verdict_of};
 ghost use Rattle.rights.specs.Output.{Took, TookFront};
-ghost use Rattle.commands.specs.Reports.{answer_text, ceiling_line, ceiling_lines, either_set, grant_line, greatest_in, names_in, own_names, parted, point_text, point_lines, program_lines};
-ghost use Rattle.commands.specs.Reports.{report_text, rights_there, rights_text};
-ghost use Rattle.rules.specs.Authority.{authority_at, ceiling_in};
+ghost use Rattle.commands.specs.Reports.{answer_text, ceiling_lines, either_set, grant_line, greatest_in, point_text, point_lines, program_lines, report_text, rights_there, rights_text};
 ghost use Rattle.rules.specs.Expansions.{expansion};
-ghost use Rattle.task.specs.Views.{grant_of, grants_of, program_of, programs_of};
-ghost use Rattle.instruction_set.specs.Views.{code_of};
+ghost use Rattle.task.specs.Views.{grants_of, program_of};
 
 use crate::judging::write_verdict;
-use bitflags::{Flag, Flags};
+use bitflags::Flags;
 use certificate::{Bound, Cert, Slot, Target};
 use checker::{Verdict, ceiling_at, expand, is_expanded};
-use console::write_bytes;
-use instruction_set::Instruction;
+use console::{write_bytes, write_pieces};
 use rights::{Out, Rights, Stop};
 use std::alloc::Global;
 use task::{Grant, NamedProgram, Task};
 use text_checker::Checked;
 use texts::Decimal;
+
+/// The rights, without the two names behind them that are other names of rights among them.
+const OWN_RIGHTS: usize = 14;
 
 /// The greatest rights of a slot that may be open in the grant of this name.
 fn greatest_in(slot: &Slot, grant: &[u8]) -> Option<Rights>
@@ -65,89 +63,26 @@ fn rights_in(slots: &[Slot], grant: &[u8]) -> Option<Rights>
     }
 }
 
-/// Writes the beginning of a line: a program, a point or a sign for all that it does, and a grant.
-fn write_place<W: Out>(out: &mut W, program: &[u8], point: &[u8], grant: &[u8]) -> Result<(), Stop>
-    requires { W.faults out.old < 2 ^ 64 - 1 }
-    ensures { Writes result (W.taken out.old) (W.taken out.new) (W.faults out.old) (W.faults out.new)
-        (point_text program.now point.now grant.now) }
-{
-    write_bytes(out, program)?;
-    write_bytes(out, b":")?;
-    write_bytes(out, point)?;
-    write_bytes(out, b" ")?;
-    write_bytes(out, grant)?;
-    write_bytes(out, b" ")
-}
-
-/// Writes a name, and before it what separates it from what stands there.
-fn write_name<W: Out>(out: &mut W, separator: &[u8], name: &str) -> Result<(), Stop>
-    requires { W.faults out.old < 2 ^ 64 - 1 }
-    ensures { Writes result (W.taken out.old) (W.taken out.new) (W.faults out.old) (W.faults out.new)
-        (separator.now ++ name.now) }
-{
-    write_bytes(out, separator)?;
-    write_bytes(out, name.as_bytes())
-}
-
-/// Writes the names of the rights of a set among these rows.
-fn write_names<W: Out>(
-    out: &mut W,
-    rows: &[Flag<Rights>],
-    set: Rights,
-    separator: &[u8],
-) -> Result<(), Stop>
-    requires { W.faults out.old < 2 ^ 64 - 1 }
-    ensures { Writes result (W.taken out.old) (W.taken out.new) (W.faults out.old) (W.faults out.new)
-        (parted separator.now (names_in set.0 (map (λ row. (row.name.now, row.value.0)) rows.now))) }
-{
-    match rows {
-        [] => Ok(()),
-        [row, rest @ ..] => {
-            if set.contains(row.value) {
-                write_name(out, separator, row.name)?;
-                return write_names(out, rest, set, b",");
-            }
-            write_names(out, rest, set, separator)
-        }
-    }
-}
-
-/// The fourteen rights.
-fn own_rows<'a>() -> &'a [Flag<Rights>]
-    ensures { map (λ row. (row.name.now, row.value.0)) result.now ≡ own_names }
-{
-    &Rights::flags()[..14]
-}
-
-/// Whether a set is empty.
-fn is_empty(set: Rights) -> bool
-    ensures { result ≡ (set.0 == 0) }
-{
-    set.bits() == 0
-}
-
 /// Writes a set of rights.
 fn write_rights<W: Out>(out: &mut W, set: Rights) -> Result<(), Stop>
     requires { W.faults out.old < 2 ^ 64 - 1 }
-    ensures { Writes result (W.taken out.old) (W.taken out.new) (W.faults out.old) (W.faults out.new) (rights_text set.0) }
+    ensures { Writes result (W.taken out.old) (W.taken out.new) (W.faults out.old) (W.faults out.new)
+        (rights_text set.0) }
 {
-    if is_empty(set) {
+    if set.bits() == 0 {
         return write_bytes(out, b"none");
     }
-    write_names(out, own_rows(), set, b"")
+    let mut separator: &[u8] = b"";
+    for right in &Rights::flags()[..OWN_RIGHTS] {
+        if set.contains(right.value) {
+            write_pieces(out, &[separator, right.name.as_bytes()])?;
+            separator = b",";
+        }
+    }
+    Ok(())
 }
 
-/// Writes the end of a line.
-fn write_end<W: Out>(out: &mut W, set: Rights) -> Result<(), Stop>
-    requires { W.faults out.old < 2 ^ 64 - 1 }
-    ensures { Writes result (W.taken out.old) (W.taken out.new) (W.faults out.old) (W.faults out.new)
-        (rights_text set.0 ++ codes "\n") }
-{
-    write_rights(out, set)?;
-    write_bytes(out, b"\n")
-}
-
-/// Writes the line of a place.
+/// Writes a line: a program, a point or a sign for all that it does, a grant, and the rights there.
 fn write_line<W: Out>(
     out: &mut W,
     program: &[u8],
@@ -157,32 +92,14 @@ fn write_line<W: Out>(
 ) -> Result<(), Stop>
     requires { W.faults out.old < 2 ^ 64 - 1 }
     ensures { Writes result (W.taken out.old) (W.taken out.new) (W.faults out.old) (W.faults out.new)
-        (point_text program.now point.now grant.now ++ (rights_text set.0 ++ codes "\n")) }
+        (point_text program.now point.now grant.now ++ rights_text set.0 ++ codes "\n") }
 {
-    write_place(out, program, point, grant)?;
-    write_end(out, set)
+    write_pieces(out, &[program, b":", point, b" ", grant, b" "])?;
+    write_rights(out, set)?;
+    write_bytes(out, b"\n")
 }
 
-/// Writes the line of a point and a grant, if a slot may be open in the grant there.
-fn write_grant<W: Out>(
-    out: &mut W,
-    program: &[u8],
-    point: u32,
-    bound: &Bound,
-    grant: &Grant,
-) -> Result<(), Stop>
-    requires { W.faults out.old < 2 ^ 64 - 1 }
-    ensures { Writes result (W.taken out.old) (W.taken out.new) (W.faults out.old) (W.faults out.new)
-        (grant_line program.now point (grant_of grant.now).name (rights_there (grant_of grant.now).name (bound_of bound.now).slots)) }
-{
-    let name = grant.name.as_bytes();
-    match rights_in(bound.slots(), name) {
-        None => Ok(()),
-        Some(set) => write_line(out, program, Decimal::new(point).as_bytes(), name, set),
-    }
-}
-
-/// Writes the lines of a point with a bound.
+/// Writes the lines of a point with a bound: one for each grant in which a slot may be open there.
 fn write_bound<W: Out>(
     out: &mut W,
     grants: &[Grant],
@@ -195,68 +112,35 @@ fn write_bound<W: Out>(
         (in_order (λ n g. grant_line program.now point g.name (rights_there g.name (bound_of bound.now).slots)) 0 (grants_of grants.now)) }
 {
     for grant in grants {
-        write_grant(out, program, point, bound, grant)?;
+        let name = grant.name.as_bytes();
+        if let Some(set) = rights_in(bound.slots(), name) {
+            write_line(out, program, Decimal::new(point).as_bytes(), name, set)?;
+        }
     }
     Ok(())
 }
 
-/// Writes the lines of a point.
-fn write_point<W: Out>(
-    out: &mut W,
-    grants: &[Grant],
-    cert: &Cert,
-    program: &[u8],
-    point: u32,
-) -> Result<(), Stop>
-    requires { W.faults out.old < 2 ^ 64 - 1 }
-    ensures { Writes result (W.taken out.old) (W.taken out.new) (W.faults out.old) (W.faults out.new)
-        (point_lines (grants_of grants.now) program.now point (bound_at cert.now program.now point)) }
-{
-    match cert.bound_at(program, point as usize) {
-        None => Ok(()),
-        Some(bound) => write_bound(out, grants, program, point, &bound),
-    }
-}
-
-/// Writes the lines of the points of a program.
+/// Writes the lines of the points of a program that have a bound.
 fn write_points<W: Out>(
     out: &mut W,
     grants: &[Grant],
     cert: &Cert,
-    name: &[u8],
-    code: &[Instruction],
+    program: &NamedProgram,
 ) -> Result<(), Stop>
-    requires few { length code.now ≤ 256 }
-    requires faults { W.faults out.old < 2 ^ 64 - 1 }
+    requires { W.faults out.old < 2 ^ 64 - 1 }
     ensures { Writes result (W.taken out.old) (W.taken out.new) (W.faults out.old) (W.faults out.new)
-        (in_order (λ point i. point_lines (grants_of grants.now) name.now point (bound_at cert.now name.now point)) 0 (code_of code.now)) }
+        (in_order (λ point i. point_lines (grants_of grants.now) (program_of program.now).name point (bound_at cert.now (program_of program.now).name point)) 0 (program_of program.now).code) }
 {
-    for (point, _instruction) in code.iter().enumerate() {
-        write_point(out, grants, cert, name, point as u32)?;
+    let name = program.name.as_bytes();
+    for (point, _) in program.program.code().iter().enumerate() {
+        if let Some(bound) = cert.bound_at(name, point) {
+            write_bound(out, grants, name, point as u32, &bound)?;
+        }
     }
     Ok(())
 }
 
-/// Writes the line of a grant and what a marked program may have there, if it may have anything.
-fn write_ceiling<W: Out>(
-    out: &mut W,
-    cert: &Cert,
-    program: &[u8],
-    grant: &Grant,
-) -> Result<(), Stop>
-    requires { W.faults out.old < 2 ^ 64 - 1 }
-    ensures { Writes result (W.taken out.old) (W.taken out.new) (W.faults out.old) (W.faults out.new)
-        (ceiling_line program.now (grant_of grant.now).name (ceiling_in (authority_at cert.now program.now).ceilings (grant_of grant.now).name)) }
-{
-    let name = grant.name.as_bytes();
-    let set = ceiling_at(cert, program, name);
-    if is_empty(set) {
-        return Ok(());
-    }
-    write_line(out, program, b"*", name, set)
-}
-
-/// Writes the lines of a marked program's authority.
+/// Writes the lines of a marked program's authority: one for each grant where it may have anything.
 fn write_ceilings<W: Out>(
     out: &mut W,
     grants: &[Grant],
@@ -268,26 +152,13 @@ fn write_ceilings<W: Out>(
         (ceiling_lines (grants_of grants.now) cert.now program.now) }
 {
     for grant in grants {
-        write_ceiling(out, cert, program, grant)?;
+        let name = grant.name.as_bytes();
+        let set = ceiling_at(cert, program, name);
+        if set.bits() != 0 {
+            write_line(out, program, b"*", name, set)?;
+        }
     }
     Ok(())
-}
-
-/// Writes the lines of its authority, if a program is marked.
-fn write_marks<W: Out>(
-    out: &mut W,
-    grants: &[Grant],
-    cert: &Cert,
-    program: &NamedProgram,
-) -> Result<(), Stop>
-    requires { W.faults out.old < 2 ^ 64 - 1 }
-    ensures { Writes result (W.taken out.old) (W.taken out.new) (W.faults out.old) (W.faults out.new)
-        (if (program_of program.now).marked then ceiling_lines (grants_of grants.now) cert.now (program_of program.now).name else []) }
-{
-    if !program.untrusted {
-        return Ok(());
-    }
-    write_ceilings(out, grants, cert, program.name.as_bytes())
 }
 
 /// Writes the lines of a program.
@@ -301,31 +172,11 @@ fn write_program<W: Out>(
     ensures { Writes result (W.taken out.old) (W.taken out.new) (W.faults out.old) (W.faults out.new)
         (program_lines (grants_of grants.now) cert.now (program_of program.now)) }
 {
-    write_points(
-        out,
-        grants,
-        cert,
-        program.name.as_bytes(),
-        program.program.code(),
-    )?;
-    write_marks(out, grants, cert, program)
-}
-
-/// Writes the lines of programs, one after another.
-fn write_programs<W: Out>(
-    out: &mut W,
-    grants: &[Grant],
-    cert: &Cert,
-    programs: &[NamedProgram],
-) -> Result<(), Stop>
-    requires { W.faults out.old < 2 ^ 64 - 1 }
-    ensures { Writes result (W.taken out.old) (W.taken out.new) (W.faults out.old) (W.faults out.new)
-        (in_order (λ n. program_lines (grants_of grants.now) cert.now) 0 (programs_of programs.now)) }
-{
-    for program in programs {
-        write_program(out, grants, cert, program)?;
+    write_points(out, grants, cert, program)?;
+    if !program.untrusted {
+        return Ok(());
     }
-    Ok(())
+    write_ceilings(out, grants, cert, program.name.as_bytes())
 }
 
 /// Writes the report of a task and a certificate in which all bounds are written.
@@ -334,7 +185,11 @@ fn write_report<W: Out>(task: &Task, cert: &Cert, out: &mut W) -> Result<(), Sto
     ensures { Writes result (W.taken out.old) (W.taken out.new) (W.faults out.old) (W.faults out.new)
         (report_text task.now cert.now) }
 {
-    write_programs(out, task.grants(), cert, task.programs())
+    let grants = task.grants();
+    for program in task.programs() {
+        write_program(out, grants, cert, program)?;
+    }
+    Ok(())
 }
 
 /// Writes the report of a task and a certificate: for each point of the task's programs that has a bound, given or carried, by

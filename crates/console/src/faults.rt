@@ -5,14 +5,14 @@ ghost use Rattle.task_reader.specs.FaultViews.{text_fault};
 ghost use Rattle.console.specs.Faults.{told_line, fault_status, fault_words};
 ghost use Rattle.console.specs.Told.{IsTold};
 ghost use Rattle.certificate_text.specs.WritingViews.{Writes};
-ghost use Rattle.console.specs.FaultViews.{certificate_fault, fault_of, program_fault, schedule_fault, stop_fault, task_fault, text_fault_code};
+ghost use Rattle.console.specs.FaultViews.{fault_of, program_fault, stop_fault, task_fault, text_fault_code};
 ghost use Rattle.console.specs.declared.faults.Fault.TheVariants as fault;
 
 use crate::statuses::{REFUSED, STOPPED};
-use crate::streams::write_bytes;
+use crate::streams::write_pieces;
 use certificate_text::CertFault;
 use prog_asm::AsmFault;
-use rights::{Out, Stop};
+use rights::{Memory, Out, Stop};
 use simulator::ScheduleFault;
 use std::alloc::{AllocError, Global};
 use task_reader::TaskFault;
@@ -39,6 +39,14 @@ impl<'a> From<AllocError> for Fault<'a> {
     ghost from_gives = { λ _ given. given ≡ fault.Memory };
 
     fn from(_error: AllocError) -> Fault<'a> {
+        Fault::Memory
+    }
+}
+
+impl<'a> From<Memory> for Fault<'a> {
+    ghost from_gives = { λ _ given. given ≡ fault.Memory };
+
+    fn from(_error: Memory) -> Fault<'a> {
         Fault::Memory
     }
 }
@@ -132,29 +140,6 @@ fn words_of_task(alloc: Global, fault: &TaskFault) -> Result<String, AllocError>
     }
 }
 
-/// The words for the fault of a schedule.
-fn words_of_schedule(alloc: Global, fault: ScheduleFault) -> Result<String, AllocError>
-    ensures { IfOk result (λ words. string_bytes words ≡ fault_words (schedule_fault fault)) }
-{
-    match fault {
-        ScheduleFault::Line(line) => format!(in alloc; "schedule 1 Line {line}"),
-        ScheduleFault::Limit => String::from_str(alloc, "schedule 2 Limit"),
-        ScheduleFault::Memory => String::from_str(alloc, "memory"),
-    }
-}
-
-/// The words for the fault of a certificate.
-fn words_of_certificate(alloc: Global, fault: CertFault) -> Result<String, AllocError>
-    ensures { IfOk result (λ words. string_bytes words ≡ fault_words (certificate_fault fault)) }
-{
-    match fault {
-        CertFault::Syntax(offset) => format!(in alloc; "cert 1 Syntax at {offset}"),
-        CertFault::Limit(offset) => format!(in alloc; "cert 2 Limit at {offset}"),
-        CertFault::Order(offset) => format!(in alloc; "cert 3 Order at {offset}"),
-        CertFault::Memory => String::from_str(alloc, "memory"),
-    }
-}
-
 /// The words for a fault.
 pub fn words_of(alloc: Global, fault: &Fault<'_>) -> Result<String, AllocError>
     ensures { IfOk result (λ words. string_bytes words ≡ fault_words (fault_of fault.now)) }
@@ -163,9 +148,13 @@ pub fn words_of(alloc: Global, fault: &Fault<'_>) -> Result<String, AllocError>
         Fault::Words => String::from_str(alloc, "words"),
         Fault::File(name) => format!(in alloc; "file {name}"),
         Fault::Task(fault) => words_of_task(alloc, fault),
-        Fault::Schedule(fault) => words_of_schedule(alloc, *fault),
-        Fault::Cert(fault) => words_of_certificate(alloc, *fault),
-        Fault::Memory => String::from_str(alloc, "memory"),
+        Fault::Schedule(ScheduleFault::Line(line)) => format!(in alloc; "schedule 1 Line {line}"),
+        Fault::Schedule(ScheduleFault::Limit) => String::from_str(alloc, "schedule 2 Limit"),
+        Fault::Cert(CertFault::Syntax(offset)) => format!(in alloc; "cert 1 Syntax at {offset}"),
+        Fault::Cert(CertFault::Limit(offset)) => format!(in alloc; "cert 2 Limit at {offset}"),
+        Fault::Cert(CertFault::Order(offset)) => format!(in alloc; "cert 3 Order at {offset}"),
+        Fault::Memory | Fault::Schedule(ScheduleFault::Memory) | Fault::Cert(CertFault::Memory) =>
+            String::from_str(alloc, "memory"),
         Fault::Output => String::from_str(alloc, "output"),
     }
 }
@@ -175,10 +164,7 @@ pub(crate) fn write_line<V: Out>(name: &str, words: &str, err: &mut V) -> Result
     requires { V.faults err.old < 2 ^ 64 - 1 }
     ensures { Writes result (V.taken err.old) (V.taken err.new) (V.faults err.old) (V.faults err.new) (told_line name.now words.now) }
 {
-    write_bytes(err, name.as_bytes())?;
-    write_bytes(err, b": ")?;
-    write_bytes(err, words.as_bytes())?;
-    write_bytes(err, b"\n")
+    write_pieces(err, &[name.as_bytes(), b": ", words.as_bytes(), b"\n"])
 }
 
 /// Tells a fault as the program of this name, and gives its status, which a failure of this writer doesn't change. Where there is

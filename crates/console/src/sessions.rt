@@ -1,9 +1,10 @@
 //! How a program begins and ends: its words, its files and its two streams.
 
-ghost use Rattle.std.specs.Prelude.{◌≡◌, ◌⊎◌, IfOk};
+ghost use Rattle.std.specs.Prelude.{◌≡◌, ◌⊎◌, IfErr, IfOk, IsTrue};
 ghost use Rattle.console.specs.Faults.{No_output, fault_status};
+ghost use Rattle.console.specs.Statuses.{is_fault_status};
 
-use crate::faults::Fault;
+use crate::faults::{Fault, tell};
 use crate::sources::Disk;
 use crate::streams::{Console, closed};
 use std::env;
@@ -13,6 +14,7 @@ use std::io::{BufWriter, ErrorKind, Stderr, Stdout};
 #[derive(Drop)]
 pub struct Session<'a> {
     rt: &'a HostRuntime,
+    name: &'a str,
 
     /// Its words, without its own name.
     pub words: Vec<String>,
@@ -21,49 +23,49 @@ pub struct Session<'a> {
     pub err: Console<Stderr>,
 }
 
-/// The words of the process, without its own name.
-fn words<'a>(rt: &HostRuntime) -> Result<Vec<String>, Fault<'a>> {
-    match env::args(rt) {
-        Ok(args) => Ok(args.skip(1).collect(rt.alloc())?),
-        Err(error) => {
-            if error.kind() == ErrorKind::OutOfMemory {
-                return Err(Fault::Memory);
-            }
-            Err(Fault::Words)
-        }
-    }
-}
-
 impl<'a> Session<'a> {
-    /// Begins a program.
-    ///
-    /// # Errors
-    ///
-    /// `Words`, where the words can't be had as text, and `Memory`.
-    pub fn begin(rt: &'a HostRuntime) -> Result<Session<'a>, Fault<'a>>
+    /// Opens what a program of this name has. The fault is `Words`, where the words can't be had as text, or `Memory`.
+    fn open(rt: &'a HostRuntime, name: &'a str) -> Result<Session<'a>, Fault<'a>>
         ensures out { IfOk result (λ session. session.out.failures ≡ 0) }
         ensures err { IfOk result (λ session. session.err.failures ≡ 0) }
     {
-        let words = words(rt)?;
-        let Ok(stream) = BufWriter::new(rt.alloc(), rt.stdout()) else {
-            return Err(Fault::Memory);
-        };
+        let args = env::args(rt).map_err(|error| match error.kind() {
+            ErrorKind::OutOfMemory => Fault::Memory,
+            _ => Fault::Words,
+        })?;
         Ok(Session {
             rt,
-            words,
+            name,
+            words: args.skip(1).collect(rt.alloc())?,
             files: Disk::new(rt),
-            out: Console::new(stream),
+            out: Console::new(BufWriter::new(rt.alloc(), rt.stdout()).map_err(|_| Fault::Memory)?),
             err: Console::new(rt.stderr()),
         })
     }
 
-    /// Hands on what the output still holds. The status that a program of this name ends with: this one, or 3 where that failed,
+    /// Begins a program of this name.
+    ///
+    /// # Errors
+    ///
+    /// The status of a fault, which was told: the words can't be had as text, or there is no memory.
+    pub fn begin(rt: &'a HostRuntime, name: &'a str) -> Result<Session<'a>, u8>
+        ensures out { IfOk result (λ session. session.out.failures ≡ 0) }
+        ensures err { IfOk result (λ session. session.err.failures ≡ 0) }
+        ensures refused { IfErr result (λ status. IsTrue (is_fault_status status)) }
+    {
+        match Session::open(rt, name) {
+            Ok(session) => Ok(session),
+            Err(fault) => Err(tell(rt.alloc(), name, &fault, &mut Console::new(rt.stderr()))),
+        }
+    }
+
+    /// Hands on what the output still holds. The status that the program ends with: this one, or 3 where that failed,
     /// which is told unless a fault was told before.
-    pub fn end(&mut self, name: &str, status: u8) -> u8
+    pub fn end(&mut self, status: u8) -> u8
         ensures { (result ≡ status) ⊎ (result ≡ fault_status No_output) }
     {
         closed(
-            name,
+            self.name,
             status,
             self.out.flush(),
             &mut Console::new(self.rt.stderr()),

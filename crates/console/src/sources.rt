@@ -38,12 +38,8 @@ pub fn fetched<'a>(name: &'a str, read: io::Result<Vec<u8>>) -> Result<Vec<u8>, 
 {
     match read {
         Ok(bytes) => Ok(bytes),
-        Err(error) => {
-            if error.kind() == ErrorKind::OutOfMemory {
-                return Err(Fault::Memory);
-            }
-            Err(Fault::File(name))
-        }
+        Err(error) if error.kind() == ErrorKind::OutOfMemory => Err(Fault::Memory),
+        Err(_) => Err(Fault::File(name)),
     }
 }
 
@@ -55,7 +51,9 @@ pub struct Disk<'a> {
 
 impl<'a> Disk<'a> {
     /// The files that this system has.
-    pub fn new(rt: &'a HostRuntime) -> Disk<'a> {
+    pub fn new(rt: &'a HostRuntime) -> Disk<'a>
+        ensures { ⟦<Disk<'a> as Source>⟧.files result ≡ None }
+    {
         Disk { rt }
     }
 }

@@ -1,6 +1,7 @@
 //! Standard output and standard error, as writers that count their failures.
 
 ghost use Rattle.std.specs.Prelude.{◌≡◌, ◌<◌, ◌≤◌, ◌-◌, ◌^◌, true, false, Ok, None, length, IfOk, OnErr, OnOk};
+ghost use Rattle.std.specs.List.{flat_map};
 ghost use Rattle.std.specs.Io.KnownBytes.{Keeps, WriteAppends};
 ghost use Rattle.certificate_text.specs.WritingViews.{Writes};
 ghost use Rattle.console.specs.Faults.{No_output, fault_status, fault_text};
@@ -75,6 +76,17 @@ pub fn write_bytes<W: Out>(out: &mut W, bytes: &[u8]) -> Result<(), Stop>
     ensures { Writes result (W.taken out.old) (W.taken out.new) (W.faults out.old) (W.faults out.new) bytes.now }
 {
     write_all(out, bytes)
+}
+
+/// Writes some pieces, one after another.
+pub fn write_pieces<W: Out>(out: &mut W, pieces: &[&[u8]]) -> Result<(), Stop>
+    requires { W.faults out.old < 2 ^ 64 - 1 }
+    ensures { Writes result (W.taken out.old) (W.taken out.new) (W.faults out.old) (W.faults out.new) (flat_map (λ piece. piece.now) pieces.now) }
+{
+    for piece in pieces {
+        write_bytes(out, piece)?;
+    }
+    Ok(())
 }
 
 /// The status that a program of this name ends with once the output was flushed: the one that it had; or 3 where the flush failed,

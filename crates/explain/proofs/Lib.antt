@@ -1,2 +1,3 @@
 pub mod Refused
 pub mod NoAnswerLaws
+pub mod Tellings

@@ -1,15 +1,17 @@
 -- What is no answer. (own)
-use Rattle.std.specs.Prelude.{◌≡◌, ℕ, List, Option, Some, Ok}
+use Rattle.std.specs.Prelude.{◌≡◌, ℕ, false, List, [], Option, Some, Ok}
 use Rattle.certificate.specs.Bounds.{Certificate}
 use Rattle.certificate_text.specs.Readings.{certificate_of_text}
+use Rattle.checker.specs.Findings.{BrokenRule}
 use Rattle.checker.specs.Verdicts.{IsAccepted}
 use Rattle.searcher.specs.Flat.{flat}
 use Rattle.task.specs.Plans.{Plan}
 use Rattle.task_reader.specs.Reading.{task_of}
 use Rattle.explain.specs.Answered.{Answers}
 use Rattle.explain.specs.Questions.{Broken, Unfound}
+use Rattle.explain.specs.Telling.{HasHead}
 
--- status 0 to `no` of a certificate that isn't accepted, and 1 of one that is
+-- status 0 to `no` of a certificate that isn't accepted, and 1 of one that is; nothing written; and a finding without its point
 pub record NoSaysWhether : Type 0 where
   pub refused : (files : List ℕ → Option (List ℕ)) (task certificate text bounds_text : List ℕ) (plan : Plan) (bounds : Certificate) (before after : Option (List ℕ))
       → files task ≡ Some text → files certificate ≡ Some bounds_text → task_of text ≡ Ok plan → certificate_of_text bounds_text ≡ Ok bounds
@@ -17,6 +19,9 @@ pub record NoSaysWhether : Type 0 where
   pub accepted : (files : List ℕ → Option (List ℕ)) (task certificate text bounds_text : List ℕ) (plan : Plan) (bounds : Certificate) (before after : Option (List ℕ))
       → files task ≡ Some text → files certificate ≡ Some bounds_text → task_of text ≡ Ok plan → certificate_of_text bounds_text ≡ Ok bounds
       → IsAccepted plan bounds → Answers (Some files) (Broken task certificate) 1 before after → ⊥
+  pub silent : (files : List ℕ → Option (List ℕ)) (task certificate : List ℕ) (status : ℕ) (before : List ℕ)
+      → Answers (Some files) (Broken task certificate) status (Some before) (Some before) → ⊥
+  pub headless : (plan : Plan) (f : BrokenRule) → HasHead plan f false [] → ⊥
 
 -- status 0 to `none` of a task that no certificate fits, and 1 of one whose flat certificate is accepted
 pub record NoneSaysWhether : Type 0 where

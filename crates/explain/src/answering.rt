@@ -1,11 +1,14 @@
 //! What is answered to a question, and how.
 
-ghost use Rattle.std.specs.Prelude.{◌≡◌, ◌<◌, ◌-◌, ◌^◌, IfOk, IsTrue, Ok, false, map, string_bytes, true};
+ghost use Rattle.std.specs.Prelude.{◌≡◌, ◌<◌, ◌-◌, ◌^◌, IfOk, IsTrue, Ok, OnOk, map, string_bytes, true};
+ghost use Rattle.checker.specs.FindingViews.{broken_rule_of};
 ghost use Rattle.console.specs.Statuses.{is_done_status, is_status};
 ghost use Rattle.task.specs.Plans.{Plan};
 ghost use Rattle.task_reader.specs.Reading.{task_of};
 ghost use Rattle.explain.specs.Answered.{Answers, IsTaskText, SaysBroken, SaysFound, SaysOffered, SaysWhether, AnswersWords};
 ghost use Rattle.explain.specs.QuestionViews.{question_of};
+ghost use Rattle.explain.specs.Telling.{Tells};
+ghost use Rattle.rights.specs.Output.{Took};
 
 use crate::breaching::answer_breach;
 use crate::failing::add_unfound;
@@ -22,9 +25,9 @@ use checker::{BrokenRule, all_findings, expand};
 use console::statuses::{BROKEN, DONE};
 use console::{Fault, Source, status_of_verdict, tell};
 use explore::Watcher;
-use rights::{Memory, Out, write_all};
+use rights::{Out, write_all};
 use searcher::propose;
-use std::alloc::Global;
+use std::alloc::{AllocError, Global};
 use task::Task;
 use task_reader::read_task;
 use task_text::{Page, texts_of_file};
@@ -36,17 +39,22 @@ pub const NAME: &str = "capwhy";
 /// An answer: its text, and the status that the program ends with.
 #[derive(Drop)]
 struct Answer {
-    page: Page,
+    text: Vec<u8>,
     status: u8,
     ghost status_is: { is_done_status status ≡ true },
 }
 
-/// A certificate with all its bounds written.
-fn expanded<'a>(alloc: Global, task: &Task, cert: &Cert) -> Result<Cert, Fault<'a>> {
-    match expand(alloc, task, cert) {
-        Ok(cert) => Ok(cert),
-        Err(Memory) => Err(Fault::Memory),
-    }
+/// An answer with this text, and the status of what is done.
+fn done<'a, F: FnOnce(&mut Page)>(alloc: Global, add: F) -> Result<Answer, Fault<'a>>
+    requires { F.IsAlwaysCallable add }
+    ensures { IfOk result (λ answer. answer.status ≡ 0) }
+{
+    let mut page = Page::new(alloc);
+    add(&mut page);
+    Ok(Answer {
+        text: page.into_bytes()?,
+        status: DONE,
+    })
 }
 
 /// The listing of a task, without bounds.
@@ -55,15 +63,9 @@ fn listing_alone<'a>(alloc: Global, file: &[u8]) -> Result<Answer, Fault<'a>>
 {
     let task = read_task(alloc, file)?;
     let texts = texts_of_file(alloc, file)?;
-    let mut page = Page::new(alloc);
-    let scene = Scene {
-        file,
-        texts: &texts,
-        task: &task,
-        cert: &Cert::new(alloc, Version::One),
-    };
-    add_listing(&mut page, &scene, false);
-    Ok(Answer { page, status: DONE })
+    let cert = Cert::new(alloc, Version::One);
+    let scene = Scene::new(file, &texts, &task, &cert);
+    done(alloc, |page| add_listing(page, &scene, false))
 }
 
 /// The listing of a task with the bounds of a certificate.
@@ -72,47 +74,44 @@ fn listing_with<'a>(alloc: Global, file: &[u8], cert: &[u8]) -> Result<Answer, F
 {
     let claim = read_texts(alloc, file, cert)?;
     let texts = texts_of_file(alloc, file)?;
-    let expanded = expanded(alloc, &claim.task, &claim.cert)?;
-    let mut page = Page::new(alloc);
-    let scene = Scene {
-        file,
-        texts: &texts,
-        task: &claim.task,
-        cert: &expanded,
-    };
-    add_listing(&mut page, &scene, true);
-    Ok(Answer { page, status: DONE })
+    let expanded = expand(alloc, &claim.task, &claim.cert)?;
+    let scene = Scene::new(file, &texts, &claim.task, &expanded);
+    done(alloc, |page| add_listing(page, &scene, true))
 }
 
-/// Adds all rules that a certificate breaks.
-fn add_broken(page: &mut Page, scene: &Scene<'_>, cert: &Cert, found: &[BrokenRule]) {
+/// What is told of the rules that a certificate breaks.
+fn told(
+    alloc: Global,
+    scene: &Scene<'_>,
+    cert: &Cert,
+    found: &[BrokenRule],
+) -> Result<Vec<u8>, AllocError>
+    ensures { IfOk result (λ text. Tells scene.now.task.now (map broken_rule_of found.now) text.items) }
+{
+    let mut page = Page::new(alloc);
     if found.is_empty() {
-        return page.text("no rule is broken: the certificate is accepted\n");
+        page.text("no rule is broken: the certificate is accepted\n");
+        return page.into_bytes();
     }
-    add_older(page, scene.task, cert);
-    add_findings(page, scene, found)
+    add_older(&mut page, scene.task, cert);
+    add_findings(&mut page, scene, found);
+    page.into_bytes()
 }
 
 /// All rules that a certificate breaks.
 #[tactic(auto, using(crate::proofs::Refused::says_verdict, crate::proofs::Refused::verdict_done))]
 fn broken<'a>(alloc: Global, file: &[u8], cert: &[u8]) -> Result<Answer, Fault<'a>>
-    ensures { IfOk result (λ answer. SaysBroken answer.status file.now cert.now) }
+    ensures { IfOk result (λ answer. SaysBroken answer.status file.now cert.now answer.text.items) }
 {
     let checked = check_texts(alloc, file, cert)?;
     let claim = &checked.claim;
     let texts = texts_of_file(alloc, file)?;
-    let expanded = expanded(alloc, &claim.task, &claim.cert)?;
+    let expanded = expand(alloc, &claim.task, &claim.cert)?;
+    let scene = Scene::new(file, &texts, &claim.task, &expanded);
     let found = all_findings(alloc, &claim.task, &claim.cert)?;
+    let text = told(alloc, &scene, &claim.cert, &found)?;
     let status = status_of_verdict(checked.verdict);
-    let mut page = Page::new(alloc);
-    let scene = Scene {
-        file,
-        texts: &texts,
-        task: &claim.task,
-        cert: &expanded,
-    };
-    add_broken(&mut page, &scene, &claim.cert, &found);
-    Ok(Answer { page, status })
+    Ok(Answer { text, status })
 }
 
 /// What the search comes to.
@@ -122,11 +121,12 @@ fn unfound<'a>(alloc: Global, file: &[u8]) -> Result<Answer, Fault<'a>>
     let task = read_task(alloc, file)?;
     let texts = texts_of_file(alloc, file)?;
     let mut page = Page::new(alloc);
-    let Ok(is_found) = add_unfound(alloc, &mut page, file, &texts, &task) else {
-        return Err(Fault::Memory);
-    };
+    let is_found = add_unfound(alloc, &mut page, file, &texts, &task)?;
     let status = if is_found { DONE } else { BROKEN };
-    Ok(Answer { page, status })
+    Ok(Answer {
+        text: page.into_bytes()?,
+        status,
+    })
 }
 
 /// Writes a certificate of a task that is proposed, or `none`, and gives the status.
@@ -136,10 +136,7 @@ fn offer<'a, W: Out>(alloc: Global, file: &[u8], out: &mut W) -> Result<u8, Faul
     ensures done { IfOk result (λ status. is_done_status status ≡ true) }
 {
     let task = read_task(alloc, file)?;
-    let Ok(proposed) = propose(alloc, &task) else {
-        return Err(Fault::Memory);
-    };
-    match proposed {
+    match propose(alloc, &task)? {
         Some(cert) => {
             write_cert(&cert, out)?;
             Ok(DONE)
@@ -151,47 +148,27 @@ fn offer<'a, W: Out>(alloc: Global, file: &[u8], out: &mut W) -> Result<u8, Faul
     }
 }
 
-/// The status of an answer that says whether a text is a task's.
-fn status_of_text(file: &[u8], is_good: bool) -> u8
-    requires good { is_good ≡ true → IsTaskText file.now }
-    requires bad { is_good ≡ false → IsTaskText file.now → ⊥ }
-    ensures says { SaysWhether result (IsTaskText file.now) }
-    ensures done { is_done_status result ≡ true }
-{
-    if is_good {
-        return DONE;
-    }
-    BROKEN
-}
-
 /// The faults of a task's text.
 fn faulty<'a>(alloc: Global, file: &[u8]) -> Result<Answer, Fault<'a>>
     ensures { IfOk result (λ answer. SaysWhether answer.status (IsTaskText file.now)) }
 {
     let mut page = Page::new(alloc);
     let is_good = add_task_faults(alloc, &mut page, file)?;
-    let status = status_of_text(file, is_good);
-    Ok(Answer { page, status })
+    let status = if is_good { DONE } else { BROKEN };
+    Ok(Answer {
+        text: page.into_bytes()?,
+        status,
+    })
 }
 
 /// Writes an answer, and gives its status.
 fn written<'a, W: Out>(answer: Answer, out: &mut W) -> Result<u8, Fault<'a>>
     requires { W.faults out.old < 2 ^ 64 - 1 }
-    ensures { IfOk result (λ status. status ≡ answer.status) }
+    ensures status { IfOk result (λ status. status ≡ answer.status) }
+    ensures text { OnOk result (Took (W.taken out.old) (W.taken out.new) answer.text.items) }
 {
-    match write_all(out, answer.page.finish()?) {
-        Ok(()) => Ok(answer.status),
-        Err(_) => Err(Fault::Output),
-    }
-}
-
-/// What there is to ask.
-fn usage<'a>(alloc: Global) -> Result<Answer, Fault<'a>>
-    ensures { IfOk result (λ answer. answer.status ≡ 0) }
-{
-    let mut page = Page::new(alloc);
-    page.text(USAGE);
-    Ok(Answer { page, status: DONE })
+    write_all(out, &answer.text)?;
+    Ok(answer.status)
 }
 
 /// Answers a question, and gives the status.
@@ -207,10 +184,9 @@ fn reply<'a, S: Source, W: Out, P: Watcher>(
     ensures done { IfOk result (λ status. is_done_status status ≡ true) }
 {
     match question {
-        Question::Usage => written(usage(alloc)?, out),
+        Question::Usage => written(done(alloc, |page| page.text(USAGE))?, out),
         Question::Listing { task, cert: None } => {
-            let task_text = files.fetch(task)?;
-            written(listing_alone(alloc, &task_text)?, out)
+            written(listing_alone(alloc, &files.fetch(task)?)?, out)
         }
         Question::Listing {
             task,
@@ -225,22 +201,12 @@ fn reply<'a, S: Source, W: Out, P: Watcher>(
             let cert_text = files.fetch(cert)?;
             written(broken(alloc, &task_text, &cert_text)?, out)
         }
-        Question::Unfound { task } => {
-            let task_text = files.fetch(task)?;
-            written(unfound(alloc, &task_text)?, out)
-        }
+        Question::Unfound { task } => written(unfound(alloc, &files.fetch(task)?)?, out),
         Question::Breach { task, states } => {
-            let task_text = files.fetch(task)?;
-            answer_breach(alloc, &task_text, states, out, watcher)
+            answer_breach(alloc, &files.fetch(task)?, states, out, watcher)
         }
-        Question::Proposed { task } => {
-            let task_text = files.fetch(task)?;
-            offer(alloc, &task_text, out)
-        }
-        Question::Faulty { task } => {
-            let task_text = files.fetch(task)?;
-            written(faulty(alloc, &task_text)?, out)
-        }
+        Question::Proposed { task } => offer(alloc, &files.fetch(task)?, out),
+        Question::Faulty { task } => written(faulty(alloc, &files.fetch(task)?)?, out),
     }
 }
 

@@ -3,13 +3,11 @@
 ghost use Rattle.std.specs.Prelude.{None, true};
 
 use crate::breaking::{error_fits, registers_beyond, slots_beyond, successes_fit};
-use crate::naming::{add_interval, add_slot, mode_name};
-use crate::scenes::{BoundedPoint, Scene};
+use crate::scenes::BoundedPoint;
 use certificate::{Bound, Domain};
 use std::alloc::{AllocError, Global};
 use task_text::Page;
-use task_text::Piece::{Number, Text};
-use transfer::{Outcome, OutcomeTest, Site, failure, successes_pass};
+use transfer::{Outcome, OutcomeVisitor, failure, successes_pass};
 
 /// An outcome of an instruction: the point that it goes to, and the bound that it has there.
 #[derive(Clone, Copy)]
@@ -37,7 +35,7 @@ struct OutcomeList {
 /// How many outcomes of one instruction are kept.
 const MOST_ARRIVALS: usize = 512;
 
-impl OutcomeTest for OutcomeList {
+impl OutcomeVisitor for OutcomeList {
     ghost passes = { λ t o. true };
 
     ghost joins = { λ t. None };
@@ -45,7 +43,7 @@ impl OutcomeTest for OutcomeList {
     ghost kept = { λ t. None };
 
     /// Keeps the outcome.
-    fn asks(&mut self, outcome: &Outcome<'_>) -> bool {
+    fn visit(&mut self, outcome: &Outcome<'_>) -> bool {
         if self.list.len() >= MOST_ARRIVALS {
             return true;
         }
@@ -63,27 +61,17 @@ impl OutcomeTest for OutcomeList {
 /// The outcomes of a point's instruction.
 pub(crate) fn arrivals(
     alloc: Global,
-    scene: &Scene<'_>,
     from: &BoundedPoint<'_>,
     leads: Leads,
 ) -> Result<Vec<Arrival>, AllocError> {
-    let mut arrivals = OutcomeList {
-        list: Vec::new(alloc),
-        is_cut: false,
-    };
-    let site = Site {
-        task: scene.task,
-        cert: scene.cert,
-        name: from.name,
-        point: from.point,
-        bound: from.bound,
-    };
+    let (list, is_cut) = (Vec::new(alloc), false);
+    let mut arrivals = OutcomeList { list, is_cut };
     if leads != Leads::ByError {
-        successes_pass(&site, from.instruction, &mut arrivals);
+        successes_pass(&from.site, from.instruction, &mut arrivals);
     }
     if leads != Leads::BySuccess {
-        if let Some(outcome) = failure(from.bound, from.instruction) {
-            arrivals.asks(&outcome);
+        if let Some(outcome) = failure(from.site.bound, from.instruction) {
+            arrivals.visit(&outcome);
         }
     }
     if arrivals.is_cut {
@@ -94,49 +82,31 @@ pub(crate) fn arrivals(
 
 /// Whether each outcome that goes to a point is within this bound there.
 pub(crate) fn fits(
-    scene: &Scene<'_>,
     from: &BoundedPoint<'_>,
     leads: Leads,
     point: usize,
     there: &Option<Bound>,
 ) -> bool {
-    match leads {
-        Leads::BySuccess => successes_fit(&from.site(scene), from.instruction, point, there),
-        Leads::ByError => error_fits(from.bound, from.instruction, point, there),
-        Leads::Anywhere => {
-            successes_fit(&from.site(scene), from.instruction, point, there)
-                && error_fits(from.bound, from.instruction, point, there)
-        }
-    }
+    let (site, instruction) = (&from.site, from.instruction);
+    (leads == Leads::ByError || successes_fit(site, instruction, point, there))
+        && (leads == Leads::BySuccess || error_fits(site.bound, instruction, point, there))
 }
 
 /// Adds in which parts a bound is too narrow for one that arrives.
 pub(crate) fn add_parts(page: &mut Page, arriving: &Bound, there: &Bound) {
-    if !arriving.mode().within(&there.mode()) {
-        page.pieces(&[
-            Text("; the mode arrives as "),
-            Text(mode_name(arriving.mode())),
-            Text(", the bound has "),
-            Text(mode_name(there.mode())),
-        ]);
+    let (mode, most) = (arriving.mode(), there.mode());
+    if !mode.within(&most) {
+        say!(page; "; the mode arrives as ", mode, ", the bound has ", most);
     }
     let registers = registers_beyond(page.alloc(), arriving, there);
     for register in &page.gathered(registers) {
-        page.pieces(&[
-            Text("; r"),
-            Number(u32::from(*register)),
-            Text(" arrives as "),
-        ]);
-        add_interval(page, arriving.interval(*register));
-        page.text(", the bound has ");
-        add_interval(page, there.interval(*register));
+        let (value, most) = (arriving.interval(*register), there.interval(*register));
+        say!(page; "; r", *register, " arrives as ", value, ", the bound has ", most);
     }
     let numbers = slots_beyond(page.alloc(), arriving, there);
     for number in &page.gathered(numbers) {
         let number = u32::from(*number);
-        page.pieces(&[Text("; descriptor "), Number(number), Text(" arrives as ")]);
-        add_slot(page, &arriving.slot(number));
-        page.text(", the bound has ");
-        add_slot(page, &there.slot(number));
+        let (slot, most) = (arriving.slot(number), there.slot(number));
+        say!(page; "; descriptor ", number, " arrives as ", slot, ", the bound has ", most);
     }
 }

@@ -3,32 +3,25 @@
 use crate::breaking::{
     moved_into, narrow_ends, received_beyond, started_beyond, taken_beyond, unlisted_ceilings,
 };
-use crate::naming::{add_end, add_held, add_rights, add_slot, mode_name};
-use crate::scenes::{BoundedPoint, Scene, short};
-use crate::starting::add_object;
-use certificate::{Bound, Channel, Class, Name, Side, Target};
+use crate::scenes::{BoundedPoint, Scene};
+use crate::starting::Object;
+use certificate::{Bound, Channel, Class, Side, Target};
 use checker::{Allowance, AuthorityRule, allowance_at, ceiling_at};
 use task::{Grant, Start};
 use task_text::Page;
-use task_text::Piece::{Bytes, Number, Text};
+use texts::Name;
 use transfer::{channel_at, enters_mode};
 
 /// Adds the ceiling of a descriptor's grant, or that it is an end that isn't listed, or that nothing can be said of it.
 fn add_ceiling(page: &mut Page, scene: &Scene<'_>, allowed: &Allowance<'_>, target: &Target) {
     match target {
         Target::InGrant(name) => {
-            page.pieces(&[
-                Text(", the ceiling on "),
-                Bytes(name.as_bytes()),
-                Text(" has "),
-            ]);
-            add_rights(
-                page,
-                ceiling_at(scene.cert, allowed.program.as_bytes(), name.as_bytes()),
-            )
+            let name = name.as_bytes();
+            let most = ceiling_at(scene.cert, allowed.program.as_bytes(), name);
+            say!(page; ", the ceiling on ", name, " has ", most)
         }
-        Target::Socket(..) => page.text(", which isn't listed"),
-        Target::AnyNode | Target::Unknown => page.text(", which no authority has"),
+        Target::Socket(..) => say!(page; ", which isn't listed"),
+        Target::AnyNode | Target::Unknown => say!(page; ", which no authority has"),
     }
 }
 
@@ -39,8 +32,7 @@ fn add_taken(page: &mut Page, scene: &Scene<'_>, allowed: &Allowance<'_>, bound:
         let number = u32::from(*number);
         let slot = bound.slot(number);
         if let Some(held) = slot.held() {
-            page.pieces(&[Text("; descriptor "), Number(number), Text(" is ")]);
-            add_slot(page, &slot);
+            say!(page; "; descriptor ", number, " is ", slot);
             add_ceiling(page, scene, allowed, &held.target());
         }
     }
@@ -56,16 +48,8 @@ fn add_first(
 ) {
     let descriptors = started_beyond(page.alloc(), scene.task, allowed, start);
     for first in &page.gathered(descriptors) {
-        page.pieces(&[
-            Text("; process "),
-            Number(short(process)),
-            Text(" starts in the mode with descriptor "),
-            Number(u32::from(first.number)),
-            Text(" of "),
-        ]);
-        add_object(page, scene, first.object);
-        page.text(" with ");
-        add_rights(page, first.rights);
+        say!(page; "; process ", process, " starts in the mode with descriptor ", first.number);
+        say!(page; " of ", Object { scene: &*scene, of: first.object }, " with ", first.rights);
     }
 }
 
@@ -81,9 +65,9 @@ pub(crate) fn add_beyond(
     let allowed = allowance_at(scene.cert, name);
     if let Some(at) = at {
         if enters_mode(at.instruction) {
-            add_taken(page, scene, &allowed, at.bound);
+            add_taken(page, scene, &allowed, at.site.bound);
         }
-        if at.point != 0 {
+        if at.site.point != 0 {
             return;
         }
     }
@@ -98,7 +82,7 @@ pub(crate) fn add_beyond(
 fn add_operations(page: &mut Page, grant: &Grant) {
     let mut separator = ", and the grant lists ";
     for operation in &grant.operations {
-        page.pieces(&[Text(separator), Text(operation.name())]);
+        say!(page; separator, *operation);
         separator = ",";
     }
 }
@@ -107,13 +91,11 @@ fn add_operations(page: &mut Page, grant: &Grant) {
 fn add_ceilings(page: &mut Page, scene: &Scene<'_>, allowed: &Allowance<'_>) {
     let ceilings = unlisted_ceilings(page.alloc(), scene.task, allowed);
     for ceiling in &page.gathered(ceilings) {
-        let name = ceiling.grant().as_bytes();
-        page.pieces(&[Text("; the ceiling on "), Bytes(name), Text(" has ")]);
-        add_rights(page, ceiling.rights());
-        let grants = scene.task.grants();
+        let (name, grants) = (ceiling.grant().as_bytes(), scene.task.grants());
+        say!(page; "; the ceiling on ", name, " has ", ceiling.rights());
         match grants.iter().find(|grant| grant.name.as_bytes() == name) {
             Some(grant) => add_operations(page, grant),
-            None => page.text(", and the task has no such grant"),
+            None => say!(page; ", and the task has no such grant"),
         }
     }
 }
@@ -123,27 +105,20 @@ fn add_moves(page: &mut Page, allowed: &Allowance<'_>) {
     for source in allowed.ceilings {
         let targets = moved_into(page.alloc(), source, allowed);
         for target in &page.gathered(targets) {
-            page.text("; the ceiling on ");
-            page.bytes(source.grant().as_bytes());
-            page.text(" has RENAMEAT_SOURCE, the one on ");
-            page.bytes(target.grant().as_bytes());
-            page.text(" has RENAMEAT_TARGET");
+            say!(page; "; the ceiling on ", source.grant().as_bytes(), " has RENAMEAT_SOURCE");
+            say!(page; ", the one on ", target.grant().as_bytes(), " has RENAMEAT_TARGET");
         }
     }
 }
 
 /// Adds the line of a side's channel: what it lets through, or that it is missing.
 fn add_line(page: &mut Page, channel: Option<&Channel>, class: &Class, side: Side) {
-    page.text("; the channel ");
-    add_end(page, class, side);
+    say!(page; "; the channel ", *class, " ", side);
     match channel {
-        None => page.text(" has no line"),
+        None => say!(page; " has no line"),
         Some(channel) => match channel.sends() {
-            None => page.text(" has the line none"),
-            Some(held) => {
-                page.text(" has ");
-                add_held(page, &held)
-            }
+            None => say!(page; " has the line none"),
+            Some(held) => say!(page; " has ", held),
         },
     }
 }
@@ -167,16 +142,8 @@ fn add_sent(page: &mut Page, scene: &Scene<'_>, allowed: &Allowance<'_>) {
     for end in &page.gathered(ends) {
         let (class, side) = (end.class(), end.side());
         add_line(page, channel_at(scene.cert, &class, side), &class, side);
-        page.text(", and has to have unknown 0000 3fff 0 3");
+        say!(page; ", and has to have unknown 0000 3fff 0 3");
     }
-}
-
-/// Adds that a point is bounded in the mode.
-pub(crate) fn add_bounded(page: &mut Page, bound: &Bound) {
-    page.pieces(&[
-        Text("; the bound has the mode "),
-        Text(mode_name(bound.mode())),
-    ])
 }
 
 /// Adds what one of the rules K19 to K22 compares of a program's authority.

@@ -6,7 +6,6 @@ ghost use Rattle.task.specs.Plans.{Plan};
 ghost use Rattle.task_reader.specs.Reading.{task_of};
 ghost use Rattle.explain.specs.Answered.{SaysRefuted};
 
-use crate::scenes::short;
 use console::Fault;
 use console::statuses::{BROKEN, DONE};
 use explore::{Explored, Watcher, explore, write_breach};
@@ -14,7 +13,6 @@ use rights::{Out, write_all};
 use std::alloc::Global;
 use task_reader::read_task;
 use task_text::Page;
-use task_text::Piece::{Number, Text};
 
 /// How many states are met at most, where the words don't say.
 const MOST_STATES: u32 = 200_000;
@@ -30,15 +28,9 @@ fn write_unbroken<'a, W: Out>(
     ensures { IfOk result (λ status. status ≡ 0) }
 {
     let mut page = Page::new(alloc);
-    page.pieces(&[
-        Text("no run was found that breaks anything; states met: "),
-        Number(short(states)),
-        Text(how_far),
-    ]);
-    match write_all(out, page.finish()?) {
-        Ok(()) => Ok(DONE),
-        Err(_) => Err(Fault::Output),
-    }
+    say!(&mut page; "no run was found that breaks anything; states met: ", states, how_far, "\n");
+    write_all(out, page.finish()?)?;
+    Ok(DONE)
 }
 
 /// Writes the run of a task that is found to break something, or that none is, and gives the status.
@@ -60,27 +52,17 @@ pub(crate) fn answer_breach<'a, W: Out, P: Watcher>(
     };
     match explored {
         Explored::Breaks(found) => {
-            write_breach(
-                alloc,
-                &task,
-                &found.events,
-                &found.breach,
-                &found.detail,
-                out,
-            )?;
+            let (events, breach) = (&found.events, &found.breach);
+            write_breach(alloc, &task, events, breach, &found.detail, out)?;
             Ok(BROKEN)
         }
-        Explored::Ended(states) => write_unbroken(
-            alloc,
-            states,
-            ", all to which the bytes lead that were tried\n",
-            out,
-        ),
-        Explored::Bounded(states) => write_unbroken(
-            alloc,
-            states,
-            ", and there are more: a greater number may be given\n",
-            out,
-        ),
+        Explored::Ended(states) => {
+            let how_far = ", all to which the bytes lead that were tried";
+            write_unbroken(alloc, states, how_far, out)
+        }
+        Explored::Bounded(states) => {
+            let how_far = ", and there are more: a greater number may be given";
+            write_unbroken(alloc, states, how_far, out)
+        }
     }
 }

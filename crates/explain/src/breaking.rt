@@ -34,7 +34,7 @@ use rights::limits::{MAX_DESCRIPTORS, REGISTERS};
 use std::alloc::{AllocError, Global};
 use task::{FirstDescriptor, Start, Task};
 use transfer::{
-    OpenSlot, Outcome, OutcomeTest, Site, failing_through, failure, needed, successes_pass,
+    OpenSlot, Outcome, OutcomeVisitor, Site, failing_through, failure, needed, successes_pass,
 };
 
 /// The slots that break a rule, of each operand that a call goes through.
@@ -131,14 +131,14 @@ struct Fits<'a> {
     there: &'a Option<Bound>,
 }
 
-impl<'a> OutcomeTest for Fits<'a> {
+impl<'a> OutcomeVisitor for Fits<'a> {
     ghost passes = { λ t o. not (o.point == t.point) || arrives o.bound (option_map bound_of t.there.now) };
 
     ghost joins = { λ t. None };
 
     ghost kept = { λ t. None };
 
-    fn asks(&mut self, outcome: &Outcome<'_>) -> bool {
+    fn visit(&mut self, outcome: &Outcome<'_>) -> bool {
         outcome.point != self.point
             || match self.there {
                 None => false,
@@ -171,7 +171,7 @@ pub(crate) fn error_fits(
 {
     match failure(bound, instruction) {
         None => true,
-        Some(outcome) => Fits { point, there }.asks(&outcome),
+        Some(outcome) => Fits { point, there }.visit(&outcome),
     }
 }
 

@@ -3,6 +3,13 @@
 //! needed to believe a yes of `capcheck`.
 #![tactic(auto)]
 
+/// Adds what stands behind a page to it, one after another.
+macro_rules! say {
+    ($page:expr; $($part:expr),+ $(,)?) => {{
+        $( crate::naming::Say::say($part, $page); )+
+    }};
+}
+
 pub mod answering;
 mod arriving;
 mod authority_rules;

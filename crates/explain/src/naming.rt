@@ -1,146 +1,184 @@
-//! How rights, commands, descriptors and modes are written.
+//! How what a task and a certificate have is written on a page.
 
+use crate::scenes::short;
 use bitflags::Flags;
 use certificate::{Class, FcntlsRange, Held, Interval, ModeBound, RightsRange, Side, Slot, Target};
-use rights::{Fcntls, Rights};
+use rights::{Fcntls, Op, Rights};
 use task_text::Page;
-use task_text::Piece::{Bytes, Number, Text};
+use task_text::Piece::Number;
+use transfer::OpenSlot;
 
-/// Adds the names of the rights of a set; `none` of an empty one, and `all rights` of the whole. The aliases for sockets aren't used.
-pub(crate) fn add_rights(page: &mut Page, set: Rights) {
-    if set == Rights::all() {
-        return page.text("all rights");
+/// What is written on a page.
+pub(crate) trait Say {
+    /// Adds it.
+    fn say(self, page: &mut Page);
+}
+
+impl<'a> Say for &'a str {
+    fn say(self, page: &mut Page) {
+        page.text(self)
     }
-    let mut separator = "";
-    for row in Rights::flags() {
-        let is_alias = row.name == "RECV" || row.name == "SEND";
-        if set.contains(row.value) && !is_alias {
-            page.pieces(&[Text(separator), Text(row.name)]);
-            separator = ",";
+}
+
+impl<'a> Say for &'a [u8] {
+    fn say(self, page: &mut Page) {
+        page.bytes(self)
+    }
+}
+
+impl Say for u32 {
+    fn say(self, page: &mut Page) {
+        page.piece(Number(self))
+    }
+}
+
+impl Say for u8 {
+    fn say(self, page: &mut Page) {
+        say!(page; u32::from(self))
+    }
+}
+
+impl Say for usize {
+    fn say(self, page: &mut Page) {
+        say!(page; short(self))
+    }
+}
+
+impl Say for Op {
+    fn say(self, page: &mut Page) {
+        say!(page; self.name())
+    }
+}
+
+/// Adds the names of the flags of a set, each bit once, by its first name; `none` of an empty set.
+fn say_names<F: Flags>(page: &mut Page, set: &F) {
+    let mut separator: &[u8] = b"";
+    for (name, _flag) in set.iter_names() {
+        say!(page; separator, name.as_bytes());
+        separator = b",";
+    }
+    if set.is_empty() {
+        say!(page; "none")
+    }
+}
+
+/// The names of the rights of a set, or that it is all of them.
+impl Say for Rights {
+    fn say(self, page: &mut Page) {
+        if self == Rights::all() {
+            return say!(page; "all rights");
         }
-    }
-    if set.bits() == 0 {
-        return page.text("none");
+        say_names(page, &self)
     }
 }
 
-/// Adds the names of the commands of a set.
-pub(crate) fn add_commands(page: &mut Page, set: Fcntls) {
-    let mut separator = "";
-    for row in Fcntls::flags() {
-        if set.contains(row.value) {
-            page.pieces(&[Text(separator), Text(row.name)]);
-            separator = ",";
+/// The names of the commands of a set.
+impl Say for Fcntls {
+    fn say(self, page: &mut Page) {
+        say_names(page, &self)
+    }
+}
+
+/// What a range of rights goes from and to, or that it is all of them.
+impl Say for RightsRange {
+    fn say(self, page: &mut Page) {
+        let (least, greatest) = (self.least(), self.greatest());
+        if least == greatest {
+            return say!(page; least);
         }
-    }
-    if set.bits() == 0 {
-        return page.text("none");
+        say!(page; "at least ", least, " and at most ", greatest)
     }
 }
 
-/// Adds what a range of rights goes from and to, or that it is all of them.
-fn add_rights_range(page: &mut Page, range: RightsRange) {
-    let (least, greatest) = (range.least(), range.greatest());
-    if least == greatest {
-        return add_rights(page, least);
-    }
-    page.text("at least ");
-    add_rights(page, least);
-    page.text(" and at most ");
-    add_rights(page, greatest)
-}
-
-/// Adds what a range of commands goes from and to, unless it is all of them.
-fn add_commands_range(page: &mut Page, range: FcntlsRange) {
-    let (least, greatest) = (range.least(), range.greatest());
-    if least == Fcntls::all() {
-        return;
-    }
-    page.text(", commands ");
-    if least == greatest {
-        return add_commands(page, least);
-    }
-    page.text("at least ");
-    add_commands(page, least);
-    page.text(" and at most ");
-    add_commands(page, greatest)
-}
-
-/// Adds a class and a side, as a certificate writes them.
-pub(crate) fn add_end(page: &mut Page, class: &Class, side: Side) {
-    let side = match side {
-        Side::A => " a",
-        Side::B => " b",
-    };
-    match class {
-        Class::Initial(pair) => {
-            page.pieces(&[Text("@"), Number(u32::from(pair.number())), Text(side)])
+/// What a range of commands goes from and to, unless it is all of them.
+impl Say for FcntlsRange {
+    fn say(self, page: &mut Page) {
+        let (least, greatest) = (self.least(), self.greatest());
+        if least == Fcntls::all() {
+            return;
         }
-        Class::MadeAt(program, point) => page.pieces(&[
-            Bytes(program.as_bytes()),
-            Text(":"),
-            Number(u32::from(*point)),
-            Text(side),
-        ]),
+        if least == greatest {
+            return say!(page; ", commands ", least);
+        }
+        say!(page; ", commands at least ", least, " and at most ", greatest)
     }
 }
 
-/// Adds what a descriptor is of.
-pub(crate) fn add_target(page: &mut Page, target: &Target) {
-    match target {
-        Target::InGrant(name) => page.pieces(&[Text("grant "), Bytes(name.as_bytes())]),
-        Target::AnyNode => page.text("any"),
-        Target::Socket(class, side) => {
-            page.text("sock ");
-            add_end(page, class, *side)
-        }
-        Target::Unknown => page.text("unknown"),
-    }
-}
-
-/// Adds what a descriptor is of, and its rights and commands.
-pub(crate) fn add_held(page: &mut Page, held: &Held) {
-    add_target(page, &held.target());
-    page.text(" with ");
-    add_rights_range(page, held.rights());
-    add_commands_range(page, held.fcntls())
-}
-
-/// Adds what a number of a table may be.
-pub(crate) fn add_slot(page: &mut Page, slot: &Slot) {
-    match slot {
-        Slot::Closed => page.text("closed"),
-        Slot::Open(held) => {
-            page.text("open, ");
-            add_held(page, held)
-        }
-        Slot::Maybe(held) => {
-            page.text("maybe open, ");
-            add_held(page, held)
+impl Say for Side {
+    fn say(self, page: &mut Page) {
+        match self {
+            Side::A => say!(page; "a"),
+            Side::B => say!(page; "b"),
         }
     }
 }
 
-/// Adds an interval.
-pub(crate) fn add_interval(page: &mut Page, interval: Interval) {
-    if interval.is_full() {
-        return page.text("any number");
+/// A class, as a certificate writes it.
+impl Say for Class {
+    fn say(self, page: &mut Page) {
+        match self {
+            Class::Initial(pair) => say!(page; "@", pair.number()),
+            Class::MadeAt(program, point) => say!(page; program.as_bytes(), ":", point),
+        }
     }
-    if interval.low() == interval.high() {
-        return page.piece(Number(interval.low()));
+}
+
+/// What a descriptor is of.
+impl Say for Target {
+    fn say(self, page: &mut Page) {
+        match self {
+            Target::InGrant(name) => say!(page; "grant ", name.as_bytes()),
+            Target::AnyNode => say!(page; "any"),
+            Target::Socket(class, side) => say!(page; "sock ", class, " ", side),
+            Target::Unknown => say!(page; "unknown"),
+        }
     }
-    page.pieces(&[
-        Number(interval.low()),
-        Text(" to "),
-        Number(interval.high()),
-    ])
+}
+
+/// What a descriptor is of, and its rights and commands.
+impl Say for Held {
+    fn say(self, page: &mut Page) {
+        say!(page; self.target(), " with ", self.rights(), self.fcntls())
+    }
+}
+
+/// What a number of a table may be.
+impl Say for Slot {
+    fn say(self, page: &mut Page) {
+        match self {
+            Slot::Closed => say!(page; "closed"),
+            Slot::Open(held) => say!(page; "open, ", held),
+            Slot::Maybe(held) => say!(page; "maybe open, ", held),
+        }
+    }
+}
+
+/// The number of a slot.
+impl Say for OpenSlot {
+    fn say(self, page: &mut Page) {
+        say!(page; "descriptor ", self.number)
+    }
+}
+
+impl Say for Interval {
+    fn say(self, page: &mut Page) {
+        if self.is_full() {
+            return say!(page; "any number");
+        }
+        if self.low() == self.high() {
+            return say!(page; self.low());
+        }
+        say!(page; self.low(), " to ", self.high())
+    }
 }
 
 /// A mode, as a certificate writes it.
-pub(crate) fn mode_name(mode: ModeBound) -> &'static str {
-    match mode {
-        ModeBound::Off => "off",
-        ModeBound::On => "on",
-        ModeBound::Either => "maybe",
+impl Say for ModeBound {
+    fn say(self, page: &mut Page) {
+        match self {
+            ModeBound::Off => say!(page; "off"),
+            ModeBound::On => say!(page; "on"),
+            ModeBound::Either => say!(page; "maybe"),
+        }
     }
 }

@@ -56,35 +56,22 @@ fn of_task<'a>(command: &str, task: &'a str) -> Option<Question<'a>>
     if is_dashed(task) {
         return None;
     }
-    if command == "list" {
-        return Some(Question::Listing { task, cert: None });
+    match command {
+        "list" => Some(Question::Listing { task, cert: None }),
+        "none" => Some(Question::Unfound { task }),
+        "breach" => Some(Question::Breach { task, states: None }),
+        "propose" => Some(Question::Proposed { task }),
+        "text" => Some(Question::Faulty { task }),
+        _ => None,
     }
-    if command == "none" {
-        return Some(Question::Unfound { task });
-    }
-    if command == "breach" {
-        return Some(Question::Breach { task, states: None });
-    }
-    if command == "propose" {
-        return Some(Question::Proposed { task });
-    }
-    if command == "text" {
-        return Some(Question::Faulty { task });
-    }
-    None
 }
 
 /// The search for a run that breaks a task's sandbox, among as many states as a word says.
 fn among<'a>(task: &'a str, states: &str) -> Option<Question<'a>>
     ensures { option_map question_of result ≡ among task.now (at_most most_states (number_of states.now)) }
 {
-    match number_up_to(states.as_bytes(), u32::MAX) {
-        Ok(states) => Some(Question::Breach {
-            task,
-            states: Some(states),
-        }),
-        Err(_) => None,
-    }
+    let states = Some(number_up_to(states.as_bytes(), u32::MAX).ok()?);
+    Some(Question::Breach { task, states })
 }
 
 /// What it asks of two.
@@ -94,19 +81,15 @@ fn of_pair<'a>(command: &str, task: &'a str, cert: &'a str) -> Option<Question<'
     if is_dashed(task) || is_dashed(cert) {
         return None;
     }
-    if command == "list" {
-        return Some(Question::Listing {
+    match command {
+        "list" => Some(Question::Listing {
             task,
             cert: Some(cert),
-        });
+        }),
+        "breach" => among(task, cert),
+        "no" => Some(Question::Broken { task, cert }),
+        _ => None,
     }
-    if command == "breach" {
-        return among(task, cert);
-    }
-    if command == "no" {
-        return Some(Question::Broken { task, cert });
-    }
-    None
 }
 
 /// What the words ask, if they ask anything. A name of a file may be empty, and have any bytes but a leading `-`. (own)
@@ -115,12 +98,7 @@ pub fn read_question<'a>(words: &'a [String]) -> Option<Question<'a>>
 {
     match words {
         [] => Some(Question::Usage),
-        [word] => {
-            if word.as_str() == "--help" {
-                return Some(Question::Usage);
-            }
-            None
-        }
+        [word] if word.as_str() == "--help" => Some(Question::Usage),
         [command, task] => of_task(command.as_str(), task.as_str()),
         [command, task, cert] => of_pair(command.as_str(), task.as_str(), cert.as_str()),
         _ => None,

@@ -27,18 +27,14 @@ fn leads_to(instruction: &Instruction, point: usize) -> (Option<usize>, Option<u
     }
 }
 
-/// Whether descriptors of two targets may be of one thing.
-fn may_be_same(target: &Target, other: &Target) -> bool {
-    target.within(other) || other.within(target)
-}
-
 /// Whether an operand may name a slot of what a target may be.
 fn names_target(bound: &Bound, operand: Operand, target: &Target) -> bool {
     let interval = operand_interval(bound, operand);
     for (number, slot) in bound.slots().iter().enumerate() {
         let is_named = interval.low() as usize <= number && number <= interval.high() as usize;
         if let Some(held) = slot.held() {
-            if is_named && may_be_same(&held.target(), target) {
+            let other = held.target();
+            if is_named && (other.within(target) || target.within(&other)) {
                 return true;
             }
         }
@@ -46,18 +42,14 @@ fn names_target(bound: &Bound, operand: Operand, target: &Target) -> bool {
     false
 }
 
-/// Whether a call sends away what a target may be.
-fn sends_target(bound: &Bound, passed: Passed, target: &Target) -> bool {
-    match passed {
-        Passed::Sent(sent) => names_target(bound, sent, target),
-        Passed::Nothing | Passed::Received => false,
-    }
-}
-
 /// The rights that a call needs of what a target may be by one of its operands, or keeps by a limit; all of them where it sends
 /// such a descriptor away.
 fn needs_by(bound: &Bound, operand: Operand, need: Need, target: &Target) -> Rights {
-    if sends_target(bound, need.passed, target) {
+    let is_sent = match &need.passed {
+        Passed::Sent(sent) => names_target(bound, *sent, target),
+        Passed::Nothing | Passed::Received => false,
+    };
+    if is_sent {
         return Rights::all();
     }
     if names_target(bound, operand, target) {
@@ -85,13 +77,10 @@ fn needs_of(instruction: &Instruction, bound: &Option<Bound>, target: &Target) -
 
 /// What is set of a point, if it is there.
 fn at<T: Copy>(points: &[T], point: Option<usize>, default: T) -> T {
-    match point {
-        Some(point) => match points.get(point) {
-            Some(value) => *value,
-            None => default,
-        },
-        None => default,
-    }
+    point
+        .and_then(|point| points.get(point))
+        .copied()
+        .unwrap_or(default)
 }
 
 /// For each point the rights that its call needs of what a target may be.
@@ -101,11 +90,10 @@ fn rights_needed(
     bounds: &[Option<Bound>],
     target: &Target,
 ) -> Result<Vec<Rights>, AllocError> {
-    let mut needed = Vec::with_capacity(alloc, code.len())?;
-    for (instruction, bound) in code.iter().zip(bounds) {
-        needed.push(needs_of(instruction, bound, target))?;
-    }
-    Ok(needed)
+    code.iter()
+        .zip(bounds)
+        .map(|(instruction, bound)| needs_of(instruction, bound, target))
+        .collect(alloc)
 }
 
 /// Adds to the rights of each point those of the points that it leads to.
@@ -135,19 +123,14 @@ pub(crate) fn rights_used(
 
 /// Sets the flag of a point, if it is there.
 fn set(flags: &mut [bool], point: Option<usize>) {
-    if let Some(point) = point {
-        if let Some(flag) = flags.get_mut(point) {
-            *flag = true;
-        }
+    if let Some(flag) = point.and_then(|point| flags.get_mut(point)) {
+        *flag = true;
     }
 }
 
 /// For each point whether instructions lead to it from point 0.
 pub(crate) fn points_reached(alloc: Global, code: &[Instruction]) -> Result<Vec<bool>, AllocError> {
-    let mut reached = Vec::with_capacity(alloc, code.len())?;
-    for _ in code {
-        reached.push(false)?;
-    }
+    let mut reached = vec![in alloc; false; code.len()]?;
     set(&mut reached, Some(0));
     for _ in 0..code.len() {
         for (point, instruction) in code.iter().enumerate() {

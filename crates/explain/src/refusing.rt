@@ -1,31 +1,84 @@
 //! All rules that a certificate breaks, with where and why.
 
+ghost use Rattle.std.specs.Prelude.{◌≡◌, ◌++◌, ℕ, List, Option, map, option_map};
+ghost use Rattle.checker.specs.FindingViews.{broken_rule_of};
+ghost use Rattle.explain.specs.Telling.{HasHead, TellsEach, finding_text, head_text, is_same_point};
+ghost use Rattle.checker.specs.Findings.{BrokenRule as BrokenRuleSeen};
+ghost use Rattle.task.specs.Plans.{program_name};
+ghost use Rattle.task_text.specs.PageViews.{Adds};
+
 use crate::scenes::Scene;
-use crate::sentences::add_rule;
+use crate::sentences::sentence;
 use checker::BrokenRule;
 use task_text::Page;
-use task_text::Piece::{Bytes, Text};
+use task_text::Piece::{Bytes, Number, Text};
 
 /// Adds the line of a point: its instruction as it is written.
-fn add_head(page: &mut Page, scene: &Scene<'_>, found: BrokenRule) {
-    let point = usize::from(found.point);
-    scene.add_point(page, found.program, point);
+fn add_head(page: &mut Page, scene: &Scene<'_>, found: BrokenRule)
+    ensures { (line : ℕ) × (written : List ℕ)
+        × Adds page.old page.new (head_text (program_name scene.now.task.now found.program) found.point line written) }
+{
+    let written = scene.written(found.program, found.point);
+    scene.place(found.program, found.point).add_to(page);
+    page.pieces(&[Text(": "), Bytes(written.text), Text("\n")])
+}
+
+/// Whether a finding is of the same point as the one before it.
+fn is_same_point(before: Option<BrokenRule>, found: BrokenRule) -> bool
+    ensures { result ≡ is_same_point (option_map broken_rule_of before) (broken_rule_of found) }
+{
+    match before {
+        Some(before) => before.program == found.program && before.point == found.point,
+        None => false,
+    }
+}
+
+/// Adds the line of a point, if the finding before was of another.
+fn add_new_head(page: &mut Page, scene: &Scene<'_>, before: Option<BrokenRule>, found: BrokenRule)
+    ensures { (head : List ℕ)
+        × HasHead scene.now.task.now (broken_rule_of found) (is_same_point (option_map broken_rule_of before) (broken_rule_of found)) head
+        × Adds page.old page.new head }
+{
+    if !is_same_point(before, found) {
+        add_head(page, scene, found)
+    }
+}
+
+/// Adds the line of a rule that is broken at a point: what it asks, and what it compares there.
+fn add_rule(page: &mut Page, scene: &Scene<'_>, found: BrokenRule)
+    ensures { (sentence : List ℕ) × Adds page.old page.new (finding_text (broken_rule_of found) sentence) }
+{
+    let sentence = sentence(page.alloc(), scene, found);
     page.pieces(&[
-        Text(": "),
-        Bytes(scene.written(usize::from(found.program), point).text),
+        Text("  K"),
+        Number(u32::from(found.rule.number())),
+        Text(" "),
+        Bytes(sentence.as_bytes()),
         Text("\n"),
-    ])
+    ]);
+    if sentence.finish().is_err() {
+        page.fail();
+    }
+}
+
+/// Adds a finding behind others.
+fn add_finding(page: &mut Page, scene: &Scene<'_>, before: Option<BrokenRule>, found: BrokenRule)
+    ensures { (head : List ℕ) × (sentence : List ℕ)
+        × HasHead scene.now.task.now (broken_rule_of found) (is_same_point (option_map broken_rule_of before) (broken_rule_of found)) head
+        × Adds page.old page.new (head ++ finding_text (broken_rule_of found) sentence) }
+{
+    add_new_head(page, scene, before, found);
+    add_rule(page, scene, found)
 }
 
 /// Adds the rules that are broken, point by point.
-pub(crate) fn add_findings(page: &mut Page, scene: &Scene<'_>, found: &[BrokenRule]) {
+pub(crate) fn add_findings(page: &mut Page, scene: &Scene<'_>, found: &[BrokenRule])
+    ensures { (last : Option BrokenRuleSeen) × (told : List ℕ)
+        × TellsEach scene.now.task.now last (map broken_rule_of found.now) told × Adds page.old page.new told }
+{
     let mut last = None;
     for finding in found {
-        let here = (finding.program, finding.point);
-        if last != Some(here) {
-            last = Some(here);
-            add_head(page, scene, *finding);
-        }
-        add_rule(page, scene, *finding);
+        add_finding(page, scene, last, *finding);
+        last = Some(*finding);
     }
 }

@@ -1,15 +1,14 @@
 //! Remarks on a program: what a yes doesn't say of it, and what could be narrower.
 
-use crate::naming::add_rights;
 use crate::reaching::{points_reached, rights_used};
-use crate::scenes::{Scene, short};
+use crate::scenes::Scene;
 use certificate::{Bound, Domain, Target};
 use instruction_set::{Instruction, Operand};
 use rights::Rights;
 use rights::limits::MAX_DESCRIPTORS;
 use std::alloc::{AllocError, Global};
+use task::NamedProgram;
 use task_text::Page;
-use task_text::Piece::{Bytes, Number, Text};
 use transfer::{Through, enters_mode, may_be_on, needed};
 
 /// A program, and the bounds of its points.
@@ -31,10 +30,10 @@ fn add_points(page: &mut Page, flags: &[bool]) {
             None if is_set => first = Some(point),
             Some(start) if !is_set => {
                 first = None;
-                page.pieces(&[Text(separator), Number(short(start))]);
+                say!(page; separator, start);
                 separator = ", ";
                 if start.saturating_add(1) < point {
-                    page.pieces(&[Text(" to "), Number(short(point.saturating_sub(1)))]);
+                    say!(page; " to ", point.saturating_sub(1));
                 }
             }
             _ => {}
@@ -47,76 +46,50 @@ fn add_remark(page: &mut Page, subject: &[u8], text: &str, flags: &[bool]) {
     if !flags.iter().any(|&flag| flag) {
         return;
     }
-    page.text("  remark: ");
-    page.bytes(subject);
-    page.text(text);
-    page.text(" at ");
+    say!(page; "  remark: ", subject, text, " at ");
     add_points(page, flags);
-    page.text("\n");
+    say!(page; "\n");
 }
 
 impl<'a> Bounded<'a> {
     /// Whether a process in the mode may be at a point.
     fn is_on(&self, point: usize) -> bool {
-        match self.bounds.get(point) {
-            Some(Some(bound)) => may_be_on(bound.mode()),
-            _ => false,
-        }
+        matches!(self.bounds.get(point), Some(Some(bound)) if may_be_on(bound.mode()))
     }
-}
 
-impl<'a> Bounded<'a> {
     /// Whether a number is the same in the mode at the point before.
     fn has_before(&self, number: u32, point: usize, bound: &Bound) -> bool {
-        if point == 0 {
+        let Some(Some(before)) = point
+            .checked_sub(1)
+            .and_then(|point| self.bounds.get(point))
+        else {
             return false;
-        }
-        let before = match self.bounds.get(point.saturating_sub(1)) {
-            Some(Some(before)) => before,
-            _ => return false,
         };
         let (slot, other) = (bound.slot(number), before.slot(number));
         may_be_on(before.mode()) && slot.within(&other) && other.within(&slot)
     }
 }
 
-/// The program of this number, with the bounds that a certificate gives its points.
+/// A program, with the bounds that a certificate gives its points.
 fn with_bounds<'a>(
     alloc: Global,
     scene: &Scene<'a>,
-    program: usize,
+    program: &'a NamedProgram,
 ) -> Result<Bounded<'a>, AllocError> {
-    let (name, code, untrusted): (&[u8], &[Instruction], bool) = match scene
-        .task
-        .programs()
-        .get(program)
-    {
-        Some(program) => (
-            program.name.as_bytes(),
-            program.program.code(),
-            program.untrusted,
-        ),
-        None => (&[], &[], false),
-    };
-    let mut bounds = Vec::new(alloc);
-    for (point, _instruction) in code.iter().enumerate() {
-        bounds.push(scene.cert.bound_at(name, point))?;
-    }
+    let (name, code) = (program.name.as_bytes(), program.program.code());
+    let bounds = (0..code.len()).map(|point| scene.cert.bound_at(name, point));
     Ok(Bounded {
         name,
         code,
-        untrusted,
-        bounds,
+        untrusted: program.untrusted,
+        bounds: bounds.collect(alloc)?,
     })
 }
 
 /// As many flags as a program has points, each of them the same.
-fn flags_of(alloc: Global, code: &[Instruction], flag: bool) -> Result<Vec<bool>, AllocError> {
-    let mut flags = Vec::with_capacity(alloc, code.len())?;
-    for _ in code {
-        flags.push(flag)?;
-    }
-    Ok(flags)
+fn flags_of(page: &mut Page, code: &[Instruction], flag: bool) -> Vec<bool> {
+    let flags = vec![in page.alloc(); flag; code.len()];
+    page.gathered(flags)
 }
 
 /// Remarks that a process of the program never enters the mode.
@@ -127,24 +100,16 @@ fn add_outside(
     bounded: &Bounded<'_>,
     has_cert: bool,
 ) {
-    let mut starts_free = false;
-    for start in scene.task.starts() {
-        if usize::from(start.program) == program && !start.mode {
-            starts_free = true;
-        }
-    }
-    let mut is_entered = false;
-    for (point, instruction) in bounded.code.iter().enumerate() {
-        let is_unbounded = !has_cert || bounded.untrusted;
-        if bounded.is_on(point) || (is_unbounded && enters_mode(instruction)) {
-            is_entered = true;
-        }
-    }
+    let starts_free = scene.task.starts().iter().any(|start| usize::from(start.program) == program
+        && !start.mode);
+    let is_unbounded = !has_cert || bounded.untrusted;
+    let is_entered = bounded.code.iter().enumerate().any(|(point, instruction)| {
+        bounded.is_on(point) || (is_unbounded && enters_mode(instruction))
+    });
     if !starts_free || is_entered {
         return;
     }
-    let flags = flags_of(page.alloc(), bounded.code, true);
-    let flags = page.gathered(flags);
+    let flags = flags_of(page, bounded.code, true);
     let text = " never enters the mode, and a yes does not bound what it does to the tree,";
     add_remark(page, bounded.name, text, &flags)
 }
@@ -154,13 +119,8 @@ fn add_untrusted(page: &mut Page, bounded: &Bounded<'_>) {
     if !bounded.untrusted {
         return;
     }
-    page.pieces(&[
-        Text("  remark: in the mode "),
-        Bytes(bounded.name),
-        Text(
-            " may do anything with what its authority has, and its points bound it outside the mode alone\n",
-        ),
-    ])
+    say!(page; "  remark: in the mode ", bounded.name, " may do anything with what its authority has");
+    say!(page; ", and its points bound it outside the mode alone\n")
 }
 
 /// Remarks where no point leads.
@@ -181,8 +141,7 @@ fn add_unreached(page: &mut Page, bounded: &Bounded<'_>, has_cert: bool) {
 
 /// Remarks where, in the mode, a number may hold what lies in no grant.
 fn add_strays(page: &mut Page, bounded: &Bounded<'_>, number: u32) {
-    let flags = flags_of(page.alloc(), bounded.code, false);
-    let mut flags = page.gathered(flags);
+    let mut flags = flags_of(page, bounded.code, false);
     for (point, flag) in flags.iter_mut().enumerate() {
         if let Some(Some(bound)) = bounded.bounds.get(point) {
             if let Some(held) = bound.slot(number).held() {
@@ -193,7 +152,7 @@ fn add_strays(page: &mut Page, bounded: &Bounded<'_>, number: u32) {
         }
     }
     let mut subject = Page::new(page.alloc());
-    subject.pieces(&[Text("descriptor "), Number(number)]);
+    say!(&mut subject; "descriptor ", number);
     if subject.finish().is_err() {
         page.fail();
     }
@@ -230,17 +189,8 @@ fn limit_at(
 
 /// Remarks to what a number could be limited at a point.
 fn add_limit(page: &mut Page, number: u32, point: usize, most: Rights) {
-    page.pieces(&[
-        Text("  remark: descriptor "),
-        Number(number),
-        Text(" could be limited to "),
-    ]);
-    add_rights(page, most);
-    page.pieces(&[
-        Text(", since no call from there on can use its other rights, in the mode at "),
-        Number(short(point)),
-        Text("\n"),
-    ]);
+    say!(page; "  remark: descriptor ", number, " could be limited to ", most);
+    say!(page; ", since no call from there on can use its other rights, in the mode at ", point, "\n");
 }
 
 /// Remarks to what a number could be limited.
@@ -264,13 +214,8 @@ fn add_closed(page: &mut Page, bounded: &Bounded<'_>, point: usize, through: Opt
         return;
     };
     if bound.slot(number).held().is_none() {
-        page.pieces(&[
-            Text("  remark: descriptor "),
-            Number(number),
-            Text(" is never open where the instruction names it, at "),
-            Number(short(point)),
-            Text("\n"),
-        ]);
+        say!(page; "  remark: descriptor ", number);
+        say!(page; " is never open where the instruction names it, at ", point, "\n");
     }
 }
 
@@ -287,9 +232,11 @@ fn add_all_closed(page: &mut Page, bounded: &Bounded<'_>) {
 
 /// Adds the remarks on a program.
 pub(crate) fn add_remarks(page: &mut Page, scene: &Scene<'_>, program: usize, has_cert: bool) {
-    let Ok(bounded) = with_bounds(page.alloc(), scene, program) else {
-        page.fail();
+    let Some(named) = scene.task.programs().get(program) else {
         return;
+    };
+    let Ok(bounded) = with_bounds(page.alloc(), scene, named) else {
+        return page.fail();
     };
     add_outside(page, scene, program, &bounded, has_cert);
     add_untrusted(page, &bounded);
@@ -297,9 +244,9 @@ pub(crate) fn add_remarks(page: &mut Page, scene: &Scene<'_>, program: usize, ha
     if !has_cert {
         return;
     }
-    for number in 0..MAX_DESCRIPTORS {
-        add_strays(page, &bounded, short(number));
-        add_limits(page, &bounded, short(number));
+    for number in 0..MAX_DESCRIPTORS as u32 {
+        add_strays(page, &bounded, number);
+        add_limits(page, &bounded, number);
     }
     add_all_closed(page, &bounded);
 }

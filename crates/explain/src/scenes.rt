@@ -1,10 +1,14 @@
 //! What is explained: a task with its file, and a certificate in which all bounds are written.
 
-ghost use Rattle.std.specs.Prelude.{◌≡◌, true};
+ghost use Rattle.std.specs.Prelude.{◌≡◌, ◌≤◌, length, true};
+ghost use Rattle.explain.specs.Telling.{point_with_line};
 ghost use Rattle.instruction_set.specs.Views.{instruction_of};
+ghost use Rattle.task.specs.Plans.{program_name};
+ghost use Rattle.task_text.specs.PageViews.{Adds};
 ghost use Rattle.transfer.specs.Limits.{leaves_known};
 
-use certificate::{Bound, Cert, Name};
+use crate::naming::Say;
+use certificate::{Bound, Cert};
 use instruction_set::Instruction;
 use task::Task;
 use task_text::Piece::{Bytes, Number, Text};
@@ -23,67 +27,89 @@ pub(crate) struct Scene<'a> {
 /// A point of a program that has a bound.
 #[derive(Clone, Copy)]
 pub(crate) struct BoundedPoint<'a> {
-    pub name: &'a Name,
+    pub site: Site<'a>,
+    /// The program's place in the task.
     pub program: u8,
-    pub point: u8,
-    pub bound: &'a Bound,
     pub instruction: &'a Instruction,
     pub ghost known: { leaves_known (instruction_of instruction.now) ≡ true },
 }
 
-impl<'a> BoundedPoint<'a> {
-    /// The point in a task with a certificate.
-    pub(crate) fn site(&self, scene: &Scene<'a>) -> Site<'a> {
-        Site {
-            task: scene.task,
-            cert: scene.cert,
-            name: self.name,
-            point: self.point,
-            bound: self.bound,
-        }
+/// A point with its line.
+#[derive(Clone, Copy)]
+pub(crate) struct Place<'a> {
+    program: &'a [u8],
+    point: u32,
+    line: u32,
+}
+
+impl<'a> Place<'a> {
+    /// Adds it: `main:2 (line 31)`.
+    pub(crate) fn add_to(&self, page: &mut Page)
+        ensures { Adds page.old page.new (point_with_line self.now.program.now self.now.point self.now.line) }
+    {
+        page.pieces(&[
+            Bytes(self.program),
+            Text(":"),
+            Number(self.point),
+            Text(" (line "),
+            Number(self.line),
+            Text(")"),
+        ])
+    }
+}
+
+impl<'a> Say for Place<'a> {
+    fn say(self, page: &mut Page) {
+        self.add_to(page)
     }
 }
 
 impl<'a> Scene<'a> {
+    /// A task with its file and the texts of its programs, and a certificate.
+    pub(crate) fn new(
+        file: &'a [u8],
+        texts: &'a [ProgramText],
+        task: &'a Task,
+        cert: &'a Cert,
+    ) -> Scene<'a>
+        ensures { result.task.now ≡ task.now }
+    {
+        Scene {
+            file,
+            texts,
+            task,
+            cert,
+        }
+    }
+
     /// The instruction of a point as it is written, and its line in the file.
-    pub(crate) fn written(&self, program: usize, point: usize) -> Written<'a> {
-        match self.texts.get(program) {
-            Some(text) => text.written_at(self.file, point),
+    pub(crate) fn written(&self, program: u8, point: u8) -> Written<'a> {
+        match self.texts.get(usize::from(program)) {
+            Some(text) => text.written_at(self.file, usize::from(point)),
             None => Written { text: &[], line: 0 },
         }
     }
 
-    /// The name of a program.
-    pub(crate) fn name(&self, program: u8) -> Option<Name> {
-        Name::read(self.task.program_name(program))
-    }
-
-    /// How many points a program has.
-    pub(crate) fn length(&self, program: u8) -> usize {
-        match self.task.programs().get(usize::from(program)) {
-            Some(program) => program.program.code().len(),
-            None => 0,
+    /// A point of a program, with its line.
+    pub(crate) fn place(&self, program: u8, point: u8) -> Place<'a>
+        ensures program { result.program.now ≡ program_name self.now.task.now program }
+        ensures point { result.point ≡ point }
+    {
+        Place {
+            program: self.task.program_name(program),
+            point: u32::from(point),
+            line: self.written(program, point).line,
         }
     }
 
-    /// Whether a program is untrusted.
-    pub(crate) fn is_untrusted(&self, program: u8) -> bool {
+    /// The code of a program.
+    pub(crate) fn code(&self, program: u8) -> &'a [Instruction]
+        ensures { length result.now ≤ 256 }
+    {
         match self.task.programs().get(usize::from(program)) {
-            Some(program) => program.untrusted,
-            None => false,
+            Some(program) => program.program.code(),
+            None => &[],
         }
-    }
-
-    /// Adds a point with its line: `main:2 (line 31)`.
-    pub(crate) fn add_point(&self, page: &mut Page, program: u8, point: usize) {
-        page.pieces(&[
-            Bytes(self.task.program_name(program)),
-            Text(":"),
-            Number(short(point)),
-            Text(" (line "),
-            Number(self.written(usize::from(program), point).line),
-            Text(")"),
-        ])
     }
 }
 

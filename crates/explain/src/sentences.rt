@@ -1,21 +1,52 @@
 //! The rules, each in a sentence with what it compares at a point that breaks it.
 
 use crate::arriving::{Leads, add_parts, arrivals, fits};
-use crate::authority_rules::{add_authority, add_beyond, add_bounded};
+use crate::authority_rules::{add_authority, add_beyond};
 use crate::call_rules::{Told, add_call_rule};
 use crate::scenes::{BoundedPoint, Scene};
 use crate::starting::add_start;
-use certificate::{Bound, Domain, Name};
+use certificate::{Bound, Domain};
 use checker::starts::is_bounded_start;
 use checker::{AuthorityRule, BrokenRule, CallRule, Rule, SlotRule, instruction_at};
 use instruction_set::Instruction;
+use std::alloc::Global;
+use task::is_marked;
 use task_text::Page;
-use task_text::Piece::{Bytes, Number, Text};
+use texts::Name;
+use transfer::Site;
 
 /// How many arrivals of one rule are told.
 const MOST_TOLD: u32 = 3;
 
-/// What a rule on each slot that a call goes through asks, in a sentence.
+/// What a rule asks.
+fn general(rule: Rule) -> &'static str {
+    match rule {
+        Rule::StartsWithin => "the bound of point 0 is too narrow for how a process starts",
+        Rule::SuccessesWithin => "a success leads to a point whose bound is too narrow for it",
+        Rule::ErrorsWithin => "an error leads to a point whose bound is too narrow for it",
+        Rule::OfCall(rule) => match rule {
+            CallRule::OneNumber => "a call that changes a slot names it by one number",
+            CallRule::FreeNumbers => "the free numbers that a call takes are determined",
+            CallRule::NoGlobalPath => "in the mode no call reaches a global path",
+            CallRule::OfSlot(rule) => general_of_slot(rule),
+        },
+        Rule::LeadsToBounds => "a point that is reached has a bound",
+        Rule::BoundsOutside => {
+            "the points of an untrusted program bound it outside the mode alone"
+        }
+        Rule::TakesWithin => "what an untrusted program holds in the mode is within its authority",
+        Rule::OfAuthority(rule) => match rule {
+            AuthorityRule::Ceilings => "a ceiling's grant lists what the ceiling's rights are for",
+            AuthorityRule::Moves => {
+                "by no two ceilings can a name be moved from one grant into another"
+            }
+            AuthorityRule::Received => "what may come by a listed end is within the authority",
+            AuthorityRule::Sent => "whoever receives from a listed end expects anything",
+        },
+    }
+}
+
+/// What a rule on each slot that a call goes through asks.
 fn general_of_slot(rule: SlotRule) -> &'static str {
     match rule {
         SlotRule::Rights => "each right that a call needs is surely held",
@@ -30,62 +61,23 @@ fn general_of_slot(rule: SlotRule) -> &'static str {
     }
 }
 
-/// What a rule on calls asks.
-fn general_of_call(rule: CallRule) -> &'static str {
-    match rule {
-        CallRule::OneNumber => "a call that changes a slot names it by one number",
-        CallRule::FreeNumbers => "the free numbers that a call takes are determined",
-        CallRule::NoGlobalPath => "in the mode no call reaches a global path",
-        CallRule::OfSlot(rule) => general_of_slot(rule),
-    }
-}
-
-/// What a rule on authorities asks.
-fn general_of_authority(rule: AuthorityRule) -> &'static str {
-    match rule {
-        AuthorityRule::Ceilings => "a ceiling's grant lists what the ceiling's rights are for",
-        AuthorityRule::Moves => {
-            "by no two ceilings can a name be moved from one grant into another"
-        }
-        AuthorityRule::Received => "what may come by a listed end is within the authority",
-        AuthorityRule::Sent => "whoever receives from a listed end expects anything",
-    }
-}
-
-/// What a rule asks.
-fn general(rule: Rule) -> &'static str {
-    match rule {
-        Rule::StartsWithin => "the bound of point 0 is too narrow for how a process starts",
-        Rule::SuccessesWithin => "a success leads to a point whose bound is too narrow for it",
-        Rule::ErrorsWithin => "an error leads to a point whose bound is too narrow for it",
-        Rule::OfCall(rule) => general_of_call(rule),
-        Rule::LeadsToBounds => "a point that is reached has a bound",
-        Rule::BoundsOutside => {
-            "the points of an untrusted program bound it outside the mode alone"
-        }
-        Rule::TakesWithin => "what an untrusted program holds in the mode is within its authority",
-        Rule::OfAuthority(rule) => general_of_authority(rule),
-    }
-}
-
 /// Adds where an instruction leads that a bound there is too narrow for, and in which parts.
 fn add_narrow(page: &mut Page, scene: &Scene<'_>, from: &BoundedPoint<'_>, leads: Leads) {
-    let arrivals = arrivals(page.alloc(), scene, from, leads);
+    let arrivals = arrivals(page.alloc(), from, leads);
     let arrivals = page.gathered(arrivals);
     let mut told = 0u32;
-    for point in 0..scene.length(from.program) {
-        let there = scene.cert.bound_at(from.name.as_bytes(), point);
+    for (point, _instruction) in scene.code(from.program).iter().enumerate() {
+        let there = scene.cert.bound_at(from.site.name.as_bytes(), point);
         let Some(bound) = &there else {
             continue;
         };
-        if fits(scene, from, leads, point, &there) {
+        if fits(from, leads, point, &there) {
             continue;
         }
         for arrival in &arrivals {
             if arrival.point == point && !arrival.bound.within(bound) && told < MOST_TOLD {
-                told = told.saturating_add(1);
-                page.text("; it leads to ");
-                scene.add_point(page, from.program, point);
+                told += 1;
+                say!(page; "; it leads to ", scene.place(from.program, point as u8));
                 add_parts(page, &arrival.bound, bound);
             }
         }
@@ -94,22 +86,21 @@ fn add_narrow(page: &mut Page, scene: &Scene<'_>, from: &BoundedPoint<'_>, leads
 
 /// Adds where it leads that has no bound.
 fn add_unbound(page: &mut Page, scene: &Scene<'_>, from: &BoundedPoint<'_>) {
-    for point in 0..scene.length(from.program) {
-        let there = scene.cert.bound_at(from.name.as_bytes(), point);
-        if there.is_none() && !fits(scene, from, Leads::Anywhere, point, &there) {
-            page.text("; it leads to ");
-            scene.add_point(page, from.program, point);
-            page.text(", which has none");
+    for (point, _instruction) in scene.code(from.program).iter().enumerate() {
+        let there = scene.cert.bound_at(from.site.name.as_bytes(), point);
+        if there.is_none() && !fits(from, Leads::Anywhere, point, &there) {
+            let place = scene.place(from.program, point as u8);
+            say!(page; "; it leads to ", place, ", which has none");
         }
     }
 }
 
 /// Adds which processes start otherwise than the bound of point 0 says.
-fn add_starts(page: &mut Page, scene: &Scene<'_>, program: u8, bound: &Bound) {
-    let marked = scene.is_untrusted(program);
+fn add_starts(page: &mut Page, scene: &Scene<'_>, at: &BoundedPoint<'_>) {
+    let marked = is_marked(scene.task.programs(), at.site.name.as_bytes());
     for start in scene.task.starts() {
-        if is_bounded_start(marked, program, start) {
-            add_start(page, scene, bound, start);
+        if is_bounded_start(marked, at.program, start) {
+            add_start(page, scene, at.site.bound, start);
         }
     }
 }
@@ -117,19 +108,19 @@ fn add_starts(page: &mut Page, scene: &Scene<'_>, program: u8, bound: &Bound) {
 /// Adds what a rule compares at a point with a bound.
 fn add_compared(page: &mut Page, scene: &Scene<'_>, at: &BoundedPoint<'_>, rule: Rule) {
     match rule {
-        Rule::StartsWithin => add_starts(page, scene, at.program, at.bound),
+        Rule::StartsWithin => add_starts(page, scene, at),
         Rule::SuccessesWithin => add_narrow(page, scene, at, Leads::BySuccess),
         Rule::ErrorsWithin => add_narrow(page, scene, at, Leads::ByError),
         Rule::OfCall(rule) => {
             if let Instruction::Invoke { call, .. } = at.instruction {
-                let bound = at.bound;
+                let bound = at.site.bound;
                 add_call_rule(page, &Told { scene, bound, call }, rule)
             }
         }
         Rule::LeadsToBounds => add_unbound(page, scene, at),
-        Rule::BoundsOutside => add_bounded(page, at.bound),
-        Rule::TakesWithin => add_beyond(page, scene, at.name, at.program, Some(at)),
-        Rule::OfAuthority(rule) => add_authority(page, scene, at.name, rule),
+        Rule::BoundsOutside => say!(page; "; the bound has the mode ", at.site.bound.mode()),
+        Rule::TakesWithin => add_beyond(page, scene, at.site.name, at.program, Some(at)),
+        Rule::OfAuthority(rule) => add_authority(page, scene, at.site.name, rule),
     }
 }
 
@@ -143,49 +134,51 @@ fn add_without(page: &mut Page, scene: &Scene<'_>, name: &Name, program: u8, rul
         | Rule::ErrorsWithin
         | Rule::OfCall(_)
         | Rule::LeadsToBounds
-        | Rule::BoundsOutside => page.text("; it has none, and a process starts here"),
+        | Rule::BoundsOutside => say!(page; "; it has none, and a process starts here"),
     }
 }
 
 /// Adds what a rule compares at its point.
 fn add_detail(page: &mut Page, scene: &Scene<'_>, found: BrokenRule) {
     let (program, point) = (found.program, found.point);
-    let (Some(name), Some(instruction)) = (
-        scene.name(program),
+    let (Some(named), Some(instruction)) = (
+        scene.task.programs().get(usize::from(program)),
         instruction_at(scene.task, program, point),
     ) else {
         return;
     };
+    let name = &named.name;
     match scene.cert.bound_at(name.as_bytes(), usize::from(point)) {
         Some(bound) => {
-            let at = BoundedPoint {
-                name: &name,
-                program,
+            let site = Site {
+                task: scene.task,
+                cert: scene.cert,
+                name,
                 point,
                 bound: &bound,
+            };
+            let at = BoundedPoint {
+                site,
+                program,
                 instruction,
             };
             add_compared(page, scene, &at, found.rule)
         }
-        None => add_without(page, scene, &name, program, found.rule),
+        None => add_without(page, scene, name, program, found.rule),
     }
 }
 
-/// Adds the line of a rule that is broken at a point: what it asks, and what it compares there.
-pub(crate) fn add_rule(page: &mut Page, scene: &Scene<'_>, found: BrokenRule) {
-    page.pieces(&[
-        Text("  K"),
-        Number(u32::from(found.rule.number())),
-        Text(" "),
-        Text(general(found.rule)),
-    ]);
-    let mut detail = Page::new(page.alloc());
+/// What a rule that is broken at a point asks, and what it compares there.
+pub(crate) fn sentence(alloc: Global, scene: &Scene<'_>, found: BrokenRule) -> Page {
+    let mut detail = Page::new(alloc);
     add_detail(&mut detail, scene, found);
+    let mut sentence = Page::new(alloc);
+    sentence.text(general(found.rule));
+    if let Some(compared) = detail.as_bytes().strip_prefix(b"; ".as_slice()) {
+        say!(&mut sentence; ": ", compared);
+    }
     if detail.finish().is_err() {
-        page.fail();
+        sentence.fail();
     }
-    if let Some(rest) = detail.as_bytes().strip_prefix(b"; ".as_slice()) {
-        page.pieces(&[Text(": "), Bytes(rest)]);
-    }
-    page.text("\n");
+    sentence
 }

@@ -1,7 +1,6 @@
 //! Where the faults of a task's text are.
 
-ghost use Rattle.std.specs.Prelude.{◌≡◌, ◌≢◌, IfOk, false, true};
-ghost use Rattle.task_reader.specs.declared.faults.TaskFault.TheVariants as code;
+ghost use Rattle.std.specs.Prelude.{◌≡◌, IfOk, false, true};
 ghost use Rattle.explain.specs.Answered.{IsTaskText};
 
 use console::{Fault, words_of};
@@ -24,22 +23,6 @@ fn add_refusal(
     Ok(())
 }
 
-/// Whether a fault is want of memory.
-fn is_memory(fault: &TaskFault) -> bool
-    ensures { result ≡ false → fault.now ≢ code.Memory }
-{
-    match fault {
-        TaskFault::Memory => true,
-        TaskFault::NotToml
-        | TaskFault::Field
-        | TaskFault::Node
-        | TaskFault::Grant
-        | TaskFault::Descriptor
-        | TaskFault::Asm { .. }
-        | TaskFault::Limit => false,
-    }
-}
-
 /// Adds the faults of a task's text. Whether it is good: that is judged as every command judges it.
 #[tactic(auto, using(crate::proofs::Refused::refused_text))]
 pub(crate) fn add_task_faults(
@@ -55,10 +38,8 @@ pub(crate) fn add_task_faults(
             page.text("the text is a task's\n");
             Ok(true)
         }
+        Err(TaskFault::Memory) => Err(TaskFault::Memory),
         Err(fault) => {
-            if is_memory(&fault) {
-                return Err(TaskFault::Memory);
-            }
             add_refusal(alloc, page, file, fault)?;
             Ok(false)
         }

@@ -104,7 +104,7 @@ abbrev pub at_last : Way → Last → ℕ → List ℕ → Name → WalkState
 at_last way last n before name = record {
   way = way;
   last = last;
-  stand = record { spot = record { current = n; before = before }; left = name ∷ []; followed = 0 };
+  stand = record { cursor = record { current = n; before = before }; left = name ∷ []; followed = 0 };
 }
 
 abbrev pub walking : Walking → ProcessState

@@ -61,7 +61,7 @@ module _ (t u : List Node) (objects later : ℕ → Object) (row new : ℕ → O
     same_way = is.same_way;
     same_last = is.same_last;
     text = is.text;
-    opened = opened_later (walk.stand.spot.current ∷ walk.stand.spot.before) is.opened;
+    opened = opened_later (walk.stand.cursor.current ∷ walk.stand.cursor.before) is.opened;
     left = is.left;
     few = is.few;
   }

@@ -15,7 +15,7 @@ use Rattle.lookup.specs.Steps.{Move, Moves, Meets, looked}
 use Rattle.lookup.specs.ByPlaces.{place_below, upwards, downwards, in_place, standing, restart_below, by_places}
 use Rattle.lookup.specs.ByNodes.{Walked, from_node, back, into, in_node, restart_node, by_nodes}
 use Rattle.lookup.specs.Looks.{start_place, start_node, start_fault, is_start_gone, lookup_fault, or_else, unless_lost, find_of, walk_of}
-use Rattle.lookup.proofs.StepLaws.{SameMove, SameSpot, Together, looked_alike}
+use Rattle.lookup.proofs.StepLaws.{SameMove, SameCursor, Together, looked_alike}
 
 -- A node stands at the names below a start, and the directories walked before stand above it, one by one.
 abbrev pub OnWay : List Node → List (List ℕ) → List (List ℕ) → ℕ → List ℕ → Type 0
@@ -90,7 +90,7 @@ module _ (t : List Node) (way : Way) (last : Last) (start : List (List ℕ)) (tr
       rw (there, child, found.linked) (chain_alike (Goes_with t start) (not (is_dir (node t d).kind)) (is_dot name) (is_dot_dot name) _ _ _ _ _ _ _ _ refl h
       (up_alike way below d before h) (down_alike below d before name left _ h refl))
 
-  pub together : SameSpot (Goes_with t start) (restart_below way) (restart_node way) → Together (by_places t way last start) (by_nodes t way last) (Goes_with t start)
+  pub together : SameCursor (Goes_with t start) (restart_below way) (restart_node way) → Together (by_places t way last start) (by_nodes t way last) (Goes_with t start)
   unfolding by_places by_nodes
   together restart = record {
     arrived = λ below walked h. ap standing (found_at t (place_below start below) walked.current tree (stands_there t start below walked.current walked.before h));
@@ -101,7 +101,7 @@ module _ (t : List Node) (way : Way) (last : Last) (start : List (List ℕ)) (tr
 root_found : (t : List Node) → IsTree t → Found t [] 0
 root_found t tree = record { there = root_there t tree; linked = tree.root_linked; place = tree.root_place }
 
-restart_alike : (t : List Node) (start : ℕ) (way : Way) → IsTree t → SameSpot (Goes_with t (start_place t start way)) (restart_below way) (restart_node way)
+restart_alike : (t : List Node) (start : ℕ) (way : Way) → IsTree t → SameCursor (Goes_with t (start_place t start way)) (restart_below way) (restart_node way)
 restart_alike t start Beneath tree = tt
 restart_alike t start Global tree = root_found t tree
 

@@ -67,7 +67,7 @@ module _ (t : List Node) (way : Way) (last : Last) (start : List (List ℕ)) (tr
       rw (at, d.kind, dots.0, dots.1, m.at, m.opened) refl
 
   leads_along : (names below : List (List ℕ)) (followed : ℕ) → list_all is_file_name names ≡ true → Found t (place_below start below ++ names) n →
-      Leads (by_places t way last start) (record { spot = below; left = names; followed = followed }) (Found_node n)
+      Leads (by_places t way last start) (record { cursor = below; left = names; followed = followed }) (Found_node n)
   unfolding by_places
   leads_along [] below followed valid found =
       let ends : (node t n).place ≡ place_below start below = found.place ∙ append-nil (place_below start below) in

@@ -9,7 +9,7 @@ use Rattle.file_tree.proofs.TreeLaws.{child_there, child_parent, root_there}
 use Rattle.lookup.specs.Answers.{Way, Beneath, Last, LookupFault, Loop, Finding, Not_found}
 use Rattle.rights.specs.Limits.{most_links}
 use Rattle.lookup.specs.Leads.{Stand, Next, Goes, Ends, followed_from, onward, next_from, next}
-use Rattle.lookup.specs.Steps.{Rules, Move, Moves, Meets, Stops, target_spot}
+use Rattle.lookup.specs.Steps.{Rules, Move, Moves, Meets, Stops, target_cursor}
 use Rattle.lookup.specs.ByNodes.{Walked}
 use Rattle.lookup.specs.Walks.{WalkState, Progress, Done, More, handled, AreInTree, IsInTree, IsNear, IsNearFinding}
 use Rattle.lookup.specs.Views.{stand_of, rules_of, walk_state, SameRules, IsHandled, IsSettled, StaysNear}
@@ -94,17 +94,17 @@ near_handles t last stood tree = record {
 -- an event's finding, or where it left the walk, is near
 abbrev IsNearAfter : List Node → Walked → Progress → Type 0
 IsNearAfter t stood (Done finding) = IsNearFinding t stood finding
-IsNearAfter t stood (More walk) = IsNear t stood walk.stand.spot.current
+IsNearAfter t stood (More walk) = IsNear t stood walk.stand.cursor.current
 
-handled_near : (t : List Node) (walk : WalkState) → IsTree t → walk.way ≡ Beneath → IsNearAfter t walk.stand.spot (handled t walk)
-handled_near t walk tree beneath = by_event (handled t walk) (handled_good t Beneath walk.last _ _ _ (near_handles t walk.last walk.stand.spot tree) walk beneath refl refl)
+handled_near : (t : List Node) (walk : WalkState) → IsTree t → walk.way ≡ Beneath → IsNearAfter t walk.stand.cursor (handled t walk)
+handled_near t walk tree beneath = by_event (handled t walk) (handled_good t Beneath walk.last _ _ _ (near_handles t walk.last walk.stand.cursor tree) walk beneath refl refl)
   where
-    by_event : (event : Progress) → IsGoodProgress t Beneath walk.last _ _ _ (near_handles t walk.last walk.stand.spot tree) event → IsNearAfter t walk.stand.spot event
+    by_event : (event : Progress) → IsGoodProgress t Beneath walk.last _ _ _ (near_handles t walk.last walk.stand.cursor tree) event → IsNearAfter t walk.stand.cursor event
     by_event (Done finding) h = h
     by_event (More after) h = h
 
 -- the same of what the code's event gives
-pub stays_near : (t : List Node) (walk new : WalkState) (r : Result ProgressCode PathFault) → IsTree t → walk.way ≡ Beneath → IsHandled r (handled t walk) new → StaysNear t walk.stand.spot r new
+pub stays_near : (t : List Node) (walk new : WalkState) (r : Result ProgressCode PathFault) → IsTree t → walk.way ≡ Beneath → IsHandled r (handled t walk) new → StaysNear t walk.stand.cursor r new
 stays_near t walk new (Ok progress.More) tree beneath event = let near = handled_near t walk tree beneath in rw event at near
 stays_near t walk new (Ok (progress.Done found)) tree beneath event = let near = handled_near t walk tree beneath in rw event at near
 stays_near t walk new (Err error) tree beneath event = tt
@@ -113,31 +113,31 @@ pub stays_in_tree : (t : List Node) (walk new : WalkState) → IsTree t → hand
 stays_in_tree t walk new tree event h = let after = handled_in_tree t walk tree h in rw event at after
 
 -- it has less left to do, if what is left has no more names than memory holds
-module _ {Spot : Type 0} (rules : Rules Spot) where
-  abbrev work_of : Stand Spot → ℕ
+module _ {Cursor : Type 0} (rules : Rules Cursor) where
+  abbrev work_of : Stand Cursor → ℕ
   work_of stand = (33 - stand.followed) * 2 ^ 64 + length stand.left
 
-  abbrev IsLess : Stand Spot → Next Spot → Type 0
+  abbrev IsLess : Stand Cursor → Next Cursor → Type 0
   IsLess stand (Goes after) = length after.left < 2 ^ 64 → work_of after < work_of stand
   IsLess stand (Ends finding) = Unit {0}
 
-  followed_less : (stand : Stand Spot) (left : List (List ℕ)) (from : Option Spot) → stand.followed < 32 → IsLess stand (followed_from left (stand.followed + 1) from)
+  followed_less : (stand : Stand Cursor) (left : List (List ℕ)) (from : Option Cursor) → stand.followed < 32 → IsLess stand (followed_from left (stand.followed + 1) from)
   followed_less stand left None few = tt
-  followed_less stand left (Some spot) few = λ short. omega arith
+  followed_less stand left (Some cursor) few = λ short. omega arith
 
-  onward_less : (stand : Stand Spot) (name : List ℕ) (left : List (List ℕ)) (move : Move Spot) → stand.left ≡ name ∷ left → IsLess stand (onward rules stand.spot left stand.followed move)
+  onward_less : (stand : Stand Cursor) (name : List ℕ) (left : List (List ℕ)) (move : Move Cursor) → stand.left ≡ name ∷ left → IsLess stand (onward rules stand.cursor left stand.followed move)
   onward_less stand name left (Moves to) is = λ short. let longer : length stand.left ≡ length (name ∷ left) = ap length is in omega arith
   onward_less stand name left (Stops finding) is = tt
   onward_less stand name left (Meets target) is = by_count (nat_le most_links stand.followed) refl
     where
       by_count : (b : Bool) → nat_le most_links stand.followed ≡ b →
-          IsLess stand (cond b (Ends (Not_found Loop)) (followed_from (path_components target ++ left) (stand.followed + 1) (target_spot rules stand.spot target)))
+          IsLess stand (cond b (Ends (Not_found Loop)) (followed_from (path_components target ++ left) (stand.followed + 1) (target_cursor rules stand.cursor target)))
       by_count true many = tt
-      by_count false few = followed_less stand (path_components target ++ left) (target_spot rules stand.spot target) (grind (arith, nat_tests))
+      by_count false few = followed_less stand (path_components target ++ left) (target_cursor rules stand.cursor target) (grind (arith, nat_tests))
 
-  next_less : (stand : Stand Spot) (left : List (List ℕ)) → stand.left ≡ left → IsLess stand (next_from rules stand.spot left stand.followed)
+  next_less : (stand : Stand Cursor) (left : List (List ℕ)) → stand.left ≡ left → IsLess stand (next_from rules stand.cursor left stand.followed)
   next_less stand [] is = tt
-  next_less stand (name ∷ left) is = onward_less stand name left (rules.component stand.spot name left) is
+  next_less stand (name ∷ left) is = onward_less stand name left (rules.component stand.cursor name left) is
 
-  pub less_left : (stand after : Stand Spot) → next rules stand ≡ Goes after → length after.left < 2 ^ 64 → work_of after < work_of stand
+  pub less_left : (stand after : Stand Cursor) → next rules stand ≡ Goes after → length after.left < 2 ^ 64 → work_of after < work_of stand
   less_left stand after goes = let less = next_less stand stand.left refl in rw goes at less

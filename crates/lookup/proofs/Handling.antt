@@ -37,7 +37,7 @@ same_number d e same = grind (arith, nat_tests)
 
 module _ (t : List Node) (way : Way) (last : Last) (From To : Walked → List (List ℕ) → Type 0) (Good : Finding → Type 0) (handles : Handles t way last From To Good) where
   abbrev Fits : Next Walked → Type 0
-  Fits (Goes stand) = To stand.spot stand.left
+  Fits (Goes stand) = To stand.cursor stand.left
   Fits (Ends finding) = Good finding
 
   abbrev FitsMove : Walked → List (List ℕ) → Move Walked → Type 0
@@ -131,17 +131,17 @@ module _ (t : List Node) (way : Way) (last : Last) (From To : Walked → List (L
   -- Whatever a walk comes to by an event fits.
   abbrev pub IsGoodProgress : Progress → Type 0
   IsGoodProgress (Done finding) = Good finding
-  IsGoodProgress (More walk) = To walk.stand.spot walk.stand.left
+  IsGoodProgress (More walk) = To walk.stand.cursor walk.stand.left
 
-  settled_fits : (walk : WalkState) (stand : Stand Walked) (left : List (List ℕ)) → stand.left ≡ left → To stand.spot left → IsGoodProgress (settled_at walk stand left)
-  settled_fits walk stand [] is h = handles.settles stand.spot h
+  settled_fits : (walk : WalkState) (stand : Stand Walked) (left : List (List ℕ)) → stand.left ≡ left → To stand.cursor left → IsGoodProgress (settled_at walk stand left)
+  settled_fits walk stand [] is h = handles.settles stand.cursor h
   settled_fits walk stand (name ∷ left) is h = rw is h
 
-  pub handled_good : (walk : WalkState) → walk.way ≡ way → walk.last ≡ last → From walk.stand.spot walk.stand.left → IsGoodProgress (handled t walk)
+  pub handled_good : (walk : WalkState) → walk.way ≡ way → walk.last ≡ last → From walk.stand.cursor walk.stand.left → IsGoodProgress (handled t walk)
   unfolding handled
   handled_good walk way_is last_is h =
       subst (λ (rules : Rules Walked). IsGoodProgress (settled walk (next rules walk.stand))) same_rules
-      (by_next (next (by_nodes t way last) walk.stand) (next_fits walk.stand.spot walk.stand.left walk.stand.followed h))
+      (by_next (next (by_nodes t way last) walk.stand) (next_fits walk.stand.cursor walk.stand.left walk.stand.followed h))
     where
       by_next : (after : Next Walked) → Fits after → IsGoodProgress (settled walk after)
       by_next (Goes stand) fits = settled_fits walk stand stand.left refl fits

@@ -31,7 +31,7 @@ pub record Keeps (t : List Node) (way : Way) (last : Last) (start : List (List �
 
 module _ (t : List Node) (way : Way) (last : Last) (start : List (List ℕ)) (Fact : List (List ℕ) → List (List ℕ) → Type 0) (Good : Finding → Type 0) (keeps : Keeps t way last start Fact Good) where
   abbrev Fits : Next (List (List ℕ)) → Type 0
-  Fits (Goes stand) = Fact stand.spot stand.left
+  Fits (Goes stand) = Fact stand.cursor stand.left
   Fits (Ends answer) = Good answer
 
   abbrev FitsMove : List (List ℕ) → List (List ℕ) → Move (List (List ℕ)) → Type 0
@@ -109,7 +109,7 @@ module _ (t : List Node) (way : Way) (last : Last) (start : List (List ℕ)) (Fa
   next_fits below (name ∷ left) followed h = onward_fits below left followed _ (name_fits below name left (node_at t (place_below start below)) h refl)
 
   -- whatever a lookup leads to is good
-  pub leads_good : (s : Stand (List (List ℕ))) (answer : Finding) → Fact s.spot s.left → Leads (by_places t way last start) s answer → Good answer
-  leads_good s answer h (here e) = rw e at (next_fits s.spot s.left s.followed h)
+  pub leads_good : (s : Stand (List (List ℕ))) (answer : Finding) → Fact s.cursor s.left → Leads (by_places t way last start) s answer → Good answer
+  leads_good s answer h (here e) = rw e at (next_fits s.cursor s.left s.followed h)
   leads_good s answer h (there {after = r} e led) =
-      let fits : Fact r.spot r.left = rw e at (next_fits s.spot s.left s.followed h) in leads_good r answer fits led
+      let fits : Fact r.cursor r.left = rw e at (next_fits s.cursor s.left s.followed h) in leads_good r answer fits led

@@ -11,7 +11,7 @@ use Rattle.file_tree.proofs.TreeLaws.{child_is, child_parent, parent_is}
 use Rattle.lookup.specs.Answers.{Way, Beneath, Global, Last, Follow, Keep, LookupFault, Loop, Finding, Found_node, Found_free, Not_found, is_kept}
 use Rattle.lookup.specs.Paths.{has_path_bytes, is_bad_last, is_dot, is_dot_dot, is_unkept, last_component, last_or, path_fault}
 use Rattle.lookup.specs.Leads.{Stand, Next, Goes, Ends, followed_from, next, next_from, onward}
-use Rattle.lookup.specs.Steps.{Move, Moves, Meets, Stops, Rules, target_spot}
+use Rattle.lookup.specs.Steps.{Move, Moves, Meets, Stops, Rules, target_cursor}
 use Rattle.lookup.specs.ByNodes.{Walked, by_nodes, from_node}
 use Rattle.lookup.specs.Looks.{is_start_gone, lookup_fault, start_node}
 use Rattle.lookup.specs.Promises.{HasName, IsFindingThere, IsFollowed, IsUnderName}
@@ -57,7 +57,7 @@ opened_in_tree t [] opened = tt
 opened_in_tree t (n ∷ nodes) opened = (there_if_opened t n opened.0, opened_in_tree t nodes opened.1)
 
 pub under_way_in_tree : (t : List Node) (path : List ℕ) (way : Way) (last : Last) (walk : WalkState) → IsUnderWay t path way last walk → IsInTree t walk
-under_way_in_tree t path way last walk is = opened_in_tree t (walk.stand.spot.current ∷ walk.stand.spot.before) is.opened
+under_way_in_tree t path way last walk is = opened_in_tree t (walk.stand.cursor.current ∷ walk.stand.cursor.before) is.opened
 
 -- the last name left stays the last where others are put before it
 left_behind : (path : List ℕ) (last : Last) (target : List (List ℕ)) (name next : List ℕ) (left : List (List ℕ)) →
@@ -194,7 +194,7 @@ module _ (t : List Node) (path : List ℕ) (way : Way) (last : Last) (tree : IsT
     not_found = λ fault. record { there = tt; vacant = tt; named = λ keep. tt; followed = λ follow. tt };
   }
 
-  stood_under_way : (walk : WalkState) → walk.way ≡ way → walk.last ≡ last → (left : List (List ℕ)) → walk.stand.left ≡ left → HasNamesLeft path last left → Stood walk.stand.spot left →
+  stood_under_way : (walk : WalkState) → walk.way ≡ way → walk.last ≡ last → (left : List (List ℕ)) → walk.stand.left ≡ left → HasNamesLeft path last left → Stood walk.stand.cursor left →
       walk.stand.followed ≤ most_links → IsUnderWay t path way last walk
   stood_under_way walk way_is last_is [] is has h few = absurd has
   stood_under_way walk way_is last_is (name ∷ left) is has h few = record { same_way = way_is; same_last = last_is; text = text; opened = h.0; left = rw is h.1; few = few }
@@ -223,31 +223,31 @@ more_keeps t walk after = by_next (next (by_nodes t walk.way walk.last) walk.sta
     by_next (Ends finding) event = absurd cc
 
 -- no name leads on by a 33rd link
-abbrev IfFew : {Spot : Type 0} → Next Spot → Type 0
+abbrev IfFew : {Cursor : Type 0} → Next Cursor → Type 0
 IfFew (Goes stand) = stand.followed ≤ most_links
 IfFew (Ends finding) = Unit {0}
 
-next_few : {Spot : Type 0} (rules : Rules Spot) (spot : Spot) (left : List (List ℕ)) (followed : ℕ) → followed ≤ most_links → IfFew (next_from rules spot left followed)
-next_few rules spot [] followed few = tt
-next_few {Spot} rules spot (name ∷ left) followed few = by_move (rules.component spot name left)
+next_few : {Cursor : Type 0} (rules : Rules Cursor) (cursor : Cursor) (left : List (List ℕ)) (followed : ℕ) → followed ≤ most_links → IfFew (next_from rules cursor left followed)
+next_few rules cursor [] followed few = tt
+next_few {Cursor} rules cursor (name ∷ left) followed few = by_move (rules.component cursor name left)
   where
-    by_spot : (names : List (List ℕ)) (so_far : ℕ) (o : Option Spot) → so_far ≤ most_links → IfFew (followed_from names so_far o)
-    by_spot names so_far None few = tt
-    by_spot names so_far (Some to) few = few
+    by_cursor : (names : List (List ℕ)) (so_far : ℕ) (o : Option Cursor) → so_far ≤ most_links → IfFew (followed_from names so_far o)
+    by_cursor names so_far None few = tt
+    by_cursor names so_far (Some to) few = few
 
-    by_move : (move : Move Spot) → IfFew (onward rules spot left followed move)
+    by_move : (move : Move Cursor) → IfFew (onward rules cursor left followed move)
     by_move (Moves to) = few
     by_move (Stops answer) = tt
     by_move (Meets target) =
-        cond_both (nat_le most_links followed) (Ends (Not_found Loop)) (followed_from (path_components target ++ left) (followed + 1) (target_spot rules spot target)) IfFew
+        cond_both (nat_le most_links followed) (Ends (Not_found Loop)) (followed_from (path_components target ++ left) (followed + 1) (target_cursor rules cursor target)) IfFew
         (λ many. tt)
         (λ below. let less : followed < most_links = leb-false most_links followed below in
-        by_spot (path_components target ++ left) (followed + 1) (target_spot rules spot target) (omega (arith, less)))
+        by_cursor (path_components target ++ left) (followed + 1) (target_cursor rules cursor target) (omega (arith, less)))
 
 more_few : (t : List Node) (walk after : WalkState) → walk.stand.followed ≤ most_links → handled t walk ≡ More after → after.stand.followed ≤ most_links
 unfolding handled
 more_few t walk after few =
-    by_next (next (by_nodes t walk.way walk.last) walk.stand) (next_few (by_nodes t walk.way walk.last) walk.stand.spot walk.stand.left walk.stand.followed few)
+    by_next (next (by_nodes t walk.way walk.last) walk.stand) (next_few (by_nodes t walk.way walk.last) walk.stand.cursor walk.stand.left walk.stand.followed few)
   where
     by_left : (stand : Stand Walked) (left : List (List ℕ)) → stand.followed ≤ most_links → settled_at walk stand left ≡ More after → after.stand.followed ≤ most_links
     by_left stand [] fine event = absurd cc
@@ -264,7 +264,7 @@ module _ (t : List Node) (path : List ℕ) (way : Way) (last : Last) (tree : IsT
   stood_names text at (name ∷ left) some h = h.1
 
   progress_sure : (text : path_fault path way last ≡ None) (walk : WalkState) → walk.way ≡ way → walk.last ≡ last →
-      Stood t path way last tree text walk.stand.spot walk.stand.left → walk.stand.followed ≤ most_links → IsSureProgress t path way last (handled t walk)
+      Stood t path way last tree text walk.stand.cursor walk.stand.left → walk.stand.followed ≤ most_links → IsSureProgress t path way last (handled t walk)
   progress_sure text walk way_is last_is h few =
       by_event (handled t walk) refl (handled_good t way last _ _ _ (stood_handles t path way last tree text) walk way_is last_is h)
     where
@@ -273,12 +273,12 @@ module _ (t : List Node) (path : List ℕ) (way : Way) (last : Last) (tree : IsT
       by_event (More after) is good =
           let kept = more_keeps t walk after is in
           stood_under_way t path way last tree text after (kept.0.same_way ∙ way_is) (kept.0.same_last ∙ last_is) after.stand.left refl
-          (stood_names text after.stand.spot after.stand.left kept.1 good) good (more_few t walk after few is)
+          (stood_names text after.stand.cursor after.stand.left kept.1 good) good (more_few t walk after few is)
 
-  under_way_stood : (walk : WalkState) (is : IsUnderWay t path way last walk) → Stood t path way last tree is.text walk.stand.spot walk.stand.left
+  under_way_stood : (walk : WalkState) (is : IsUnderWay t path way last walk) → Stood t path way last tree is.text walk.stand.cursor walk.stand.left
   under_way_stood walk is = by_left walk.stand.left is.left
     where
-      by_left : (left : List (List ℕ)) → HasNamesLeft path last left → Stood t path way last tree is.text walk.stand.spot left
+      by_left : (left : List (List ℕ)) → HasNamesLeft path last left → Stood t path way last tree is.text walk.stand.cursor left
       by_left [] has = absurd has
       by_left (name ∷ left) has = (is.opened, has)
 

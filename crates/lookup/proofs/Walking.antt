@@ -43,9 +43,9 @@ fault_is_walk t start path way last error same = by_fault (fault_of error) same
     by_fault (Some fault) e = rw e refl
 
 -- where no name is left, what is left leads to where the walk stands
-arrived_rest : (t : List Node) (way : Way) (last : Last) (stand : Stand Walked) → stand.left ≡ [] → rest_of (by_nodes t way last) stand ≡ Found_node stand.spot.current
+arrived_rest : (t : List Node) (way : Way) (last : Last) (stand : Stand Walked) → stand.left ≡ [] → rest_of (by_nodes t way last) stand ≡ Found_node stand.cursor.current
 unfolding by_nodes
-arrived_rest t way last stand none = rest_ends (by_nodes t way last) stand (Found_node stand.spot.current) (rw none refl)
+arrived_rest t way last stand none = rest_ends (by_nodes t way last) stand (Found_node stand.cursor.current) (rw none refl)
 
 module _ (t : List Node) (walk : WalkState) where
   -- a walk that goes on leaves what it had left before
@@ -72,7 +72,7 @@ module _ (t : List Node) (walk : WalkState) where
       by_left : (stand : Stand Walked) (left : List (List ℕ)) → stand.left ≡ left → next (by_nodes t walk.way walk.last) walk.stand ≡ Goes stand →
           settled_at walk stand left ≡ Done finding → rest_of_walk t walk ≡ finding
       by_left stand [] none goes e =
-          let same : Found_node stand.spot.current ≡ finding = cc in
+          let same : Found_node stand.cursor.current ≡ finding = cc in
           rest_goes (by_nodes t walk.way walk.last) walk.stand stand goes ∙ arrived_rest t walk.way walk.last stand none ∙ same
       by_left stand (name ∷ left) some goes e = cc
 
@@ -108,7 +108,7 @@ leads_arrives t way last stand finding (there {after = after} goes led) =
     by_left : (left : List (List ℕ)) → after.left ≡ left → handled t (walk_at way last stand) ≡ settled_at (walk_at way last stand) after after.left →
         Arrives t (walk_at way last after) finding → Arrives t (walk_at way last stand) finding
     by_left [] none event rest =
-        let is : finding ≡ Found_node after.spot.current = leads_only (by_nodes t way last) after finding led ∙ arrived_rest t way last after none in
+        let is : finding ≡ Found_node after.cursor.current = leads_only (by_nodes t way last) after finding led ∙ arrived_rest t way last after none in
         in_one (event ∙ ap (settled_at (walk_at way last stand) after) none ∙ sym (ap Done is))
     by_left (name ∷ left) some event rest = in_more (event ∙ ap (settled_at (walk_at way last stand) after) some) rest
 

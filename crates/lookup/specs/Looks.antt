@@ -38,8 +38,8 @@ unfoldable pub lookup_fault : List Node → NodeNumber → PathText → Way → 
 lookup_fault t start path way last = or_else (path_fault path way last) (start_fault t start way)
 
 -- a lookup before its first name
-abbrev pub first_stand : {Spot : Type 0} → Spot → List ℕ → Stand Spot
-first_stand spot path = record { spot = spot; left = path_components path; followed = 0 }
+abbrev pub first_stand : {Cursor : Type 0} → Cursor → List ℕ → Stand Cursor
+first_stand cursor path = record { cursor = cursor; left = path_components path; followed = 0 }
 
 -- The path leads to the answer.
 unfoldable pub Looks : List Node → NodeNumber → PathText → Way → Last → Finding → Type 0

@@ -21,6 +21,6 @@ pub record IsUnderWay (t : List Node) (path : PathText) (way : Way) (last : Last
   pub same_way : walk.way ≡ way
   pub same_last : walk.last ≡ last
   pub text : path_fault path way last ≡ None
-  pub opened : AreOpened t (walk.stand.spot.current ∷ walk.stand.spot.before)
+  pub opened : AreOpened t (walk.stand.cursor.current ∷ walk.stand.cursor.before)
   pub left : HasNamesLeft path last walk.stand.left
   pub few : walk.stand.followed ≤ most_links

@@ -68,7 +68,7 @@ Told fault error = fault ≡ fault_of error
 -- where a walk stands, and by which rules it goes on in a tree
 abbrev pub stand_of : Trail → Stand Walked
 stand_of trail = record {
-  spot = record { current = trail.current; before = reverse trail.before.items };
+  cursor = record { current = trail.current; before = reverse trail.before.items };
   left = trail.left;
   followed = trail.followed;
 }
@@ -81,17 +81,17 @@ rules_of t trail = by_nodes t (way_of trail.way) (last_of trail.last)
 
 -- what is next, by where a name leads
 abbrev pub after_move : Rules Walked → Trail → Move Walked → Next Walked
-after_move rules trail move = onward rules (stand_of trail).spot (stand_of trail).left trail.followed move
+after_move rules trail move = onward rules (stand_of trail).cursor (stand_of trail).left trail.followed move
 
 -- where a name leads that names follow, and where what it means leads
 abbrev pub name_move : List Node → Trail → List ℕ → List (List ℕ) → Move Walked
-name_move t trail name left = in_node t (way_of trail.way) (last_of trail.last) trail.current (stand_of trail).spot.before name left
+name_move t trail name left = in_node t (way_of trail.way) (last_of trail.last) trail.current (stand_of trail).cursor.before name left
 
 abbrev pub meaning_move : List Node → Trail → List (List ℕ) → Meaning → Move Walked
-meaning_move t trail left meaning.Itself = Moves (stand_of trail).spot
-meaning_move t trail left meaning.Above = back t (way_of trail.way) trail.current (stand_of trail).spot.before
+meaning_move t trail left meaning.Itself = Moves (stand_of trail).cursor
+meaning_move t trail left meaning.Above = back t (way_of trail.way) trail.current (stand_of trail).cursor.before
 meaning_move t trail left meaning.Nothing = Stops (absent (last_of trail.last) left trail.current)
-meaning_move t trail left (meaning.Node n) = into t (last_of trail.last) trail.current (stand_of trail).spot.before left (Some n)
+meaning_move t trail left (meaning.Node n) = into t (last_of trail.last) trail.current (stand_of trail).cursor.before left (Some n)
 
 -- The name means that, whichever names follow it.
 abbrev pub Means : List Node → Trail → List ℕ → Result Meaning PathFault → Type 0
@@ -109,7 +109,7 @@ after_name t trail meaning = after_move (rules_of t trail) trail (meaning_move t
 
 abbrev pub after_node : List Node → Trail → ℕ → Next Walked
 after_node t trail n =
-    after_move (rules_of t trail) trail (into t (last_of trail.last) trail.current (stand_of trail).spot.before (stand_of trail).left (Some n))
+    after_move (rules_of t trail) trail (into t (last_of trail.last) trail.current (stand_of trail).cursor.before (stand_of trail).left (Some n))
 
 abbrev pub SameRules : Trail → Trail → Type 0
 SameRules old new = (new.way ≡ old.way) × (new.last ≡ old.last)
@@ -133,6 +133,6 @@ IsSettled result stand =
 
 -- what an event gave, or where the walk stands after it, is near where it stood
 abbrev pub StaysNear : List Node → Walked → Result ProgressCode PathFault → WalkState → Type 0
-StaysNear t at (Ok progress.More) walk = IsNear t at walk.stand.spot.current
+StaysNear t at (Ok progress.More) walk = IsNear t at walk.stand.cursor.current
 StaysNear t at (Ok (progress.Done found)) walk = IsNearFinding t at (found_of found)
 StaysNear t at (Err error) walk = Unit {0}

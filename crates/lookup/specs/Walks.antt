@@ -24,7 +24,7 @@ begun start path way last = record { way = way; last = last; stand = first_stand
 
 -- Where no name is left, the lookup ends in the same event.
 abbrev pub settled_at : WalkState → Stand Walked → List Name → Progress
-settled_at walk stand [] = Done (Found_node stand.spot.current)
+settled_at walk stand [] = Done (Found_node stand.cursor.current)
 settled_at walk stand (name ∷ left) = More (record walk { stand = stand })
 
 abbrev pub settled : WalkState → Next Walked → Progress
@@ -54,7 +54,7 @@ AreInTree t [] = Unit {0}
 AreInTree t (n ∷ nodes) = (n < length t) × AreInTree t nodes
 
 abbrev pub IsInTree : List Node → WalkState → Type 0
-IsInTree t walk = AreInTree t (walk.stand.spot.current ∷ walk.stand.spot.before)
+IsInTree t walk = AreInTree t (walk.stand.cursor.current ∷ walk.stand.cursor.before)
 
 -- what it has left to do: links that may be followed, and names
 abbrev pub work_left : WalkState → ℕ

@@ -108,7 +108,7 @@ impl Trail {
     fn go_back<T: Tree>(&mut self, tree: &T) -> Result<Progress, PathFault>
         requires { self.old.current < length (T.nodes tree.now) }
         ensures steps { (rules : Rules Walked) →
-            StepsAlong result (after_move rules self.old (back (T.nodes tree.now) (way_of self.old.way) self.old.current (stand_of self.old).spot.before))
+            StepsAlong result (after_move rules self.old (back (T.nodes tree.now) (way_of self.old.way) self.old.current (stand_of self.old).cursor.before))
             (stand_of self.new) }
         ensures rules { SameRules self.old self.new }
     {
@@ -130,7 +130,7 @@ impl Trail {
     /// Goes on to a node in the directory where the walk stands.
     fn go_down(&mut self, next: NodeId) -> Result<Progress, PathFault>
         ensures steps { (rules : Rules Walked) →
-            StepsAlong result (after_move rules self.old (Moves (record { current = next; before = self.old.current ∷ (stand_of self.old).spot.before })))
+            StepsAlong result (after_move rules self.old (Moves (record { current = next; before = self.old.current ∷ (stand_of self.old).cursor.before })))
             (stand_of self.new) }
         ensures rules { SameRules self.old self.new }
     {

@@ -76,7 +76,7 @@ impl Walk {
         ensures work { result ≡ Ok Progress.More → work_left self.new < work_left self.old }
 
         // Beneath its start it goes on to what the directory holds now, or back to what holds that now.
-        ensures places { self.old.way ≡ Beneath → StaysNear (T.nodes tree.now) self.old.stand.spot result self.new }
+        ensures places { self.old.way ≡ Beneath → StaysNear (T.nodes tree.now) self.old.stand.cursor result self.new }
     {
         match self.trail.step(tree)? {
             Progress::More => Ok(self.trail.settle()),

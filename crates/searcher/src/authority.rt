@@ -7,13 +7,14 @@ ghost use Rattle.task.specs.Limits.{is_start};
 ghost use Rattle.task.specs.Views.{starts_of};
 
 use crate::channels::Channels;
-use crate::point_states::{PointState, Way};
+use crate::point_states::{PointState, ProgramPoints};
 use crate::rounds::first_bound;
-use certificate::{Bound, Ceiling, Cert, Domain, End, Held, Line, Name, Refusal, Target};
+use certificate::{Bound, Ceiling, Cert, Domain, End, Held, Line, Refusal, Target};
 use instruction_set::Instruction;
 use rights::Rights;
 use std::alloc::{AllocError, Global};
 use task::{Start, Task};
+use texts::Name;
 use transfer::enters_mode;
 
 /// What a program needs in the mode: rights in grants, by their names, and ends in the order of channels.
@@ -141,7 +142,11 @@ impl Need {
 }
 
 /// Takes what a program's processes hold where they enter the mode.
-fn take_entered(need: &mut Need, way: &Way, code: &[Instruction]) -> Result<(), AllocError> {
+fn take_entered(
+    need: &mut Need,
+    points: &ProgramPoints,
+    code: &[Instruction],
+) -> Result<(), AllocError> {
     for (point, instruction) in code.iter().enumerate() {
         if !enters_mode(instruction) {
             continue;
@@ -151,7 +156,7 @@ fn take_entered(need: &mut Need, way: &Way, code: &[Instruction]) -> Result<(), 
                 bound: Some(bound),
                 ..
             },
-        ) = way.point_states.get(point)
+        ) = points.point_states.get(point)
         {
             need.take_slots(bound)?;
         }
@@ -181,7 +186,6 @@ fn take_first(
 
 /// Takes what each of its processes holds that starts in the mode.
 fn take_starts(task: &Task, need: &mut Need, program: usize) -> Result<(), AllocError> {
-    task.note_valid();
     take_first(task, need, program, task.starts())
 }
 
@@ -189,11 +193,8 @@ fn take_starts(task: &Task, need: &mut Need, program: usize) -> Result<(), Alloc
 pub(crate) fn all_needs(alloc: Global, task: &Task) -> Result<Vec<Option<Need>>, AllocError> {
     let mut needs = Vec::new(alloc);
     for program in task.programs() {
-        let name = Name::read(program.name.as_bytes());
-        match name {
-            Some(name) if program.untrusted => needs.push(Some(Need::new(alloc, name)))?,
-            _ => needs.push(None)?,
-        }
+        let need = program.untrusted.then(|| Need::new(alloc, program.name));
+        needs.push(need)?;
     }
     Ok(needs)
 }
@@ -204,14 +205,14 @@ fn learn_need(
     task: &Task,
     channels: &mut Channels,
     number: usize,
-    way: &Way,
+    points: &ProgramPoints,
     need: &mut Need,
 ) -> Result<(), Refusal> {
     need.changed = false;
     let Some(program) = task.programs().get(number) else {
         return Ok(());
     };
-    if take_entered(need, way, program.program.code()).is_err()
+    if take_entered(need, points, program.program.code()).is_err()
         || take_starts(task, need, number).is_err()
     {
         return Err(Refusal::Memory);
@@ -224,13 +225,13 @@ pub(crate) fn learn_needs(
     alloc: Global,
     task: &Task,
     channels: &mut Channels,
-    ways: &[Way],
+    all_points: &[ProgramPoints],
     needs: &mut Vec<Option<Need>>,
 ) -> Result<bool, Refusal> {
     let mut any = false;
-    for (number, way) in ways.iter().enumerate() {
+    for (number, points) in all_points.iter().enumerate() {
         if let Some(Some(need)) = needs.get_mut(number) {
-            learn_need(alloc, task, channels, number, way, need)?;
+            learn_need(alloc, task, channels, number, points, need)?;
             any = any || need.changed;
         }
     }

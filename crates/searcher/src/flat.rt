@@ -2,13 +2,13 @@
 
 ghost use Rattle.std.specs.Prelude.{◌≡◌, ◌+◌, ◌≤◌, ◌<◌, length, map, true, false, option_map, not, ◌==◌, IfOk, IfSome};
 ghost use Rattle.std.specs.List.{list_all, list_any};
-ghost use Rattle.certificate.specs.Views.{bound_of, held_of, mode_of, name_of, target_of};
+ghost use Rattle.certificate.specs.Views.{bound_of, held_of, mode_of, target_of};
+ghost use Rattle.texts.specs.Views.{name_of};
 ghost use Rattle.file_tree.specs.Views.{names_of};
 ghost use Rattle.instruction_set.specs.Views.{code_of, instruction_of, syscall_of};
 ghost use Rattle.task.specs.Limits.{is_descriptor, is_object, is_start};
 ghost use Rattle.task.specs.Plans.{programs_of_plan};
 ghost use Rattle.task.specs.Views.{first_descriptor_of, first_object_of, grants_of, start_of, starts_of};
-ghost use Rattle.transfer.specs.Tested.{has_name};
 ghost use Rattle.certificate.specs.Growths.{grown_by};
 ghost use Rattle.certificate.specs.GrowthViews.{Grows};
 ghost use Rattle.rules.specs.Outcomes.{enters_mode};
@@ -16,26 +16,26 @@ ghost use Rattle.searcher.specs.Flat.{first_held, first_target, flat, plain_flat
 ghost use Rattle.searcher.specs.Flat.{next_behind, points_behind, points_from, with_first};
 
 use certificate::{
-    Bound, Cert, Class, FcntlsRange, Held, ModeBound, Name, Pair, Refusal, RightsRange, Slot,
-    Target, Version, push_block,
+    Bound, Cert, Class, FcntlsRange, Held, ModeBound, Pair, Refusal, RightsRange, Slot, Target,
+    Version, push_block,
 };
 use file_tree::is_front;
 use instruction_set::Instruction;
 use std::alloc::{AllocError, Global};
 use task::{FirstDescriptor, FirstObject, Grant, Start, Task, none_marked, place_of};
+use texts::Name;
 use transfer::enters_mode;
 
 /// The grant that holds a place, if one does.
 #[tactic(auto, unfolding(crate::specs::Flat::grant_target))]
 fn grant_target(grants: &[Grant], place: &[Vec<u8>]) -> Target
-    requires { list_all has_name (grants_of grants.now) ≡ true }
     ensures { target_of result ≡ grant_target (grants_of grants.now) (names_of place.now) }
 {
     match grants {
         [] => Target::AnyNode,
         [first, rest @ ..] => {
             if is_front(&first.path, place) {
-                return Target::InGrant(Name::new(first.name.as_bytes()));
+                return Target::InGrant(first.name);
             }
             grant_target(rest, place)
         }
@@ -176,10 +176,11 @@ fn push_start(cert: &mut Cert, task: &Task, start: &Start) -> Result<(), Refusal
     requires { is_start task.now.nodes (length task.now.programs) (start_of start.now) ≡ true }
     ensures { Grows result cert.new (grown_by (flat_points_of task.now (start_of start.now)) cert.old) }
 {
-    task.note_valid();
-    let name = Name::new(task.program_name(start.program));
     let bound = flat_bound(task, start);
-    push_points(cert, &name, &bound, 0, code_of_start(task, start))
+    match task.programs().get(start.program as usize) {
+        None => Ok(()),
+        Some(program) => push_points(cert, &program.name, &bound, 0, program.program.code()),
+    }
 }
 
 /// Adds the points of the first processes behind a name, of as many as there are turns.
@@ -190,7 +191,6 @@ fn push_behind(cert: &mut Cert, task: &Task, turns: &[Start], name: &[u8]) -> Re
     match turns {
         [] => Ok(()),
         [_, rest @ ..] => {
-            task.note_valid();
             match next_behind(task, name, task.starts()) {
                 None => Ok(()),
                 Some(start) => {
@@ -230,7 +230,6 @@ fn plain_flat(alloc: Global, task: &Task) -> Result<Option<Cert>, AllocError>
     if !have_own(task.starts()) {
         return Ok(None);
     }
-    task.note_valid();
     let mut cert = Cert::new(alloc, Version::Two);
     match push_behind(&mut cert, task, task.starts(), b"") {
         Ok(()) => Ok(Some(cert)),

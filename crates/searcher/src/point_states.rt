@@ -7,11 +7,12 @@ ghost use Rattle.rules.specs.Outcomes.{Outcome as OutcomeSeen};
 ghost use Rattle.transfer.specs.OutcomeViews.{outcome_of};
 ghost use Rattle.searcher.specs.PointStateViews.{lies_in};
 
-use certificate::{Bound, Domain, Interval, Name};
+use certificate::{Bound, Domain, Interval};
 use instruction_set::Instruction;
 use rights::limits::REGISTERS;
 use std::alloc::{AllocError, Global};
-use transfer::{Outcome, OutcomeTest};
+use texts::Name;
+use transfer::{Outcome, OutcomeVisitor};
 
 /// Changes of a point's bound after which intervals are widened to constants of the program.
 const FEW_CHANGES: u32 = 3;
@@ -51,7 +52,7 @@ impl PointRange {
 /// A program's points, with the constants at which its registers are compared or set. Those that came to wait are in a range, so
 /// that no other is looked at.
 #[derive(Drop)]
-pub(crate) struct Way {
+pub(crate) struct ProgramPoints {
     pub name: Name,
     constants: Vec<u32>,
     pub point_states: Vec<PointState>,
@@ -199,15 +200,19 @@ fn constants_of(alloc: Global, code: &[Instruction]) -> Result<Vec<u32>, AllocEr
     Ok(constants)
 }
 
-impl Way {
+impl ProgramPoints {
     /// The points of a program, none of them reached.
-    pub(crate) fn new(alloc: Global, name: Name, code: &[Instruction]) -> Result<Way, AllocError> {
+    pub(crate) fn new(
+        alloc: Global,
+        name: Name,
+        code: &[Instruction],
+    ) -> Result<ProgramPoints, AllocError> {
         let constants = constants_of(alloc, code)?;
         let mut point_states = Vec::with_capacity(alloc, code.len())?;
         for _ in code {
             point_states.push(PointState::new())?;
         }
-        Ok(Way {
+        Ok(ProgramPoints {
             name,
             constants,
             point_states,
@@ -241,7 +246,7 @@ impl Way {
     }
 }
 
-impl OutcomeTest for Way {
+impl OutcomeVisitor for ProgramPoints {
     ghost passes = { λ t o. true };
 
     ghost joins = { λ t. None };
@@ -249,7 +254,7 @@ impl OutcomeTest for Way {
     ghost kept = { λ t. None };
 
     /// Takes the outcome at its point, if the program has that, and goes on to the next.
-    fn asks(&mut self, outcome: &Outcome<'_>) -> bool
+    fn visit(&mut self, outcome: &Outcome<'_>) -> bool
         ensures value { result ≡ true }
         ensures taken { IfSome (slice_get self.new.point_states.items outcome.now.point) (λ point_state. lies_in point_state.bound (outcome_of outcome.now) ≡ true) }
     {

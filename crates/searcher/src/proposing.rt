@@ -10,8 +10,8 @@ ghost use Rattle.task.specs.Plans.{none_marked};
 use crate::authority::{Need, all_needs, learn_needs, push_needs};
 use crate::channels::Channels;
 use crate::drawing::push_found;
-use crate::point_states::Way;
-use crate::rounds::{all_ways, settle, wake_receivers};
+use crate::point_states::ProgramPoints;
+use crate::rounds::{all_program_points, settle, wake_receivers};
 use crate::searching::{is_accepted, search};
 use crate::shortening::push_named;
 use certificate::{Cert, Refusal, Version, push_authorities, push_channels};
@@ -27,19 +27,19 @@ fn settle_needs(
     alloc: Global,
     task: &Task,
     channels: &mut Channels,
-    ways: &mut Vec<Way>,
+    all_points: &mut Vec<ProgramPoints>,
     needs: &mut Vec<Option<Need>>,
 ) -> Result<bool, Refusal> {
     for _ in 0..MOST_TURNS {
-        if !settle(alloc, task, channels, ways)? {
+        if !settle(alloc, task, channels, all_points)? {
             return Ok(false);
         }
-        if !learn_needs(alloc, task, channels, ways, needs)? {
+        if !learn_needs(alloc, task, channels, all_points, needs)? {
             return Ok(true);
         }
         if channels.changed {
             channels.changed = false;
-            wake_receivers(task, ways);
+            wake_receivers(task, all_points);
         }
     }
     Ok(false)
@@ -51,16 +51,16 @@ fn push_all(
     task: &Task,
     cert: &mut Cert,
     channels: &mut Channels,
-    ways: &mut Vec<Way>,
+    all_points: &mut Vec<ProgramPoints>,
     needs: &mut Vec<Option<Need>>,
 ) -> Result<bool, Refusal>
     requires { has_authorities cert.old.version ≡ true }
     ensures { OnOk result (cert.new.version ≡ cert.old.version) }
 {
-    if !settle_needs(alloc, task, channels, ways, needs)? {
+    if !settle_needs(alloc, task, channels, all_points, needs)? {
         return Ok(false);
     }
-    push_found(cert, ways, channels)?;
+    push_found(cert, all_points, channels)?;
     push_needs(cert, needs)?;
     Ok(true)
 }
@@ -69,14 +69,21 @@ fn push_all(
 fn drawn(
     alloc: Global,
     task: &Task,
-    mut ways: Vec<Way>,
+    mut all_points: Vec<ProgramPoints>,
     mut needs: Vec<Option<Need>>,
 ) -> Result<Option<Cert>, Refusal>
     ensures { IfOk result (λ found. IfSome found (λ cert. cert.version ≡ Three)) }
 {
     let mut channels = Channels::new(alloc);
     let mut cert = Cert::new(alloc, Version::Three);
-    match push_all(alloc, task, &mut cert, &mut channels, &mut ways, &mut needs) {
+    match push_all(
+        alloc,
+        task,
+        &mut cert,
+        &mut channels,
+        &mut all_points,
+        &mut needs,
+    ) {
         Ok(true) => Ok(Some(cert)),
         Ok(false) => Ok(None),
         Err(refusal) => Err(refusal),
@@ -87,11 +94,9 @@ fn drawn(
 fn proposed(alloc: Global, task: &Task) -> Result<Option<Cert>, Memory>
     ensures { IfOk result (λ found. IfSome found (λ cert. cert.version ≡ Three)) }
 {
-    let Some(ways) = all_ways(alloc, task)? else {
-        return Ok(None);
-    };
+    let all_points = all_program_points(alloc, task)?;
     let needs = all_needs(alloc, task)?;
-    match drawn(alloc, task, ways, needs) {
+    match drawn(alloc, task, all_points, needs) {
         Ok(cert) => Ok(cert),
         Err(Refusal::Memory) => Err(Memory),
         Err(Refusal::Limit | Refusal::Order) => Ok(None),

@@ -9,13 +9,14 @@ ghost use Rattle.transfer.specs.Limits.{leaves_known};
 
 use crate::channels::Channels;
 use crate::flat::with_first;
-use crate::point_states::Way;
-use certificate::{Bound, Interval, ModeBound, Name, Refusal, Slot};
+use crate::point_states::ProgramPoints;
+use certificate::{Bound, Interval, ModeBound, Refusal, Slot};
 use instruction_set::{Instruction, Syscall};
 use rights::limits::{MAX_DESCRIPTORS, MAX_INSTRUCTIONS, REGISTERS};
 use std::alloc::{AllocError, Global};
 use task::{Start, Task};
-use transfer::{Change, Outcome, OutcomeTest, Site, failure, successes_pass};
+use texts::Name;
+use transfer::{Change, Outcome, OutcomeVisitor, Site, failure, successes_pass};
 
 /// How often all points are gone through at most.
 const MOST_ROUNDS: usize = 16_384;
@@ -43,37 +44,37 @@ fn is_bounded(task: &Task, start: &Start) -> bool {
 }
 
 /// Has the first processes at their points.
-fn begin(task: &Task, ways: &mut Vec<Way>, starts: &[Start])
+fn begin(task: &Task, all_points: &mut Vec<ProgramPoints>, starts: &[Start])
     requires { list_all (is_start task.now.nodes (length task.now.programs)) (starts_of starts.now) ≡ true }
 {
     match starts {
         [] => {}
         [first, rest @ ..] => {
             let bound = &first_bound(task, first);
-            if let Some(way) = ways.get_mut(first.program as usize) {
+            if let Some(points) = all_points.get_mut(first.program as usize) {
                 if is_bounded(task, first) {
-                    way.asks(&Outcome {
+                    points.visit(&Outcome {
                         point: 0,
                         bound,
                         change: Change::Nothing,
                     });
                 }
             }
-            begin(task, ways, rest);
+            begin(task, all_points, rest);
         }
     }
 }
 
 /// The points of all programs, none of them reached.
-pub(crate) fn all_ways(alloc: Global, task: &Task) -> Result<Option<Vec<Way>>, AllocError> {
-    let mut ways = Vec::new(alloc);
+pub(crate) fn all_program_points(
+    alloc: Global,
+    task: &Task,
+) -> Result<Vec<ProgramPoints>, AllocError> {
+    let mut all_points = Vec::new(alloc);
     for program in task.programs() {
-        let Some(name) = Name::read(program.name.as_bytes()) else {
-            return Ok(None);
-        };
-        ways.push(Way::new(alloc, name, program.program.code())?)?;
+        all_points.push(ProgramPoints::new(alloc, program.name, program.program.code())?)?;
     }
-    Ok(Some(ways))
+    Ok(all_points)
 }
 
 /// Whether an instruction receives descriptors.
@@ -91,14 +92,14 @@ fn receives(instruction: &Instruction) -> bool {
 fn take_outcomes(
     task: &Task,
     channels: &Channels,
-    way: &mut Way,
+    points: &mut ProgramPoints,
     point: u8,
     bound: &Bound,
     instruction: &Instruction,
 )
     requires { leaves_known (instruction_of instruction.now) ≡ true }
 {
-    let name = way.name;
+    let name = points.name;
     let site = Site {
         task,
         cert: &channels.cert,
@@ -106,9 +107,9 @@ fn take_outcomes(
         point,
         bound,
     };
-    successes_pass(&site, instruction, way);
+    successes_pass(&site, instruction, points);
     if let Some(outcome) = failure(bound, instruction) {
-        way.asks(&outcome);
+        points.visit(&outcome);
     }
 }
 
@@ -117,23 +118,23 @@ fn take_waiting(
     alloc: Global,
     task: &Task,
     channels: &mut Channels,
-    way: &mut Way,
+    points: &mut ProgramPoints,
     code: &[Instruction],
 ) -> Result<bool, Refusal>
     requires { list_all leaves_known (code_of code.now) ≡ true }
 {
-    let waiting = way.take_range();
+    let waiting = points.take_range();
     let mut any = false;
     for point in waiting.first..code.len() {
-        if waiting.end <= point && way.waiting.end <= point {
+        if waiting.end <= point && points.waiting.end <= point {
             break;
         }
         if point < MAX_INSTRUCTIONS {
-            if let Some(bound) = way.next_at(point) {
+            if let Some(bound) = points.next_at(point) {
                 let instruction = &code[point];
                 any = true;
                 channels.learn(alloc, &bound, instruction)?;
-                take_outcomes(task, channels, way, point as u8, &bound, instruction);
+                take_outcomes(task, channels, points, point as u8, &bound, instruction);
             }
         }
     }
@@ -141,12 +142,12 @@ fn take_waiting(
 }
 
 /// Has each point wait again that receives.
-pub(crate) fn wake_receivers(task: &Task, ways: &mut Vec<Way>) {
+pub(crate) fn wake_receivers(task: &Task, all_points: &mut Vec<ProgramPoints>) {
     for (number, program) in task.programs().iter().enumerate() {
-        if let Some(way) = ways.get_mut(number) {
+        if let Some(points) = all_points.get_mut(number) {
             for (point, instruction) in program.program.code().iter().enumerate() {
                 if receives(instruction) {
-                    way.wake(point);
+                    points.wake(point);
                 }
             }
         }
@@ -158,19 +159,19 @@ fn go_through(
     alloc: Global,
     task: &Task,
     channels: &mut Channels,
-    ways: &mut Vec<Way>,
+    all_points: &mut Vec<ProgramPoints>,
 ) -> Result<bool, Refusal> {
     let mut any = false;
     for (number, program) in task.programs().iter().enumerate() {
-        if let Some(way) = ways.get_mut(number) {
-            if take_waiting(alloc, task, channels, way, program.program.code())? {
+        if let Some(points) = all_points.get_mut(number) {
+            if take_waiting(alloc, task, channels, points, program.program.code())? {
                 any = true;
             }
         }
     }
     if channels.changed {
         channels.changed = false;
-        wake_receivers(task, ways);
+        wake_receivers(task, all_points);
     }
     Ok(any)
 }
@@ -180,12 +181,11 @@ pub(crate) fn settle(
     alloc: Global,
     task: &Task,
     channels: &mut Channels,
-    ways: &mut Vec<Way>,
+    all_points: &mut Vec<ProgramPoints>,
 ) -> Result<bool, Refusal> {
-    task.note_valid();
-    begin(task, ways, task.starts());
+    begin(task, all_points, task.starts());
     for _ in 0..MOST_ROUNDS {
-        if !go_through(alloc, task, channels, ways)? {
+        if !go_through(alloc, task, channels, all_points)? {
             return Ok(true);
         }
     }

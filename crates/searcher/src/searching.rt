@@ -5,13 +5,14 @@ ghost use Rattle.certificate.specs.Bounds.{Certificate, Two};
 ghost use Rattle.checker.specs.Verdicts.{IsAccepted};
 ghost use Rattle.searcher.specs.Flat.{flat};
 ghost use Rattle.searcher.specs.Shortening.{short_form};
+ghost use Rattle.task.specs.Limits.{is_plan};
 ghost use Rattle.task.specs.Plans.{none_marked};
 
 use crate::channels::Channels;
 use crate::drawing::push_found;
 use crate::flat::flat;
-use crate::point_states::Way;
-use crate::rounds::{all_ways, settle};
+use crate::point_states::ProgramPoints;
+use crate::rounds::{all_program_points, settle};
 use crate::shortening::shortened;
 use certificate::{Cert, Refusal, Version};
 use checker::{Verdict, check};
@@ -33,24 +34,28 @@ fn push_settled(
     task: &Task,
     cert: &mut Cert,
     channels: &mut Channels,
-    ways: &mut Vec<Way>,
+    all_points: &mut Vec<ProgramPoints>,
 ) -> Result<bool, Refusal>
     ensures { OnOk result (cert.new.version ≡ cert.old.version) }
 {
-    if !settle(alloc, task, channels, ways)? {
+    if !settle(alloc, task, channels, all_points)? {
         return Ok(false);
     }
-    push_found(cert, ways, channels)?;
+    push_found(cert, all_points, channels)?;
     Ok(true)
 }
 
 /// What is found point by point, where the search settles.
-fn settled(alloc: Global, task: &Task, mut ways: Vec<Way>) -> Result<Option<Cert>, Refusal>
+fn settled(
+    alloc: Global,
+    task: &Task,
+    mut all_points: Vec<ProgramPoints>,
+) -> Result<Option<Cert>, Refusal>
     ensures { IfOk result (λ found. IfSome found (λ cert. cert.version ≡ Two)) }
 {
     let mut channels = Channels::new(alloc);
     let mut cert = Cert::new(alloc, Version::Two);
-    match push_settled(alloc, task, &mut cert, &mut channels, &mut ways) {
+    match push_settled(alloc, task, &mut cert, &mut channels, &mut all_points) {
         Ok(true) => Ok(Some(cert)),
         Ok(false) => Ok(None),
         Err(refusal) => Err(refusal),
@@ -61,10 +66,8 @@ fn settled(alloc: Global, task: &Task, mut ways: Vec<Way>) -> Result<Option<Cert
 fn proposed(alloc: Global, task: &Task) -> Result<Option<Cert>, Memory>
     ensures { IfOk result (λ found. IfSome found (λ cert. cert.version ≡ Two)) }
 {
-    let Some(ways) = all_ways(alloc, task)? else {
-        return Ok(None);
-    };
-    match settled(alloc, task, ways) {
+    let all_points = all_program_points(alloc, task)?;
+    match settled(alloc, task, all_points) {
         Ok(cert) => Ok(cert),
         Err(Refusal::Memory) => Err(Memory),
         Err(Refusal::Limit | Refusal::Order) => Ok(None),
@@ -147,7 +150,7 @@ pub fn reached(alloc: Global, task: &Task) -> Result<Option<Cert>, Memory>
 /// A certificate of a task, of version 2, that the checker accepts, if the search finds one: that of what it finds point by
 /// point, or the flat one. Where its short form is accepted, with bounds at named points alone, it is given in that form. Where
 /// the flat certificate is accepted, it finds one. Of a task with a marked program it finds none. `Memory` may come in place of any
-/// other answer. It always ends. (own)
+/// other answer. It always ends. Who asks learns that the task is valid. (own)
 pub fn search(alloc: Global, task: &Task) -> Result<Option<Cert>, Memory>
     ensures accepted { IfOk result (λ found. IfSome found (λ cert. IsAccepted task.now cert)) }
     ensures version { IfOk result (λ found. IfSome found (λ cert. cert.version ≡ Two)) }
@@ -155,6 +158,7 @@ pub fn search(alloc: Global, task: &Task) -> Result<Option<Cert>, Memory>
         IsAccepted task.now (short_form task.now cert) → cert ≡ short_form task.now cert)) }
     ensures flat { result ≡ Ok None → (certificate : Certificate) → flat task.now ≡ Some certificate → IsAccepted task.now certificate → ⊥ }
     ensures marked { none_marked task.now ≡ false → result ≡ Ok None }
+    ensures valid { is_plan task.now ≡ true }
 {
     if !none_marked(task.programs()) {
         return Ok(None);

@@ -2,6 +2,7 @@
 
 ghost use Rattle.std.specs.Prelude.{◌≡◌, [], ◌∷◌, IfOk};
 ghost use Rattle.std.specs.List.{filter};
+ghost use Rattle.certificate.specs.Growth.{IsCertificate};
 ghost use Rattle.certificate.specs.Growths.{grown, grown_by};
 ghost use Rattle.certificate.specs.GrowthViews.{Grows};
 ghost use Rattle.certificate.specs.Lines.{lines_of};
@@ -38,7 +39,8 @@ pub(crate) fn push_named(short: &mut Cert, task: &Task, points: &[Point]) -> Res
 
 /// Adds the lines of a certificate's short form.
 fn push_short(short: &mut Cert, task: &Task, cert: &Cert) -> Result<(), Refusal>
-    ensures { Grows result short.new (grown (lines_of (short_form task.now cert.now)) short.old) }
+    ensures grows { Grows result short.new (grown (lines_of (short_form task.now cert.now)) short.old) }
+    ensures valid { IsCertificate cert.now }
 {
     push_named(short, task, cert.points())?;
     push_channels(short, cert.channels())
@@ -48,7 +50,6 @@ fn push_short(short: &mut Cert, task: &Task, cert: &Cert) -> Result<(), Refusal>
 pub(crate) fn shortened(alloc: Global, task: &Task, cert: &Cert) -> Result<Cert, Memory>
     ensures { IfOk result (λ short. short ≡ short_form task.now cert.now) }
 {
-    cert.note_made();
     let mut short = Cert::new(alloc, Version::Two);
     match push_short(&mut short, task, cert) {
         Ok(()) => Ok(short),

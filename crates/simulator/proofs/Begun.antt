@@ -22,7 +22,7 @@ use Rattle.task.specs.Plans.{FirstObject, On_node, On_end}
 use Rattle.task.specs.Limits.{all_apart}
 use Rattle.task.specs.Begins.{description_of, end_description, node_description, first_object, object_given, first_entry, first_entries, first_files}
 use Rattle.task.proofs.Openings.{at_node}
-use Rattle.simulator.specs.declared.owned.OwnedDescriptor.{OwnedDescriptor as GiftCode}
+use Rattle.simulator.specs.declared.owned.OwnedDescriptor.{OwnedDescriptor as OwnedDescriptorCode}
 use Rattle.simulator.specs.OwnedViews.{owned_descriptor_of, owned_descriptors_of}
 use Rattle.simulator.specs.Starts.{OwnedDescriptor, given_in, is_owned, owned_differ, are_owned, last_owned, whole_end, whole_or_none, waiting, awaiting, is_opened, is_below, are_among}
 use Rattle.simulator.specs.Starts.{HasTable, IsOwnedEnd, Awaits}
@@ -36,17 +36,17 @@ drop_at (y ∷ xs) zero x is = let same : y ≡ x = cc in ap (λ z. z ∷ xs) sa
 drop_at (y ∷ xs) (suc k) x is = drop_at xs k x is
 
 -- the one at an index, and those behind it
-pub at_index : (owned : List GiftCode) (k : ℕ) (none : GiftCode) → k < length owned → slice_get (owned_descriptors_of owned) k ≡ Some (owned_descriptor_of (slice_index_or owned k none))
+pub at_index : (owned : List OwnedDescriptorCode) (k : ℕ) (none : OwnedDescriptorCode) → k < length owned → slice_get (owned_descriptors_of owned) k ≡ Some (owned_descriptor_of (slice_index_or owned k none))
 at_index [] k none low = absurd (omega arith)
 at_index (g ∷ owned) zero none low = refl
 at_index (g ∷ owned) (suc k) none low = at_index owned k none (omega arith)
 
-pub behind : (owned : List GiftCode) (k : ℕ) → owned_descriptors_of (drop k owned) ≡ drop k (owned_descriptors_of owned)
+pub behind : (owned : List OwnedDescriptorCode) (k : ℕ) → owned_descriptors_of (drop k owned) ≡ drop k (owned_descriptors_of owned)
 behind owned zero = refl
 behind [] (suc k) = refl
 behind (g ∷ owned) (suc k) = behind owned k
 
-pub rest_of : (owned : List GiftCode) (k : ℕ) → owned_descriptors_of (take (length owned - (k + 1)) (drop (k + 1) owned)) ≡ drop (suc k) (owned_descriptors_of owned)
+pub rest_of : (owned : List OwnedDescriptorCode) (k : ℕ) → owned_descriptors_of (take (length owned - (k + 1)) (drop (k + 1) owned)) ≡ drop (suc k) (owned_descriptors_of owned)
 rest_of owned k =
     let same : k + 1 ≡ suc k = omega arith in
     ap (λ n. owned_descriptors_of (take n (drop (k + 1) owned))) (sym (length-drop (k + 1) owned)) ∙ ap owned_descriptors_of (take-length (drop (k + 1) owned))
@@ -270,7 +270,7 @@ module _ (owned : List OwnedDescriptor) (valid : are_owned owned ≡ true) (k : 
           (subst (λ x. Alike (with_entry f g.process g.given.number (option_map (λ (d : Descriptor). record d { rights = g.given.rights; fcntls = g.given.fcntls }) x)) next) entry_is alike)
 
 -- ## The same of the code's list
-module _ (owned : List GiftCode) (k : ℕ) (none : GiftCode) (low : k < length owned) (valid : are_owned (owned_descriptors_of owned) ≡ true) where
+module _ (owned : List OwnedDescriptorCode) (k : ℕ) (none : OwnedDescriptorCode) (low : k < length owned) (valid : are_owned (owned_descriptors_of owned) ≡ true) where
   abbrev pub owned_at : OwnedDescriptor
   owned_at = owned_descriptor_of (slice_index_or owned k none)
 
@@ -280,8 +280,11 @@ module _ (owned : List GiftCode) (k : ℕ) (none : GiftCode) (low : k < length o
   pub is_owned_at : IsOwned owned_at
   is_owned_at = as_owned (owned_descriptors_of owned) valid k owned_at is_at
 
-  pub next_awaits : (f : OpenFiles) → Awaits (owned_descriptors_of owned) (drop (suc k) (owned_descriptors_of owned)) f → Awaits (owned_descriptors_of owned) (drop (k + 1) (owned_descriptors_of owned)) f
-  next_awaits f b = subst (λ xs. Awaits (owned_descriptors_of owned) xs f) (next_index (owned_descriptors_of owned) k) b
+  abbrev given_all : List OwnedDescriptor
+  given_all = owned_descriptors_of owned
+
+  pub next_awaits : (f : OpenFiles) → Awaits given_all (drop (suc k) given_all) f → Awaits given_all (drop (k + 1) given_all) f
+  next_awaits f b = subst (λ xs. Awaits given_all xs f) (next_index given_all k) b
 
   module _ (pair side : ℕ) (is : IsOwnedEnd (slice_get (owned_descriptors_of owned) k) pair side) (f : OpenFiles)
       (b : Awaits (owned_descriptors_of owned) (drop k (owned_descriptors_of owned)) f) (o : Option EntryCode)
@@ -324,11 +327,15 @@ module _ (owned : List GiftCode) (k : ℕ) (none : GiftCode) (low : k < length o
     used = subst (λ x. is_opened x ≡ true) is is_owned_at.object
 
     pub is_there : (nodes : ℕ) → are_among nodes (owned_descriptors_of owned) ≡ true → node < nodes
-    is_there nodes all = ltb-true node nodes (subst (λ x. is_below nodes x ≡ true) is (list_all-slice_get (λ (g : OwnedDescriptor). is_below nodes g.given.object) (owned_descriptors_of owned) k owned_at all is_at))
+    is_there nodes all =
+        let below = list_all-slice_get (λ (g : OwnedDescriptor). is_below nodes g.given.object) given_all k owned_at all is_at in
+        ltb-true node nodes (subst (λ x. is_below nodes x ≡ true) is below)
 
     module _ (f : OpenFiles) (b : Awaits (owned_descriptors_of owned) (drop k (owned_descriptors_of owned)) f) where
       pub is_free : IsFreeAt f owned_at.process owned_at.given.number
-      is_free = (is_owned_at.process, is_owned_at.number, node_free (owned_descriptors_of owned) valid k owned_at is_at node access is f (begun (owned_descriptors_of owned) valid k owned_at is_at f b))
+      is_free =
+          let free = node_free given_all valid k owned_at is_at node access is f (begun given_all valid k owned_at is_at f b) in
+          (is_owned_at.process, is_owned_at.number, free)
 
       pub awaits_opened : (next : OpenFiles) →
           Opens f next owned_at.process owned_at.given.number node access false owned_at.given.rights owned_at.given.fcntls →

@@ -14,7 +14,8 @@ use Rattle.fd_table.specs.Filled.{Entry}
 use Rattle.task.specs.Plans.{FirstObject, On_node, On_end}
 use Rattle.task.specs.Limits.{all_apart}
 use Rattle.task.specs.Begins.{description_of, node_description, first_entry, first_entries}
-use Rattle.simulator.specs.Starts.{OwnedDescriptor, given_in, is_opened, is_owned, owned_differ, are_owned, entry_of, is_on, later_or, last_owned, whole_end, whole_or_none, waiting, awaiting, nothing_given}
+use Rattle.simulator.specs.Starts.{OwnedDescriptor, given_in, is_opened, is_owned, owned_differ, are_owned, entry_of, is_on, later_or, last_owned}
+use Rattle.simulator.specs.Starts.{whole_end, whole_or_none, waiting, awaiting, nothing_given}
 
 -- ## Places
 pub at_place : {A : Type 0} (Q : A → Type 0) (t : ℕ → ℕ → A) (p n : ℕ) (v : A) (q m : ℕ) → (q ≡ p → m ≡ n → Q v) → ((p ≡ q → n ≡ m → ⊥) → Q (t q m)) → Q (put2 t p n v q m)
@@ -73,7 +74,7 @@ apart_dropped xs zero all = all
 apart_dropped [] (suc k) all = refl
 apart_dropped (x ∷ xs) (suc k) all = apart_dropped xs k (both_right (list_all (owned_differ x) xs) _ all)
 
-pub given_here : (owned : List OwnedDescriptor) (k : ℕ) (g : OwnedDescriptor) → all_apart owned_differ owned ≡ true → slice_get owned k ≡ Some g → given_in owned g.process g.given.number ≡ Some g.given
+pub given_here : (all : List OwnedDescriptor) (k : ℕ) (g : OwnedDescriptor) → all_apart owned_differ all ≡ true → slice_get all k ≡ Some g → given_in all g.process g.given.number ≡ Some g.given
 given_here [] k g apart is = absurd cc
 given_here (h ∷ owned) zero g apart is =
     let same : h ≡ g = cc in

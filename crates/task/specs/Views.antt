@@ -1,5 +1,6 @@
 -- What the values of the code stand for.
-use Rattle.std.specs.Prelude.{true, List, map, string_bytes}
+use Rattle.std.specs.Prelude.{true, List, map}
+use Rattle.texts.specs.Views.{name_of}
 use Rattle.rights.specs.Views.{operation_of, side_seen}
 use Rattle.file_tree.specs.Nodes.{Node}
 use Rattle.file_tree.specs.Views.{kind_of, names_of}
@@ -21,13 +22,13 @@ abbrev pub nodes_of : List TaskNode → List Node
 nodes_of nodes = map node_of nodes
 
 abbrev pub grant_of : GrantCode → Grant
-grant_of g = record { name = string_bytes g.name; path = names_of g.path.items; operations = map operation_of g.operations.items }
+grant_of g = record { name = name_of g.name; path = names_of g.path.items; operations = map operation_of g.operations.items }
 
 abbrev pub grants_of : List GrantCode → List Grant
 grants_of grants = map grant_of grants
 
 abbrev pub program_of : NamedProgramCode → NamedProgram
-program_of p = record { name = string_bytes p.name; code = p.program; marked = p.untrusted }
+program_of p = record { name = name_of p.name; code = p.program; marked = p.untrusted }
 
 abbrev pub programs_of : List NamedProgramCode → List NamedProgram
 programs_of programs = map program_of programs

@@ -6,11 +6,12 @@ ghost use Rattle.task.specs.Plans.{NamedProgram as NamedProgramSeen, is_marked};
 ghost use Rattle.task.specs.Views.{programs_of};
 
 use instruction_set::Program;
+use texts::Name;
 
 /// A program, and its name.
 #[derive(Drop)]
 pub struct NamedProgram {
-    pub name: String,
+    pub name: Name,
     pub program: Program,
     /// Whether it is marked: an attacker may have it execute anything once it is in capability mode. (own)
     pub untrusted: bool,

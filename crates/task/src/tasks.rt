@@ -58,13 +58,6 @@ impl Task {
         }
     }
 
-    /// Notes that the plan is valid, as each task's is, for a proof that goes on from there. It does nothing.
-    pub fn note_valid(&self)
-        ensures { is_plan self.now ≡ true }
-    {
-        let _nodes = &self.nodes;
-    }
-
     /// The nodes of the tree in the order of making, the root first.
     pub fn nodes(&self) -> &[TaskNode]
         ensures nodes { nodes_of result.now ≡ self.now.nodes }
@@ -100,7 +93,8 @@ impl Task {
 
     /// The first processes, by number.
     pub fn starts(&self) -> &[Start]
-        ensures { starts_of result.now ≡ self.now.starts }
+        ensures starts { starts_of result.now ≡ self.now.starts }
+        ensures valid { is_plan self.now ≡ true }
     {
         &self.starts
     }

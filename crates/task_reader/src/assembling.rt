@@ -13,21 +13,21 @@ use prog_asm::{AsmFault, assemble};
 use rights::limits::MAX_PROGRAMS;
 use std::alloc::Global;
 use task::NamedProgram;
+use texts::Name;
 
 /// The program that a text stands for.
 fn assemble_one(alloc: Global, written: &WrittenProgram<'_>) -> Result<NamedProgram, TaskFault>
     ensures { ReadsTask program_of result (assembled (program_seen written.now)) }
 {
-    let name = String::from_str(alloc, written.name)?;
     match assemble(alloc, written.text) {
         Ok(program) => Ok(NamedProgram {
-            name,
+            name: Name::new(written.name.as_bytes()),
             program,
             untrusted: written.untrusted,
         }),
         Err(AsmFault::Memory) => Err(TaskFault::Memory),
         Err(fault) => Err(TaskFault::Asm {
-            program: name,
+            program: String::from_str(alloc, written.name)?,
             fault,
         }),
     }

@@ -1,6 +1,6 @@
 //! The tables of a task's document: nodes, grants and programs.
 
-ghost use Rattle.std.specs.Prelude.{◌≡◌, false, map, option_and_then, option_map};
+ghost use Rattle.std.specs.Prelude.{◌≡◌, IfSome, false, map, option_and_then, option_map, true};
 ghost use Rattle.rights.specs.Views.{operation_of};
 ghost use Rattle.toml.specs.Data.{as_bool, as_table};
 ghost use Rattle.toml.specs.View.{table_view, view};
@@ -9,6 +9,7 @@ ghost use Rattle.task_reader.specs.FaultViews.{ReadsTask};
 ghost use Rattle.task_reader.specs.Reading.{Wrong_field, or_mistake};
 ghost use Rattle.task_reader.specs.Written.{directory_in, file_in, grant_in, link_in, name_at, node_in, operations_in, program_in, written_grant, written_node, written_program};
 ghost use Rattle.task_reader.specs.WrittenViews.{grant_seen, node_seen, program_seen};
+ghost use Rattle.texts.specs.Names.{is_name};
 
 use crate::documents::{has_only, read_words, text_at, value_at};
 use crate::faults::TaskFault;
@@ -95,7 +96,8 @@ pub(crate) fn written_node(value: &Value) -> Option<WrittenNode<'_>>
 
 /// The name of a grant or a program.
 fn name_at<'a>(table: &'a Table, key: &str) -> Option<&'a str>
-    ensures { option_map (λ name. name.now) result ≡ name_at key.now (table_view table.now) }
+    ensures name { option_map (λ name. name.now) result ≡ name_at key.now (table_view table.now) }
+    ensures word { IfSome result (λ name. is_name name.now ≡ true) }
 {
     match text_at(table, key) {
         Some(name) => {

@@ -18,6 +18,7 @@ use crate::written::WrittenGrant;
 use file_tree::{Kind, is_front};
 use std::alloc::{AllocError, Global};
 use task::Grant;
+use texts::Name;
 
 /// The place of a path, if a directory stands there.
 fn directory_at<'t>(tree: &'t IndexedNodes<'_>, path: &str) -> Option<&'t [Vec<u8>]>
@@ -48,7 +49,7 @@ fn place_grant(
         return Ok(None);
     };
     Ok(Some(Grant {
-        name: String::from_str(alloc, grant.name)?,
+        name: Name::new(grant.name.as_bytes()),
         path: place,
         operations: Vec::from_slice(alloc, &grant.operations)?,
     }))

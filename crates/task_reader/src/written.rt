@@ -1,5 +1,8 @@
 //! A task as a document writes it: its words are read, and its paths and programs are texts still.
 
+ghost use Rattle.std.specs.Prelude.{◌≡◌, true};
+ghost use Rattle.texts.specs.Names.{is_name};
+
 use fd_table::{Access, Side};
 use file_tree::Kind;
 use rights::{Fcntls, Op, Rights};
@@ -18,6 +21,7 @@ pub(crate) struct WrittenGrant<'a> {
     pub(crate) name: &'a str,
     pub(crate) path: &'a str,
     pub(crate) operations: Vec<Op>,
+    pub(crate) ghost word: { is_name name.now ≡ true },
 }
 
 /// A program.
@@ -26,6 +30,7 @@ pub(crate) struct WrittenProgram<'a> {
     pub(crate) name: &'a str,
     pub(crate) text: &'a str,
     pub(crate) untrusted: bool,
+    pub(crate) ghost word: { is_name name.now ≡ true },
 }
 
 /// What a first descriptor is of.

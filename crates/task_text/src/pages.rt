@@ -60,6 +60,18 @@ impl Page {
         Ok(&self.bytes)
     }
 
+    /// The same, as a text of its own.
+    pub fn into_bytes(self) -> Result<Vec<u8>, AllocError>
+        ensures whole { IfOk result (λ text. text.items ≡ self.bytes.items) }
+        ensures ok { OnOk result (self.is_short ≡ false) }
+        ensures err { OnErr result (self.is_short ≡ true) }
+    {
+        if self.is_short {
+            return Err(AllocError);
+        }
+        Ok(self.bytes)
+    }
+
     /// Notes that memory was refused for something that should stand on it.
     pub fn fail(&mut self)
         ensures short { self.new.is_short ≡ true }

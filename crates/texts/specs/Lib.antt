@@ -6,3 +6,4 @@ pub mod Lines
 pub mod LineViews
 pub mod Words
 pub mod Hex
+pub mod Views

@@ -1,5 +1,4 @@
 pub mod UseTests
-pub mod Named
 pub mod Repeated
 pub mod Keeping
 pub mod EachTested

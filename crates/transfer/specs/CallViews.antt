@@ -1,7 +1,8 @@
 -- Where a call leads from a point of the code.
 use Rattle.std.specs.Prelude.{ℕ, List, [], Option, if◌then◌else◌}
 use Rattle.certificate.specs.Bounds.{Held, Bound}
-use Rattle.certificate.specs.Views.{bound_of, name_of}
+use Rattle.certificate.specs.Views.{bound_of}
+use Rattle.texts.specs.Views.{name_of}
 use Rattle.instruction_set.specs.Programs.{Syscall, Instruction}
 use Rattle.rules.specs.Outcomes.{Outcome, is_formed, new_end, with_pair, successes_of, successes, successes_in}
 use Rattle.rules.specs.Carrying.{carried_on}

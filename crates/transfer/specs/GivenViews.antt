@@ -2,7 +2,8 @@
 use Rattle.std.specs.Prelude.{Bool, true, List, [], if◌then◌else◌}
 use Rattle.std.specs.List.{flat_map}
 use Rattle.certificate.specs.Bounds.{Interval, Target}
-use Rattle.certificate.specs.Views.{bound_of, name_of}
+use Rattle.certificate.specs.Views.{bound_of}
+use Rattle.texts.specs.Views.{name_of}
 use Rattle.instruction_set.specs.Programs.{Operand}
 use Rattle.rules.specs.Slots.{OpenSlot, slots_in}
 use Rattle.rules.specs.Outcomes.{Outcome, may_be_end, may_be_node, leads_on}

@@ -2,7 +2,8 @@
 use Rattle.std.specs.Prelude.{List}
 use Rattle.certificate.specs.Bounds.{Target, Held, Bound, Closed, with_slot}
 use Rattle.certificate.specs.Bounds as bounds
-use Rattle.certificate.specs.Views.{bound_of, name_of}
+use Rattle.certificate.specs.Views.{bound_of}
+use Rattle.texts.specs.Views.{name_of}
 use Rattle.rules.specs.Intervals.{only}
 use Rattle.rules.specs.Slots.{OpenSlot}
 use Rattle.rules.specs.Outcomes.{Outcome, beneath_target, leads_on, takes, opens_beneath, receives_at}

@@ -1,8 +1,6 @@
--- The slots that an operand may name, one at a time; what fails a test; and grants that have names.
+-- The slots that an operand may name, one at a time, and what fails a test.
 use Rattle.std.specs.Prelude.{◌≡◌, ℕ, Bool, List, [], ◌∷◌, map, Option, Some, None, if◌then◌else◌}
-use Rattle.texts.specs.Names.{is_name}
 use Rattle.certificate.specs.Bounds.{Bound, Interval, Slot, held_in}
-use Rattle.task.specs.Plans.{Grant}
 use Rattle.rules.specs.Needs.{Through}
 use Rattle.rules.specs.Slots.{OpenSlot, holds_number, open_slot}
 use Rattle.rules.specs.Uses.{Use, use_of, uses_through}
@@ -20,6 +18,3 @@ failing test (x ∷ xs) = if test x then failing test xs else x ∷ failing test
 abbrev pub AreFailing : (Use → Bool) → Bound → Option Through → List OpenSlot → Type 0
 AreFailing test b None slots = slots ≡ []
 AreFailing test b (Some t) slots = map (use_of b t.need) slots ≡ failing test (uses_through b (Some t))
-
-abbrev pub has_name : Grant → Bool
-has_name g = is_name g.name

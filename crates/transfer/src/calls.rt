@@ -17,7 +17,7 @@ use crate::given::{Kind, both_given_pass, given_passes, step_passes};
 use crate::intervals::only;
 use crate::outcomes::Change;
 use crate::slots::{FreeNumbers, Takes, free_numbers};
-use crate::successes::{Act, Limit, OutcomeTest, Site, all_pass, next_passes, taken_passes};
+use crate::successes::{Act, Limit, OutcomeVisitor, Site, all_pass, next_passes, taken_passes};
 use crate::targets::{all_held, target_of_path};
 use certificate::{
     Bound, Class, FcntlsRange, Held, Interval, ModeBound, RightsRange, Side, Slot, Target,
@@ -74,8 +74,8 @@ fn paired(site: &Site<'_>, first: u8, second: u8) -> Bound
 }
 
 /// Whether the outcome passes of a new pair, if two numbers are free.
-fn pair_passes<T: OutcomeTest>(site: &Site<'_>, test: &mut T) -> bool
-    ensures { TestsEach T.passes T.joins T.kept test.old test.new result
+fn pair_passes<T: OutcomeVisitor>(site: &Site<'_>, visitor: &mut T) -> bool
+    ensures { TestsEach T.passes T.joins T.kept visitor.old visitor.new result
         (call_at site.now Socketpair) }
 {
     match free_numbers(Takes::Two, site.bound) {
@@ -85,30 +85,30 @@ fn pair_passes<T: OutcomeTest>(site: &Site<'_>, test: &mut T) -> bool
                 register: 0,
                 interval: only(first as u32),
             };
-            next_passes(site, &paired(site, first, second), change, test)
+            next_passes(site, &paired(site, first, second), change, visitor)
         }
     }
 }
 
 /// Whether the outcome of entering the mode passes.
-fn entered_passes<T: OutcomeTest>(site: &Site<'_>, test: &mut T) -> bool
-    ensures { TestsEach T.passes T.joins T.kept test.old test.new result
+fn entered_passes<T: OutcomeVisitor>(site: &Site<'_>, visitor: &mut T) -> bool
+    ensures { TestsEach T.passes T.joins T.kept visitor.old visitor.new result
         (call_at site.now Cap_enter) }
 {
     let change = Change::Register {
         register: 0,
         interval: only(0),
     };
-    next_passes(site, &site.bound.with_mode(ModeBound::On), change, test)
+    next_passes(site, &site.bound.with_mode(ModeBound::On), change, visitor)
 }
 
 /// Whether the outcomes pass of a child and of its parent, which gets the child's number.
-fn forked_pass<T: OutcomeTest>(site: &Site<'_>, test: &mut T) -> bool
-    ensures { TestsEach T.passes T.joins T.kept test.old test.new result
+fn forked_pass<T: OutcomeVisitor>(site: &Site<'_>, visitor: &mut T) -> bool
+    ensures { TestsEach T.passes T.joins T.kept visitor.old visitor.new result
         (call_at site.now Fork) }
 {
-    step_passes(site, only(0), test)
-        && step_passes(site, Interval::new(1, MAX_PROCESSES as u32 - 1), test)
+    step_passes(site, only(0), visitor)
+        && step_passes(site, Interval::new(1, MAX_PROCESSES as u32 - 1), visitor)
 }
 
 /// How the successes of a call are asked about.
@@ -196,29 +196,33 @@ fn manner_of(site: &Site<'_>, call: &Syscall) -> Manner
 }
 
 /// Whether the outcomes pass that a call leads to by its manner.
-fn passes_by<T: OutcomeTest>(site: &Site<'_>, manner: &Manner, test: &mut T) -> bool
-    ensures { TestsEach T.passes T.joins T.kept test.old test.new result
+fn passes_by<T: OutcomeVisitor>(site: &Site<'_>, manner: &Manner, visitor: &mut T) -> bool
+    ensures { TestsEach T.passes T.joins T.kept visitor.old visitor.new result
         (led_by site.now manner.now) }
 {
     match manner {
-        Manner::Acts(act, operand) => all_pass(site, *act, *operand, test),
-        Manner::Gives(operand, kind, given) => given_passes(site, *operand, *kind, *given, test),
+        Manner::Acts(act, operand) => all_pass(site, *act, *operand, visitor),
+        Manner::Gives(operand, kind, given) => given_passes(site, *operand, *kind, *given, visitor),
         Manner::GivesBoth(first, second, given) => {
-            both_given_pass(site, *first, *second, *given, test)
+            both_given_pass(site, *first, *second, *given, visitor)
         }
-        Manner::Stays(given) => step_passes(site, *given, test),
-        Manner::Takes(held) => taken_passes(site, held, test),
-        Manner::Enters => entered_passes(site, test),
-        Manner::Pairs => pair_passes(site, test),
-        Manner::Forks => forked_pass(site, test),
+        Manner::Stays(given) => step_passes(site, *given, visitor),
+        Manner::Takes(held) => taken_passes(site, held, visitor),
+        Manner::Enters => entered_passes(site, visitor),
+        Manner::Pairs => pair_passes(site, visitor),
+        Manner::Forks => forked_pass(site, visitor),
     }
 }
 
 /// Whether each success of a call passes, where it is looked at.
-pub(crate) fn call_passes<T: OutcomeTest>(site: &Site<'_>, call: &Syscall, test: &mut T) -> bool
+pub(crate) fn call_passes<T: OutcomeVisitor>(
+    site: &Site<'_>,
+    call: &Syscall,
+    visitor: &mut T,
+) -> bool
     requires { has_known_limit (syscall_of call.now) ≡ true }
-    ensures { TestsEach T.passes T.joins T.kept test.old test.new result
+    ensures { TestsEach T.passes T.joins T.kept visitor.old visitor.new result
         (invoked_at site.now (syscall_of call.now)) }
 {
-    !is_formed(site, call) || passes_by(site, &manner_of(site, call), test)
+    !is_formed(site, call) || passes_by(site, &manner_of(site, call), visitor)
 }

@@ -8,7 +8,7 @@ ghost use Rattle.transfer.specs.Limits.{leaves_known};
 
 use crate::instructions::{failure, successes_pass};
 use crate::outcomes::Outcome;
-use crate::successes::{OutcomeTest, Site};
+use crate::successes::{OutcomeVisitor, Site};
 use certificate::{Bound, Domain};
 use instruction_set::Instruction;
 
@@ -19,7 +19,7 @@ struct Meeting {
     bound: Option<Bound>,
 }
 
-impl OutcomeTest for Meeting {
+impl OutcomeVisitor for Meeting {
     ghost passes = { λ meeting outcome. true };
 
     ghost joins = { λ meeting. Some meeting.point };
@@ -27,7 +27,7 @@ impl OutcomeTest for Meeting {
     ghost kept = { λ meeting. option_map bound_of meeting.bound };
 
     /// Joins the outcome, if it goes to the point.
-    fn asks(&mut self, outcome: &Outcome<'_>) -> bool {
+    fn visit(&mut self, outcome: &Outcome<'_>) -> bool {
         if outcome.point == self.point {
             let there = outcome.bound_there();
             let joined = match &self.bound {
@@ -52,7 +52,7 @@ pub fn carried_on(site: &Site<'_>, instruction: &Instruction) -> Option<Bound>
     };
     successes_pass(site, instruction, &mut meeting);
     if let Some(outcome) = failure(site.bound, instruction) {
-        meeting.asks(&outcome);
+        meeting.visit(&outcome);
     }
     meeting.bound
 }

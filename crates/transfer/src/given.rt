@@ -11,7 +11,7 @@ ghost use Rattle.transfer.specs.Kept.{TestsEach};
 
 use crate::asks::{SlotTest, all_slots_pass};
 use crate::outcomes::Change;
-use crate::successes::{OutcomeTest, Site, next_passes};
+use crate::successes::{OutcomeVisitor, Site, next_passes};
 use crate::targets::{may_be_end, may_be_node};
 use certificate::{Bound, Held, Interval, Target};
 use instruction_set::Operand;
@@ -58,43 +58,47 @@ fn none_is(bound: &Bound, operand: Operand, kind: Kind) -> bool
 }
 
 /// Whether the next point passes with register 0 in an interval.
-pub(crate) fn step_passes<T: OutcomeTest>(site: &Site<'_>, given: Interval, test: &mut T) -> bool
-    ensures { TestsEach T.passes T.joins T.kept test.old test.new result
+pub(crate) fn step_passes<T: OutcomeVisitor>(
+    site: &Site<'_>,
+    given: Interval,
+    visitor: &mut T,
+) -> bool
+    ensures { TestsEach T.passes T.joins T.kept visitor.old visitor.new result
         (stays site.now (interval_of given)) }
 {
     let change = Change::Register {
         register: 0,
         interval: given,
     };
-    next_passes(site, site.bound, change, test)
+    next_passes(site, site.bound, change, visitor)
 }
 
 /// Whether it does for each slot of an operand that may be of the kind.
-pub(crate) fn given_passes<T: OutcomeTest>(
+pub(crate) fn given_passes<T: OutcomeVisitor>(
     site: &Site<'_>,
     operand: Operand,
     kind: Kind,
     given: Interval,
-    test: &mut T,
+    visitor: &mut T,
 ) -> bool
-    ensures { TestsEach T.passes T.joins T.kept test.old test.new result
+    ensures { TestsEach T.passes T.joins T.kept visitor.old visitor.new result
         (given_at site.now (operand_of operand) kind (interval_of given)) }
 {
-    none_is(site.bound, operand, kind) || step_passes(site, given, test)
+    none_is(site.bound, operand, kind) || step_passes(site, given, visitor)
 }
 
 /// Whether it does for each slot of an operand and each of another.
-pub(crate) fn both_given_pass<T: OutcomeTest>(
+pub(crate) fn both_given_pass<T: OutcomeVisitor>(
     site: &Site<'_>,
     first: (Operand, Kind),
     second: (Operand, Kind),
     given: Interval,
-    test: &mut T,
+    visitor: &mut T,
 ) -> bool
-    ensures { TestsEach T.passes T.joins T.kept test.old test.new result
+    ensures { TestsEach T.passes T.joins T.kept visitor.old visitor.new result
         (both_given site.now (operand_of first.0) first.1 (operand_of second.0) second.1 (interval_of given)) }
 {
     let (operand, kind) = first;
     let (other, its) = second;
-    none_is(site.bound, operand, kind) || given_passes(site, other, its, given, test)
+    none_is(site.bound, operand, kind) || given_passes(site, other, its, given, visitor)
 }

@@ -13,25 +13,25 @@ use crate::calls::call_passes;
 use crate::demands::demanded;
 use crate::intervals::{equal_part, lower_part, only, other_part, sums, upper_part};
 use crate::outcomes::{Change, Outcome};
-use crate::successes::{OutcomeTest, Site, next_passes};
+use crate::successes::{OutcomeVisitor, Site, next_passes};
 use certificate::{Bound, Interval};
 use instruction_set::{Instruction, Register, Syscall};
 use task::is_marked;
 
 /// Whether a point passes with a register in an interval, if there is one.
-fn part_passes<T: OutcomeTest>(
+fn part_passes<T: OutcomeVisitor>(
     site: &Site<'_>,
     point: usize,
     register: Register,
     part: Option<Interval>,
-    test: &mut T,
+    visitor: &mut T,
 ) -> bool
-    ensures { TestsEach T.passes T.joins T.kept test.old test.new result
+    ensures { TestsEach T.passes T.joins T.kept visitor.old visitor.new result
         (outcomes_in point (bound_of site.now.bound.now) register (option_map interval_of part)) }
 {
     match part {
         None => true,
-        Some(interval) => test.asks(&Outcome {
+        Some(interval) => visitor.visit(&Outcome {
             point,
             bound: site.bound,
             change: Change::Register {
@@ -43,52 +43,52 @@ fn part_passes<T: OutcomeTest>(
 }
 
 /// Whether the outcomes of `jeq` pass: at its target where the register may be the value, and next where it may be another.
-fn equal_pass<T: OutcomeTest>(
+fn equal_pass<T: OutcomeVisitor>(
     site: &Site<'_>,
     register: Register,
     value: u32,
     target: u8,
-    test: &mut T,
+    visitor: &mut T,
 ) -> bool
-    ensures { TestsEach T.passes T.joins T.kept test.old test.new result
+    ensures { TestsEach T.passes T.joins T.kept visitor.old visitor.new result
         (equal_outcomes site.now.point (bound_of site.now.bound.now) register value target) }
 {
     let interval = site.bound.interval(register.number());
     let equal = equal_part(interval, value);
     let other = other_part(interval, value);
     let next = site.point as usize + 1;
-    part_passes(site, target as usize, register, equal, test)
-        && part_passes(site, next, register, other, test)
+    part_passes(site, target as usize, register, equal, visitor)
+        && part_passes(site, next, register, other, visitor)
 }
 
 /// Whether the outcomes of `jlt` pass: at its target where the register may be less than the value, and next where it may not.
-fn less_pass<T: OutcomeTest>(
+fn less_pass<T: OutcomeVisitor>(
     site: &Site<'_>,
     register: Register,
     value: u32,
     target: u8,
-    test: &mut T,
+    visitor: &mut T,
 ) -> bool
-    ensures { TestsEach T.passes T.joins T.kept test.old test.new result
+    ensures { TestsEach T.passes T.joins T.kept visitor.old visitor.new result
         (less_outcomes site.now.point (bound_of site.now.bound.now) register value target) }
 {
     let interval = site.bound.interval(register.number());
     let lower = lower_part(interval, value);
     let upper = upper_part(interval, value);
     let next = site.point as usize + 1;
-    part_passes(site, target as usize, register, lower, test)
-        && part_passes(site, next, register, upper, test)
+    part_passes(site, target as usize, register, lower, visitor)
+        && part_passes(site, next, register, upper, visitor)
 }
 
 /// Whether each outcome of an instruction passes that is no error's, in a program that isn't marked.
 #[tactic(auto, unfolding(rules::specs::Outcomes::successes))]
-fn plain_successes_pass<T: OutcomeTest>(
+fn plain_successes_pass<T: OutcomeVisitor>(
     site: &Site<'_>,
     instruction: &Instruction,
-    test: &mut T,
+    visitor: &mut T,
 ) -> bool
     requires { leaves_known (instruction_of instruction.now) ≡ true }
-    ensures { TestsEach T.passes T.joins T.kept test.old test.new result
+    ensures { TestsEach T.passes T.joins T.kept visitor.old visitor.new result
         (plain_successes_at site.now (instruction_of instruction.now)) }
 {
     let bound = site.bound;
@@ -103,7 +103,7 @@ fn plain_successes_pass<T: OutcomeTest>(
         Instruction::Jmp { target } => {
             let point = *target as usize;
             let change = Change::Nothing;
-            return test.asks(&Outcome {
+            return visitor.visit(&Outcome {
                 point,
                 bound,
                 change,
@@ -113,22 +113,22 @@ fn plain_successes_pass<T: OutcomeTest>(
             register,
             value,
             target,
-        } => return equal_pass(site, *register, *value, *target, test),
+        } => return equal_pass(site, *register, *value, *target, visitor),
         Instruction::Jlt {
             register,
             value,
             target,
-        } => return less_pass(site, *register, *value, *target, test),
+        } => return less_pass(site, *register, *value, *target, visitor),
         Instruction::Halt => return true,
         Instruction::Invoke { call, .. } => {
-            return call_passes(site, call, test);
+            return call_passes(site, call, visitor);
         }
     };
     let change = Change::Register {
         register: register.number(),
         interval,
     };
-    next_passes(site, bound, change, test)
+    next_passes(site, bound, change, visitor)
 }
 
 /// Whether an instruction enters capability mode. (cap_enter(2))
@@ -148,19 +148,19 @@ pub fn enters_mode(instruction: &Instruction) -> bool
 /// those that are the same perhaps once. A marked program isn't followed into capability mode. Takes no memory. (own; after the
 /// manual pages of the calls)
 #[tactic(auto, unfolding(rules::specs::Outcomes::successes_in))]
-pub fn successes_pass<T: OutcomeTest>(
+pub fn successes_pass<T: OutcomeVisitor>(
     site: &Site<'_>,
     instruction: &Instruction,
-    test: &mut T,
+    visitor: &mut T,
 ) -> bool
     requires { leaves_known (instruction_of instruction.now) ≡ true }
-    ensures { TestsEach T.passes T.joins T.kept test.old test.new result
+    ensures { TestsEach T.passes T.joins T.kept visitor.old visitor.new result
         (successes_at site.now (instruction_of instruction.now)) }
 {
     if enters_mode(instruction) && is_marked(site.task.programs(), site.name.as_bytes()) {
         return true;
     }
-    plain_successes_pass(site, instruction, test)
+    plain_successes_pass(site, instruction, visitor)
 }
 
 /// The outcome of an instruction that fails, if it may: register 7 has an error's number, and all else stays. (own)

@@ -25,6 +25,6 @@ pub use failing::{OpenSlot, failing_slots, failing_through};
 pub use instructions::{enters_mode, failure, successes_pass};
 pub use outcomes::{Change, Outcome};
 pub use slots::{FreeNumbers, Takes, free_numbers, is_single, may_be_on, operand_interval};
-pub use successes::{OutcomeTest, Site};
+pub use successes::{OutcomeVisitor, Site};
 pub use targets::{may_be_end, may_be_node, unknown_held};
 pub use uses::{Need, Needs, Passed, Through, needed};

@@ -18,13 +18,14 @@ use crate::intervals::only;
 use crate::outcomes::{Change, Outcome};
 use crate::slots::{FreeNumbers, Takes, free_numbers, holds_number, operand_interval};
 use crate::targets::{beneath_target, unknown_held, with_target};
-use certificate::{Bound, Cert, FcntlsRange, Held, Interval, Name, RightsRange, Slot, Target};
+use certificate::{Bound, Cert, FcntlsRange, Held, Interval, RightsRange, Slot, Target};
 use instruction_set::Operand;
 use task::Task;
+use texts::Name;
 
-/// A test of outcomes. It may keep what it learns of each, but what passes stays the same. It may join those that go to a
+/// A visitor of outcomes. It may keep what it learns of each, but what passes stays the same. It may join those that go to a
 /// point of its own.
-pub trait OutcomeTest {
+pub trait OutcomeVisitor {
     /// Which outcomes pass it.
     ghost passes: { Self → OutcomeSeen → Bool };
 
@@ -35,7 +36,7 @@ pub trait OutcomeTest {
     ghost kept: { Self → Option BoundSeen };
 
     /// Whether the outcome passes.
-    fn asks(&mut self, outcome: &Outcome<'_>) -> bool
+    fn visit(&mut self, outcome: &Outcome<'_>) -> bool
         ensures value { result ≡ passes self.old (outcome_of outcome.now) }
         ensures same { passes self.new ≡ passes self.old }
         ensures same_point { joins self.new ≡ joins self.old }
@@ -76,17 +77,17 @@ pub(crate) enum Act {
 }
 
 /// Whether the next point passes with a bound where this changes.
-pub(crate) fn next_passes<T: OutcomeTest>(
+pub(crate) fn next_passes<T: OutcomeVisitor>(
     site: &Site<'_>,
     bound: &Bound,
     change: Change,
-    test: &mut T,
+    visitor: &mut T,
 ) -> bool
-    ensures { TestsEach T.passes T.joins T.kept test.old test.new result
+    ensures { TestsEach T.passes T.joins T.kept visitor.old visitor.new result
         (outcome_to (site.now.point + 1) (bound_changed (bound_of bound.now) change)) }
 {
     let point = site.point as usize + 1;
-    test.asks(&Outcome {
+    visitor.visit(&Outcome {
         point,
         bound,
         change,
@@ -94,8 +95,8 @@ pub(crate) fn next_passes<T: OutcomeTest>(
 }
 
 /// Whether the outcome passes where the lowest free number is taken for what is held, if one is free.
-pub(crate) fn taken_passes<T: OutcomeTest>(site: &Site<'_>, held: &Held, test: &mut T) -> bool
-    ensures { TestsEach T.passes T.joins T.kept test.old test.new result
+pub(crate) fn taken_passes<T: OutcomeVisitor>(site: &Site<'_>, held: &Held, visitor: &mut T) -> bool
+    ensures { TestsEach T.passes T.joins T.kept visitor.old visitor.new result
         (taken_at site.now (held_of held.now)) }
 {
     match free_numbers(Takes::One, site.bound) {
@@ -106,14 +107,14 @@ pub(crate) fn taken_passes<T: OutcomeTest>(site: &Site<'_>, held: &Held, test: &
                 slot: Slot::Open(*held),
                 given: only(number as u32),
             };
-            next_passes(site, site.bound, change, test)
+            next_passes(site, site.bound, change, visitor)
         }
     }
 }
 
 /// Whether the outcome passes where a slot is otherwise and register 0 is 0.
-fn slot_passes<T: OutcomeTest>(site: &Site<'_>, number: u8, slot: Slot, test: &mut T) -> bool
-    ensures { TestsEach T.passes T.joins T.kept test.old test.new result
+fn slot_passes<T: OutcomeVisitor>(site: &Site<'_>, number: u8, slot: Slot, visitor: &mut T) -> bool
+    ensures { TestsEach T.passes T.joins T.kept visitor.old visitor.new result
         (outcome_to (site.now.point + 1) (with_interval (with_slot (bound_of site.now.bound.now) number (slot_of slot)) 0 (only 0))) }
 {
     let change = Change::Slot {
@@ -121,12 +122,12 @@ fn slot_passes<T: OutcomeTest>(site: &Site<'_>, number: u8, slot: Slot, test: &m
         slot,
         given: only(0),
     };
-    next_passes(site, site.bound, change, test)
+    next_passes(site, site.bound, change, visitor)
 }
 
 /// Whether the outcome passes of what comes from a channel, or from an end of unknown kind.
-fn received_passes<T: OutcomeTest>(site: &Site<'_>, target: &Target, test: &mut T) -> bool
-    ensures { TestsEach T.passes T.joins T.kept test.old test.new result
+fn received_passes<T: OutcomeVisitor>(site: &Site<'_>, target: &Target, visitor: &mut T) -> bool
+    ensures { TestsEach T.passes T.joins T.kept visitor.old visitor.new result
         (received_at site.now (target_of target.now)) }
 {
     match target {
@@ -135,10 +136,10 @@ fn received_passes<T: OutcomeTest>(site: &Site<'_>, target: &Target, test: &mut 
             None => true,
             Some(channel) => match channel.sends() {
                 None => true,
-                Some(held) => taken_passes(site, &held, test),
+                Some(held) => taken_passes(site, &held, visitor),
             },
         },
-        Target::Unknown => taken_passes(site, &unknown_held(), test),
+        Target::Unknown => taken_passes(site, &unknown_held(), visitor),
     }
 }
 
@@ -153,84 +154,84 @@ fn limited(held: &Held, limit: Limit) -> Held
 }
 
 /// Whether the outcome passes of what a call does with this slot.
-fn acted_passes<T: OutcomeTest>(
+fn acted_passes<T: OutcomeVisitor>(
     site: &Site<'_>,
     act: Act,
     number: u8,
     held: &Held,
-    test: &mut T,
+    visitor: &mut T,
 ) -> bool
-    ensures { TestsEach T.passes T.joins T.kept test.old test.new result
+    ensures { TestsEach T.passes T.joins T.kept visitor.old visitor.new result
         (acted site.now act (record { number = number; held = held_of held.now })) }
 {
     match act {
         Act::Opens => match beneath_target(&held.target()) {
             None => true,
-            Some(target) => taken_passes(site, &with_target(held, target), test),
+            Some(target) => taken_passes(site, &with_target(held, target), visitor),
         },
-        Act::Receives => received_passes(site, &held.target(), test),
-        Act::Copies => taken_passes(site, held, test),
-        Act::Closes => slot_passes(site, number, Slot::Closed, test),
+        Act::Receives => received_passes(site, &held.target(), visitor),
+        Act::Copies => taken_passes(site, held, visitor),
+        Act::Closes => slot_passes(site, number, Slot::Closed, visitor),
         Act::Limits(limit) => {
             let slot = Slot::Open(limited(held, limit));
-            slot_passes(site, number, slot, test)
+            slot_passes(site, number, slot, visitor)
         }
     }
 }
 
 /// Whether the outcome passes of what a call does with a slot, if it may be open and its number is in the interval.
-fn one_passes<T: OutcomeTest>(
+fn one_passes<T: OutcomeVisitor>(
     site: &Site<'_>,
     act: Act,
     slot: &Slot,
     number: u8,
     interval: Interval,
-    test: &mut T,
+    visitor: &mut T,
 ) -> bool
-    ensures { TestsEach T.passes T.joins T.kept test.old test.new result
+    ensures { TestsEach T.passes T.joins T.kept visitor.old visitor.new result
         (flat_map (acted site.now act) (slot_at number (interval_of interval) (slot_of slot.now))) }
 {
     match slot {
         Slot::Closed => true,
         Slot::Open(held) | Slot::Maybe(held) => {
-            !holds_number(interval, number) || acted_passes(site, act, number, held, test)
+            !holds_number(interval, number) || acted_passes(site, act, number, held, visitor)
         }
     }
 }
 
 /// Whether the outcomes pass of what a call does with each slot from this number on.
-fn rest_pass<T: OutcomeTest>(
+fn rest_pass<T: OutcomeVisitor>(
     site: &Site<'_>,
     act: Act,
     slots: &[Slot],
     number: u8,
     interval: Interval,
-    test: &mut T,
+    visitor: &mut T,
 ) -> bool
     requires { number + length slots.now ≤ 16 }
-    ensures { TestsEach T.passes T.joins T.kept test.old test.new result
+    ensures { TestsEach T.passes T.joins T.kept visitor.old visitor.new result
         (flat_map (acted site.now act) (slots_from number (interval_of interval) (map slot_of slots.now))) }
 {
     match slots {
         [] => true,
         [slot, rest @ ..] => {
-            one_passes(site, act, slot, number, interval, test)
-                && rest_pass(site, act, rest, number + 1, interval, test)
+            one_passes(site, act, slot, number, interval, visitor)
+                && rest_pass(site, act, rest, number + 1, interval, visitor)
         }
     }
 }
 
 /// Whether the outcomes pass of what a call does with each slot that an operand may name.
 #[tactic(auto, unfolding(rules::specs::Slots::slots_in))]
-pub(crate) fn all_pass<T: OutcomeTest>(
+pub(crate) fn all_pass<T: OutcomeVisitor>(
     site: &Site<'_>,
     act: Act,
     operand: Operand,
-    test: &mut T,
+    visitor: &mut T,
 ) -> bool
-    ensures { TestsEach T.passes T.joins T.kept test.old test.new result
+    ensures { TestsEach T.passes T.joins T.kept visitor.old visitor.new result
         (flat_map (acted site.now act) (slots_in (bound_of site.now.bound.now) (operand_of operand))) }
 {
     let interval = operand_interval(site.bound, operand);
-    rest_pass(site, act, site.bound.slots(), 0, interval, test)
+    rest_pass(site, act, site.bound.slots(), 0, interval, visitor)
 }

@@ -8,11 +8,11 @@ ghost use Rattle.file_tree.specs.Views.{names_of};
 ghost use Rattle.certificate.specs.Views.{held_of, target_of};
 ghost use Rattle.rules.specs.Outcomes.{all_held, beneath_target, may_be_end, may_be_node, target_of_path, unknown_held};
 ghost use Rattle.task.specs.Views.{grants_of};
-ghost use Rattle.transfer.specs.Tested.{has_name};
 
-use certificate::{FcntlsRange, Held, Name, RightsRange, Target};
+use certificate::{FcntlsRange, Held, RightsRange, Target};
 use rights::{Fcntls, Rights};
 use task::{Grant, Task};
+use texts::Name;
 
 /// Whether a text is this name and then more names, each after a `/`.
 fn is_joined(name: &[u8], names: &[Vec<u8>], text: &[u8]) -> bool
@@ -48,14 +48,13 @@ fn is_text_of(place: &[Vec<u8>], text: &[u8]) -> bool
 
 /// What an open leads to, among these grants.
 fn target_among(grants: &[Grant], path: &[u8]) -> Target
-    requires { list_all has_name (grants_of grants.now) ≡ true }
     ensures { target_of result ≡ target_of_path (grants_of grants.now) path.now }
 {
     match grants {
         [] => Target::AnyNode,
         [first, rest @ ..] => {
             if is_text_of(&first.path, path) {
-                return Target::InGrant(Name::new(first.name.as_bytes()));
+                return Target::InGrant(first.name);
             }
             target_among(rest, path)
         }
@@ -66,7 +65,6 @@ fn target_among(grants: &[Grant], path: &[u8]) -> Target
 pub(crate) fn target_of_path(task: &Task, path: &[u8]) -> Target
     ensures { target_of result ≡ target_of_path task.now.grants path.now }
 {
-    task.note_valid();
     target_among(task.grants(), path)
 }
 

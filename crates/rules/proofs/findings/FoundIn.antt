@@ -41,7 +41,7 @@ module _ (grants : List Grant) (name : List ℕ) (t : List Node) (path : List �
 
   abbrev Comes : Progress → Type 0
   Comes (Done a) = IsGood a
-  Comes (More walk) = AllIn grants name t (walk.stand.spot.current ∷ walk.stand.spot.before)
+  Comes (More walk) = AllIn grants name t (walk.stand.cursor.current ∷ walk.stand.cursor.before)
 
   -- a name in a node of the grant
   name_in : (d : ℕ) (next : List ℕ) → grant_holds grants name (node t d).place ≡ true → IsDeepIn grants name (at_name (node t d).place next)
@@ -102,7 +102,7 @@ module _ (grants : List Grant) (name : List ℕ) (t : List Node) (path : List �
       not_found = λ fault. (tt, λ keep. tt);
     }
 
-    comes : (walk : WalkState) → walk.way ≡ Beneath → walk.last ≡ last → Before walk.stand.spot walk.stand.left → Comes (handled t walk)
+    comes : (walk : WalkState) → walk.way ≡ Beneath → walk.last ≡ last → Before walk.stand.cursor walk.stand.left → Comes (handled t walk)
     comes walk way_is last_is before = by_event (handled t walk) (handled_good t Beneath last Before After IsGood beneath_handles walk way_is last_is before)
       where
         by_event : (event : Progress) → IsGoodProgress t Beneath last Before After IsGood beneath_handles event → Comes event
@@ -113,7 +113,7 @@ module _ (grants : List Grant) (name : List ℕ) (t : List Node) (path : List �
 module _ (grants : List Grant) (t : List Node) (tree : IsTree t) (start : ℕ) (path : List ℕ) (last : Last) where
   -- what is known of a lookup under way
   abbrev pub IsWalkBeneath : WalkState → Type 0
-  IsWalkBeneath walk = IsUnderWay t path Beneath last walk × IsBeside grants t start walk.stand.spot
+  IsWalkBeneath walk = IsUnderWay t path Beneath last walk × IsBeside grants t start walk.stand.cursor
 
   abbrev pub IsEventBeneath : Progress → Type 0
   IsEventBeneath event = IsEvent (FoundBeneath grants t start path last) IsWalkBeneath event

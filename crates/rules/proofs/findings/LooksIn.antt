@@ -29,14 +29,14 @@ module _ (plan : Plan) (w : World) (p : ℕ) (s : ProcessState) (e : Event) (cal
 
   -- the directory of a descriptor is where its lookup starts
   starts_at : (entry : Option Descriptor) (d : Descriptor) → entry ≡ Some d → (n : ℕ) (access : Access) → w.files.objects d.description ≡ At_node n access
-      → (walk : WalkState) → IsBeside plan.grants w.tree n walk.stand.spot → StartsBeside plan.grants w.tree w.files.objects entry walk
+      → (walk : WalkState) → IsBeside plan.grants w.tree n walk.stand.cursor → StartsBeside plan.grants w.tree w.files.objects entry walk
   starts_at entry d held n access at walk is = record {
     beside = λ k m other here object.
         let both : Some d ≡ Some k = sym held ∙ here in
         let one : d ≡ k = cc in
         let nodes : At_node n access ≡ At_node m other = sym at ∙ ap (λ (x : Descriptor). w.files.objects x.description) one ∙ object in
         let same : n ≡ m = cc in
-        subst (λ j. IsBeside plan.grants w.tree j walk.stand.spot) same is;
+        subst (λ j. IsBeside plan.grants w.tree j walk.stand.cursor) same is;
   }
 
   -- ## Beneath a directory

@@ -110,9 +110,9 @@ module _ (t : List Node) (tree : IsTree t) (last : Last) (place : List (List ℕ
 
   abbrev Comes : Progress → Type 0
   Comes (Done a) = Stands a
-  Comes (More walk) = IsAlong t place walk.stand.spot walk.stand.left
+  Comes (More walk) = IsAlong t place walk.stand.cursor walk.stand.left
 
-  comes : (walk : WalkState) → walk.way ≡ Global → walk.last ≡ last → IsAlong t place walk.stand.spot walk.stand.left → Comes (handled t walk)
+  comes : (walk : WalkState) → walk.way ≡ Global → walk.last ≡ last → IsAlong t place walk.stand.cursor walk.stand.left → Comes (handled t walk)
   comes walk way_is last_is is = by_event (handled t walk) (handled_good t Global last (IsAlong t place) (IsAlong t place) Stands along_handles walk way_is last_is is)
     where
       by_event : (event : Progress) → IsGoodProgress t Global last (IsAlong t place) (IsAlong t place) Stands along_handles event → Comes event

@@ -42,7 +42,7 @@ module _ (plan : Plan) (grants : KeepsGrants plan) (t u : List Node) (keeps : Ke
 
   opening_later : (path : List ℕ) (walk : WalkState) → IsOpening plan.grants t path walk → IsOpening plan.grants u path walk
   opening_later path walk is =
-      record { along = λ i g there same. along_later i g there walk.stand.spot walk.stand.left (is.along i g there same) }
+      record { along = λ i g there same. along_later i g there walk.stand.cursor walk.stand.left (is.along i g there same) }
 
   -- A process whose state and table stay, and the descriptions that its table names.
   module _ (objects later : ℕ → Object) (row new : ℕ → Option Descriptor) (s : ProcessState) (rows : (m : ℕ) → new m ≡ row m)
@@ -53,7 +53,7 @@ module _ (plan : Plan) (grants : KeepsGrants plan) (t u : List Node) (keeps : Ke
       beside = λ d n access here at.
           let old : row m ≡ Some d = sym (rows m) ∙ here in
           let object : objects d.description ≡ At_node n access = sym (same m d old) ∙ at in
-          beside_later n walk.stand.spot (nodes m d n access old object) (is.beside d n access old object);
+          beside_later n walk.stand.cursor (nodes m d n access old object) (is.beside d n access old object);
     }
 
     walk_later : (looks : Lookups) (walking : Walking) → WalkIn plan.grants t objects row s looks walking → WalkIn plan.grants u later new s looks walking

@@ -26,7 +26,7 @@ pub record IsBeside (grants : List Grant) (t : List Node) (start : ℕ) (at : Wa
 
 -- the same of the start that a descriptor is of
 pub record StartsBeside (grants : List Grant) (t : List Node) (objects : ℕ → Object) (entry : Option Descriptor) (walk : WalkState) : Type 0 where
-  pub beside : (d : Descriptor) (n : ℕ) (access : Access) → entry ≡ Some d → objects d.description ≡ At_node n access → IsBeside grants t n walk.stand.spot
+  pub beside : (d : Descriptor) (n : ℕ) (access : Access) → entry ≡ Some d → objects d.description ≡ At_node n access → IsBeside grants t n walk.stand.cursor
 
 -- It stands at the first names of a place, and has the others left.
 pub record IsAlong (t : List Node) (place : List (List ℕ)) (at : Walked) (left : List (List ℕ)) : Type 0 where
@@ -37,7 +37,7 @@ pub record IsAlong (t : List Node) (place : List (List ℕ)) (at : Walked) (left
 
 -- so it does where its path is that of a grant
 pub record IsOpening (grants : List Grant) (t : List Node) (path : List ℕ) (walk : WalkState) : Type 0 where
-  pub along : (i : ℕ) (g : Grant) → slice_get grants i ≡ Some g → place_text g.path ≡ path → IsAlong t g.path walk.stand.spot walk.stand.left
+  pub along : (i : ℕ) (g : Grant) → slice_get grants i ≡ Some g → place_text g.path ≡ path → IsAlong t g.path walk.stand.cursor walk.stand.left
 
 -- ## What a process has under way
 module _ (grants : List Grant) (t : List Node) (objects : ℕ → Object) (row : ℕ → Option Descriptor) (s : ProcessState) where

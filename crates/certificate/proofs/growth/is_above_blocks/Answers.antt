@@ -2,7 +2,8 @@ use Rattle.std.proofs.Common.{ap, sym, ◌∙◌}
 use Rattle.std.specs.Ordering.{is_lt}
 use Rattle.certificate.specs.Bounds.{PointBound}
 use Rattle.certificate.specs.Growth.{above_blocks, point_order}
-use Rattle.certificate.specs.Views.{name_of, point_of}
+use Rattle.certificate.specs.Views.{point_of}
+use Rattle.texts.specs.Views.{name_of}
 use Rattle.certificate.proofs.Last.{at_last, at_none, above_blocks-last, above_blocks-none}
 use Rattle.certificate.proofs.growth.is_above_blocks.Goals as goal
 

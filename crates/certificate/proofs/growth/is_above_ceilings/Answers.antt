@@ -2,7 +2,8 @@ use Rattle.std.proofs.Common.{ap, sym, ◌∙◌, true}
 use Rattle.std.specs.Ordering.{is_lt}
 use Rattle.certificate.specs.Bounds.{Ceiling}
 use Rattle.certificate.specs.Growth.{name_order, asked_of_last}
-use Rattle.certificate.specs.Views.{name_of, ceiling_of}
+use Rattle.certificate.specs.Views.{ceiling_of}
+use Rattle.texts.specs.Views.{name_of}
 use Rattle.certificate.proofs.Last.{at_last, at_none}
 use Rattle.certificate.proofs.LastOnes.{asked-last, asked-none}
 use Rattle.certificate.proofs.growth.is_above_ceilings.Goals as goal

@@ -5,7 +5,8 @@ use Rattle.std.proofs.lemmas.List.{nil_from_length}
 use Rattle.certificate.specs.declared.authorities.Authority.{Authority as AuthorityCode}
 use Rattle.certificate.specs.Bounds.{Authority}
 use Rattle.certificate.specs.Growth.{above_ceilings, asked_of_last, has_none, may_bound_grant}
-use Rattle.certificate.specs.Views.{authorities_of, authority_of, ceiling_of, held_end_of, name_of}
+use Rattle.certificate.specs.Views.{authorities_of, authority_of, ceiling_of, held_end_of}
+use Rattle.texts.specs.Views.{name_of}
 use Rattle.certificate.proofs.Last.{at_last, at_none}
 use Rattle.certificate.proofs.LastOnes.{asked-last, asked-none}
 use Rattle.certificate.proofs.growth.may_bound_grant.Goals as goal

@@ -1,7 +1,8 @@
 use Rattle.std.proofs.Common.{◌+◌, ◌∙◌, ap, sym}
 use Rattle.std.specs.Prelude.{option_map}
 use Rattle.rights.proofs.Lists.{list_all-slice_get}
-use Rattle.certificate.specs.Views.{bound_of, name_of}
+use Rattle.certificate.specs.Views.{bound_of}
+use Rattle.texts.specs.Views.{name_of}
 use Rattle.instruction_set.specs.Views.{code_of, instruction_of}
 use Rattle.rules.specs.Expansions.{may_carry}
 use Rattle.transfer.specs.Limits.{leaves_known}

@@ -4,7 +4,8 @@ use Rattle.std.specs.List.{flat_map}
 use Rattle.std.specs.Str.{bytes_eq}
 use Rattle.certificate.specs.Growths.{grown_by}
 use Rattle.certificate.specs.GrowthViews.{Grows}
-use Rattle.certificate.specs.Views.{name_of, points_of}
+use Rattle.certificate.specs.Views.{points_of}
+use Rattle.texts.specs.Views.{name_of}
 use Rattle.rules.specs.Expansions.{points_along, programs_behind}
 use Rattle.checker.proofs.Along.{first_behind}
 use Rattle.checker.proofs.expanding.+push_behind.Goals as goal

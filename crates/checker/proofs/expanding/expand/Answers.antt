@@ -17,18 +17,18 @@ differ_order stop order memory = cc
 
 pub unreachable-requires : goal.unreachable-requires
 unreachable-requires c =
-    let taken = lines_taken c.args.task.now c.args.cert.now c.new-expanded.result c.note_made.ensures
+    let taken = lines_taken c.args.task.now c.args.cert.now c.new-expanded.result c.push_expansion.ensures.valid
     (c.new-expanded.ensures ∙ ap empty (c.version_of_expansion.ensures ∙ ap expanded_version c.version.ensures)) in
     let stop = c.in-Err-Limit.field-0 in
-    let wants = wants_memory stop c.push_expansion.new.expanded (expansion c.args.task.now c.args.cert.now) _ taken c.in-Err-Limit.ensures in
+    let wants = wants_memory stop c.push_expansion.new.expanded (expansion c.args.task.now c.args.cert.now) _ taken c.in-Err-Limit.ensures.grows in
     differ_limit stop c.in-Err-Limit.field-0-is wants
 
 pub unreachable-requires-in-Err-Order : goal.unreachable-requires-in-Err-Order
 unreachable-requires-in-Err-Order c =
-    let taken = lines_taken c.args.task.now c.args.cert.now c.new-expanded.result c.note_made.ensures
+    let taken = lines_taken c.args.task.now c.args.cert.now c.new-expanded.result c.push_expansion.ensures.valid
     (c.new-expanded.ensures ∙ ap empty (c.version_of_expansion.ensures ∙ ap expanded_version c.version.ensures)) in
     let stop = c.in-Err-Order.field-0 in
-    let wants = wants_memory stop c.push_expansion.new.expanded (expansion c.args.task.now c.args.cert.now) _ taken c.in-Err-Order.ensures in
+    let wants = wants_memory stop c.push_expansion.new.expanded (expansion c.args.task.now c.args.cert.now) _ taken c.in-Err-Order.ensures.grows in
     differ_order stop c.in-Err-Order.field-0-is wants
 
 same_some : (c d : Certificate) → Some c ≡ Some d → c ≡ d
@@ -36,9 +36,9 @@ same_some c d same = cc
 
 value : (c : goal.In-Ok) → c.push_expansion.new.expanded ≡ expansion c.args.task.now c.args.cert.now
 value c =
-    let taken = lines_taken c.args.task.now c.args.cert.now c.new-expanded.result c.note_made.ensures
+    let taken = lines_taken c.args.task.now c.args.cert.now c.new-expanded.result c.push_expansion.ensures.valid
     (c.new-expanded.ensures ∙ ap empty (c.version_of_expansion.ensures ∙ ap expanded_version c.version.ensures)) in
-    same_some c.push_expansion.new.expanded (expansion c.args.task.now c.args.cert.now) (sym c.in-Ok.ensures ∙ taken)
+    same_some c.push_expansion.new.expanded (expansion c.args.task.now c.args.cert.now) (sym c.in-Ok.ensures.grows ∙ taken)
 
 pub returns-in-Ok-clause-value : goal.returns-in-Ok-clause-value
 returns-in-Ok-clause-value c = value c
@@ -47,5 +47,5 @@ pub returns-in-Ok-clause-same : goal.returns-in-Ok-clause-same
 returns-in-Ok-clause-same c =
     let plan = c.args.task.now in
     let cert = c.args.cert.now in
-    let twice = ap (expansion plan) (value c) ∙ expanded_twice cert.version plan cert refl c.note_made.ensures in
+    let twice = ap (expansion plan) (value c) ∙ expanded_twice cert.version plan cert refl c.push_expansion.ensures.valid in
     same_verdict plan c.push_expansion.new.expanded cert twice

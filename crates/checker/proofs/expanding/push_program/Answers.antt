@@ -2,7 +2,8 @@ use Rattle.std.proofs.Common.{sym, ◌∙◌, ap, subst}
 use Rattle.std.specs.Prelude.{Err, option_map}
 use Rattle.certificate.specs.Growths.{grown_by}
 use Rattle.certificate.specs.GrowthViews.{Grows}
-use Rattle.certificate.specs.Views.{bound_of, name_of}
+use Rattle.certificate.specs.Views.{bound_of}
+use Rattle.texts.specs.Views.{name_of}
 use Rattle.rules.specs.Expansions.{with_bound}
 use Rattle.checker.proofs.Along.{along_end, along_failed, along_next, passed_on}
 use Rattle.checker.proofs.expanding.push_program.Goals as goal
@@ -13,7 +14,7 @@ returns-in_err-push_point c =
     along_failed c.args.task.now c.args.cert.now name (option_map bound_of c.loop-point.carried) c.loop-point.point c.loop-point-test.true c.from_residual.result
     c.in_err-push_point.field-0.0 c.push_point.new.expanded c.loop-point.expanded _ (passed_on c.from_residual.result c.in_err-push_point.field-0.0 c.from_residual.ensures)
     (subst (λ b. Grows (Err c.in_err-push_point.field-0.0) c.push_point.new.expanded (grown_by (with_bound name c.loop-point.point b) c.loop-point.expanded))
-    c.bound_with.ensures c.in_err-push_point.ensures) c.loop-point.invariant
+    c.bound_with-bound.ensures c.in_err-push_point.ensures) c.loop-point.invariant
 
 pub loop-point-preserved : goal.loop-point-preserved
 loop-point-preserved c =
@@ -22,7 +23,7 @@ loop-point-preserved c =
     let name = name_of c.args.name.now in
     along_next plan cert name (option_map bound_of c.loop-point.carried) c.loop-point.point c.loop-point-test.true c.loop-point.expanded c.push_point.new.expanded
     (option_map bound_of c.carried_past-carried.result)
-    (ap (λ b. grown_by (with_bound name c.loop-point.point b) c.loop-point.expanded) (sym c.bound_with.ensures) ∙ c.in_ok-push_point.ensures) c.carried_past-carried.ensures
+    (ap (λ b. grown_by (with_bound name c.loop-point.point b) c.loop-point.expanded) (sym c.bound_with-bound.ensures) ∙ c.in_ok-push_point.ensures) c.carried_past-carried.ensures
     ∙ c.loop-point.invariant
 
 pub returns : goal.returns

@@ -1,7 +1,8 @@
 use Rattle.std.proofs.Common.{◌≡◌, ◌-◌}
 use Rattle.std.specs.Prelude.{None, option_map}
 use Rattle.certificate.specs.Growths.{grown_by}
-use Rattle.certificate.specs.Views.{bound_of, name_of}
+use Rattle.certificate.specs.Views.{bound_of}
+use Rattle.texts.specs.Views.{name_of}
 use Rattle.rules.specs.Expansions.{points_along}
 use Rattle.checker.proofs.expanding.push_program.Given as goal
 

@@ -8,8 +8,8 @@ use Rattle.rules.specs.Expansions.{points_along, programs_behind, programs_given
 use Rattle.checker.proofs.Along.{first_given}
 use Rattle.checker.proofs.expanding.push_programs.Goals as goal
 
-pub returns-in_ok-push_program-in-len1-up : goal.returns-in_ok-push_program-in-len1-up
-returns-in_ok-push_program-in-len1-up c =
+pub returns-in_ok-push_program-in-len1-up-clause-grows : goal.returns-in_ok-push_program-in-len1-up-clause-grows
+returns-in_ok-push_program-in-len1-up-clause-grows c =
     let first = c.first-item.result in
     let plan = c.args.task.now in
     let cert = c.args.cert.now in

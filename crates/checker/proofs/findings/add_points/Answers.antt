@@ -1,46 +1,37 @@
-use Rattle.std.proofs.Common.{◌≡◌, ◌++◌, ◌+◌, map, sym, refl}
+use Rattle.std.proofs.Common.{◌≡◌, ◌∙◌, ◌++◌, ◌+◌, ap, arith, length, map, sym, refl}
 use Rattle.std.specs.Prelude.{option_map}
-use Rattle.certificate.specs.Views.{bound_of, name_of}
-use Rattle.instruction_set.specs.Views.{code_of}
-use Rattle.checker.specs.PointViews.{expansion_of}
+use Rattle.certificate.specs.Views.{bound_of}
+use Rattle.instruction_set.specs.Views.{instruction_of}
+use Rattle.std.proofs.Math.ListN.{length-map}
+use Rattle.task.specs.Plans.{programs_of_plan}
+use Rattle.checker.specs.PointViews.{expansion_of, instruction_of_point}
 use Rattle.rules.specs.Expansions.{carried_to}
 use Rattle.checker.specs.FindingViews.{broken_rule_of}
-use Rattle.checker.specs.Findings.{findings_before}
+use Rattle.checker.specs.Findings.{findings_before, findings_in}
 use Rattle.checker.proofs.Apart.{along_next, along_none}
-use Rattle.checker.proofs.Standing.{bound_is, carried_next, named_code}
+use Rattle.checker.proofs.OneByOne.{unkept_is}
+use Rattle.checker.proofs.Standing.{carried_along}
 use Rattle.checker.proofs.findings.add_points.Goals as goal
 
 pub loop-point-init : goal.loop-point-init
 unfolding carried_to
 loop-point-init c = (along_none c.args.of.now.task.now (expansion_of c.args.of.now) c.args.of.now.program (map broken_rule_of c.args.found.now.items), refl)
 
-pub carried_past-next-requires-clause-named : goal.carried_past-next-requires-clause-named
-carried_past-next-requires-clause-named c =
-    let of = c.args.of.now in
-    named_code of.task.now of.program (name_of of.name) (code_of c.args.code.now) of.valid of.named c.requires.program c.requires.code
-
-pub add_point-requires-clause-bound : goal.add_point-requires-clause-bound
-add_point-requires-clause-bound c =
-    let of = c.args.of.now in
-    sym (bound_is of.task.now of.cert.now of.program c.loop-point.point (name_of of.name) (option_map bound_of c.loop-point.carried) of.valid c.requires.made of.named
-    c.loop-point.invariant.1 (option_map bound_of c.bound_with-bound.result) c.bound_with-bound.ensures)
-
-pub add_point-requires-clause-next : goal.add_point-requires-clause-next
-add_point-requires-clause-next c =
-    let of = c.args.of.now in
-    carried_next of.task.now of.cert.now (name_of of.name) c.loop-point.point (option_map bound_of c.loop-point.carried)
-    (option_map bound_of c.carried_past-next.result) c.carried_past-next.ensures c.loop-point.invariant.1
-
 pub loop-point-preserved : goal.loop-point-preserved
-loop-point-preserved c = (found, next)
+loop-point-preserved c = (found, carried_along c.at-at.result c.args.of.now c.loop-point.point c.at-at.ensures.program c.at-at.ensures.point)
   where
-    next : option_map bound_of c.carried_past-next.result ≡ carried_to c.args.of.now.task.now c.args.of.now.cert.now (name_of c.args.of.now.name) (c.loop-point.point + 1)
-    next =
-        carried_next c.args.of.now.task.now c.args.of.now.cert.now (name_of c.args.of.now.name) c.loop-point.point (option_map bound_of c.loop-point.carried)
-        (option_map bound_of c.carried_past-next.result) c.carried_past-next.ensures c.loop-point.invariant.1
-
-    found : map broken_rule_of c.add_point.new.found.items
+    found : map broken_rule_of c.add_unkept.new.found.items
         ≡ map broken_rule_of c.args.found.now.items ++ findings_before c.args.of.now.task.now (expansion_of c.args.of.now) c.args.of.now.program (c.loop-point.point + 1)
     found =
-        along_next c.args.of.now.task.now (expansion_of c.args.of.now) c.args.of.now.program c.loop-point.point _ _ _ c.loop-point.invariant.0
-        c.in_ok-add_point.ensures
+        let at = c.at-at.result in
+        let here = c.in_ok-add_unkept.ensures ∙ ap (λ l. map broken_rule_of c.loop-point.found.items ++ l)
+        (unkept_is at.of.now.task.now (expansion_of at.of.now) at.of.now.program at.point (instruction_of_point at) (option_map bound_of at.bound)
+        ∙ (λ k. findings_in (c.at-at.ensures.program k).program (c.at-at.ensures.point k) (c.at-at.ensures.tests k))) in
+        along_next c.args.of.now.task.now (expansion_of c.args.of.now) c.args.of.now.program c.loop-point.point _ _ _ c.loop-point.invariant.0 here
+
+pub returns : goal.returns
+returns c =
+    let of = c.args.of.now in
+    let many = sym (length-map of.code.now instruction_of) ∙ ap length of.coded in
+    let all : c.loop-point.point ≡ length (programs_of_plan of.task.now of.program) = omega (arith, many, c.loop-point-test.false) in
+    c.loop-point.invariant.0 ∙ ap (λ n. map broken_rule_of c.args.found.now.items ++ findings_before of.task.now (expansion_of of) of.program n) all

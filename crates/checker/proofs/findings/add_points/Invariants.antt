@@ -1,6 +1,7 @@
 use Rattle.std.proofs.Common.{◌≡◌, ◌++◌, map}
 use Rattle.std.specs.Prelude.{option_map}
-use Rattle.certificate.specs.Views.{bound_of, name_of}
+use Rattle.certificate.specs.Views.{bound_of}
+use Rattle.texts.specs.Views.{name_of}
 use Rattle.checker.specs.PointViews.{expansion_of}
 use Rattle.rules.specs.Expansions.{carried_to}
 use Rattle.checker.specs.FindingViews.{broken_rule_of}

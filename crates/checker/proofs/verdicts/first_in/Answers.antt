@@ -1,46 +1,51 @@
-use Rattle.std.proofs.Common.{◌≡◌, ◌+◌, ◌<◌, ◌≤◌, ◌⊎◌, inl, inr, ℕ, refl, sym, subst, arith}
-use Rattle.std.specs.Prelude.{None, option_map}
+use Rattle.std.proofs.Common.{◌≡◌, ◌+◌, ◌<◌, ◌≤◌, ◌⊎◌, inl, inr, ℕ, length, refl, ap, sym, subst, arith, ◌∙◌}
+use Rattle.std.specs.Prelude.{None}
 use Rattle.kernel.proofs.Fresh.{lt_or_le}
-use Rattle.certificate.specs.Views.{bound_of, name_of}
-use Rattle.instruction_set.specs.Views.{code_of}
+use Rattle.instruction_set.specs.Views.{instruction_of}
+use Rattle.std.proofs.Math.ListN.{length-map}
+use Rattle.std.proofs.lemmas.Option.{slice_get_past}
+use Rattle.task.specs.Plans.{programs_of_plan}
 use Rattle.checker.specs.PointViews.{expansion_of}
 use Rattle.rules.specs.Expansions.{carried_to}
+use Rattle.rules.specs.Rules.{least_broken}
 use Rattle.rules.specs.Verdicts.{found_at}
-use Rattle.checker.proofs.Standing.{bound_is, carried_next, named_code}
+use Rattle.checker.proofs.OneByOne.{found_is}
+use Rattle.checker.proofs.PastEnds.{no_instruction}
+use Rattle.checker.proofs.Standing.{carried_along}
 use Rattle.checker.proofs.verdicts.first_in.Goals as goal
 
 pub loop-point-init : goal.loop-point-init
 unfolding carried_to
 loop-point-init c = (λ k below. absurd (omega arith), refl)
 
-pub carried_past-next-requires-clause-named : goal.carried_past-next-requires-clause-named
-carried_past-next-requires-clause-named c =
-    let of = c.args.of.now in
-    named_code of.task.now of.program (name_of of.name) (code_of c.args.code.now) of.valid of.named c.requires.program c.requires.code
-
-pub found_at-requires-clause-bound : goal.found_at-requires-clause-bound
-found_at-requires-clause-bound c =
-    let of = c.args.of.now in
-    sym (bound_is of.task.now of.cert.now of.program c.loop-point.point (name_of of.name) (option_map bound_of c.loop-point.carried) of.valid c.requires.made of.named
-    c.loop-point.invariant.1 (option_map bound_of c.bound_with-bound.result) c.bound_with-bound.ensures)
-
-pub found_at-requires-clause-next : goal.found_at-requires-clause-next
-found_at-requires-clause-next c =
-    let of = c.args.of.now in
-    carried_next of.task.now of.cert.now (name_of of.name) c.loop-point.point (option_map bound_of c.loop-point.carried)
-    (option_map bound_of c.carried_past-next.result) c.carried_past-next.ensures c.loop-point.invariant.1
-
 pub loop-point-preserved : goal.loop-point-preserved
-loop-point-preserved c = (λ k below. here k below (lt_or_le k c.loop-point.point), next)
+loop-point-preserved c = (λ k below. here k below (lt_or_le k c.loop-point.point), carried_along c.at-at.result c.args.of.now c.loop-point.point c.at-at.ensures.program c.at-at.ensures.point)
   where
-    next : option_map bound_of c.carried_past-next.result ≡ carried_to c.args.of.now.task.now c.args.of.now.cert.now (name_of c.args.of.now.name) (c.loop-point.point + 1)
-    next =
-        carried_next c.args.of.now.task.now c.args.of.now.cert.now (name_of c.args.of.now.name) c.loop-point.point (option_map bound_of c.loop-point.carried)
-        (option_map bound_of c.carried_past-next.result) c.carried_past-next.ensures c.loop-point.invariant.1
-
     here : (k : ℕ) → k < c.loop-point.point + 1 → (k < c.loop-point.point) ⊎ (c.loop-point.point ≤ k)
         → found_at c.args.of.now.task.now (expansion_of c.args.of.now) c.args.of.now.program k ≡ None
     here k below (inl before) = c.loop-point.invariant.0 k before
     here k below (inr from) =
+        let of = c.args.of.now in
         let same : c.loop-point.point ≡ k = omega (arith, below, from) in
-        subst (λ n. found_at c.args.of.now.task.now (expansion_of c.args.of.now) c.args.of.now.program n ≡ None) same (sym c.in_default.ensures)
+        subst (λ n. found_at of.task.now (expansion_of of) of.program n ≡ None) same
+        (found_is of.task.now (expansion_of of) of.program c.loop-point.point ∙ ap least_broken (sym c.at-at.ensures.tests) ∙ sym c.in_default.ensures)
+
+pub returns-in-Some : goal.returns-in-Some
+returns-in-Some c =
+    let of = c.args.of.now in
+    let found = found_is of.task.now (expansion_of of) of.program c.loop-point.point ∙ ap least_broken (sym c.at-at.ensures.tests) ∙ sym c.in-Some.ensures in (
+      ap (found_at of.task.now (expansion_of of) of.program) c.at-at.ensures.point ∙ found,
+      λ k below. c.loop-point.invariant.0 k (subst (λ n. k < n) c.at-at.ensures.point below),
+    )
+
+pub returns : goal.returns
+returns c = λ point. at point (lt_or_le point c.loop-point.point)
+  where
+    at : (point : ℕ) → (point < c.loop-point.point) ⊎ (c.loop-point.point ≤ point)
+        → found_at c.args.of.now.task.now (expansion_of c.args.of.now) c.args.of.now.program point ≡ None
+    at point (inl before) = c.loop-point.invariant.0 point before
+    at point (inr from) =
+        let of = c.args.of.now in
+        let many = sym (length-map of.code.now instruction_of) ∙ ap length of.coded in
+        no_instruction of.task.now (expansion_of of) of.program point
+        (slice_get_past (programs_of_plan of.task.now of.program) point (omega (arith, many, from, c.loop-point-test.false)))

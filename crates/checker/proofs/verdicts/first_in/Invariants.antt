@@ -1,6 +1,7 @@
 use Rattle.std.proofs.Common.{◌≡◌, ◌<◌, ℕ}
 use Rattle.std.specs.Prelude.{None, option_map}
-use Rattle.certificate.specs.Views.{bound_of, name_of}
+use Rattle.certificate.specs.Views.{bound_of}
+use Rattle.texts.specs.Views.{name_of}
 use Rattle.checker.specs.PointViews.{expansion_of}
 use Rattle.rules.specs.Expansions.{carried_to}
 use Rattle.rules.specs.Verdicts.{found_at}

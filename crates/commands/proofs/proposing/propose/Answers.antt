@@ -45,7 +45,7 @@ pub returns-in_ok-write_cert-in-Some-clause-proposed : goal.returns-in_ok-write_
 returns-in_ok-write_cert-in-Some-clause-proposed g c =
     inl (
       refl,
-      proposes c.args.task.now c.in-Some.cert _ _ _ c.note_valid.ensures
+      proposes c.args.task.now c.in-Some.cert _ _ _ c.in_ok-cert.ensures.valid
           (λ marked. let clash = sym (ap Ok c.in-Some.is) ∙ c.in_ok-cert.ensures.marked marked in cc) c.in-Some.is c.in_ok-cert.ensures.accepted c.in_ok-cert.ensures.version
           c.write_cert.ensures.reads_back c.in_ok-write_cert-in-Some.ensures.written.0,
     )
@@ -57,7 +57,7 @@ returns-in_err-write_cert-in-Some-clause-begun g c stop = record {
   whole =
       inl (
         refl,
-        proposes c.args.task.now c.in-Some.cert _ _ _ c.note_valid.ensures
+        proposes c.args.task.now c.in-Some.cert _ _ _ c.in_ok-cert.ensures.valid
             (λ marked. let clash = sym (ap Ok c.in-Some.is) ∙ c.in_ok-cert.ensures.marked marked in cc) c.in-Some.is c.in_ok-cert.ensures.accepted
             c.in_ok-cert.ensures.version c.write_cert.ensures.reads_back refl,
       );

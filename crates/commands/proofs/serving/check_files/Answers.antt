@@ -1,8 +1,8 @@
-use Rattle.std.proofs.Common.{rules, ap, Err, List, ℕ}
+use Rattle.std.proofs.Common.{rules, ap, Err}
 use Rattle.std.specs.Prelude.{Ok}
 use Rattle.certificate.specs.Bounds.{Certificate}
 use Rattle.certificate_text.specs.Readings.{certificate_of_text}
-use Rattle.checker.specs.Verdicts.{Verdict, IsVerdict}
+use Rattle.checker.specs.Verdicts.{IsVerdict}
 use Rattle.checker.specs.Views.{verdict_of}
 use Rattle.command_line.specs.Orders.{Check}
 use Rattle.task.specs.Plans.{Plan}
@@ -20,6 +20,7 @@ returns-in_err-write_verdict-clause-fails g c =
     let after = g.W.Out.taken c.write_verdict.new.out in
     let plan = c.in_ok-checked.checked.claim.task in
     let bounds = c.in_ok-checked.checked.claim.cert in
+    let told = λ (plan : Plan) (bounds : Certificate). verdict_text plan in
     let verdict = verdict_of c.in_ok-checked.checked.verdict in
     let is_task : IsTask files c.args.task.now plan = search rules in
     let is_certificate : IsRead files c.args.cert.now certificate_of_text (Ok bounds) = search rules in
@@ -27,5 +28,5 @@ returns-in_err-write_verdict-clause-fails g c =
     stopped files (Check c.args.task.now c.args.cert.now) before after (g.W.Out.faults c.args.out.now) (g.W.Out.faults c.write_verdict.new.out)
     _ stop c.from_residual-in_err-write_verdict.ensures
     (λ is. c.in_err-write_verdict.ensures.device (ap Err is))
-    (λ is. judged-begun files c.args.task.now c.args.cert.now (λ (plan : Plan) (bounds : Certificate). verdict_text plan) plan bounds verdict before after is_task is_certificate is_verdict (c.in_err-write_verdict.ensures.begun (ap Err is)))
+    (λ is. judged-begun files c.args.task.now c.args.cert.now told plan bounds verdict before after is_task is_certificate is_verdict (c.in_err-write_verdict.ensures.begun (ap Err is)))
     (λ is. c.in_err-write_verdict.ensures.memory (ap Err is)) (λ is. c.in_err-write_verdict.ensures.not_spent (ap Err is))

@@ -1,11 +1,9 @@
-use Rattle.std.proofs.Common.{rules, ap, Err, List, ℕ}
+use Rattle.std.proofs.Common.{rules, ap, Err}
 use Rattle.std.specs.Prelude.{Ok}
-use Rattle.certificate.specs.Bounds.{Certificate}
 use Rattle.certificate_text.specs.Readings.{certificate_of_text}
-use Rattle.checker.specs.Verdicts.{Verdict, IsVerdict}
+use Rattle.checker.specs.Verdicts.{IsVerdict}
 use Rattle.checker.specs.Views.{verdict_of}
 use Rattle.command_line.specs.Orders.{Report}
-use Rattle.task.specs.Plans.{Plan}
 use Rattle.console.specs.Files.{IsRead, IsTask}
 use Rattle.commands.specs.Reports.{answer_text}
 use Rattle.commands.proofs.Begun.{stopped}

@@ -16,15 +16,21 @@ five-joined a b c d e = rw (append_assoc, append_assoc, append_assoc) refl
 abbrev behind_name : ℕ → AsmFault → List ℕ
 behind_name line f = codes ":" ++ (decimal line ++ (codes " " ++ (decimal (fault_number f) ++ (codes " " ++ fault_name f))))
 
+-- the words of a mistake on a line, the same line by another name
+on-line : (program : List ℕ) (line l : ℕ) (mistake : List ℕ) → line ≡ l →
+    codes "task 6 Asm " ++ (program ++ (codes ":" ++ (decimal line ++ (codes " " ++ mistake))))
+    ≡ codes "task 6 Asm " ++ ((((program ++ codes ":") ++ decimal l) ++ codes " ") ++ mistake)
+on-line program line l mistake same = rw same (ap (λ words. codes "task 6 Asm " ++ words) (five-joined program (codes ":") (decimal l) (codes " ") mistake))
+
 program-words : (program : List ℕ) (f : AsmFault) (line : ℕ) → Some line ≡ fault_line f →
     codes "task 6 Asm " ++ (program ++ behind_name line f) ≡ fault_words (program_fault program (text_fault f))
 unfolding digits
-program-words program (asm.Word l) line is = let same : line ≡ l = cc in rw same (ap (λ words. codes "task 6 Asm " ++ words) (five-joined program (codes ":") (decimal l) (codes " ") (codes "1 Word")))
-program-words program (asm.Operand l) line is = let same : line ≡ l = cc in rw same (ap (λ words. codes "task 6 Asm " ++ words) (five-joined program (codes ":") (decimal l) (codes " ") (codes "2 Operand")))
-program-words program (asm.NoLabel l) line is = let same : line ≡ l = cc in rw same (ap (λ words. codes "task 6 Asm " ++ words) (five-joined program (codes ":") (decimal l) (codes " ") (codes "3 NoLabel")))
-program-words program (asm.TwiceLabel l) line is = let same : line ≡ l = cc in rw same (ap (λ words. codes "task 6 Asm " ++ words) (five-joined program (codes ":") (decimal l) (codes " ") (codes "4 TwiceLabel")))
-program-words program (asm.TooMany l) line is = let same : line ≡ l = cc in rw same (ap (λ words. codes "task 6 Asm " ++ words) (five-joined program (codes ":") (decimal l) (codes " ") (codes "5 TooMany")))
-program-words program (asm.FallsOff l) line is = let same : line ≡ l = cc in rw same (ap (λ words. codes "task 6 Asm " ++ words) (five-joined program (codes ":") (decimal l) (codes " ") (codes "6 FallsOff")))
+program-words program (asm.Word l) line is = on-line program line l (codes "1 Word") cc
+program-words program (asm.Operand l) line is = on-line program line l (codes "2 Operand") cc
+program-words program (asm.NoLabel l) line is = on-line program line l (codes "3 NoLabel") cc
+program-words program (asm.TwiceLabel l) line is = on-line program line l (codes "4 TwiceLabel") cc
+program-words program (asm.TooMany l) line is = on-line program line l (codes "5 TooMany") cc
+program-words program (asm.FallsOff l) line is = on-line program line l (codes "6 FallsOff") cc
 program-words program asm.Memory line is = absurd cc
 
 pub returns : goal.returns

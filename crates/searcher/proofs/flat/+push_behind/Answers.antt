@@ -11,7 +11,7 @@ pub returns-in_ok-push_start-in-Some : goal.returns-in_ok-push_start-in-Some
 returns-in_ok-push_start-in-Some t c =
     let plan = c.args.task.now in
     let next =
-    ap (next_behind plan c.args.name.now) (sym c.starts.ensures) ∙ sym c.next_behind.ensures.value ∙ ap (option_map (λ s. start_of s.now)) c.in-Some.is in
+    ap (next_behind plan c.args.name.now) (sym c.starts.ensures.starts) ∙ sym c.next_behind.ensures.value ∙ ap (option_map (λ s. start_of s.now)) c.in-Some.is in
     let left = take (length c.args.turns.now - 1) (drop 1 c.args.turns.now) in
     let grown = next_grown plan c.args.turns.now c.args.name.now (start_of c.in-Some.start.now) c.args.cert.now c.push_start.new.cert c.in-len1-up.len_at_least next
     c.in_ok-push_start-in-Some.ensures in

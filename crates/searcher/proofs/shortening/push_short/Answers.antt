@@ -16,14 +16,14 @@ lines_from : (plan : Plan) (c d : Certificate) {points : List PointBound} → po
 lines_from plan c d same =
     short_lines plan c d ∙ ap (λ points. then_grown (grown (map Bounds_channel c.channels)) (grown_by (filter (is_at_named plan) points) d)) (sym same)
 
-pub returns-in_err-push_named : goal.returns-in_err-push_named
-returns-in_err-push_named c =
+pub returns-in_err-push_named-clause-grows : goal.returns-in_err-push_named-clause-grows
+returns-in_err-push_named-clause-grows c =
     failed_first c.from_residual.result c.in_err-push_named.field-0.0 c.push_named.new.short _ (grown (map Bounds_channel c.args.cert.now.channels)) _
     (passed_on c.from_residual.result c.in_err-push_named.field-0.0 c.from_residual.ensures) c.in_err-push_named.ensures
     (lines_from c.args.task.now c.args.cert.now c.args.short.now c.points.ensures.points)
 
-pub returns : goal.returns
-returns c =
+pub returns-clause-grows : goal.returns-clause-grows
+returns-clause-grows c =
     subst (Grows c.push_channels.result c.push_channels.new.cert)
     (ap (λ channels. grown (map Bounds_channel channels) c.push_named.new.short) c.channels.ensures.channels
     ∙ sym (lines_from c.args.task.now c.args.cert.now c.args.short.now c.points.ensures.points

@@ -6,15 +6,15 @@ use Rattle.searcher.proofs.shortening.shortened.Goals as goal
 
 pub unreachable-requires : goal.unreachable-requires
 unreachable-requires c =
-    let taken = short_taken c.args.task.now c.args.cert.now c.new-short.result c.note_made.ensures c.new-short.ensures in
-    not_refused c.in-Err-Limit.field-0 c.push_short.new.short (short_form c.args.task.now c.args.cert.now) _ c.in-Err-Limit.ensures taken (inl c.in-Err-Limit.field-0-is)
+    let taken = short_taken c.args.task.now c.args.cert.now c.new-short.result c.push_short.ensures.valid c.new-short.ensures in
+    not_refused c.in-Err-Limit.field-0 c.push_short.new.short (short_form c.args.task.now c.args.cert.now) _ c.in-Err-Limit.ensures.grows taken (inl c.in-Err-Limit.field-0-is)
 
 pub unreachable-requires-in-Err-Order : goal.unreachable-requires-in-Err-Order
 unreachable-requires-in-Err-Order c =
-    let taken = short_taken c.args.task.now c.args.cert.now c.new-short.result c.note_made.ensures c.new-short.ensures in
-    not_refused c.in-Err-Order.field-0 c.push_short.new.short (short_form c.args.task.now c.args.cert.now) _ c.in-Err-Order.ensures taken (inr c.in-Err-Order.field-0-is)
+    let taken = short_taken c.args.task.now c.args.cert.now c.new-short.result c.push_short.ensures.valid c.new-short.ensures in
+    not_refused c.in-Err-Order.field-0 c.push_short.new.short (short_form c.args.task.now c.args.cert.now) _ c.in-Err-Order.ensures.grows taken (inr c.in-Err-Order.field-0-is)
 
 pub returns-in-Ok : goal.returns-in-Ok
 returns-in-Ok c =
-    let taken = short_taken c.args.task.now c.args.cert.now c.new-short.result c.note_made.ensures c.new-short.ensures in
-    same_some c.push_short.new.short (short_form c.args.task.now c.args.cert.now) (sym c.in-Ok.ensures ∙ taken)
+    let taken = short_taken c.args.task.now c.args.cert.now c.new-short.result c.push_short.ensures.valid c.new-short.ensures in
+    same_some c.push_short.new.short (short_form c.args.task.now c.args.cert.now) (sym c.in-Ok.ensures.grows ∙ taken)

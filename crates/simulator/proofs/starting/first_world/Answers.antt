@@ -13,7 +13,7 @@ use Rattle.simulator.proofs.starting.first_world.Goals as goal
 
 pub open_all-requires-clause-owned : goal.open_all-requires-clause-owned
 open_all-requires-clause-owned g c =
-    subst (λ starts. are_owned (owned_from 0 starts) ≡ true) (sym c.starts.ensures) (plan_owned c.args.task.now c.nodes.ensures.valid)
+    subst (λ starts. are_owned (owned_from 0 starts) ≡ true) (sym c.starts.ensures.starts) (plan_owned c.args.task.now c.nodes.ensures.valid)
 
 pub open_all-requires-clause-among : goal.open_all-requires-clause-among
 open_all-requires-clause-among g c =
@@ -22,16 +22,16 @@ open_all-requires-clause-among g c =
     ap length c.deref.ensures.value ∙ c.in_ok-built.ensures.count ∙ sym (length-map c.nodes.result.now node_of) ∙ ap length c.nodes.ensures.nodes
     in
     subst (λ n. are_among n (owned_from 0 (starts_of c.starts.result.now)) ≡ true) (sym count)
-    (subst (λ starts. are_among (length plan.nodes) (owned_from 0 starts) ≡ true) (sym c.starts.ensures) (plan_among plan c.nodes.ensures.valid))
+    (subst (λ starts. are_among (length plan.nodes) (owned_from 0 starts) ≡ true) (sym c.starts.ensures.starts) (plan_among plan c.nodes.ensures.valid))
 
 same : (g : _) (c : goal.After-drop-built-2 g) →
     DiffersInNumbers (first_world c.args.task.now)
     (world_with (g.T.Tree.nodes c.in_ok-built.built.tree) (open_files c.in_ok-files.files) c.in_ok-processes.processes.items)
 same g c =
     begun_world c.args.task.now (g.T.Tree.nodes c.in_ok-built.built.tree) (open_files c.in_ok-files.files) c.in_ok-processes.processes.items
-    (subst (λ starts. Awaits (owned_from 0 starts) [] (open_files c.in_ok-files.files)) c.starts.ensures c.in_ok-files.ensures)
+    (subst (λ starts. Awaits (owned_from 0 starts) [] (open_files c.in_ok-files.files)) c.starts.ensures.starts c.in_ok-files.ensures)
     (c.in_ok-built.ensures.nodes ∙ c.nodes.ensures.nodes)
-    (c.in_ok-processes.ensures ∙ (λ i. map (first_process (c.programs.ensures.programs i)) (c.starts-2.ensures i)))
+    (c.in_ok-processes.ensures ∙ (λ i. map (first_process (c.programs.ensures.programs i)) (c.starts-2.ensures.starts i)))
 
 pub returns-clause-same : goal.returns-clause-same
 returns-clause-same g c = same g c

@@ -11,14 +11,14 @@ pub returns-in-Some : goal.returns-in-Some
 returns-in-Some c =
     kept-joined (c.args.site.now.point + 1) (successes_at c.args.site.now (instruction_of c.args.instruction.now))
     (error_outcomes (bound_of c.args.site.now.bound.now) (instruction_of c.args.instruction.now)) (outcome_of c.in-Some.outcome ∷ [])
-    (Some c.successes_pass.new.test.point) (option_map bound_of c.successes_pass.new.test.bound) (option_map bound_of c.asks.new.self.bound)
+    (Some c.successes_pass.new.visitor.point) (option_map bound_of c.successes_pass.new.visitor.bound) (option_map bound_of c.visit.new.self.bound)
     c.successes_pass.result c.successes_pass.ensures.0 c.successes_pass.ensures.3 c.in-Some.ensures c.successes_pass.ensures.2
-    c.asks.ensures.kept
+    c.visit.ensures.kept
 
 pub returns-in_default : goal.returns-in_default
 returns-in_default c =
     kept-joined (c.args.site.now.point + 1) (successes_at c.args.site.now (instruction_of c.args.instruction.now))
     (error_outcomes (bound_of c.args.site.now.bound.now) (instruction_of c.args.instruction.now)) []
-    (Some c.successes_pass.new.test.point) (option_map bound_of c.successes_pass.new.test.bound)
-    (option_map bound_of c.successes_pass.new.test.bound) c.successes_pass.result c.successes_pass.ensures.0 c.successes_pass.ensures.3
+    (Some c.successes_pass.new.visitor.point) (option_map bound_of c.successes_pass.new.visitor.bound)
+    (option_map bound_of c.successes_pass.new.visitor.bound) c.successes_pass.result c.successes_pass.ensures.0 c.successes_pass.ensures.3
     c.in_default.ensures c.successes_pass.ensures.2 refl

@@ -9,7 +9,7 @@ use Rattle.transfer.proofs.given.both_given_pass.Goals as goal
 
 pub returns-then-none_is : goal.returns-then-none_is
 returns-then-none_is g c = (
-  none_passes (g.T.OutcomeTest.passes c.args.test.now)
+  none_passes (g.T.OutcomeVisitor.passes c.args.visitor.now)
       (given_at c.args.site.now (operand_of c.args.second.0) c.args.second.1 (interval_of c.args.given))
       (λ (slot : OpenSlot). may_be c.args.first.1 slot.held.target) (slots_in (bound_of c.args.site.now.bound.now) (operand_of c.args.first.0))
       c.none_is.result c.none_is.ensures c.if-none_is.true,
@@ -17,18 +17,18 @@ returns-then-none_is g c = (
   refl,
   λ passes.
       none_kept
-      (g.T.OutcomeTest.joins c.args.test.now)
+      (g.T.OutcomeVisitor.joins c.args.visitor.now)
       (given_at c.args.site.now (operand_of c.args.second.0) c.args.second.1 (interval_of c.args.given))
-      (repeated_settle (g.T.OutcomeTest.joins c.args.test.now) (stays c.args.site.now (interval_of c.args.given))
-      (one_settles (g.T.OutcomeTest.joins c.args.test.now) _) (λ (slot : OpenSlot). may_be c.args.second.1 slot.held.target)
+      (repeated_settle (g.T.OutcomeVisitor.joins c.args.visitor.now) (stays c.args.site.now (interval_of c.args.given))
+      (one_settles (g.T.OutcomeVisitor.joins c.args.visitor.now) _) (λ (slot : OpenSlot). may_be c.args.second.1 slot.held.target)
       (slots_in (bound_of c.args.site.now.bound.now) (operand_of c.args.second.0)))
       (λ (slot : OpenSlot). may_be c.args.first.1 slot.held.target) (slots_in (bound_of c.args.site.now.bound.now) (operand_of c.args.first.0))
-      (g.T.OutcomeTest.kept c.args.test.now) c.none_is.result c.none_is.ensures c.if-none_is.true,
+      (g.T.OutcomeVisitor.kept c.args.visitor.now) c.none_is.result c.none_is.ensures c.if-none_is.true,
 )
 
 pub returns-else-none_is : goal.returns-else-none_is
 returns-else-none_is g c = (
-  some_passes (g.T.OutcomeTest.passes c.args.test.now)
+  some_passes (g.T.OutcomeVisitor.passes c.args.visitor.now)
       (given_at c.args.site.now (operand_of c.args.second.0) c.args.second.1 (interval_of c.args.given))
       (λ (slot : OpenSlot). may_be c.args.first.1 slot.held.target) (slots_in (bound_of c.args.site.now.bound.now) (operand_of c.args.first.0))
       c.none_is.result c.given_passes.result c.none_is.ensures c.if-none_is.false c.given_passes.ensures.0,
@@ -36,11 +36,11 @@ returns-else-none_is g c = (
   c.given_passes.ensures.2,
   λ passes.
       some_kept
-      (g.T.OutcomeTest.joins c.args.test.now)
+      (g.T.OutcomeVisitor.joins c.args.visitor.now)
       (given_at c.args.site.now (operand_of c.args.second.0) c.args.second.1 (interval_of c.args.given))
-      (repeated_settle (g.T.OutcomeTest.joins c.args.test.now) (stays c.args.site.now (interval_of c.args.given))
-      (one_settles (g.T.OutcomeTest.joins c.args.test.now) _) (λ (slot : OpenSlot). may_be c.args.second.1 slot.held.target)
+      (repeated_settle (g.T.OutcomeVisitor.joins c.args.visitor.now) (stays c.args.site.now (interval_of c.args.given))
+      (one_settles (g.T.OutcomeVisitor.joins c.args.visitor.now) _) (λ (slot : OpenSlot). may_be c.args.second.1 slot.held.target)
       (slots_in (bound_of c.args.site.now.bound.now) (operand_of c.args.second.0)))
       (λ (slot : OpenSlot). may_be c.args.first.1 slot.held.target) (slots_in (bound_of c.args.site.now.bound.now) (operand_of c.args.first.0))
-      (g.T.OutcomeTest.kept c.args.test.now) _ c.none_is.result c.none_is.ensures c.if-none_is.false (c.given_passes.ensures.3 passes),
+      (g.T.OutcomeVisitor.kept c.args.visitor.now) _ c.none_is.result c.none_is.ensures c.if-none_is.false (c.given_passes.ensures.3 passes),
 )

@@ -9,28 +9,28 @@ use Rattle.transfer.proofs.given.given_passes.Goals as goal
 
 pub returns-then-none_is : goal.returns-then-none_is
 returns-then-none_is g c = (
-  none_passes (g.T.OutcomeTest.passes c.args.test.now) (stays c.args.site.now (interval_of c.args.given))
+  none_passes (g.T.OutcomeVisitor.passes c.args.visitor.now) (stays c.args.site.now (interval_of c.args.given))
       (λ (slot : OpenSlot). may_be c.args.kind slot.held.target) (slots_in (bound_of c.args.site.now.bound.now) (operand_of c.args.operand))
       c.none_is.result c.none_is.ensures c.if-none_is.true,
   refl,
   refl,
   λ passes.
-      none_kept (g.T.OutcomeTest.joins c.args.test.now) (stays c.args.site.now (interval_of c.args.given))
-      (one_settles (g.T.OutcomeTest.joins c.args.test.now) _)
+      none_kept (g.T.OutcomeVisitor.joins c.args.visitor.now) (stays c.args.site.now (interval_of c.args.given))
+      (one_settles (g.T.OutcomeVisitor.joins c.args.visitor.now) _)
       (λ (slot : OpenSlot). may_be c.args.kind slot.held.target) (slots_in (bound_of c.args.site.now.bound.now) (operand_of c.args.operand))
-      (g.T.OutcomeTest.kept c.args.test.now) c.none_is.result c.none_is.ensures c.if-none_is.true,
+      (g.T.OutcomeVisitor.kept c.args.visitor.now) c.none_is.result c.none_is.ensures c.if-none_is.true,
 )
 
 pub returns-else-none_is : goal.returns-else-none_is
 returns-else-none_is g c = (
-  some_passes (g.T.OutcomeTest.passes c.args.test.now) (stays c.args.site.now (interval_of c.args.given))
+  some_passes (g.T.OutcomeVisitor.passes c.args.visitor.now) (stays c.args.site.now (interval_of c.args.given))
       (λ (slot : OpenSlot). may_be c.args.kind slot.held.target) (slots_in (bound_of c.args.site.now.bound.now) (operand_of c.args.operand))
       c.none_is.result c.step_passes.result c.none_is.ensures c.if-none_is.false c.step_passes.ensures.0,
   c.step_passes.ensures.1,
   c.step_passes.ensures.2,
   λ passes.
-      some_kept (g.T.OutcomeTest.joins c.args.test.now) (stays c.args.site.now (interval_of c.args.given))
-      (one_settles (g.T.OutcomeTest.joins c.args.test.now) _)
+      some_kept (g.T.OutcomeVisitor.joins c.args.visitor.now) (stays c.args.site.now (interval_of c.args.given))
+      (one_settles (g.T.OutcomeVisitor.joins c.args.visitor.now) _)
       (λ (slot : OpenSlot). may_be c.args.kind slot.held.target) (slots_in (bound_of c.args.site.now.bound.now) (operand_of c.args.operand))
-      (g.T.OutcomeTest.kept c.args.test.now) _ c.none_is.result c.none_is.ensures c.if-none_is.false (c.step_passes.ensures.3 passes),
+      (g.T.OutcomeVisitor.kept c.args.visitor.now) _ c.none_is.result c.none_is.ensures c.if-none_is.false (c.step_passes.ensures.3 passes),
 )

@@ -1,7 +1,8 @@
 use Rattle.certificate.specs.Bounds.{Closed}
 use Rattle.rights.specs.Limits.{most_descriptors}
 use Rattle.certificate.specs.Growth.{copies, open_bound}
-use Rattle.certificate.specs.Views.{mode_of, name_of}
+use Rattle.certificate.specs.Views.{mode_of}
+use Rattle.texts.specs.Views.{name_of}
 use Rattle.certificate.proofs.Kept.{none_kept}
 use Rattle.certificate.proofs.points.Point.begins.Goals as goal
 

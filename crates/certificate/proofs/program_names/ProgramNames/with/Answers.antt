@@ -5,7 +5,7 @@ use Rattle.std.specs.Str.{bytes_eq}
 use Rattle.std.proofs.lemmas.List.{length_push}
 use Rattle.rights.specs.Limits.{most_programs}
 use Rattle.certificate.specs.CountViews.{programs_listed}
-use Rattle.certificate.specs.Views.{name_of}
+use Rattle.texts.specs.Views.{name_of}
 use Rattle.certificate.proofs.Distinct.{listed_full, listed_known, listed_new}
 use Rattle.certificate.proofs.Listed.{programs_few, programs_pushed}
 use Rattle.certificate.proofs.program_names.ProgramNames.with.Goals as goal

@@ -1,26 +1,40 @@
-use Rattle.std.proofs.Common.{sym}
+use Rattle.std.proofs.Common.{◌∙◌, ap, sym}
 use Rattle.std.specs.Prelude.{option_map}
-use Rattle.certificate.specs.Views.{bound_of, name_of}
-use Rattle.instruction_set.specs.Views.{instruction_of}
+use Rattle.std.specs.List.{slice_get, slice_index_or}
+use Rattle.certificate.specs.Views.{bound_of}
+use Rattle.texts.specs.Views.{name_of}
+use Rattle.instruction_set.specs.Views.{code_of, instruction_of}
 use Rattle.checker.specs.PointViews.{expansion_of}
-use Rattle.checker.proofs.Apart.{nothing_there, tests_are}
-use Rattle.checker.proofs.Standing.{stands}
+use Rattle.checker.proofs.Apart.{tests_are}
+use Rattle.checker.proofs.Standing.{bound_is, carried_next, read_there}
+use Rattle.rights.proofs.Lists.{list_all-slice_get}
+use Rattle.transfer.specs.Limits.{leaves_known}
 use Rattle.checker.proofs.asked.AskedProgram.at.Goals as goal
 
-pub returns-in_err-instruction-clause-none : goal.returns-in_err-instruction-clause-none
-returns-in_err-instruction-clause-none c = λ none.
-    nothing_there c.args.self.now.task.now (expansion_of c.args.self.now) c.args.self.now.program c.args.point (sym c.in_err-instruction.ensures.there)
-
-pub invariant_of-result : goal.invariant_of-result
-invariant_of-result c =
+pub invariant_of-result-clause-stands : goal.invariant_of-result-clause-stands
+invariant_of-result-clause-stands c =
     let of = c.args.self.now in
-    record {
-      stands = stands of.task.now of.program c.args.point (name_of of.name) (instruction_of c.in_ok-instruction.instruction.now) of.valid of.named (sym c.in_ok-instruction.ensures.there);
-      carries = c.requires.next;
-      known = c.in_ok-instruction.ensures.known;
-    }
+    sym (ap (λ code. slice_get code c.args.point) of.stands)
+    ∙ read_there of.code.now c.args.point c.index-self-point.result c.requires.point c.index-self-point.is
+
+pub invariant_of-result-clause-carries : goal.invariant_of-result-clause-carries
+invariant_of-result-clause-carries c =
+    let of = c.args.self.now in
+    carried_next of.task.now of.cert.now (name_of of.name) c.args.point (option_map bound_of c.args.carried.now) (option_map bound_of c.carried_past-next.result)
+    c.carried_past-next.ensures c.requires.carried
+
+pub invariant_of-result-clause-known : goal.invariant_of-result-clause-known
+invariant_of-result-clause-known c =
+    let of = c.args.self.now in
+    list_all-slice_get leaves_known (code_of of.code.now) c.args.point (instruction_of (slice_index_or of.code.now c.args.point c.index-self-point.result)) of.known
+    (read_there of.code.now c.args.point c.index-self-point.result c.requires.point c.index-self-point.is)
 
 pub returns-clause-tests : goal.returns-clause-tests
 returns-clause-tests c =
     let of = c.args.self.now in
-    tests_are of.task.now (expansion_of of) of.program c.args.point (instruction_of c.in_ok-instruction.instruction.now) (option_map bound_of c.args.bound.now) (sym c.in_ok-instruction.ensures.there) c.requires.bound
+    let i = instruction_of (slice_index_or of.code.now c.args.point c.index-self-point.result) in
+    let there = sym (ap (λ code. slice_get code c.args.point) of.coded)
+    ∙ read_there of.code.now c.args.point c.index-self-point.result c.requires.point c.index-self-point.is in
+    let bounded = bound_is of.task.now of.cert.now of.program c.args.point (name_of of.name) (option_map bound_of c.args.carried.now) of.valid of.made of.named
+    c.requires.carried (option_map bound_of c.bound_with-bound.result) c.bound_with-bound.ensures in
+    tests_are of.task.now (expansion_of of) of.program c.args.point i (option_map bound_of c.bound_with-bound.result) there (sym bounded)

@@ -33,5 +33,6 @@ returns-in-Some-clause-taken c =
 
 pub returns-in-None-clause-taken : goal.returns-in-None-clause-taken
 returns-in-None-clause-taken c =
-    rw (← c.self.view_is)
-    (alike_follows _ (tables_kept c.take.new.self) (follows_empty _ _ empty_hand (c.in-None.ensures.follows _ empty_hand (follows_itself (tables_kept c.self.inside.tables) empty_hand c.self.invariant))))
+    let itself = follows_itself (tables_kept c.self.inside.tables) empty_hand c.self.invariant in
+    let follows = follows_empty _ _ empty_hand (c.in-None.ensures.follows _ empty_hand itself) in
+    rw (← c.self.view_is) (alike_follows _ (tables_kept c.take.new.self) follows)
