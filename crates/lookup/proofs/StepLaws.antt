@@ -107,14 +107,14 @@ module _ {Cursor : Type 0} (rules : Rules Cursor) where
       (λ cursor name left target e. here (ap (onward rules cursor left followed) e ∙ rw (too_many 0 followed sum refl) refl)) left cursor
   looked_led (suc links) followed sum left cursor =
       names_led followed (λ cursor left target. resumed (looked rules links) (path_components target ++ left) (target_cursor rules cursor target))
-      (λ cursor name left target e. by_cursor (target_cursor rules cursor target) cursor name left target refl e (looked_led links (followed + 1) (omega arith))) left cursor
+      (λ cursor name left target e. led_by (target_cursor rules cursor target) cursor name left target refl e (looked_led links (followed + 1) (omega arith))) left cursor
     where
-      by_cursor : (o : Option Cursor) (cursor : Cursor) (name : List ℕ) (left : List (List ℕ)) (target : List ℕ) → target_cursor rules cursor target ≡ o →
+      led_by : (o : Option Cursor) (cursor : Cursor) (name : List ℕ) (left : List (List ℕ)) (target : List ℕ) → target_cursor rules cursor target ≡ o →
           rules.component cursor name left ≡ Meets target →
           ((left : List (List ℕ)) (cursor : Cursor) → IsLed left cursor (followed + 1) (looked rules links left cursor)) →
           IsLed (name ∷ left) cursor followed (resumed (looked rules links) (path_components target ++ left) o)
-      by_cursor None cursor name left target is e rest = here (onward_met cursor left followed target None (some_more links followed sum) is e)
-      by_cursor (Some from) cursor name left target is e rest = there (onward_met cursor left followed target (Some from) (some_more links followed sum) is e) (rest (path_components target ++ left) from)
+      led_by None cursor name left target is e rest = here (onward_met cursor left followed target None (some_more links followed sum) is e)
+      led_by (Some from) cursor name left target is e rest = there (onward_met cursor left followed target (Some from) (some_more links followed sum) is e) (rest (path_components target ++ left) from)
 
   -- So the answer that is computed is the one that the lookup leads to.
   pub leads_rest : (s : Stand Cursor) → s.followed ≤ most_links → Leads rules s (rest_of rules s)

@@ -22,7 +22,7 @@ use Rattle.task.specs.Plans.{FirstObject, On_node, On_end}
 use Rattle.task.specs.Limits.{all_apart}
 use Rattle.task.specs.Begins.{description_of, end_description, node_description, first_object, object_given, first_entry, first_entries, first_files}
 use Rattle.task.proofs.Openings.{at_node}
-use Rattle.simulator.specs.declared.owned.OwnedDescriptor.{OwnedDescriptor as OwnedDescriptorCode}
+use Rattle.simulator.specs.declared.owned.OwnedDescriptor.{OwnedDescriptor as OwnedCode}
 use Rattle.simulator.specs.OwnedViews.{owned_descriptor_of, owned_descriptors_of}
 use Rattle.simulator.specs.Starts.{OwnedDescriptor, given_in, is_owned, owned_differ, are_owned, last_owned, whole_end, whole_or_none, waiting, awaiting, is_opened, is_below, are_among}
 use Rattle.simulator.specs.Starts.{HasTable, IsOwnedEnd, Awaits}
@@ -36,17 +36,17 @@ drop_at (y ∷ xs) zero x is = let same : y ≡ x = cc in ap (λ z. z ∷ xs) sa
 drop_at (y ∷ xs) (suc k) x is = drop_at xs k x is
 
 -- the one at an index, and those behind it
-pub at_index : (owned : List OwnedDescriptorCode) (k : ℕ) (none : OwnedDescriptorCode) → k < length owned → slice_get (owned_descriptors_of owned) k ≡ Some (owned_descriptor_of (slice_index_or owned k none))
+pub at_index : (owned : List OwnedCode) (k : ℕ) (none : OwnedCode) → k < length owned → slice_get (owned_descriptors_of owned) k ≡ Some (owned_descriptor_of (slice_index_or owned k none))
 at_index [] k none low = absurd (omega arith)
 at_index (g ∷ owned) zero none low = refl
 at_index (g ∷ owned) (suc k) none low = at_index owned k none (omega arith)
 
-pub behind : (owned : List OwnedDescriptorCode) (k : ℕ) → owned_descriptors_of (drop k owned) ≡ drop k (owned_descriptors_of owned)
+pub behind : (owned : List OwnedCode) (k : ℕ) → owned_descriptors_of (drop k owned) ≡ drop k (owned_descriptors_of owned)
 behind owned zero = refl
 behind [] (suc k) = refl
 behind (g ∷ owned) (suc k) = behind owned k
 
-pub rest_of : (owned : List OwnedDescriptorCode) (k : ℕ) → owned_descriptors_of (take (length owned - (k + 1)) (drop (k + 1) owned)) ≡ drop (suc k) (owned_descriptors_of owned)
+pub rest_of : (owned : List OwnedCode) (k : ℕ) → owned_descriptors_of (take (length owned - (k + 1)) (drop (k + 1) owned)) ≡ drop (suc k) (owned_descriptors_of owned)
 rest_of owned k =
     let same : k + 1 ≡ suc k = omega arith in
     ap (λ n. owned_descriptors_of (take n (drop (k + 1) owned))) (sym (length-drop (k + 1) owned)) ∙ ap owned_descriptors_of (take-length (drop (k + 1) owned))
@@ -270,7 +270,7 @@ module _ (owned : List OwnedDescriptor) (valid : are_owned owned ≡ true) (k : 
           (subst (λ x. Alike (with_entry f g.process g.given.number (option_map (λ (d : Descriptor). record d { rights = g.given.rights; fcntls = g.given.fcntls }) x)) next) entry_is alike)
 
 -- ## The same of the code's list
-module _ (owned : List OwnedDescriptorCode) (k : ℕ) (none : OwnedDescriptorCode) (low : k < length owned) (valid : are_owned (owned_descriptors_of owned) ≡ true) where
+module _ (owned : List OwnedCode) (k : ℕ) (none : OwnedCode) (low : k < length owned) (valid : are_owned (owned_descriptors_of owned) ≡ true) where
   abbrev pub owned_at : OwnedDescriptor
   owned_at = owned_descriptor_of (slice_index_or owned k none)
 
