@@ -84,7 +84,7 @@ has_label-labelled point name (line ∷ lines) = go (is_label name line.label) (
     go false rest = rest
 
 -- whether a label is there already, by the draft
-is_twice-drafts : (before : List Line) (draft : Draft) (label : Option (List ℕ)) → Drafts before draft → is_twice before label ≡ has_point draft.labels label
+pub is_twice-drafts : (before : List Line) (draft : Draft) (label : Option (List ℕ)) → Drafts before draft → is_twice before label ≡ has_point draft.labels label
 is_twice-drafts before draft None drafts = refl
 is_twice-drafts before draft (Some name) drafts = has_label-labelled 0 name before ∙ ap is_some (sym (drafts.labels name))
 
@@ -92,7 +92,7 @@ line_behind-twice : (before : List Line) (line : Line) → is_twice before line.
 line_behind-twice before line twice =
     ap (λ is. cond is (Err TwiceLabel) (if is_one_too_many (length (steps_of before)) line.instruction then Err TooMany else Ok line)) twice
 
-line_behind-once : (before : List Line) (line : Line) (many : Bool) → is_twice before line.label ≡ false →
+pub line_behind-once : (before : List Line) (line : Line) (many : Bool) → is_twice before line.label ≡ false →
     is_one_too_many (length (steps_of before)) line.instruction ≡ many → line_behind before (Ok line) ≡ (if many then Err TooMany else Ok line)
 line_behind-once before line many twice is =
     ap (λ is. cond is (Err TwiceLabel) (if is_one_too_many (length (steps_of before)) line.instruction then Err TooMany else Ok line)) twice

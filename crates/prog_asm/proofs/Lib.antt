@@ -7,3 +7,6 @@ pub mod CodePlaced
 pub mod Points
 pub mod GoodForms
 pub mod GoodPrograms
+pub mod FormLaws
+pub mod JudgedLaws
+pub mod JudgedCode

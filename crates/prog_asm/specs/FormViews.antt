@@ -1,5 +1,5 @@
 -- What the code's words and forms stand for.
-use Rattle.std.specs.Prelude.{◌≡◌, ℕ, List, [], ◌∷◌, Option, Some, Result, Ok, Err}
+use Rattle.std.specs.Prelude.{◌≡◌, ℕ, List, [], ◌∷◌, Option, Some, option_map, Result, Ok, Err}
 use Rattle.std.specs.Borrow.{Bor}
 use Rattle.rights.specs.Views.{call_of}
 use Rattle.prog_asm.specs.declared.forms.Jump.{Jump as JumpCode}
@@ -8,9 +8,14 @@ use Rattle.prog_asm.specs.declared.forms.Written.{Written as WrittenCode}
 use Rattle.prog_asm.specs.declared.forms.Written.TheVariants as written
 use Rattle.prog_asm.specs.declared.mistakes.Mistake.{Mistake as MistakeCode}
 use Rattle.prog_asm.specs.declared.mistakes.Mistake.TheVariants as mistake
+use Rattle.prog_asm.specs.declared.operand_forms.Form.{Form as FormCode}
+use Rattle.prog_asm.specs.declared.operand_forms.Form.TheVariants as form
+use Rattle.prog_asm.specs.declared.operand_forms.Unfit.{Unfit as UnfitCode}
 use Rattle.prog_asm.specs.declared.mnemonics.Mnemonic.{Mnemonic as MnemonicCode}
 use Rattle.prog_asm.specs.declared.mnemonics.Mnemonic.TheVariants as mnemonic
 use Rattle.instruction_set.specs.Forms.{Mnemonic, Set, Mov, Add, In, Jmp, Jeq, Jlt, Halt, Make, Jump, Always, If_equal, If_less, After_error, Written, Alone, Leading}
+use Rattle.prog_asm.specs.OperandForms.{Form, Unfit}
+use Rattle.prog_asm.specs.OperandForms as forms
 use Rattle.prog_asm.specs.ReadingViews.{FailsField}
 use Rattle.instruction_set.specs.Programs as programs
 use Rattle.instruction_set.specs.Views.{syscall_of}
@@ -25,6 +30,21 @@ mnemonic_from mnemonic.Jeq = Jeq
 mnemonic_from mnemonic.Jlt = Jlt
 mnemonic_from mnemonic.Halt = Halt
 mnemonic_from (mnemonic.Make call) = Make (call_of call)
+
+abbrev pub form_of : FormCode → Form
+form_of form.Register = forms.Register
+form_of form.Number = forms.Number
+form_of form.Operand = forms.Operand
+form_of form.Path = forms.Path
+form_of form.Flags = forms.Flags
+form_of form.Rights = forms.Rights
+form_of form.Commands = forms.Commands
+form_of form.Label = forms.Label
+form_of form.Directory = forms.Directory
+form_of form.Else = forms.Else
+
+abbrev pub unfit_of : UnfitCode → Unfit
+unfit_of found = record { fit = found.fit; wants = option_map form_of found.wants }
 
 abbrev pub jump_from : JumpCode → Jump
 jump_from jump.Always = Always

@@ -1,6 +1,10 @@
 pub mod DraftViews
+pub mod FaultPlaceViews
 pub mod FaultViews
 pub mod FormParts
 pub mod FormViews
+pub mod LineFaults
 pub mod LineViews
+pub mod OperandForms
 pub mod ReadingViews
+pub mod WordPlaces

@@ -33,7 +33,7 @@ fn ends_well(code: &[Instruction]) -> bool
 }
 
 /// The line of the last instruction, or 1.
-fn last_line(steps: &VecDeque<Step<'_>>) -> usize
+pub(crate) fn last_line(steps: &VecDeque<Step<'_>>) -> usize
     ensures { result ≡ last_line_number (map step_from steps.now.items) }
 {
     match steps.back() {

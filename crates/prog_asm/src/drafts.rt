@@ -62,7 +62,7 @@ fn add_step<'t>(
 
 impl<'t> Draft<'t> {
     /// The draft of no line.
-    fn new(alloc: Global) -> Draft<'t>
+    pub(crate) fn new(alloc: Global) -> Draft<'t>
         ensures { Drafts [] result }
     {
         Draft {
@@ -72,7 +72,7 @@ impl<'t> Draft<'t> {
     }
 
     /// Adds what stands on the line of this number.
-    fn add(&mut self, number: usize, line: Line<'t>) -> Result<(), Mistake>
+    pub(crate) fn add(&mut self, number: usize, line: Line<'t>) -> Result<(), Mistake>
         ensures { (before : List LineRead) → Drafts before self.old → number ≡ length before + 1
             → AddsLine result before (Ok (line_from line.entry)) self.new }
     {

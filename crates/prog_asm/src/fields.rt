@@ -1,8 +1,9 @@
 //! What a word of a line can stand for.
 
-ghost use Rattle.std.specs.Prelude.{◌≡◌, option_map};
+ghost use Rattle.std.specs.Prelude.{◌≡◌, IfSome, option_map, true};
 ghost use Rattle.instruction_set.specs.Fields.{before_last, read_operand as operand_in, read_path, read_register, read_value};
 ghost use Rattle.prog_asm.specs.ReadingViews.{ReadsField};
+ghost use Rattle.instruction_set.specs.Programs.{is_path};
 ghost use Rattle.instruction_set.specs.Views.{operand_of};
 
 use crate::mistakes::Mistake;
@@ -51,17 +52,27 @@ pub(crate) fn before_last(word: &[u8], byte: u8) -> Option<&[u8]>
 }
 
 /// The path in double quotes.
+pub(crate) fn quoted_path(word: &[u8]) -> Option<&[u8]>
+    ensures path { option_map (λ path. path.now) result ≡ read_path word.now }
+    ensures valid { IfSome result (λ path. is_path path.now ≡ true) }
+{
+    let [b'"', rest @ ..] = word else {
+        return None;
+    };
+    let bytes = before_last(rest, b'"')?;
+    if is_valid_path(bytes) {
+        Some(bytes)
+    } else {
+        None
+    }
+}
+
+/// The same, as a path of its own.
 pub(crate) fn path(alloc: Global, word: &[u8]) -> Result<Path, Mistake>
     ensures { ReadsField (λ path. path) result (read_path word.now) }
 {
-    let [b'"', rest @ ..] = word else {
+    let Some(bytes) = quoted_path(word) else {
         return Err(Mistake::Operand);
     };
-    let Some(bytes) = before_last(rest, b'"') else {
-        return Err(Mistake::Operand);
-    };
-    if !is_valid_path(bytes) {
-        return Err(Mistake::Operand);
-    }
     Ok(Path::new(Vec::from_slice(alloc, bytes)?))
 }

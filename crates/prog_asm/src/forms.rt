@@ -1,15 +1,17 @@
 //! What each instruction wants behind its word. A new instruction is a line of `MNEMONICS` and one of
 //! `Words::written` or `Words::syscall`, or of what these call once its first operand is read.
 
-ghost use Rattle.std.specs.Prelude.{◌≡◌, Some, map};
+ghost use Rattle.std.specs.Prelude.{◌≡◌, Some};
 ghost use Rattle.rights.specs.Views.{call_of};
 ghost use Rattle.prog_asm.specs.FormParts.{at_call_at, comparison_at, descriptor_call_at, operand_call_at, path_call_at, register_form_at};
 ghost use Rattle.prog_asm.specs.FormViews.{TakesField, TakesWord, jump_from, mnemonic_from, written_from};
 ghost use Rattle.instruction_set.specs.Forms.{Make, commands_at, directory_at, else_at, flags_at, label_at, led, number_at};
 ghost use Rattle.instruction_set.specs.Forms.{operand_at, path_at, register_at, rights_at, syscall_at, whole, written_at, written_of};
+ghost use Rattle.prog_asm.specs.LineViews.{texts_of};
 ghost use Rattle.prog_asm.specs.ReadingViews.{ReadsField};
 ghost use Rattle.instruction_set.specs.Views.{instruction_of, operand_of, syscall_of};
 
+use crate::lines::Word;
 use crate::mistakes::Mistake;
 use crate::mnemonics::Mnemonic;
 use crate::{fields, lists};
@@ -82,21 +84,22 @@ pub(crate) enum Written<'t> {
 #[derive(Drop)]
 pub(crate) struct Words<'w, 't> {
     alloc: Global,
-    rest: &'w [&'t [u8]],
+    rest: &'w [Word<'t>],
 }
 
 impl<'w, 't> Model for Words<'w, 't> {
-    ghost use Rattle.std.specs.Prelude.{ℕ, List, map};
+    ghost use Rattle.std.specs.Prelude.{ℕ, List};
+    ghost use Rattle.prog_asm.specs.LineViews.{texts_of};
 
     ghost Value = { List (List ℕ) };
 
-    ghost view = { λ w. map (λ word. word.now) w.rest.now };
+    ghost view = { λ w. texts_of w.rest.now };
 }
 
 impl<'w, 't> Words<'w, 't> {
     /// These words.
-    fn new(alloc: Global, rest: &'w [&'t [u8]]) -> Words<'w, 't>
-        ensures { result ≡ map (λ word. word.now) rest.now }
+    fn new(alloc: Global, rest: &'w [Word<'t>]) -> Words<'w, 't>
+        ensures { result ≡ texts_of rest.now }
     {
         Words { alloc, rest }
     }
@@ -109,7 +112,7 @@ impl<'w, 't> Words<'w, 't> {
             [] => Err(Mistake::Operand),
             [word, rest @ ..] => {
                 self.rest = rest;
-                Ok(word)
+                Ok(word.text)
             }
         }
     }
@@ -201,7 +204,7 @@ impl<'w, 't> Words<'w, 't> {
         ensures { directory_at self.old ≡ Some (result, self.new) }
     {
         match self.rest {
-            [word, rest @ ..] if *word == b"dir".as_slice() => {
+            [word, rest @ ..] if word.text == b"dir".as_slice() => {
                 self.rest = rest;
                 true
             }
@@ -443,10 +446,10 @@ impl<'w, 't> Words<'w, 't> {
 pub(crate) fn read_written<'t>(
     alloc: Global,
     mnemonic: Mnemonic,
-    operands: &[&'t [u8]],
+    operands: &[Word<'t>],
 ) -> Result<Written<'t>, Mistake>
     ensures { ReadsField written_from result
-        (written_of (mnemonic_from mnemonic) (map (λ word. word.now) operands.now)) }
+        (written_of (mnemonic_from mnemonic) (texts_of operands.now)) }
 {
     let mut words = Words::new(alloc, operands);
     let written = words.written(mnemonic)?;

@@ -1,7 +1,10 @@
 //! A line's comment and words.
 
-ghost use Rattle.std.specs.Prelude.{◌≡◌, map, IfOk};
-ghost use Rattle.instruction_set.specs.Lines.{has_stray, is_blank, is_word_byte, quoted_behind, uncommented, quoted_words};
+ghost use Rattle.std.specs.Prelude.{◌≡◌, map, option_map, IfOk};
+ghost use Rattle.instruction_set.specs.Lines.{is_blank, is_word_byte, quoted_behind, uncommented};
+ghost use Rattle.prog_asm.specs.LineFaults.{stray_in};
+ghost use Rattle.prog_asm.specs.LineViews.{span_seen, word_of};
+ghost use Rattle.prog_asm.specs.WordPlaces.{placed_words};
 
 use std::alloc::{AllocFailed, Global};
 
@@ -40,23 +43,23 @@ fn may_stand_in_word(byte: u8) -> bool
     byte.is_ascii_alphanumeric() || byte == b'_' || byte == b':' || byte == b',' || byte == b'"'
 }
 
-/// Whether some byte outside quotes is neither a blank nor one that words have.
-pub(crate) fn has_stray(line: &[u8]) -> bool
-    ensures { result ≡ has_stray line.now }
-{
-    let mut quoted = false;
-    for byte in line {
-        if !quoted && !is_blank(*byte) && !may_stand_in_word(*byte) {
-            return true;
-        }
-        quoted = is_quoted_behind(quoted, *byte);
-    }
-    false
+/// A part of a line, from one byte to before another, counted from 0. (own)
+#[derive(Clone, Copy, PartialEq, Eq)]
+pub struct Span {
+    pub start: usize,
+    pub end: usize,
+}
+
+/// A word of a line, and where it stands.
+#[derive(Clone, Copy)]
+pub(crate) struct Word<'t> {
+    pub text: &'t [u8],
+    pub span: Span,
 }
 
 /// The words of a line: what stands between blanks outside quotes.
-pub(crate) fn words(alloc: Global, line: &[u8]) -> Result<Vec<&[u8]>, AllocFailed<&[u8]>>
-    ensures { IfOk result (λ words. map (λ word. word.now) words.items ≡ quoted_words line.now) }
+pub(crate) fn words(alloc: Global, line: &[u8]) -> Result<Vec<Word<'_>>, AllocFailed<Word<'_>>>
+    ensures { IfOk result (λ words. map word_of words.items ≡ placed_words line.now) }
 {
     let mut words = Vec::new(alloc);
     let mut quoted = false;
@@ -64,15 +67,37 @@ pub(crate) fn words(alloc: Global, line: &[u8]) -> Result<Vec<&[u8]>, AllocFaile
     for (at, byte) in line.iter().enumerate() {
         if !quoted && is_blank(*byte) {
             if start < at {
-                words.push(&line[start..at])?;
+                let text = &line[start..at];
+                let span = Span { start, end: at };
+                words.push(Word { text, span })?;
             }
             start = at + 1;
         } else {
             quoted = is_quoted_behind(quoted, *byte);
         }
     }
-    if start < line.len() {
-        words.push(&line[start..])?;
+    let end = line.len();
+    if start < end {
+        let text = &line[start..];
+        let span = Span { start, end };
+        words.push(Word { text, span })?;
     }
     Ok(words)
+}
+
+/// The first byte outside quotes that is neither a blank nor one that words have.
+pub(crate) fn stray_in(line: &[u8]) -> Option<Span>
+    ensures { option_map span_seen result ≡ stray_in line.now }
+{
+    let mut quoted = false;
+    for (at, byte) in line.iter().enumerate() {
+        if !quoted && !is_blank(*byte) && !may_stand_in_word(*byte) {
+            return Some(Span {
+                start: at,
+                end: at + 1,
+            });
+        }
+        quoted = is_quoted_behind(quoted, *byte);
+    }
+    None
 }

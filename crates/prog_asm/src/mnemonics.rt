@@ -6,9 +6,9 @@ ghost use Rattle.instruction_set.specs.Forms.{mnemonic_among, mnemonic_name, mne
 
 use rights::Call;
 
-/// The word that an instruction begins with.
+/// The word that an instruction begins with. (own)
 #[derive(Clone, Copy)]
-pub(crate) enum Mnemonic {
+pub enum Mnemonic {
     Set,
     Mov,
     Add,
@@ -21,8 +21,8 @@ pub(crate) enum Mnemonic {
     Make(Call),
 }
 
-/// The instructions that are read.
-const MNEMONICS: [Mnemonic; 35] = [
+/// The instructions that are read. (own)
+pub const MNEMONICS: [Mnemonic; 35] = [
     Mnemonic::Set,
     Mnemonic::Mov,
     Mnemonic::Add,
@@ -62,7 +62,7 @@ const MNEMONICS: [Mnemonic; 35] = [
 
 impl Mnemonic {
     /// The word.
-    fn name(self) -> &'static str
+    pub fn name(self) -> &'static str
         ensures { result.now ≡ mnemonic_name (mnemonic_from self) }
     {
         match self {

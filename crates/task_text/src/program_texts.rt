@@ -112,36 +112,6 @@ pub(crate) fn code_lines(alloc: Global, text: &[u8]) -> Result<Vec<CodeLine>, Al
     Ok(lines)
 }
 
-/// The tokens of an instruction.
-pub(crate) fn tokens_in(
-    alloc: Global,
-    text: &[u8],
-    instruction: (usize, usize),
-) -> Result<Vec<(usize, usize)>, AllocError> {
-    let mut tokens = Vec::new(alloc);
-    let mut begun = None;
-    let mut in_quotes = false;
-    for (at, byte) in part(text, instruction.0, instruction.1).iter().enumerate() {
-        let place = instruction.0.saturating_add(at);
-        if *byte == b'"' {
-            in_quotes = !in_quotes;
-        }
-        let is_parting = is_blank(*byte) && !in_quotes;
-        match begun {
-            Some(start) if is_parting => {
-                tokens.push((start, place))?;
-                begun = None;
-            }
-            None if !is_parting => begun = Some(place),
-            _ => {}
-        }
-    }
-    if let Some(start) = begun {
-        tokens.push((start, instruction.1))?;
-    }
-    Ok(tokens)
-}
-
 impl ProgramText {
     /// The instruction of a point, counted from 0, and its line in the file, counted from 1; nothing and 0 where the program hasn't the point.
     pub fn written_at(&self, file: &[u8], point: usize) -> Written<'_>

@@ -1,0 +1,16 @@
+use Rattle.std.proofs.Common.{◌≡◌, ◌++◌, length, map}
+use Rattle.std.specs.List.{flat_map}
+use Rattle.std.specs.VecDeque.Iter.{deque_iter_rest}
+use Rattle.prog_asm.specs.DraftViews.{below, step_from}
+use Rattle.prog_asm.specs.FaultPlaceViews.{faults_seen}
+use Rattle.prog_asm.specs.LineFaults.{missing_label}
+use Rattle.prog_asm.specs.LineViews.{point_in}
+use Rattle.prog_asm.proofs.judging.add_missing.Given as goal
+
+-- the labels that are missing so far, and those of what is left
+abbrev pub invariant-loop-step : goal.invariant-loop-step
+invariant-loop-step l =
+    faults_seen l.faults.items ++ flat_map (missing_label (map (λ line. line.now) l.lines) (λ name. below (length l.draft.steps.items) (point_in l.draft.labels name)))
+    (map step_from (deque_iter_rest l.step-iterator))
+    ≡ faults_seen l.fn.faults.items ++ flat_map (missing_label (map (λ line. line.now) l.lines) (λ name. below (length l.draft.steps.items) (point_in l.draft.labels name)))
+    (map step_from l.draft.steps.items)

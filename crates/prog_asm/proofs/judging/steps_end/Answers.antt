@@ -1,0 +1,13 @@
+use Rattle.std.proofs.Common.{◌≡◌, ◌-◌, length, get_or, ap, sym, ◌∙◌}
+use Rattle.prog_asm.specs.DraftViews.{step_from}
+use Rattle.prog_asm.specs.LineFaults.{is_ending}
+use Rattle.prog_asm.proofs.Lasts.{steps_end-last}
+use Rattle.prog_asm.proofs.judging.steps_end.Goals as goal
+
+pub returns-in-Some : goal.returns-in-Some
+returns-in-Some c =
+    let steps = c.args.steps.now in
+    let step = c.in-Some.step.now in
+    let some = c.in-Some.ensures.item.3.0 in
+    let here : step ≡ get_or steps.items (length steps.items - 1) step = c.in-Some.ensures.lookup ∙ ap (λ n. get_or steps.items (n - 1) step) steps.ok.0 in
+    c.is_ending.ensures ∙ sym (steps_end-last step_from steps.items step some ∙ ap (λ last. is_ending (step_from last).written) (sym here))
