@@ -2,7 +2,7 @@
 //! has under way, and what it is made to do where its program is untrusted.
 #![tactic(auto)]
 
-ghost use Rattle.std.specs.Prelude.{◌≡◌, true, None, Some, is_some};
+ghost use Rattle.std.specs.Prelude.{◌≡◌, ◌<◌, ◌+◌, true, None, Some, is_some, slice_set};
 ghost use Rattle.process.specs.State.{forked, ended, is_hostile, left_by, moved_to, new_process};
 ghost use Rattle.process.specs.Views.{deed_in, deed_of, walking_in, walking_of};
 
@@ -10,6 +10,7 @@ pub mod deeds;
 pub mod walking;
 
 pub use deeds::Deed;
+use instruction_set::Register;
 use rights::limits::REGISTERS;
 use std::marker::Model;
 pub use walking::Walking;
@@ -21,7 +22,7 @@ pub struct Process {
     pub program: u8,
     /// The next instruction. `move_to` sets it where a call may be under way, which is so at its own point alone.
     pub point: u8,
-    /// Registers 0 to 7. A call that succeeds sets register 0, and one that fails sets register 7.
+    /// Registers 0 to 7. A call that succeeds sets register 0 (`succeed`), and one that fails sets register 7 (`fail`).
     pub registers: [u32; REGISTERS],
     mode: bool,
     /// Whether it has not ended.
@@ -101,6 +102,48 @@ impl Process {
     {
         self.point = point;
         self.walk = None;
+    }
+
+    /// Goes on to the next point.
+    pub fn go_on(&mut self)
+        requires { self.old.point + 1 < 256 }
+        ensures { self.new ≡ moved_to self.old (self.old.point + 1) }
+    {
+        self.move_to(self.point + 1);
+    }
+
+    /// Sets a register.
+    pub fn set(&mut self, register: Register, value: u32)
+        ensures { self.new ≡ record self.old { registers = slice_set self.old.registers register value } }
+    {
+        self.registers[register.number() as usize] = value;
+    }
+
+    /// Its call succeeds with this value: register 0 has it, and the process goes on.
+    pub fn succeed(&mut self, value: u32)
+        requires { self.old.point + 1 < 256 }
+        ensures { self.new ≡ moved_to (record self.old { registers = slice_set self.old.registers 0 value }) (self.old.point + 1) }
+    {
+        self.registers[0] = value;
+        self.go_on();
+    }
+
+    /// The same of a call that gives two numbers: register 1 has the second.
+    pub fn succeed_with_two(&mut self, value: u32, second: u32)
+        requires { self.old.point + 1 < 256 }
+        ensures { self.new ≡ moved_to (record self.old { registers = slice_set (slice_set self.old.registers 0 value) 1 second }) (self.old.point + 1) }
+    {
+        self.registers[0] = value;
+        self.registers[1] = second;
+        self.go_on();
+    }
+
+    /// Its call fails: register 7 has the error's number, and the process goes to the label.
+    pub fn fail(&mut self, errno: u32, otherwise: u8)
+        ensures { self.new ≡ moved_to (record self.old { registers = slice_set self.old.registers 7 errno }) otherwise }
+    {
+        self.registers[7] = errno;
+        self.move_to(otherwise);
     }
 
     /// Ends the process, with what its call had under way.

@@ -20,14 +20,6 @@ pub(crate) enum Action {
     Calls,
 }
 
-/// The process goes on to the next point.
-fn go_on(process: &mut Process)
-    requires { process.old.point + 1 < 256 }
-    ensures { process.new ≡ steps.goes_on process.old }
-{
-    process.move_to(process.point + 1);
-}
-
 /// What a register holds.
 fn value_in(process: &Process, register: Register) -> u32
     ensures { result ≡ steps.register process.now register }
@@ -40,8 +32,8 @@ fn set_register(process: &mut Process, register: Register, value: u32)
     requires { process.old.point + 1 < 256 }
     ensures { process.new ≡ steps.goes_on (steps.with_register process.old register value) }
 {
-    process.registers[register.number() as usize] = value;
-    go_on(process);
+    process.set(register, value);
+    process.go_on();
 }
 
 /// The process goes to the target, or on to the next point.
@@ -53,7 +45,7 @@ fn jump(process: &mut Process, jumps: bool, target: u8)
     if jumps {
         process.move_to(target);
     } else {
-        go_on(process);
+        process.go_on();
     }
 }
 

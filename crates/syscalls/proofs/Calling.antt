@@ -33,7 +33,7 @@ use Rattle.syscalls.specs.Shows.{Shown, shown}
 use Rattle.syscalls.specs.Views.{world_with}
 use Rattle.syscalls.specs.AnswerViews.{Suits, IsBesides, Succeeds, RefusesAlone, Meets, IsIdle, IsReady, IsReadyDescription, IsReadyObject}
 use Rattle.syscalls.specs.MayCall.{MayCall}
-use Rattle.syscalls.specs.CallViews.{Comes, FailsAs, processes_as, succeeded_as}
+use Rattle.syscalls.specs.CallViews.{Comes, processes_as, succeeded_as}
 use Rattle.syscalls.proofs.Keeping.{alike_refl}
 
 -- A fresh choice with which the change leaves the same.
@@ -178,51 +178,10 @@ ready t f processes p call may =
 pub stands : (processes : List ProcessState) (p : ℕ) (s x : ProcessState) → slice_get processes p ≡ Some s → x ≡ get_or processes p x → x ≡ s
 stands processes p s x made read = read ∙ get_or_from_slice_get processes p s x made
 
--- what failed there
-pub failed_at : (processes : List ProcessState) (p : ℕ) (s x : ProcessState) (otherwise : ℕ) (errno : Errno) (cause : Cause) (told : LineResult)
-    (shows : List Shown) (next : ProcessState) → slice_get processes p ≡ Some s → x ≡ get_or processes p x →
-    FailsAs x otherwise errno cause told shows next → FailsAs s otherwise errno cause told shows next
-failed_at processes p s x otherwise errno cause told shows next made read is = subst (λ y. FailsAs y otherwise errno cause told shows next) (stands processes p s x made read) is
-
--- what was answered there
-pub meets_at : (t : List Node) (f : OpenFiles) (processes : List ProcessState) (p : ℕ) (s x : ProcessState) (e : Event) (call : Syscall)
-    (after : List Node) (left : OpenFiles) (r : Result Success Refusal) → slice_get processes p ≡ Some s → x ≡ get_or processes p x →
-    Meets (world_with t f processes) p after left r (answer (world_with t f processes) p x e call) →
-    Meets (world_with t f processes) p after left r (answer (world_with t f processes) p s e call)
-meets_at t f processes p s x e call after left r made read is = subst
-    (λ y. Meets (world_with t f processes) p after left r (answer (world_with t f processes) p y e call)) (stands processes p s x made read) is
-
 -- ## The same of what the code left
 -- worlds of equal parts
 pub same_world : {t u : List Node} {f h : OpenFiles} {processes others : List ProcessState} → t ≡ u → f ≡ h → processes ≡ others → world_with t f processes ≡ world_with u h others
 same_world tree files processes i = world_with (tree i) (files i) (processes i)
-
--- a failure, where it is told as it has to be
-pub falls : (programs : Programs) (t : List Node) (f : OpenFiles) (processes : List ProcessState) (numbering : Numbering) → IsWorld programs numbering (world_with t f processes) →
-    (p : ℕ) (s : ProcessState) (e : Event) (call : Syscall) (otherwise : ℕ) (errno : Errno) (cause : Cause) →
-    answer (world_with t f processes) p s e call ≡ Fails errno cause → (told : LineResult) (shows : List Shown) (next : ProcessState) →
-    FailsAs s otherwise errno cause told shows next →
-    Comes (world_with t f processes) p s e call otherwise told shows (world_with t f (slice_set processes p next))
-falls programs t f processes numbering good p s e call otherwise errno cause is told shows next y =
-    let w = world_with t f processes in
-    subst (λ x. Comes w p s e call otherwise x shows (world_with t f (slice_set processes p next))) (sym y.told)
-    (subst (λ x. Comes w p s e call otherwise (Failed errno cause) x (world_with t f (slice_set processes p next))) (sym y.nothing)
-    (subst (λ x. Comes w p s e call otherwise (Failed errno cause) [] (world_with t f (slice_set processes p x))) (sym y.process)
-    (fails programs t f processes numbering good p s e call otherwise errno cause is)))
-
--- and where nothing was done before
-pub falls_as : (programs : Programs) (t : List Node) (f : OpenFiles) (processes : List ProcessState) →
-    (numbering : Numbering) → IsWorld programs numbering (world_with t f processes) →
-    (p : ℕ) (s : ProcessState) (e : Event) (call : Syscall) (otherwise : ℕ) (after : List Node) (left : OpenFiles) (refused : Refusal)
-    (errno : ErrnoCode) (cause : CauseCode) → refused ≡ refusal.Fails errno cause →
-    RefusesAlone refused (world_with t f processes) after left (answer (world_with t f processes) p s e call) →
-    (told : LineResult) (shows : List Shown) (next : ProcessState) → FailsAs s otherwise (errno_of errno) (cause_of cause) told shows next →
-    Comes (world_with t f processes) p s e call otherwise told shows (world_with after left (slice_set processes p next))
-falls_as programs t f processes numbering good p s e call otherwise after left refused errno cause same alone told shows next y =
-    let w = world_with t f processes in
-    let (answers, nothing) = subst (λ r. RefusesAlone r w after left (answer w p s e call)) same alone in
-    subst (λ (v : World). Comes w p s e call otherwise told shows v) (same_world (sym nothing.tree) (sym nothing.files) refl)
-    (falls programs t f processes numbering good p s e call otherwise (errno_of errno) (cause_of cause) answers told shows next y)
 
 module _ (programs : Programs) (t : List Node) (f : OpenFiles) (processes : List ProcessState)
     (numbering : Numbering) (good : IsWorld programs numbering (world_with t f processes)) (p : ℕ) (s : ProcessState) (e : Event) (call : Syscall) (otherwise : ℕ)
@@ -234,25 +193,12 @@ module _ (programs : Programs) (t : List Node) (f : OpenFiles) (processes : List
       subst (λ (v : World). Comes (world_with t f processes) p s e call otherwise (Value value) shows v) (same_world refl refl (sym is))
       (succeeds programs t f processes numbering good p s e call otherwise after left value b shows y)
 
-  pub waits_as : (refused : Refusal) → refused ≡ refusal.Waits →
-      RefusesAlone refused (world_with t f processes) after left (answer (world_with t f processes) p s e call) → shows ≡ [] →
-      Comes (world_with t f processes) p s e call otherwise Waiting shows (world_with after left processes)
-  waits_as refused same alone none =
-      let w = world_with t f processes in
-      let (answers, nothing) = subst (λ r. RefusesAlone r w after left (answer w p s e call)) same alone in
-      subst (λ (v : World). Comes w p s e call otherwise Waiting shows v) (same_world (sym nothing.tree) (sym nothing.files) refl)
-      (subst (λ x. Comes w p s e call otherwise Waiting x w) (sym none) (waits programs t f processes numbering good p s e call otherwise answers))
-
 -- the process that calls, whatever is known to stand at its number
 pub same_process : (processes : List ProcessState) (p : ℕ) (s x : ProcessState) → slice_get processes p ≡ Some s → slice_get processes p ≡ Some x → s ≡ x
 same_process processes p s x made read = some_same (sym made ∙ read)
   where
     some_same : {a b : ProcessState} → Some a ≡ Some b → a ≡ b
     some_same is = cc
-
-pub next_at : (t : List Node) (f : OpenFiles) (processes : List ProcessState) (p : ℕ) (call : Syscall) → MayCall (world_with t f processes) p call →
-    (s : ProcessState) → slice_get processes p ≡ Some s → s.point + 1 < 256
-next_at t f processes p call may s made = subst (λ (y : ProcessState). y.point + 1 < 256) (same_process processes p may.process s may.made made) may.next
 
 -- the processes where none is made
 pub alone : (processes : List ProcessState) (p : ℕ) (s : ProcessState) (value : ℕ) (b : Besides) → b ≢ besides.Child →

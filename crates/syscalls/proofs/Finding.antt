@@ -1,6 +1,8 @@
 -- From what a lookup found to what a call answers.
-use Rattle.std.proofs.Common.{◌≡◌, ℕ, List, false, ap, subst, sym, ◌∙◌}
-use Rattle.std.specs.Prelude.{Option, Some, None, Result, Ok, Err}
+use Rattle.std.proofs.Common.{◌≡◌, ℕ, List, false, ap, refl, subst, sym, ◌∙◌}
+use Rattle.std.specs.Prelude.{Option, Some, None, Result, Ok, Err, IfOk}
+use Rattle.std.specs.Result.{IsErrAnd}
+use Rattle.std.proofs.lemmas.Result.{err_from_is_err_and}
 use Rattle.file_tree.specs.Nodes.{Node, is_link, node}
 use Rattle.file_tree.specs.WellFormed.{IsTree}
 use Rattle.fd_table.specs.OpenFiles.{OpenFiles}
@@ -17,7 +19,9 @@ use Rattle.kernel.specs.World.{World}
 use Rattle.kernel.specs.Answers.{Answer}
 use Rattle.syscalls.specs.declared.outcomes.Refusal.{Refusal}
 use Rattle.syscalls.specs.declared.outcomes.Refusal.TheVariants as refusal
-use Rattle.syscalls.specs.AnswerViews.{Refuses, RefusesAlone, Passes, DoesNothing, Finds, IsLeft, IsNotFound, LooksUp, TellsFaults}
+use Rattle.lookup.specs.Views.{found_of}
+use Rattle.syscalls.specs.declared.outcomes.Success.{Success}
+use Rattle.syscalls.specs.AnswerViews.{IsFoundAt, Meets, Refuses, RefusesAlone, Passes, DoesNothing, Finds, IsLeft, IsNotFound, LooksUp, TellsFaults}
 
 -- a refusal with nothing done
 pub refused_alone : (refused : Refusal) (w : World) (t : List Node) (f : OpenFiles) (a : Answer) → Refuses refused a → DoesNothing w t f → RefusesAlone refused w t f a
@@ -25,6 +29,14 @@ refused_alone (refusal.Fails errno cause) w t f a is nothing = (is, nothing)
 refused_alone refusal.Waits w t f a is nothing = (is, nothing)
 refused_alone (refusal.Walks walking) w t f a is nothing = (is, nothing)
 refused_alone refusal.Memory w t f a is nothing = tt
+
+-- an error that is handed on
+pub by_error : {A : Type 0} (P : Result A Refusal → Type 0) (r : Result A Refusal) (error : Refusal) → IsErrAnd r (λ given. given ≡ error) → P (Err error) → P r
+by_error P r error is there = let e = err_from_is_err_and r is in rw (e.1, e.2) there
+
+pub handed_on : (r : Result Success Refusal) (error : Refusal) (w : World) (p : ℕ) (a : Answer) → IsErrAnd r (λ given. given ≡ error) → Refuses error a → Meets w p w.tree w.files r a
+handed_on r error w p a is refuses =
+    by_error (λ r. Meets w p w.tree w.files r a) r error is (refused_alone error w w.tree w.files a refuses (record { tree = refl; files = refl }))
 
 -- a test that goes on to another one
 pub passes_on : {A B : Type 0} (view : A → B) (whole test : (B → Answer) → Answer) (r : Result A Refusal) → ((rest : B → Answer) → whole rest ≡ test rest) → Passes view test r → Passes view whole r
@@ -56,17 +68,25 @@ event_sure : (t : List Node) (path : List ℕ) (way : Way) (last : Last) (event 
 event_sure t path way last (Done finding) found sure is = let same : finding ≡ found = cc in subst (Sure t path last) same sure
 event_sure t path way last (More walk) found sure is = absurd cc
 
-pub sure_found : (t : List Node) (start : ℕ) (path : List ℕ) (way : Way) (last : Last) (o : Option Walking) (found : Finding) → IsTree t → is_link (node t start).kind ≡ false →
+sure_found : (t : List Node) (start : ℕ) (path : List ℕ) (way : Way) (last : Last) (o : Option Walking) (found : Finding) → IsTree t → is_link (node t start).kind ≡ false →
     IfOne (IsUnderWay t path way last) o → resumed_one o (first_handled t start path way last) (handled t) ≡ Done found → Sure t path last found
 sure_found t start path way last None found tree opened under is = event_sure t path way last _ found (begun_sure t path way last tree start opened) is
 sure_found t start path way last (Some (One walk)) found tree opened under is = event_sure t path way last _ found (under_way_sure t path way last tree walk under) is
 sure_found t start path way last (Some (Two one other)) found tree opened under is = event_sure t path way last _ found (begun_sure t path way last tree start opened) is
 
+pub look_sure : (t : List Node) (start : ℕ) (path : List ℕ) (way : Way) (last : Last) (o : Option Walking) (r : Result Found Refusal) → IsTree t → is_link (node t start).kind ≡ false →
+    IfOne (IsUnderWay t path way last) o → Finds (resumed_one o (first_handled t start path way last) (handled t)) r → IfOk r (λ found. Sure t path last (found_of found))
+look_sure t start path way last o (Ok found) tree opened under is = sure_found t start path way last o (found_of found) tree opened under is
+look_sure t start path way last o (Err refused) tree opened under is = tt
+
 -- in the words of the promises
-pub free_name : (t : List Node) (path : List ℕ) (found : Finding) → MayMake t path found → IsFreeName t path found × MayBeMade path found
+free_name : (t : List Node) (path : List ℕ) (found : Finding) → MayMake t path found → IsFreeName t path found × MayBeMade path found
 free_name t path (Found_node n) may = (tt, tt)
 free_name t path (Found_free d) may = (record { directory = may.directory; absent = may.absent }, may.named)
 free_name t path (Not_found fault) may = (tt, tt)
+
+pub found_so : (t : List Node) (path : List ℕ) (last : Last) (found : Found) → Sure t path last (found_of found) → IsFoundAt t path found
+found_so t path last found sure = let free = free_name t path (found_of found) sure.vacant in record { there = sure.there; free = free.0; may_be_made = free.1 }
 
 -- the last names of a rename
 last_sure : (t : List Node) (path : List ℕ) (way : Way) (last : Last) (event : Progress) → IsTree t → IsSureProgress t path way last event → Sure t path last (found_last event)

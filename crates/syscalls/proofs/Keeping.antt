@@ -1,6 +1,6 @@
 -- What a success leaves: that nothing but one part of the world is changed.
 use Rattle.std.proofs.Common.{◌≡◌, ◌<◌, ℕ, Bool, true, List, [], ◌∷◌, refl, sym, ◌∙◌, map, length}
-use Rattle.std.specs.Prelude.{Option, Some, None}
+use Rattle.std.specs.Prelude.{Option, Some, None, Ok}
 use Rattle.file_tree.specs.Nodes.{Kind, Node, node, child_of}
 use Rattle.file_tree.specs.Places.{at_name}
 use Rattle.file_tree.specs.Refusals.{created, create_fault}
@@ -12,9 +12,12 @@ use Rattle.fd_table.specs.OpenFiles.{OpenFiles, Alike, SameDescription, SameDesc
 use Rattle.kernel.specs.World.{World, Choice}
 use Rattle.kernel.specs.Answers.{Effect, TreeChange, TableChange, Same_table, Set_entry, Clear_entry, New_file, New_pair, New_process, QueueChange, Make, Set_state, Answer, Gives, same}
 use Rattle.kernel.specs.Changes.{tree_after, files_after}
+use Rattle.syscalls.specs.declared.outcomes.Besides.{Besides}
 use Rattle.syscalls.specs.declared.outcomes.Besides.TheVariants as besides
+use Rattle.syscalls.specs.declared.outcomes.Success.{Success}
 use Rattle.syscalls.specs.Shows.{Shown, shown}
-use Rattle.syscalls.specs.AnswerViews.{Succeeds, Suits, IsBesides, IsIdle}
+use Rattle.syscalls.specs.AnswerViews.{Meets, Succeeds, Suits, IsBesides, IsIdle}
+use Rattle.syscalls.specs.Views.{IsSuccess}
 
 same_description : (f : OpenFiles) (o : Option Descriptor) → SameDescription f f o
 same_description f None = tt
@@ -36,6 +39,11 @@ alike_refl f idle = record {
 -- a choice where nothing is chosen
 pub any_choice : Choice
 any_choice = record { first = 0; second = 0; pair = 0 }
+
+-- what a call came to that succeeds
+pub meets : {w : World} {p : ℕ} {t : List Node} {f : OpenFiles} {a : Answer} {success : Success} {value : ℕ} {b : Besides} {shows : List Shown} →
+    IsSuccess success value b shows → Succeeds w p t f value b shows a → Meets w p t f (Ok success) a
+meets is succeeds = rw (is.value, is.besides, is.effects) succeeds
 
 -- a change of the tree alone
 pub tree_succeeds : (w : World) (p : ℕ) (t : List Node) (value : ℕ) (shows : List Shown) (a : Answer) (change : TreeChange) (effects : List Effect) →

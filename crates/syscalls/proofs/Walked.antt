@@ -4,7 +4,7 @@ use Rattle.std.specs.Prelude.{Option, Some, None, Result, Ok, Err, IfOk, IfSome}
 use Rattle.rights.specs.Values.{PathText}
 use Rattle.file_tree.specs.Nodes.{Node}
 use Rattle.file_tree.specs.WellFormed.{IsTree}
-use Rattle.lookup.specs.Answers.{Way, Beneath, Last, Keep, LookupFault, Finding, Found_node, Not_found}
+use Rattle.lookup.specs.Answers.{Way, Beneath, Global, Last, Keep, LookupFault, Finding, Found_node, Not_found}
 use Rattle.lookup.specs.Looks.{lookup_fault}
 use Rattle.lookup.specs.UnderWay.{IsUnderWay}
 use Rattle.lookup.specs.Views.{found_of}
@@ -15,20 +15,22 @@ use Rattle.process.specs.Views.{walking_in}
 use Rattle.process.specs.declared.walking.Walking.{Walking}
 use Rattle.process.specs.declared.walking.Walking.TheVariants as walking
 use Rattle.instruction_set.specs.Paths.{has_path}
-use Rattle.instruction_set.specs.Programs.{Syscall}
+use Rattle.instruction_set.specs.Programs.{Operand, Syscall}
 use Rattle.instruction_set.specs.Programs as programs
+use Rattle.fd_table.specs.Kept.{Kept, open_files}
 use Rattle.fd_table.specs.OpenFiles.{OpenFiles}
 use Rattle.kernel.specs.World.{World}
 use Rattle.kernel.specs.Answers.{Answer, Event, lookup_fails}
 use Rattle.kernel.specs.Calls.{found_last, is_at_last, looks_twice, lost, or_fails, walked, walked_both}
-use Rattle.kernel.specs.Walks.{IfOne, IfTwo, No_path, lookups_of}
+use Rattle.kernel.specs.Walks.{FitsIfWalking, From_directories, From_directory, From_root, IfOne, IfTwo, No_path, lookups_of}
+use Rattle.kernel.proofs.FittingWalks.{both_under, directory_under, root_under}
 use Rattle.syscalls.specs.declared.lookups.Both.{Both}
 use Rattle.syscalls.specs.declared.outcomes.Refusal.{Refusal}
 use Rattle.syscalls.specs.declared.outcomes.Refusal.TheVariants as refusal
-use Rattle.syscalls.specs.declared.operands.Caller.{Caller}
+use Rattle.syscalls.specs.declared.kernels.Kernel.{Kernel}
 use Rattle.syscalls.specs.declared.outcomes.Success.{Success}
-use Rattle.syscalls.specs.AnswerViews.{AreFound, Finds, IsLeft, IsLost, IsNotFound, Performs, Refuses, RenamesOn, state_with}
-use Rattle.syscalls.proofs.Finding.{free_name, last_found_sure}
+use Rattle.syscalls.specs.AnswerViews.{AreFound, Calls, Finds, IsLeft, IsLost, IsNotFound, Performs, Refuses, RenamesOn, state_with}
+use Rattle.syscalls.proofs.Finding.{found_so, last_found_sure}
 
 -- What a fault is refused as, whatever event it ends.
 abbrev pub RefusesFault : Option LookupFault → Refusal → Type 0
@@ -137,23 +139,43 @@ pub are_found : (t : List Node) (path new_path : PathText) (one other : WalkStat
 are_found t path new_path one other (Ok both) tree under also node place =
     let source : Sure t path Keep (Found_node both.node) = last_found_sure t path one (Found_node both.node) tree under node in
     let target : Sure t new_path Keep (found_of both.place) = last_found_sure t new_path other (found_of both.place) tree also place in
-    let free = free_name t new_path (found_of both.place) target.vacant in
-    record { node = source.there; place = target.there; named = target.named refl; free = free.0; may_be_made = free.1 }
+    record { node = source.there; place = found_so t new_path Keep both.place target; named = target.named refl }
 are_found t path new_path one other (Err refused) tree under also node place = tt
 
--- a call that looks nothing up has nothing under way
-pub performs_at_rest : (t : List Node) (f : OpenFiles) (caller : Caller) (walk : Option Walking) (after : List Node) (left : OpenFiles) (r : Result Success Refusal) (call known : Syscall) →
-    call ≡ known → walking_in walk ≡ None → caller.process.now.walk ≡ None → Performs t f caller caller.process.now after left r known →
-    Performs t f caller (state_with caller walk) after left r call
-performs_at_rest t f caller walk after left r call known same none rests performs =
-    subst (Performs t f caller (state_with caller walk) after left r) (sym same)
-    (subst (λ s. Performs t f caller s after left r known) (sym (ap (λ o. record caller.process.now { walk = o }) (none ∙ sym rests))) performs)
+-- ## What is under way, by what the call looks up
+module _ {T : Type 0} (nodes : T → List Node) (k : Kernel T) (call : Syscall) (walk : Option Walking)
+    (fits : FitsIfWalking (nodes k.tree.now) (open_files k.files.now).objects ((open_files k.files.now).table k.caller.number) k.caller.process.now (Some call) (walking_in walk)) where
+  abbrev f : OpenFiles
+  f = open_files k.files.now
 
--- ## Calls without a path
--- what a call answers that is known to be this one
-pub performs_as : (t : List Node) (f : OpenFiles) (caller : Caller) (s : ProcessState) (after : List Node) (left : OpenFiles) (r : Result Success Refusal) (call known : Syscall) →
-    call ≡ known → Performs t f caller s after left r known → Performs t f caller s after left r call
-performs_as t f caller s after left r call known same performs = subst (Performs t f caller s after left r) (sym same) performs
+  pub from_root : (bytes path : PathText) (last : Last) → bytes ≡ path → lookups_of call ≡ From_root path last → IfOne (IsUnderWay (nodes k.tree.now) bytes Global last) (walking_in walk)
+  from_root bytes path last same is =
+      subst (λ text. IfOne (IsUnderWay (nodes k.tree.now) text Global last) (walking_in walk)) (sym same)
+      (root_under (nodes k.tree.now) f.objects (f.table k.caller.number) k.caller.process.now call path last (walking_in walk) is fits)
+
+  pub from_directory : (bytes path : PathText) (x : Operand) (last : Last) → bytes ≡ path → lookups_of call ≡ From_directory x path last →
+      IfOne (IsUnderWay (nodes k.tree.now) bytes Beneath last) (walking_in walk)
+  from_directory bytes path x last same is =
+      subst (λ text. IfOne (IsUnderWay (nodes k.tree.now) text Beneath last) (walking_in walk)) (sym same)
+      (directory_under (nodes k.tree.now) f.objects (f.table k.caller.number) k.caller.process.now call x path last (walking_in walk) is fits)
+
+  pub from_directories : (bytes path : PathText) (x : Operand) (new_bytes new_path : PathText) (y : Operand) → bytes ≡ path → new_bytes ≡ new_path →
+      lookups_of call ≡ From_directories x path y new_path →
+      IfTwo (IsUnderWay (nodes k.tree.now) bytes Beneath Keep) (IsUnderWay (nodes k.tree.now) new_bytes Beneath Keep) (walking_in walk)
+  from_directories bytes path x new_bytes new_path y same also is =
+      rw (same, also) (both_under (nodes k.tree.now) f.objects (f.table k.caller.number) k.caller.process.now call x path y new_path (walking_in walk) is fits)
+
+-- ## What a call answers, by the method that it is
+module _ {T : Type 0} (nodes : T → List Node) (k : Kernel T) (tree : T) (files : Kept) (r : Result Success Refusal) (call known : Syscall) (same : call ≡ known) where
+  -- a call that looks nothing up has nothing under way
+  pub performs_at_rest : (walk : Option Walking) → walking_in walk ≡ None → k.caller.process.now.walk ≡ None → Performs nodes k k.caller.process.now tree files r known →
+      Performs nodes k (state_with k.caller walk) tree files r call
+  performs_at_rest walk none rests performs =
+      subst (Performs nodes k (state_with k.caller walk) tree files r) (sym same)
+      (subst (λ s. Performs nodes k s tree files r known) (sym (ap (λ o. record k.caller.process.now { walk = o }) (none ∙ sym rests))) performs)
+
+  pub performs_as : Calls nodes k tree files r known → Performs nodes k k.caller.process.now tree files r call
+  performs_as calls = subst (Performs nodes k k.caller.process.now tree files r) (sym same) (λ processes e refuse made. calls processes e refuse)
 
 pub pathless_looks_nothing_up : (call : Syscall) → has_path call ≡ false → lookups_of call ≡ No_path
 unfolding lookups_of

@@ -22,18 +22,22 @@ use Rattle.lookup.specs.Answers as lookups
 use Rattle.lookup.specs.Promises.{IsFindingThere, IsFreeName, IsLinked, IsUnderName, MayBeMade}
 use Rattle.rights.specs.Values.{PathText}
 use Rattle.kernel.specs.World.{World, Choice}
-use Rattle.kernel.specs.Answers.{Event, Effect, TableChange, New_file, New_pair, Change, Answer, Fails, Waits, Gives, Walks, lookup_fails}
+use Rattle.kernel.specs.Answers.{value_of, Event, Effect, TableChange, New_file, New_pair, Change, Answer, Fails, Waits, Gives, Walks, lookup_fails}
 use Rattle.kernel.specs.Changes.{tree_after, files_after, given, children}
 use Rattle.syscalls.specs.declared.outcomes.Besides.{Besides}
 use Rattle.syscalls.specs.declared.outcomes.Success.{Success}
 use Rattle.syscalls.specs.declared.outcomes.Refusal.{Refusal}
 use Rattle.syscalls.specs.declared.outcomes.Refusal.TheVariants as refusal
+use Rattle.fd_table.specs.Kept.{Kept, open_files}
 use Rattle.fd_table.specs.Views.{access_seen}
-use Rattle.instruction_set.specs.Programs.{Syscall, Read, Write, Lseek, Ftruncate, Fsync, Fstat, called}
+use Rattle.instruction_set.specs.Views.{operand_of}
+use Rattle.instruction_set.specs.declared.operands.Operand.{Operand}
+use Rattle.instruction_set.specs.Programs.{Syscall, called}
 use Rattle.kernel.specs.Calls.{answer, lost, existing}
-use Rattle.syscalls.specs.declared.paths.Beneath.{Beneath}
+use Rattle.syscalls.specs.declared.opening.Beneath.{Beneath}
 use Rattle.syscalls.specs.declared.lookups.Both.{Both}
-use Rattle.syscalls.specs.declared.operands.Caller.{Caller}
+use Rattle.syscalls.specs.declared.kernels.Caller.{Caller}
+use Rattle.syscalls.specs.declared.kernels.Kernel.{Kernel}
 use Rattle.syscalls.specs.declared.operands.OpenNode.{OpenNode}
 use Rattle.syscalls.specs.declared.operands.Opened.{Opened}
 use Rattle.syscalls.specs.declared.operands.Reached.{Reached}
@@ -118,20 +122,16 @@ abbrev pub LooksUp : ((lookups.Finding → Answer) → Answer) → Result Found 
 LooksUp look (Ok found) = (rest : lookups.Finding → Answer) → look rest ≡ rest (found_of found)
 LooksUp look (Err refused) = (rest : lookups.Finding → Answer) → TellsFaults rest → Refuses refused (look rest)
 
-abbrev pub LooksUpIn : List Node → OpenFiles → ProcessState → (World → ℕ → ProcessState → Event → (lookups.Finding → Answer) → Answer) → Result Found Refusal → Type 0
-LooksUpIn t f s look r = (processes : List ProcessState) (p : ℕ) (e : Event) → LooksUp (look (world_with t f processes) p s e) r
+-- what a call finds, with these processes
+abbrev pub world_at : {T : Type 0} → (T → List Node) → Kernel T → List ProcessState → World
+world_at nodes k processes = world_with (nodes k.tree.now) (open_files k.files.now) processes
+
+abbrev pub LooksUpIn : {T : Type 0} → (T → List Node) → Kernel T → ProcessState → (World → ℕ → ProcessState → Event → (lookups.Finding → Answer) → Answer) → Result Found Refusal → Type 0
+LooksUpIn nodes k s look r = (processes : List ProcessState) (p : ℕ) (e : Event) → LooksUp (look (world_at nodes k processes) p s e) r
 
 -- queues are only where pairs are
 abbrev pub IsIdle : OpenFiles → Type 0
 IsIdle f = (pair side : ℕ) → f.pairs ≤ pair → f.queue pair side ≡ []
-
--- What a call on the tree alone came to, whatever is open and whoever calls: the tree alone may be changed.
-abbrev pub OnTree : List Node → List Node → Bool → Result Success Refusal → (World → ℕ → ProcessState → Event → Answer) → Type 0
-OnTree t after refuse r answer =
-    (f : OpenFiles) (processes : List ProcessState) (p : ℕ) (s : ProcessState) (e : Event)
-    → e.refuse ≡ refuse
-    → IsIdle f
-    → Meets (world_with t f processes) p after f r (answer (world_with t f processes) p s e)
 
 -- numbers from 16 on are no descriptor's
 abbrev pub HasNumbers : OpenFiles → ℕ → Type 0
@@ -156,10 +156,28 @@ pub record IsReady (t : List Node) (f : OpenFiles) (p : ℕ) : Type 0 where
   pub entries : (n : ℕ) (d : Descriptor) → f.table p n ≡ Some d → IsReadyDescription t f d.description
   pub idle : IsIdle f
 
--- The same of a test that looks at the tree and at what is open, whoever calls.
-abbrev pub PassesIn : {A B : Type 0} → List Node → OpenFiles → (A → B) → (World → ℕ → ProcessState → Event → (B → Answer) → Answer) → Result A Refusal → Type 0
-PassesIn t f view test r =
-    (processes : List ProcessState) (p : ℕ) (s : ProcessState) (e : Event) → Passes view (test (world_with t f processes) p s e) r
+-- The same of what a call finds.
+abbrev pub IsReadyAt : {T : Type 0} → (T → List Node) → Kernel T → Type 0
+IsReadyAt nodes k = IsReady (nodes k.tree.now) (open_files k.files.now) k.caller.number
+
+-- what an operand stands for, and the descriptor of that number
+abbrev pub value_at : {T : Type 0} → Kernel T → Operand → ℕ
+value_at k operand = value_of k.caller.process.now (operand_of operand)
+
+abbrev pub held_at : {T : Type 0} → Kernel T → Operand → Option Descriptor
+held_at k operand = (open_files k.files.now).table k.caller.number (value_at k operand)
+
+-- the caller's descriptor of an operand
+pub record IsHeldAt {T : Type 0} (nodes : T → List Node) (k : Kernel T) (operand : Operand) (held : Numbered) : Type 0 where
+  pub entry : (open_files k.files.now).table k.caller.number held.number ≡ Some (held_seen held)
+  pub number : held.number ≡ value_at k operand
+  pub named : IsNamed (open_files k.files.now) held.description
+  pub ready : IsReadyDescription (nodes k.tree.now) (open_files k.files.now) held.description
+
+-- A test that looks at the tree and at what is open, whoever calls.
+abbrev pub PassesIn : {T A B : Type 0} → (T → List Node) → Kernel T → (A → B) → (World → ℕ → ProcessState → Event → (B → Answer) → Answer) → Result A Refusal → Type 0
+PassesIn nodes k view test r =
+    (processes : List ProcessState) (p : ℕ) (s : ProcessState) (e : Event) → Passes view (test (world_at nodes k processes) p s e) r
 
 -- What the code found, as the model goes on with it: a number, a node with what it was opened for, both with their
 -- descriptor, or a descriptor.
@@ -170,7 +188,7 @@ abbrev pub node_seen : OpenNode → ℕ × Access
 node_seen found = (found.node, access_seen found.access)
 
 abbrev pub opened_seen : Opened → Descriptor × ℕ × Access
-opened_seen found = (held_seen found.held, found.node, access_seen found.access)
+opened_seen found = (held_seen found.held, found.file.node, access_seen found.file.access)
 
 abbrev pub reached_seen : Reached → Descriptor
 reached_seen reached = held_seen reached.held
@@ -195,27 +213,28 @@ pub record IsReached (t : List Node) (f : OpenFiles) (reached : Reached) : Type 
   pub ready : IsReadyDescription t f reached.held.description
   pub there : IsTargetThere t f reached.target
 
--- What the code came to of a part of a call, with the tree and what is open before and after it, is what the model
--- answers.
-abbrev pub Does : List Node → OpenFiles → Caller → List Node → OpenFiles → Result Success Refusal → (World → Event → Answer) → Type 0
-Does t f caller after left r answer =
+-- What the code came to of a part of a call, from what it found to this tree and what is then open, is what the model answers.
+abbrev pub Does : {T : Type 0} → (T → List Node) → Kernel T → T → Kept → Result Success Refusal → (World → Event → Answer) → Type 0
+Does nodes k tree files r answer =
     (processes : List ProcessState) (e : Event)
-    → e.refuse ≡ caller.refuse
-    → Meets (world_with t f processes) caller.number after left r (answer (world_with t f processes) e)
+    → e.refuse ≡ k.caller.refuse
+    → Meets (world_at nodes k processes) k.caller.number (nodes tree) (open_files files) r (answer (world_at nodes k processes) e)
+
+-- The same whatever state its process is in.
+abbrev pub DoesFor : {T : Type 0} → (T → List Node) → Kernel T → T → Kept → Result Success Refusal → (World → ℕ → ProcessState → Event → Answer) → Type 0
+DoesFor nodes k tree files r answer = (s : ProcessState) → Does nodes k tree files r (λ w e. answer w k.caller.number s e)
 
 -- The same of that call as a whole.
-abbrev pub Calls : List Node → OpenFiles → Caller → List Node → OpenFiles → Result Success Refusal → Syscall → Type 0
-Calls t f caller after left r call =
-    Does t f caller after left r (λ w e. answer w caller.number caller.process.now e call)
+abbrev pub Calls : {T : Type 0} → (T → List Node) → Kernel T → T → Kept → Result Success Refusal → Syscall → Type 0
+Calls nodes k tree files r call = Does nodes k tree files r (λ w e. answer w k.caller.number k.caller.process.now e call)
 
 -- The process that calls, with what its call has under way.
 abbrev pub state_with : Caller → Option WalkingCode → ProcessState
 state_with caller walk = record caller.process.now { walk = walking_in walk }
 
 -- The same of a call with a path, which goes on with that.
-abbrev pub GoesOn : List Node → OpenFiles → Caller → Option WalkingCode → List Node → OpenFiles → Result Success Refusal → Syscall → Type 0
-GoesOn t f caller walk after left r call =
-    Does t f caller after left r (λ w e. answer w caller.number (state_with caller walk) e call)
+abbrev pub GoesOn : {T : Type 0} → (T → List Node) → Kernel T → Option WalkingCode → T → Kept → Result Success Refusal → Syscall → Type 0
+GoesOn nodes k walk tree files r call = Does nodes k tree files r (λ w e. answer w k.caller.number (state_with k.caller walk) e call)
 
 -- A rename of the model goes on with the node and with what was found in its place, or is refused as the code is.
 abbrev pub RenamesOn : ((lookups.Finding → lookups.Finding → Answer) → Answer) → (lookups.Finding → (ℕ → Answer) → Answer) → Result Both Refusal → Type 0
@@ -228,13 +247,16 @@ RenamesIn t s look r =
     (f : OpenFiles) (processes : List ProcessState) (p : ℕ) (e : Event)
     → RenamesOn (look (world_with t f processes) p s e) existing r
 
--- What is known of what both paths lead to.
+-- What is known of what a path leads to, and of what both paths do.
+pub record IsFoundAt (t : List Node) (path : PathText) (found : Found) : Type 0 where
+  pub there : IsFindingThere t (found_of found)
+  pub free : IsFreeName t path (found_of found)
+  pub may_be_made : MayBeMade path (found_of found)
+
 pub record AreFound (t : List Node) (path new_path : PathText) (both : Both) : Type 0 where
   pub node : IsLinked t both.node
-  pub place : IsFindingThere t (found_of both.place)
+  pub place : IsFoundAt t new_path both.place
   pub named : IsUnderName t new_path (found_of both.place)
-  pub free : IsFreeName t new_path (found_of both.place)
-  pub may_be_made : MayBeMade new_path (found_of both.place)
 
 -- The last name of a path is found, or the fault that the call is refused for.
 abbrev pub FindsLast : lookups.Finding → Result Found Refusal → Type 0
@@ -251,22 +273,12 @@ LeavesNames event (Ok walk) = event ≡ More walk
 LeavesNames event (Err refused) = refused ≢ refusal.Memory → IsLost refused event
 
 -- The same where so many processes were made, which fork alone looks at.
-abbrev pub Performs : List Node → OpenFiles → Caller → ProcessState → List Node → OpenFiles → Result Success Refusal → Syscall → Type 0
-Performs t f caller s after left r call =
+abbrev pub Performs : {T : Type 0} → (T → List Node) → Kernel T → ProcessState → T → Kept → Result Success Refusal → Syscall → Type 0
+Performs nodes k s tree files r call =
     (processes : List ProcessState) (e : Event)
-    → e.refuse ≡ caller.refuse
-    → length processes ≡ caller.made
-    → Meets (world_with t f processes) caller.number after left r (answer (world_with t f processes) caller.number s e call)
-
--- which calls work on the node of a descriptor, without a path
-abbrev pub works_on_node : Syscall → Bool
-works_on_node (Read descriptor) = true
-works_on_node (Write descriptor value) = true
-works_on_node (Lseek descriptor offset) = true
-works_on_node (Ftruncate descriptor len) = true
-works_on_node (Fsync descriptor) = true
-works_on_node (Fstat descriptor) = true
-works_on_node _ = false
+    → e.refuse ≡ k.caller.refuse
+    → length processes ≡ k.caller.made
+    → Meets (world_at nodes k processes) k.caller.number (nodes tree) (open_files files) r (answer (world_at nodes k processes) k.caller.number s e call)
 
 -- what a call that opens nothing needs of its first descriptor
 abbrev pub need : Call → ℕ

@@ -33,12 +33,6 @@ succeeded_as s value besides = given s value (change_of besides)
 abbrev pub processes_as : List ProcessState → ℕ → ProcessState → ℕ → Besides → List ProcessState
 processes_as processes p s value besides = processes_after processes p (succeeded_as s value besides) (change_of besides).table
 
--- A call that fails is told with its cause, shows nothing, and leaves this of its process.
-pub record FailsAs (s : ProcessState) (otherwise : ℕ) (errno : Errno) (cause : Cause) (result : LineResult) (shows : List Shown) (after : ProcessState) : Type 0 where
-  pub told : result ≡ Failed errno cause
-  pub nothing : shows ≡ []
-  pub process : after ≡ failed s errno otherwise
-
 -- What becomes of a call's process, and what is told, by what the call came to. After want of memory nothing is said.
 abbrev pub Settles : List ProcessState → ℕ → ProcessState → ℕ → Result Success Refusal → LineResult → List Shown → List ProcessState → Type 0
 Settles processes p s otherwise (Ok success) told shows after =

@@ -1,5 +1,5 @@
 -- What the values of the code stand for.
-use Rattle.std.specs.Prelude.{List, map, true}
+use Rattle.std.specs.Prelude.{◌≡◌, ℕ, List, map, true}
 use Rattle.rights.specs.Views.{operation_of}
 use Rattle.process.specs.State.{ProcessState}
 use Rattle.file_tree.specs.Nodes.{Node}
@@ -12,6 +12,7 @@ use Rattle.syscalls.specs.declared.outcomes.Besides.{Besides}
 use Rattle.syscalls.specs.declared.outcomes.Besides.TheVariants as besides
 use Rattle.syscalls.specs.declared.events.Event.{Event as EventCode}
 use Rattle.syscalls.specs.declared.outcomes.Effect.{Effect as EffectCode}
+use Rattle.syscalls.specs.declared.outcomes.Success.{Success}
 use Rattle.syscalls.specs.declared.world.World.{World as WorldCode}
 use Rattle.syscalls.specs.Shows.{Shown}
 
@@ -23,6 +24,12 @@ effect_of e = record { operation = operation_of e.op; place = e.place.items }
 
 abbrev pub effects_of : List EffectCode → List Shown
 effects_of effects = map effect_of effects
+
+-- A success with this value, which makes this of its process besides, and shows this.
+pub record IsSuccess (success : Success) (gives : ℕ) (makes : Besides) (shows : List Shown) : Type 0 where
+  pub value : success.value ≡ gives
+  pub besides : success.besides ≡ makes
+  pub effects : effects_of success.effects.items ≡ shows
 
 -- The least change that makes this of the processes. (Of a pair only its second number counts there.)
 abbrev pub change_of : Besides → Change

@@ -42,11 +42,7 @@ pub(crate) fn create_node<T: Tree>(
     ensures only_memory { IfErr result (λ e. e ≡ Refusal.Memory) }
     ensures effects { IfOk result (λ made. effects_of made.effects.items ≡ shown_at operations.Create (at_name (node (T.nodes tree.old) dir).place name.now) ∷ []) }
 {
-    match tree.create(dir, name, what) {
-        Err(fault) => Err(want_of_memory(fault)),
-        Ok(node) => Ok(Made {
-            node,
-            effects: effects_at(alloc, tree, Op::Create, node)?,
-        }),
-    }
+    let node = tree.create(dir, name, what).map_err(want_of_memory)?;
+    let effects = effects_at(alloc, tree, Op::Create, node)?;
+    Ok(Made { node, effects })
 }

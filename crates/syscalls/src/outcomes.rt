@@ -5,7 +5,7 @@ ghost use Rattle.rights.specs.Views.{operation_of};
 ghost use Rattle.file_tree.specs.Nodes.{node};
 ghost use Rattle.file_tree.specs.Places.{place_text};
 ghost use Rattle.syscalls.specs.Shows.{shown_at};
-ghost use Rattle.syscalls.specs.Views.{effect_of, effects_of};
+ghost use Rattle.syscalls.specs.Views.{IsSuccess, effect_of, effects_of};
 ghost use Rattle.syscalls.specs.declared.outcomes.Refusal.TheVariants as refusal;
 
 use file_tree::{NodeId, Tree, TreeFault};
@@ -54,6 +54,37 @@ pub(crate) struct Success {
     pub value: u32,
     pub besides: Besides,
     pub effects: Vec<Effect>,
+}
+
+impl Success {
+    /// It gives this value, and does nothing that is shown.
+    pub fn value(alloc: Global, value: u32) -> Success
+        ensures { IsSuccess result value Besides.Nothing [] }
+    {
+        Success::besides(alloc, value, Besides::Nothing)
+    }
+
+    /// It gives this value, and makes this of the process besides.
+    pub fn besides(alloc: Global, value: u32, besides: Besides) -> Success
+        ensures { IsSuccess result value besides [] }
+    {
+        Success {
+            value,
+            besides,
+            effects: Vec::new(alloc),
+        }
+    }
+
+    /// It gives this value, and did this.
+    pub fn with_effects(value: u32, effects: Vec<Effect>) -> Success
+        ensures { IsSuccess result value Besides.Nothing (effects_of effects.items) }
+    {
+        Success {
+            value,
+            besides: Besides::Nothing,
+            effects,
+        }
+    }
 }
 
 /// Why a call doesn't succeed at this event. It has changed nothing then, unless a growth was refused.

@@ -4,22 +4,20 @@ ghost use Rattle.std.specs.Prelude.{◌≡◌, ◌<◌, ◌+◌, [], IfOk, None,
 ghost use Rattle.std.specs.List.{slice_get};
 ghost use Rattle.process.specs.State.{ProcessState};
 ghost use Rattle.process.specs.Views.{walking_in, walking_of};
-ghost use Rattle.rights.specs.Views.{cause_of, errno_of};
 ghost use Rattle.instruction_set.specs.Programs as programs;
 ghost use Rattle.instruction_set.specs.Views.{instruction_of, syscall_of};
-ghost use Rattle.syscalls.specs.CallViews.{FailsAs, Settles, processes_as, result_of, succeeded_as};
+ghost use Rattle.syscalls.specs.CallViews.{Settles, processes_as, result_of, succeeded_as};
 ghost use Rattle.syscalls.specs.MayCall.{CallComes, MayCall, MayInvoke};
 ghost use Rattle.syscalls.specs.Views.{effects_of, event_of, world_of};
 
-use crate::calls::perform;
 use crate::events::Event;
-use crate::operands::Caller;
+use crate::kernels::{Caller, Kernel};
 use crate::outcomes::{Besides, Effect, Outcome, Refusal, Success};
 use fd_table::Files;
 use file_tree::Tree;
 use instruction_set::{Instruction, Syscall};
 use process::{Process, Walking};
-use rights::{Cause, Errno, Memory};
+use rights::Memory;
 use std::alloc::Global;
 
 /// The file tree, what is open, and the processes in the order of making.
@@ -30,24 +28,18 @@ pub struct World<T: Tree> {
     pub processes: Vec<Process>,
 }
 
-/// What a call came to, with its effects.
-#[derive(Drop)]
-struct Called {
-    outcome: Outcome,
-    effects: Vec<Effect>,
-}
-
-/// A call succeeds: register 0 has the value, register 1 the second number of a pair, and the process goes on.
+/// A call succeeds with this value, and makes this of its process besides.
 fn succeed(process: &mut Process, value: u32, besides: Besides)
     requires { process.old.point + 1 < 256 }
     ensures { process.new ≡ succeeded_as process.old value besides }
 {
-    process.registers[0] = value;
-    process.move_to(process.point + 1);
     match besides {
-        Besides::Nothing | Besides::Child => {}
-        Besides::Second(second) => process.registers[1] = second,
-        Besides::Mode => process.enter(),
+        Besides::Nothing | Besides::Child => process.succeed(value),
+        Besides::Second(second) => process.succeed_with_two(value, second),
+        Besides::Mode => {
+            process.succeed(value);
+            process.enter();
+        }
     }
 }
 
@@ -73,23 +65,11 @@ fn go_on(
 }
 
 /// What a call came to that has no effect.
-fn told(alloc: Global, outcome: Outcome) -> Called
-    ensures outcome { result.outcome ≡ outcome }
-    ensures nothing { result.effects.items ≡ [] }
+fn told(alloc: Global, outcome: Outcome) -> (Outcome, Vec<Effect>)
+    ensures outcome { result.0 ≡ outcome }
+    ensures nothing { result.1.items ≡ [] }
 {
-    Called {
-        outcome,
-        effects: Vec::new(alloc),
-    }
-}
-
-/// A call fails: register 7 has the error's number, and the process goes to the label.
-fn fail(alloc: Global, process: &mut Process, otherwise: u8, errno: Errno, cause: Cause) -> Called
-    ensures { FailsAs process.old otherwise (errno_of errno) (cause_of cause) (result_of result.outcome) (effects_of result.effects.items) process.new }
-{
-    process.registers[7] = u32::from(errno.number());
-    process.move_to(otherwise);
-    told(alloc, Outcome::Error(errno, cause))
+    (outcome, Vec::new(alloc))
 }
 
 /// Takes what the call of a process has under way out of the process.
@@ -120,28 +100,23 @@ fn settle(
     number: u8,
     otherwise: u8,
     came: Result<Success, Refusal>,
-) -> Result<Called, Memory>
+) -> Result<(Outcome, Vec<Effect>), Memory>
     requires made { number < length processes.old.items }
     requires next { (s : ProcessState) → slice_get processes.old.items number ≡ Some s → s.point + 1 < 256 }
-    ensures { IfOk result (λ called. (s : ProcessState) → slice_get processes.old.items number ≡ Some s
-        → Settles processes.old.items number s otherwise came (result_of called.outcome) (effects_of called.effects.items) processes.new.items) }
+    ensures { IfOk result (λ told. (s : ProcessState) → slice_get processes.old.items number ≡ Some s
+        → Settles processes.old.items number s otherwise came (result_of told.0) (effects_of told.1.items) processes.new.items) }
 {
     match came {
         Ok(success) => {
             go_on(processes, number, success.value, success.besides)?;
-            Ok(Called {
-                outcome: Outcome::Value(success.value),
-                effects: success.effects,
-            })
+            Ok((Outcome::Value(success.value), success.effects))
         }
         Err(refused) => match refused {
-            Refusal::Fails(errno, cause) => Ok(fail(
-                alloc,
-                &mut processes[number as usize],
-                otherwise,
-                errno,
-                cause,
-            )),
+            Refusal::Fails(errno, cause) => {
+                let process = &mut processes[number as usize];
+                process.fail(u32::from(errno.number()), otherwise);
+                Ok(told(alloc, Outcome::Error(errno, cause)))
+            }
             Refusal::Waits => Ok(told(alloc, Outcome::Wait)),
             Refusal::Walks(walking) => {
                 walk_on(processes, number, walking);
@@ -152,35 +127,35 @@ fn settle(
     }
 }
 
-/// The call of a process, which gets its registers, its point and its mode, and what it has under way.
-fn invoke<T: Tree>(
-    alloc: Global,
-    world: &mut World<T>,
-    number: u8,
-    call: &Syscall,
-    otherwise: u8,
-    event: Event,
-) -> Result<Called, Memory>
-    requires { MayCall (world_of T.nodes world.old) number (syscall_of call.now) }
-    ensures { IfOk result (λ called. CallComes (world_of T.nodes world.old) number (event_of event) (programs.Invoke (syscall_of call.now) otherwise)
-        (result_of called.outcome) (effects_of called.effects.items) (world_of T.nodes world.new)) }
-{
-    let walk = take_walk(&mut world.processes, number);
-    let caller = Caller {
-        number,
-        process: &world.processes[number as usize],
-        made: world.processes.len(),
-        refuse: event.refuse,
-    };
-    let came = perform(
-        alloc,
-        &mut world.tree,
-        &mut world.files,
-        &caller,
-        call,
-        walk,
-    );
-    settle(alloc, &mut world.processes, number, otherwise, came)
+impl<T: Tree> World<T> {
+    /// The call of a process, which gets its registers, its point and its mode, and what it has under way.
+    fn invoke(
+        &mut self,
+        alloc: Global,
+        number: u8,
+        call: &Syscall,
+        otherwise: u8,
+        event: Event,
+    ) -> Result<(Outcome, Vec<Effect>), Memory>
+        requires { MayCall (world_of T.nodes self.old) number (syscall_of call.now) }
+        ensures { IfOk result (λ told. CallComes (world_of T.nodes self.old) number (event_of event) (programs.Invoke (syscall_of call.now) otherwise)
+            (result_of told.0) (effects_of told.1.items) (world_of T.nodes self.new)) }
+    {
+        let walk = take_walk(&mut self.processes, number);
+        let kernel = Kernel {
+            tree: &mut self.tree,
+            files: &mut self.files,
+            caller: Caller {
+                number,
+                process: &self.processes[number as usize],
+                made: self.processes.len(),
+                refuse: event.refuse,
+            },
+            alloc,
+        };
+        let came = kernel.perform(call, walk);
+        settle(alloc, &mut self.processes, number, otherwise, came)
+    }
 }
 
 /// A system call of a process at an event: what it comes to, and its effects in order.
@@ -207,6 +182,5 @@ pub fn call<T: Tree>(
     let Instruction::Invoke { call, otherwise } = instruction else {
         unreachable!()
     };
-    let called = invoke(alloc, world, process as u8, call, *otherwise, event)?;
-    Ok((called.outcome, called.effects))
+    world.invoke(alloc, process as u8, call, *otherwise, event)
 }

@@ -1,0 +1,27 @@
+use Rattle.std.proofs.Common.{◌∙◌, sym, subst, refl, []}
+use Rattle.fd_table.specs.Kept.{open_files}
+use Rattle.kernel.specs.Calls.{answer}
+use Rattle.syscalls.specs.AnswerViews.{Meets, world_at}
+use Rattle.syscalls.proofs.Finding.{handed_on}
+use Rattle.syscalls.proofs.Targets.{at_node, at_end}
+use Rattle.syscalls.proofs.Keeping.{meets, same_succeeds}
+use Rattle.syscalls.proofs.kernels.Kernel.stat_descriptor.Goals as goal
+
+pub returns-in_err-reached : goal.returns-in_err-reached
+unfolding answer
+returns-in_err-reached g c = λ processes e same.
+    handed_on c.from_residual.result c.in_err-reached.field-0.0 (world_at g.T.Tree.nodes c.args.self processes) _ _ c.from_residual.ensures.1 (c.in_err-reached.ensures.passes _)
+
+pub returns-in-Node : goal.returns-in-Node
+unfolding answer
+returns-in-Node g c = λ processes e same.
+    let p = c.args.self.caller.number in
+    subst (Meets (world_at g.T.Tree.nodes c.args.self processes) p (g.T.Tree.nodes c.stat.new.self.0) (open_files c.stat.new.self.1.0) c.stat.result)
+    (sym (c.in_ok-reached.ensures.passes _ ∙ at_node _ _ c.in-Node.found c.in_ok-reached.ensures.target c.in-Node.is _ _))
+    (c.stat.ensures c.args.self.caller.process.now processes e same)
+
+pub returns-in-End : goal.returns-in-End
+unfolding answer
+returns-in-End g c = λ processes e same.
+    meets c.value.ensures (same_succeeds (world_at g.T.Tree.nodes c.args.self processes) _ _ _ _ [] c.requires.idle
+    (c.in_ok-reached.ensures.passes _ ∙ at_end _ _ c.in-End.field-0 c.in_ok-reached.ensures.target c.in-End.is _ _) refl)
