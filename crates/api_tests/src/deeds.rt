@@ -8,7 +8,7 @@ ghost use Rattle.task.specs.Views.{first_descriptor_of, first_object_of, nodes_o
 
 use crate::base::times;
 use fd_table::{Access, Side};
-use file_tree::Kind;
+use file_tree::{Kind, Place};
 use instruction_set::{Instruction, Program};
 use link_tree::LinkTree;
 use prog_asm::assemble;
@@ -28,7 +28,7 @@ fn root(alloc: Global) -> Result<Vec<TaskNode>, AllocError>
     let mut nodes = Vec::new(alloc);
     nodes.push(TaskNode {
         kind: Kind::Dir,
-        place: Vec::new(alloc),
+        place: Place::root(alloc),
         content: Vec::new(alloc),
     })?;
     Ok(nodes)

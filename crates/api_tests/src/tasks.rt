@@ -3,13 +3,13 @@
 
 use crate::base::BASE;
 use fd_table::{Access, Side};
-use file_tree::Kind;
+use file_tree::{Kind, Place};
 use instruction_set::Instruction;
 use rights::{Fcntls, Op, Rights};
 use std::alloc::Global;
 use std::process::Abort;
 use std::test::Fail;
-use task::{FirstObject, Task, grant_holds, grant_lists, grant_named};
+use task::{FirstObject, Task, TaskNode, grant_holds, grant_lists, grant_named};
 use task_reader::{TaskFault, read_task};
 
 /// A node that is open for reading.
@@ -32,8 +32,8 @@ fn the_base_task_is_read(rt: HostRuntime) -> Result<(), Fail> {
     assert!(rt; task.nodes().len() == 12);
     match task.nodes() {
         [root, work, file, _, link, ..] => {
-            assert!(rt; root.place.is_empty() && matches!(root.kind, Kind::Dir));
-            assert!(rt; matches!(work.kind, Kind::Dir) && work.place.len() == 1);
+            assert!(rt; root.place.is_root() && matches!(root.kind, Kind::Dir));
+            assert!(rt; matches!(work.kind, Kind::Dir) && work.place.text() == b"/work".as_slice());
             assert!(rt;
                 matches!(file.kind, Kind::File) && file.content.as_slice() == b"AB".as_slice()
             );
@@ -175,17 +175,16 @@ fn a_policy_goes_by_names(rt: HostRuntime) -> Result<(), Fail> {
     let grants = task.grants();
     assert!(rt; grant_named(grants, b"work").is_some());
     assert!(rt; grant_named(grants, b"wor").is_none());
-    match task.nodes() {
-        [_, work, letters] => {
-            assert!(rt; grant_holds(grants, b"work", &work.place));
-            assert!(rt; grant_holds(grants, b"work", &letters.place));
-            assert!(rt; !grant_holds(grants, b"log", &letters.place));
-        }
-        _ => panic!(rt; "not three nodes"),
-    }
-    let mut workshop = Vec::new(alloc);
-    workshop.push(Vec::from_slice(alloc, b"workshop")?)?;
-    assert!(rt; !grant_holds(grants, b"work", &workshop));
+    let nodes = task.nodes();
+    assert!(rt; grant_holds(grants, b"work", nodes, 1));
+    assert!(rt; grant_holds(grants, b"work", nodes, 2));
+    assert!(rt; !grant_holds(grants, b"log", nodes, 2));
+    let workshop = TaskNode {
+        kind: Kind::Dir,
+        place: Place::of_names(alloc, b"workshop")?,
+        content: Vec::new(alloc),
+    };
+    assert!(rt; !grant_holds(grants, b"work", &[workshop], 0));
     assert!(rt; grant_lists(grants, b"work", Op::Read));
     assert!(rt; !grant_lists(grants, b"work", Op::Write));
     assert!(rt; !grant_lists(grants, b"log", Op::Read));

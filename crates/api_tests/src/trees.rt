@@ -2,9 +2,7 @@
 
 ghost use Rattle.std.specs.Prelude.{◌<◌, length};
 
-use file_tree::{
-    Kind, New, NodeId, Tree, TreeFault, is_same_place, is_valid_name, is_valid_target,
-};
+use file_tree::{Kind, New, NodeId, Place, Tree, TreeFault, is_valid_name, is_valid_target};
 use link_tree::LinkTree;
 use place_tree::PlaceTree;
 use rights::limits::MAX_BYTES;
@@ -369,12 +367,18 @@ fn link_tree_has_the_rows(rt: HostRuntime) -> Result<(), Fail> {
 #[test]
 fn places_go_by_names(rt: HostRuntime) -> Result<(), Fail> {
     let alloc = rt.alloc();
-    let mut place = Vec::new(alloc);
-    place.push(Vec::from_slice(alloc, b"work")?)?;
-    let mut other = Vec::new(alloc);
-    other.push(Vec::from_slice(alloc, b"workshop")?)?;
-    assert!(rt; is_same_place(&place, &place));
-    assert!(rt; !is_same_place(&place, &other));
-    assert!(rt; !is_same_place(&[], &other));
+    let root = Place::root(alloc);
+    let workshop = Place::of_names(alloc, b"workshop")?;
+    let mut work = root.copy(alloc)?;
+    work.push(b"work")?;
+    let letters = Place::of_names(alloc, b"work/letters")?;
+    assert!(rt; work.is_same(&work) && !work.is_same(&workshop) && !root.is_same(&work));
+    assert!(rt; letters.begins_with(&work) && !workshop.begins_with(&work));
+    assert!(rt; letters.stands_in(&work) && letters.is_child(&work, b"letters"));
+    assert!(rt; letters.text() == b"/work/letters".as_slice() && root.text() == b"/".as_slice());
+    assert!(rt; letters.text_above() == work.text() && root.is_root());
+    assert!(rt; letters.name() == Some(b"letters".as_slice()) && root.name().is_none());
+    assert!(rt; letters.names().count() == 2 && root.names_text().is_empty());
+    assert!(rt; letters.compare(&workshop).is_lt());
     Ok(())
 }

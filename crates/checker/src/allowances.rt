@@ -19,9 +19,8 @@ ghost use Rattle.task.specs.Views.{first_descriptor_of, grants_of, start_of};
 
 use crate::rule::AuthorityRule;
 use certificate::{Authority, Ceiling, Cert, Class, Domain, End, Held, Side, Slot, Target};
-use file_tree::is_front;
 use rights::{Op, Rights};
-use task::{FirstDescriptor, FirstObject, Grant, Start, Task, grant_lists, place_of};
+use task::{FirstDescriptor, FirstObject, Grant, Start, Task, grant_lists, node_begins};
 use texts::Name;
 use transfer::{channel_at, unknown_held};
 
@@ -140,9 +139,9 @@ pub fn may_start_with(task: &Task, allowance: &Allowance<'_>, descriptor: FirstD
 {
     match descriptor.object {
         FirstObject::Node { node, .. } => {
-            let place = place_of(task.nodes(), node);
+            let nodes = task.nodes();
             task.grants().iter().any(|grant| {
-                is_front(&grant.path, place)
+                node_begins(nodes, node, &grant.path)
                     && ceiling_among(allowance.ceilings, grant.name.as_bytes()).contains(
                         descriptor.rights,
                     )

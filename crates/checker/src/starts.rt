@@ -14,7 +14,7 @@ use crate::asked::{AskedPoint, AskedProgram};
 use certificate::{Bound, Held, Interval, ModeBound, Slot, Target};
 use rights::Rights;
 use rights::limits::{MAX_DESCRIPTORS, REGISTERS};
-use task::{FirstDescriptor, FirstObject, Grant, Start, Task, TaskNode, grant_holds, place_of};
+use task::{FirstDescriptor, FirstObject, Grant, Start, Task, TaskNode, grant_holds};
 
 /// Whether a process may be in this mode. (own)
 pub fn mode_describes(bound: ModeBound, mode: bool) -> bool
@@ -61,7 +61,7 @@ fn target_describes(
 {
     match (target, object) {
         (Target::InGrant(name), FirstObject::Node { node, .. }) => {
-            grant_holds(grants, name.as_bytes(), place_of(nodes, node))
+            grant_holds(grants, name.as_bytes(), nodes, node)
         }
         (Target::Socket(class, side), FirstObject::End { pair, side: its }) => {
             is_initial(class, pair) && its.is(*side)

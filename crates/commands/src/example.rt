@@ -4,12 +4,11 @@
 ghost use Rattle.std.specs.Prelude.{◌≡◌, ◌∷◌, [], codes, IfOk};
 ghost use Rattle.commands.specs.Examples.{enter_and_read, first_plan, small_start, work_grant};
 ghost use Rattle.task.specs.Breaches.{small_tree};
-ghost use Rattle.file_tree.specs.Views.{names_of};
 ghost use Rattle.rights.specs.Sets.{all_rights};
 ghost use Rattle.task.specs.Views.{grants_of, nodes_of, starts_of};
 
 use fd_table::Access;
-use file_tree::Kind;
+use file_tree::{Kind, Place};
 use instruction_set::{Instruction, Operand, Program, Syscall};
 use rights::{Fcntls, Op, Rights};
 use std::alloc::{AllocError, Global};
@@ -17,19 +16,17 @@ use task::{FirstDescriptor, FirstObject, Grant, NamedProgram, Start, Task, TaskN
 use texts::Name;
 
 /// `/work`.
-fn work(alloc: Global) -> Result<Vec<Vec<u8>>, AllocError>
-    ensures { IfOk result (λ place. names_of place.items ≡ codes "work" ∷ []) }
+fn work(alloc: Global) -> Result<Place, AllocError>
+    ensures { IfOk result (λ place. place ≡ codes "work" ∷ []) }
 {
-    Ok(vec![in alloc; Vec::from_slice(alloc, b"work")?]?)
+    Place::of_names(alloc, b"work")
 }
 
 /// `/work/in`.
-fn work_in(alloc: Global) -> Result<Vec<Vec<u8>>, AllocError>
-    ensures { IfOk result (λ place. names_of place.items ≡ codes "work" ∷ codes "in" ∷ []) }
+fn work_in(alloc: Global) -> Result<Place, AllocError>
+    ensures { IfOk result (λ place. place ≡ codes "work" ∷ codes "in" ∷ []) }
 {
-    let mut place = work(alloc)?;
-    place.push(Vec::from_slice(alloc, b"in")?)?;
-    Ok(place)
+    Place::of_names(alloc, b"work/in")
 }
 
 /// The root, `/work`, and the file `/work/in` with two bytes.
@@ -38,7 +35,7 @@ fn nodes(alloc: Global) -> Result<Vec<TaskNode>, AllocError>
 {
     let root = TaskNode {
         kind: Kind::Dir,
-        place: Vec::new(alloc),
+        place: Place::root(alloc),
         content: Vec::new(alloc),
     };
     let directory = TaskNode {

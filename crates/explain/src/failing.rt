@@ -16,23 +16,8 @@ use instruction_set::{Instruction, Syscall};
 use rights::Memory;
 use searcher::{reached, search};
 use std::alloc::Global;
-use task::{FirstObject, Task, place_of};
+use task::{FirstObject, Task, node_begins};
 use task_text::{Page, ProgramText};
-
-/// Whether a path is the text of a place: each name after a `/`.
-fn is_place(place: &[Vec<u8>], path: &[u8]) -> bool {
-    let mut rest = path;
-    for name in place {
-        let Some(behind) = rest.strip_prefix(b"/".as_slice()) else {
-            return false;
-        };
-        let Some(left) = behind.strip_prefix(name.as_slice()) else {
-            return false;
-        };
-        rest = left;
-    }
-    rest.is_empty()
-}
 
 /// Adds that the grant of a path would be needed that an instruction opens by itself and that is no grant's.
 fn add_open(page: &mut Page, scene: &Scene<'_>, instruction: &Instruction, place: Place<'_>) {
@@ -48,7 +33,7 @@ fn add_open(page: &mut Page, scene: &Scene<'_>, instruction: &Instruction, place
         .task
         .grants()
         .iter()
-        .any(|grant| is_place(&grant.path, path))
+        .any(|grant| grant.path.text() == path)
     {
         say!(page; "a grant of ", path, " would be needed, if it is a directory: ");
         say!(page; place, " opens it by its path\n");
@@ -70,10 +55,9 @@ fn is_granted(task: &Task, object: FirstObject) -> bool {
     let FirstObject::Node { node, .. } = object else {
         return true;
     };
-    let place = place_of(task.nodes(), node);
     task.grants()
         .iter()
-        .any(|grant| place.starts_with(&grant.path))
+        .any(|grant| node_begins(task.nodes(), node, &grant.path))
 }
 
 /// Adds each first descriptor of a node that lies in no grant.

@@ -5,7 +5,7 @@ use crate::naming::Say;
 use crate::scenes::Scene;
 use certificate::{Bound, Slot};
 use checker::starts::{mode_describes, with_number};
-use task::{FirstDescriptor, FirstObject, Start, place_of};
+use task::{FirstDescriptor, FirstObject, Start, node_text};
 use task_text::Page;
 
 /// What a first descriptor of a task is of.
@@ -20,13 +20,7 @@ impl<'a> Say for Object<'a> {
     fn say(self, page: &mut Page) {
         match self.of {
             FirstObject::Node { node, .. } => {
-                let place = place_of(self.scene.task.nodes(), node);
-                if place.is_empty() {
-                    return say!(page; "/");
-                }
-                for name in place {
-                    say!(page; "/", name.as_slice());
-                }
+                say!(page; node_text(self.scene.task.nodes(), node))
             }
             FirstObject::End { pair, side } => say!(page; "sock @", pair, " ", side),
         }

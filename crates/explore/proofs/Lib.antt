@@ -1,3 +1,4 @@
+pub mod BeneathTexts
 pub mod Shown
 pub mod Refuting
 pub mod Watching

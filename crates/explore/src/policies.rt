@@ -1,56 +1,29 @@
 //! Whether a policy allows an effect, by the text of its place.
 
 ghost use Rattle.std.specs.Prelude.{◌≡◌};
-ghost use Rattle.std.specs.Option.{option_copied};
 ghost use Rattle.std.specs.List.{list_any};
-ghost use Rattle.file_tree.specs.Views.{names_of};
 ghost use Rattle.syscalls.specs.Views.{effect_of};
 ghost use Rattle.task.specs.Views.{grants_of};
-ghost use Rattle.explore.specs.Breaches.{allows_shown, behind, is_beneath};
+ghost use Rattle.explore.specs.Breaches.{allows_shown, ends_name, is_beneath};
 
+use file_tree::Place;
 use syscalls::Effect;
 use task::Grant;
 
-/// What a text has behind a beginning, if it begins so.
-fn behind<'a>(front: &[u8], text: &'a [u8]) -> Option<&'a [u8]>
-    ensures { option_copied result ≡ behind front.now text.now }
+/// Whether a name of a place ends before a text.
+fn ends_name(text: &[u8]) -> bool
+    ensures { result ≡ ends_name text.now }
 {
-    match front {
-        [] => Some(text),
-        [b, front @ ..] => match text {
-            [] => None,
-            [c, text @ ..] => {
-                if *c != *b {
-                    return None;
-                }
-                behind(front, text)
-            }
-        },
-    }
+    matches!(text, [] | [b'/', ..])
 }
 
 /// Whether a text is that of a place, or of one beneath it.
-#[tactic(auto, unfolding(crate::specs::Breaches::is_beneath))]
-fn is_beneath(path: &[Vec<u8>], text: &[u8]) -> bool
-    ensures { result ≡ is_beneath (names_of path.now) text.now }
+fn is_beneath(place: &Place, text: &[u8]) -> bool
+    ensures { result ≡ is_beneath place.now text.now }
 {
-    match path {
-        [] => match text {
-            [] => true,
-            [b, ..] => *b == b'/',
-        },
-        [name, path @ ..] => match text {
-            [] => false,
-            [b, text @ ..] => {
-                if *b != b'/' {
-                    return false;
-                }
-                match behind(name, text) {
-                    None => false,
-                    Some(text) => is_beneath(path, text),
-                }
-            }
-        },
+    match text.strip_prefix(place.names_text()) {
+        None => false,
+        Some(rest) => ends_name(rest),
     }
 }
 

@@ -1,7 +1,8 @@
 -- Laws of names and places.
-use Rattle.std.proofs.Common.{◌≡◌, ℕ, ◌<◌, ◌≤◌, ◌-◌, ◌+◌, List, [], ◌∷◌, ◌++◌, true, false, length, drop, ap, sym, ◌∙◌, refl, arith, length-append, length-take, length-drop, take-append-drop}
+use Rattle.std.proofs.Common.{◌≡◌, ℕ, ◌<◌, ◌≤◌, ◌-◌, ◌+◌, List, [], ◌∷◌, ◌++◌, true, false, Some}
+use Rattle.std.proofs.Common.{None, suc, length, take, drop, ap, sym, ◌∙◌, refl, arith, length-append, length-take, length-drop, take-append-drop}
 use Rattle.std.proofs.Math.Seq.{take-append_seam, take-append-add}
-use Rattle.std.specs.Prelude.{◌≢◌}
+use Rattle.std.specs.Prelude.{◌≢◌, slice_get}
 use Rattle.std.specs.Str.{bytes_eq}
 use Rattle.std.proofs.lemmas.Slice.Eq.{bytes_eq-Decides}
 use Rattle.std.proofs.lemmas.Bool.{and_parts, false_from_ne_true}
@@ -122,3 +123,25 @@ pub begins_above_other : (p q : List (List ℕ)) → begins p q ≡ true → sam
 begins_above_other p q h other =
     let some : 0 < length (drop (length p) q) = omega (arith, length-drop (length p) q, begins_longer p q h other) in
     begins_from p (above q) (above (drop (length p) q)) (ap above (begins_is p q h) ∙ above_append p (drop (length p) q) some)
+
+-- the root begins with itself alone
+pub begins_root : (p : List (List ℕ)) → same_place p [] ≡ begins p []
+begins_root [] = refl
+begins_root (x ∷ p) = refl
+
+-- a place is the one above and the last name, and the root has none
+pub last_named : (p : List (List ℕ)) (name : List ℕ) → slice_get p (length p - 1) ≡ Some name → at_name (above p) name ≡ p
+last_named [] name is = absurd cc
+last_named (x ∷ []) name is = let same : name ≡ x = cc in ap (λ y. y ∷ []) same
+last_named (x ∷ y ∷ p) name is =
+    let count : length (x ∷ y ∷ p) - 1 ≡ suc (length (y ∷ p) - 1) = omega arith in
+    let rest = last_named (y ∷ p) name (sym (ap (slice_get (x ∷ y ∷ p)) count) ∙ is) in
+    ap (λ n. at_name (take n (x ∷ y ∷ p)) name) count ∙ ap (λ place. x ∷ place) rest
+
+pub none_last : (p : List (List ℕ)) → slice_get p (length p - 1) ≡ None → p ≡ []
+none_last [] is = refl
+none_last (x ∷ []) is = absurd cc
+none_last (x ∷ y ∷ p) is =
+    let count : length (x ∷ y ∷ p) - 1 ≡ suc (length (y ∷ p) - 1) = omega arith in
+    let rest : y ∷ p ≡ [] = none_last (y ∷ p) (sym (ap (slice_get (x ∷ y ∷ p)) count) ∙ is) in
+    absurd cc

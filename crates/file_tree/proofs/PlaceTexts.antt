@@ -3,6 +3,7 @@ use Rattle.std.proofs.Common.{◌≡◌, ◌++◌, ℕ, Bool, true, false, List,
 use Rattle.std.specs.Prelude.{◌&&◌, ◌||◌, not, nat_eq, length, nat_le, OnOk}
 use Rattle.std.specs.List.{list_all}
 use Rattle.file_tree.specs.Places.{at_name, slash, is_file_name, is_file_name_byte, is_dots, names_from, names_text, place_text, path_components, with_name}
+use Rattle.file_tree.specs.PlaceViews.{is_one_name}
 use Rattle.file_tree.specs.Nodes.{Node, node}
 use Rattle.file_tree.specs.WellFormed.{is_content, is_byte, is_within_limits}
 
@@ -40,6 +41,20 @@ bytes_of name is =
     (both (not (nat_eq (length name) 0) && nat_le (length name) 255) (list_all is_file_name_byte name)
     (both (not (nat_eq (length name) 0) && nat_le (length name) 255 && list_all is_file_name_byte name) (not (is_dots name)) is).0).1
 
+-- and holds no `/`
+no_slash_in : (name : List ℕ) → list_all is_file_name_byte name ≡ true → is_one_name name ≡ true
+no_slash_in [] is = refl
+no_slash_in (b ∷ name) is =
+    let (first, others) = both (is_file_name_byte b) (list_all is_file_name_byte name) is in
+    ap (λ slash. not slash && is_one_name name) (no_slash b first) ∙ no_slash_in name others
+
+pub one_name : (name : List ℕ) → is_file_name name ≡ true → is_one_name name ≡ true
+one_name name is = no_slash_in name (bytes_of name is)
+
+last_name : (p : List (List ℕ)) (name : List ℕ) → list_all is_file_name (at_name p name) ≡ true → is_file_name name ≡ true
+last_name [] name is = (both (is_file_name name) true is).0
+last_name (x ∷ p) name is = last_name p name (both (is_file_name x) (list_all is_file_name (at_name p name)) is).1
+
 names_read : (begun : List ℕ) (p : List (List ℕ)) → list_all is_file_name p ≡ true → names_from begun (names_text p) ≡ with_name begun p
 names_read begun [] is = refl
 names_read begun (name ∷ p) is =
@@ -56,6 +71,10 @@ unfolding is_within_limits
 names_of_place t n is =
     let m = node t n in
     (both (list_all is_file_name m.place) (is_content m.kind m.content) (both (list_all is_file_name m.place && is_content m.kind m.content) (list_all is_byte m.content) is).0).0
+
+-- the last name of a node's place holds no `/`
+pub last_one : (t : List Node) (n : ℕ) (p : List (List ℕ)) (name : List ℕ) → is_within_limits (node t n) ≡ true → (node t n).place ≡ at_name p name → is_one_name name ≡ true
+last_one t n p name is at = one_name name (last_name p name (ap (list_all is_file_name) (sym at) ∙ names_of_place t n is))
 
 -- the text of a name's place is that of the directory's names, and the name after a `/`
 names_text_at : (p : List (List ℕ)) (x : List ℕ) → names_text (at_name p x) ≡ names_text p ++ (slash ∷ x)

@@ -1,4 +1,5 @@
 pub mod Places
+pub mod PlaceViews
 pub mod Nodes
 pub mod Changes
 pub mod Refusals

@@ -1,5 +1,5 @@
 -- What the values of the code stand for.
-use Rattle.std.specs.Prelude.{◌≡◌, ◌≢◌, ℕ, Bool, true, List, [], map, Option, Some, None, Vec}
+use Rattle.std.specs.Prelude.{◌≡◌, ◌≢◌, ℕ, Bool, true, List, [], Option, Some, None}
 use Rattle.file_tree.specs.declared.nodes.Kind.{Kind as KindCode}
 use Rattle.file_tree.specs.declared.nodes.Kind.TheVariants as kind
 use Rattle.file_tree.specs.declared.nodes.New.{New}
@@ -53,7 +53,3 @@ tree_fault_number fault.Full = 3
 tree_fault_number fault.IntoItself = 4
 tree_fault_number fault.Gone = 5
 tree_fault_number fault.Memory = 6
-
--- the names that a list of vectors holds
-abbrev pub names_of : {A : Type 0} → List (Vec ℕ A) → List (List ℕ)
-names_of names = map (λ name. name.items) names

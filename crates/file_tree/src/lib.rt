@@ -16,5 +16,5 @@ pub mod tree;
 pub use faults::TreeFault;
 pub use names::{is_path_name, is_valid_name, is_valid_target};
 pub use nodes::{Kind, New, NodeId};
-pub use places::{is_front, is_same_place};
+pub use places::{Names, Place};
 pub use tree::Tree;

@@ -1,134 +1,294 @@
-//! Places as lists of names, compared, printed and made.
+//! Places: the names from the root down, compared, printed and made.
 
-ghost use Rattle.std.specs.Prelude.{◌≡◌, ◌++◌, ℕ, List, false, length, take, IfOk, OnOk, OnErr, MatchOption};
-ghost use Rattle.file_tree.specs.Places.{begins, path_components, place_text, same_place, with_name};
-ghost use Rattle.file_tree.specs.Views.{names_of};
+ghost use Rattle.std.specs.Prelude.{◌≡◌, ◌≤◌, ◌++◌, ◌-◌, ◌&&◌, [], ℕ, List, true, false, drop, length, take, slice_get, IfOk, OnOk, OnErr, MatchOption};
+ghost use Rattle.std.specs.Option.{option_copied};
+ghost use Rattle.std.specs.Iterator.{YieldsFirstBy, item_count};
+ghost use Rattle.std.specs.Cmp.Lexicographic.{slice_cmp};
+ghost use Rattle.std.specs.Ordering.{nat_cmp};
+ghost use Rattle.texts.specs.Parts.{parts};
+ghost use Rattle.file_tree.specs.Places.{above, at_name, begins, names_text, path_components, place_text, same_place, slash, with_name};
+ghost use Rattle.file_tree.specs.PlaceViews.{LastName, is_one_name, is_place_text, names_of};
 
 use std::alloc::{AllocError, Global};
+use std::cmp::Ordering;
+use std::marker::Model;
+use texts::first_part;
 
-/// Whether two places are the same, name by name. (own)
-pub fn is_same_place(left: &[Vec<u8>], right: &[Vec<u8>]) -> bool
-    ensures { result ≡ same_place (names_of left.now) (names_of right.now) }
+/// A place as one text: a `/` and then the name, for each name from the root down. (own)
+#[derive(Drop)]
+pub struct Place {
+    text: Vec<u8>,
+}
+
+impl Model for Place {
+    ghost use Rattle.std.specs.Prelude.{◌≡◌, ℕ, List, true};
+    ghost use Rattle.file_tree.specs.PlaceViews.{is_place_text, names_of};
+
+    ghost Value = { List (List ℕ) };
+
+    ghost view = { λ p. names_of p.text.items };
+
+    ghost invariant = { λ p. is_place_text p.text.items ≡ true };
+}
+
+/// The names of a place, one after another. (own)
+#[derive(Drop)]
+pub struct Names<'t> {
+    rest: Option<&'t [u8]>,
+}
+
+impl<'t> Model for Names<'t> {
+    ghost use Rattle.std.specs.Prelude.{ℕ, List, option_map};
+    ghost use Rattle.file_tree.specs.PlaceViews.{names_left};
+
+    ghost Value = { List (List ℕ) };
+
+    ghost view = { λ n. names_left (option_map (λ rest. rest.now) n.rest) };
+}
+
+impl<'t> Iterator for Names<'t> {
+    type Item = &'t [u8];
+
+    ghost next_gives = { YieldsFirstBy (λ name. name.now) (λ names. names) };
+
+    ghost remaining = { item_count (λ names. names) };
+
+    /// The next name: what stands before the next `/`, or all that is left.
+    fn next(&mut self) -> Option<&'t [u8]> {
+        let rest = self.rest?;
+        let (name, behind) = first_part(rest, b'/');
+        self.rest = behind;
+        Some(name)
+    }
+}
+
+/// The text of the place above, and the last name behind it, of a place's text.
+fn last_name(text: &[u8]) -> Option<(&[u8], &[u8])>
+    requires { is_place_text text.now ≡ true }
+    ensures { MatchOption result (text.now ≡ []) (λ last. LastName text.now last.0.now last.1.now) }
 {
-    match left {
-        [] => match right {
-            [] => true,
-            [_, ..] => false,
-        },
-        [x, lefts @ ..] => match right {
-            [] => false,
-            [y, rights @ ..] => {
-                if x.as_slice() != y.as_slice() {
+    for at in (0..text.len()).rev() {
+        if text[at] == b'/' {
+            return Some((&text[..at], &text[at + 1..]));
+        }
+    }
+    None
+}
+
+/// The text of the place above a place's text.
+fn text_above(text: &[u8]) -> &[u8]
+    requires { is_place_text text.now ≡ true }
+    ensures names { names_of result.now ≡ above (names_of text.now) }
+    ensures text { is_place_text result.now ≡ true }
+{
+    match last_name(text) {
+        None => text,
+        Some((above, _name)) => above,
+    }
+}
+
+/// A text with what is behind a front of another.
+fn moved_text(alloc: Global, from: &[u8], to: &[u8], text: &[u8]) -> Result<Vec<u8>, AllocError>
+    requires { length from.now ≤ length text.now }
+    ensures { IfOk result (λ moved. moved.items ≡ to.now ++ drop (length from.now) text.now) }
+{
+    let mut moved = Vec::from_slice(alloc, to)?;
+    moved.extend_from_slice(&text[from.len()..])?;
+    Ok(moved)
+}
+
+/// Whether a text is at the end of a name.
+fn ends_name(text: &[u8]) -> bool
+    ensures { result ≡ is_place_text text.now }
+{
+    matches!(text, [] | [b'/', ..])
+}
+
+impl Place {
+    /// The root's place.
+    pub fn root(alloc: Global) -> Place
+        ensures { result ≡ [] }
+    {
+        Place {
+            text: Vec::new(alloc),
+        }
+    }
+
+    /// The place of the names that a text has between each `/`. A refused growth is its only error.
+    pub fn of_names(alloc: Global, names: &[u8]) -> Result<Place, AllocError>
+        ensures { IfOk result (λ place. place ≡ parts slash names.now) }
+    {
+        let mut text = Vec::with_capacity(alloc, names.len() + 1)?;
+        text.push(b'/')?;
+        text.extend_from_slice(names)?;
+        Ok(Place { text })
+    }
+
+    /// Whether it is the root's.
+    pub fn is_root(&self) -> bool
+        ensures { result ≡ same_place self.now [] }
+    {
+        self.text.is_empty()
+    }
+
+    /// The same place once more. A refused growth is its only error.
+    pub fn copy(&self, alloc: Global) -> Result<Place, AllocError>
+        ensures { IfOk result (λ place. place ≡ self.now) }
+    {
+        let text = Vec::from_slice(alloc, &self.text)?;
+        Ok(Place { text })
+    }
+
+    /// The place that it has once the one that it begins with is another. A refused growth is its only error.
+    pub fn moved(&self, alloc: Global, from: &Place, to: &Place) -> Result<Place, AllocError>
+        requires { begins from.now self.now ≡ true }
+        ensures { IfOk result (λ place. place ≡ to.now ++ drop (length from.now) self.now) }
+    {
+        let text = moved_text(alloc, &from.text, &to.text, &self.text)?;
+        Ok(Place { text })
+    }
+
+    /// Adds a name, which holds no `/`, behind the others. A refused growth is its only error, and leaves the place as it was.
+    pub fn push(&mut self, name: &[u8]) -> Result<(), AllocError>
+        requires { is_one_name name.now ≡ true }
+        ensures ok { OnOk result (self.new ≡ at_name self.old name.now) }
+        ensures err { OnErr result (self.new ≡ self.old) }
+    {
+        self.text.reserve(1 + name.len())?;
+        self.text.push_reserved(b'/');
+        self.text.extend_from_slice(name)?;
+        Ok(())
+    }
+
+    /// The names, from the root down.
+    pub fn names(&self) -> Names<'_>
+        ensures { result ≡ self.now }
+    {
+        match self.text.as_slice() {
+            [] => Names { rest: None },
+            [_, rest @ ..] => Names { rest: Some(rest) },
+        }
+    }
+
+    /// The place as it is printed: each name behind a `/`, and the root as `/` alone.
+    pub fn text(&self) -> &[u8]
+        ensures { result.now ≡ place_text self.now }
+    {
+        printed(&self.text)
+    }
+
+    /// Each name behind a `/`, which for the root is nothing.
+    pub fn names_text(&self) -> &[u8]
+        ensures { result.now ≡ names_text self.now }
+    {
+        &self.text
+    }
+
+    /// The last name, which the root hasn't.
+    pub fn name(&self) -> Option<&[u8]>
+        ensures { option_copied result ≡ slice_get self.now (length self.now - 1) }
+    {
+        match last_name(&self.text) {
+            None => None,
+            Some((_above, name)) => Some(name),
+        }
+    }
+
+    /// The place above as it is printed, which for the root is the root.
+    pub fn text_above(&self) -> &[u8]
+        ensures { result.now ≡ place_text (above self.now) }
+    {
+        printed(text_above(&self.text))
+    }
+
+    /// Whether another place is the one above, which for the root is the root.
+    pub fn stands_in(&self, directory: &Place) -> bool
+        ensures { result ≡ same_place (above self.now) directory.now }
+    {
+        text_above(&self.text) == directory.text.as_slice()
+    }
+
+    /// Whether it is the place of a name in the directory at another place.
+    pub fn is_child(&self, directory: &Place, name: &[u8]) -> bool
+        ensures { result ≡ same_place (at_name directory.now name.now) self.now }
+    {
+        match last_name(&self.text) {
+            None => false,
+            Some((above, last)) => directory.text.as_slice() == above && name == last,
+        }
+    }
+
+    /// Whether the two are the same.
+    pub fn is_same(&self, other: &Place) -> bool
+        ensures { result ≡ same_place self.now other.now }
+    {
+        self.text.as_slice() == other.text.as_slice()
+    }
+
+    /// The order of places: by the first name that differs, and of two names by the first byte.
+    pub fn compare(&self, other: &Place) -> Ordering
+        ensures { result ≡ slice_cmp (slice_cmp nat_cmp) self.now other.now }
+    {
+        self.names().cmp(other.names())
+    }
+
+    /// Whether it begins with another place, name by name.
+    pub fn begins_with(&self, front: &Place) -> bool
+        ensures { result ≡ begins front.now self.now }
+    {
+        match self.text.strip_prefix(front.text.as_slice()) {
+            None => false,
+            Some(rest) => ends_name(rest),
+        }
+    }
+
+    /// Whether it begins with the names of a path, of which empty ones count for nothing.
+    #[tactic(auto, unfolding(crate::specs::Places::path_components))]
+    pub fn begins_with_path(&self, path: &[u8]) -> bool
+        ensures { result ≡ begins (path_components path.now) self.now }
+    {
+        let mut names = self.names();
+        let mut from = 0;
+        for (i, byte) in path.iter().enumerate() {
+            if *byte == b'/' {
+                if !takes_name(&path[from..i], &mut names) {
                     return false;
                 }
-                is_same_place(lefts, rights)
+                from = i + 1;
             }
-        },
+        }
+        takes_name(&path[from..], &mut names)
+    }
+
+    /// Appends it as it is printed. A refused growth is its only error, and leaves what is there as it was.
+    pub fn append_text(&self, out: &mut Vec<u8>) -> Result<(), AllocError>
+        ensures ok { OnOk result (out.new.items ≡ out.old.items ++ place_text self.now) }
+        ensures err { OnErr result (out.new.items ≡ out.old.items) }
+    {
+        out.extend_from_slice(self.text())
     }
 }
 
-/// Whether the second place begins with the first, name by name. (own)
-pub fn is_front(front: &[Vec<u8>], place: &[Vec<u8>]) -> bool
-    ensures { result ≡ begins (names_of front.now) (names_of place.now) }
+/// A place's text as it is printed.
+fn printed(text: &[u8]) -> &[u8]
+    requires { is_place_text text.now ≡ true }
+    ensures { result.now ≡ place_text (names_of text.now) }
 {
-    match front {
-        [] => true,
-        [x, fronts @ ..] => match place {
-            [] => false,
-            [y, places @ ..] => x.as_slice() == y.as_slice() && is_front(fronts, places),
-        },
+    match text {
+        [] => b"/",
+        [..] => text,
     }
 }
 
-/// What is left of a place after a name of a path; an empty name leaves all of it.
-fn after_name<'a>(name: &[u8], place: &'a [Vec<u8>]) -> Option<&'a [Vec<u8>]>
-    ensures { MatchOption result ((names : List (List ℕ)) → begins (with_name name.now names) (names_of place.now) ≡ false)
-        (λ rest. (names : List (List ℕ)) → begins (with_name name.now names) (names_of place.now) ≡ begins names (names_of rest.now)) }
+/// Whether the next of some names is this one; an empty name leaves all of them.
+fn takes_name(name: &[u8], names: &mut Names<'_>) -> bool
+    ensures { (rest : List (List ℕ)) → begins (with_name name.now rest) names.old ≡ (result && begins rest names.new) }
 {
     if name.is_empty() {
-        return Some(place);
+        return true;
     }
-    match place {
-        [] => None,
-        [first, rest @ ..] => {
-            if name != first.as_slice() {
-                return None;
-            }
-            Some(rest)
-        }
-    }
-}
-
-/// Whether a place begins with the names of a path, of which empty ones count for nothing. (own)
-#[tactic(auto, unfolding(crate::specs::Places::path_components))]
-pub fn begins_with_path(path: &[u8], place: &[Vec<u8>]) -> bool
-    ensures { result ≡ begins (path_components path.now) (names_of place.now) }
-{
-    let mut rest = place;
-    let mut from = 0;
-    for (i, b) in path.iter().enumerate() {
-        if *b == b'/' {
-            match after_name(&path[from..i], rest) {
-                Some(left) => rest = left,
-                None => return false,
-            }
-            from = i + 1;
-        }
-    }
-    after_name(&path[from..], rest).is_some()
-}
-
-/// Copies some names behind those of a place. Where a growth is refused, some of them may stand there. (own)
-pub fn append_names(
-    alloc: Global,
-    place: &mut Vec<Vec<u8>>,
-    names: &[Vec<u8>],
-) -> Result<(), AllocError>
-    ensures { OnOk result (names_of place.new.items ≡ names_of place.old.items ++ names_of names.now) }
-{
-    for name in names {
-        place.push(Vec::from_slice(alloc, name.as_slice())?)?;
-    }
-    Ok(())
-}
-
-/// A copy of some names. A refused growth is its only error. (own)
-pub fn copy_of(alloc: Global, names: &[Vec<u8>]) -> Result<Vec<Vec<u8>>, AllocError>
-    ensures { IfOk result (λ copy. names_of copy.items ≡ names_of names.now) }
-{
-    let mut copy = Vec::new(alloc);
-    append_names(alloc, &mut copy, names)?;
-    Ok(copy)
-}
-
-/// Appends a place as text, or a beginning of that.
-fn try_append(place: &[Vec<u8>], out: &mut Vec<u8>) -> Result<(), AllocError>
-    ensures ok { OnOk result (out.new.items ≡ out.old.items ++ place_text (names_of place.now)) }
-    ensures front { take (length out.old.items) out.new.items ≡ out.old.items }
-{
-    if place.is_empty() {
-        out.push(b'/')?;
-        return Ok(());
-    }
-    for name in place {
-        out.push(b'/')?;
-        out.extend_from_slice(name.as_slice())?;
-    }
-    Ok(())
-}
-
-/// Appends a place as text, each name behind a `/` and the root's as `/` alone. A refused growth is its only error, and
-/// leaves what is there as it was. (own)
-pub fn append_text(place: &[Vec<u8>], out: &mut Vec<u8>) -> Result<(), AllocError>
-    ensures ok { OnOk result (out.new.items ≡ out.old.items ++ place_text (names_of place.now)) }
-    ensures err { OnErr result (out.new.items ≡ out.old.items) }
-{
-    let before = out.len();
-    match try_append(place, out) {
-        Ok(()) => Ok(()),
-        Err(error) => {
-            out.truncate(before);
-            Err(error)
-        }
+    match names.next() {
+        None => false,
+        Some(next) => next == name,
     }
 }

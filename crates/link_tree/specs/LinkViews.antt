@@ -7,12 +7,12 @@ use Rattle.link_tree.specs.declared.links.Entry.{Entry as EntryCode}
 use Rattle.link_tree.specs.declared.links.Stand.{Stand as StandCode}
 use Rattle.link_tree.specs.declared.links.Stand.TheVariants as stand
 use Rattle.link_tree.specs.Links.{Standing, Root, In, Out, TreeEntry}
-use Rattle.file_tree.specs.Views.{kind_of, names_of}
+use Rattle.file_tree.specs.Views.{kind_of}
 
 abbrev pub stand_of : StandCode → Standing
 stand_of stand.Root = Root
 stand_of (stand.In parent name) = In parent name.items
-stand_of (stand.Out place) = Out (names_of place.items)
+stand_of (stand.Out place) = Out place
 
 -- the child that a map has under a name
 abbrev pub named_in : {A : Type 0} → BTreeMap (Vec ℕ A) ℕ → List ℕ → Option ℕ

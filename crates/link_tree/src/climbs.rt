@@ -4,33 +4,28 @@ ghost use Rattle.std.specs.Prelude.{◌≡◌, ◌<◌, ◌++◌, true, ◌∷�
 ghost use Rattle.file_tree.specs.Nodes.{node};
 ghost use Rattle.file_tree.specs.Places.{begins, names_text, path_components, place_text, slash};
 ghost use Rattle.link_tree.specs.Links.{IsLinkedTree, linked_nodes};
-ghost use Rattle.file_tree.specs.Views.{names_of};
 ghost use Rattle.link_tree.specs.LinkViews.{links_of};
 ghost use Rattle.link_tree.specs.MatchViews.{Matches};
 
 use crate::links::{Entry, Stand};
-use file_tree::places::{append_text, begins_with_path, copy_of};
+use file_tree::Place;
 use std::alloc::{AllocError, Global};
 
-/// The place of a node, as a list of names of its own.
-pub(crate) fn place_in(
-    alloc: Global,
-    entries: &[Entry],
-    n: usize,
-) -> Result<Vec<Vec<u8>>, AllocError>
+/// The place of a node.
+pub(crate) fn place_in(alloc: Global, entries: &[Entry], n: usize) -> Result<Place, AllocError>
     requires linked { IsLinkedTree (links_of entries.now) }
     requires there { n < length entries.now }
-    ensures { IfOk result (λ place. names_of place.items ≡ (node (linked_nodes (links_of entries.now)) n).place) }
+    ensures { IfOk result (λ place. place ≡ (node (linked_nodes (links_of entries.now)) n).place) }
 {
     let entry = &entries[n];
     match &entry.stand {
-        Stand::Root => Ok(Vec::new(alloc)),
+        Stand::Root => Ok(Place::root(alloc)),
         Stand::In { parent, name } => {
             let mut place = place_in(alloc, entries, *parent)?;
-            place.push(Vec::from_slice(alloc, name.as_slice())?)?;
+            place.push(name)?;
             Ok(place)
         }
-        Stand::Out { place } => copy_of(alloc, place.as_slice()),
+        Stand::Out { place } => place.copy(alloc),
     }
 }
 
@@ -88,7 +83,7 @@ pub(crate) fn append_place_in(
                 }
             }
         }
-        Stand::Out { place } => append_text(place.as_slice(), out),
+        Stand::Out { place } => place.append_text(out),
     }
 }
 
@@ -188,6 +183,6 @@ pub(crate) fn begins_in(entries: &[Entry], n: usize, path: &[u8]) -> bool
     match &entry.stand {
         Stand::Root => linked_begins(entries, n, path),
         Stand::In { .. } => linked_begins(entries, n, path),
-        Stand::Out { place } => begins_with_path(path, place.as_slice()),
+        Stand::Out { place } => place.begins_with_path(path),
     }
 }

@@ -7,7 +7,7 @@ ghost use Rattle.link_tree.specs.Links.{IsLinkedTree, linked_nodes};
 ghost use Rattle.file_tree.specs.Views.{kind_of};
 ghost use Rattle.link_tree.specs.LinkViews.{links_of};
 
-use file_tree::Kind;
+use file_tree::{Kind, Place};
 use std::collections::BTreeMap;
 
 /// Where a node stands.
@@ -18,7 +18,7 @@ pub(crate) enum Stand {
     /// It has a name in the directory of a number.
     In { parent: usize, name: Vec<u8> },
     /// It was removed, and keeps the place that it had then.
-    Out { place: Vec<Vec<u8>> },
+    Out { place: Place },
 }
 
 /// A node, with the numbers of a directory's children by their names.

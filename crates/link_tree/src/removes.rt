@@ -4,14 +4,14 @@ ghost use Rattle.std.specs.Prelude.{◌≡◌, ◌<◌, true, None, length, vec_
 ghost use Rattle.file_tree.specs.Nodes.{has_below, node};
 ghost use Rattle.file_tree.specs.Changes.{removed};
 ghost use Rattle.file_tree.specs.Refusals.{remove_fault};
-ghost use Rattle.file_tree.specs.Views.{TellsTreeFault, names_of};
+ghost use Rattle.file_tree.specs.Views.{TellsTreeFault};
 ghost use Rattle.link_tree.specs.Links.{IsLinkedTree, TakenOut, linked_nodes};
 ghost use Rattle.link_tree.specs.LinkViews.{links_of};
 
 use crate::changes::{replace_stand, unfile};
 use crate::climbs::place_in;
 use crate::links::{Entry, Stand, is_linked_in};
-use file_tree::TreeFault;
+use file_tree::{Place, TreeFault};
 use std::alloc::Global;
 
 /// Whether something lies below a linked node.
@@ -26,10 +26,10 @@ pub(crate) fn has_children(entries: &[Entry], n: usize) -> bool
 }
 
 /// Takes a node out of its directory, and leaves it the place that it had.
-fn take_out(entries: &mut Vec<Entry>, n: usize, place: Vec<Vec<u8>>)
+fn take_out(entries: &mut Vec<Entry>, n: usize, place: Place)
     requires linked { IsLinkedTree (links_of entries.old.items) }
     requires there { n < vec_len entries.old }
-    ensures { TakenOut (links_of entries.old.items) (links_of entries.new.items) n (names_of place.items) }
+    ensures { TakenOut (links_of entries.old.items) (links_of entries.new.items) n place }
 {
     let before = replace_stand(entries, n, Stand::Out { place });
     match before {

@@ -1,12 +1,11 @@
 -- What an entry of the plain list says of its node.
-use Rattle.std.proofs.Common.{◌≡◌, ℕ, ◌<◌, ◌-◌, List, true, Vec, Global, slice_set, length, take, get_or, ap, sym, ◌∙◌, arith}
-use Rattle.std.proofs.lemmas.List.{get_or-map, length-map, take-map, map-set}
+use Rattle.std.proofs.Common.{◌≡◌, ℕ, ◌<◌, List, [], ◌∷◌, true, false, Vec, Global, slice_set, length, get_or, ap, sym, ◌∙◌, arith}
+use Rattle.std.proofs.lemmas.List.{get_or-map, map-set}
 use Rattle.std.proofs.Math.Seq.{map-set_same}
-use Rattle.file_tree.specs.Places.{above}
+use Rattle.file_tree.specs.Places.{above, same_place}
 use Rattle.file_tree.specs.Nodes.{Node, node, nowhere, node_at, parent_of}
 use Rattle.file_tree.proofs.TreeLaws.{parent_above}
 use Rattle.file_tree.specs.Changes.{unlinked, removed, filled}
-use Rattle.file_tree.specs.Views.{names_of}
 use Rattle.place_tree.specs.EntryViews.{node_of, nodes_of}
 use Rattle.place_tree.specs.declared.entries.Entry.{Entry}
 
@@ -14,15 +13,17 @@ pub entry_node : (es : List Entry) (n : ℕ) (e : Entry) → n < length es → e
 entry_node es n e there is = get_or-map node_of es n e nowhere there ∙ ap node_of (sym is)
 
 -- what holds the node of an entry
-pub parent_in_entries : (es : List Entry) (n : ℕ) (e : Entry) → n < length es → e ≡ get_or es n e → e.linked ≡ true → 0 < length e.place.items →
-    parent_of (nodes_of es) n ≡ node_at (nodes_of es) (names_of (take (length e.place.items - 1) e.place.items))
-parent_in_entries es n e there is linked low =
+pub parent_in_entries : (es : List Entry) (n : ℕ) (e : Entry) → n < length es → e ≡ get_or es n e → e.linked ≡ true → same_place e.place [] ≡ false →
+    parent_of (nodes_of es) n ≡ node_at (nodes_of es) (above e.place)
+parent_in_entries es n e there is linked other =
     let at = entry_node es n e there is in
-    let same : (node (nodes_of es) n).place ≡ names_of e.place.items = ap (λ (m : Node). m.place) at in
-    let count : length (names_of e.place.items) ≡ length e.place.items = length-map e.place.items _ in
-    let low_place : 0 < length (node (nodes_of es) n).place = rw same (omega arith) in
-    parent_above (nodes_of es) n (ap (λ (m : Node). m.linked) at ∙ linked) low_place
-    ∙ ap (node_at (nodes_of es)) (ap above same ∙ ap (λ k. take (k - 1) (names_of e.place.items)) count ∙ take-map _ _ _)
+    let same : (node (nodes_of es) n).place ≡ e.place = ap (λ (m : Node). m.place) at in
+    let low : 0 < length (node (nodes_of es) n).place = rw same (has_names e.place other) in
+    parent_above (nodes_of es) n (ap (λ (m : Node). m.linked) at ∙ linked) low ∙ ap (λ place. node_at (nodes_of es) (above place)) same
+  where
+    has_names : (p : List (List ℕ)) → same_place p [] ≡ false → 0 < length p
+    has_names [] other = absurd cc
+    has_names (x ∷ p) other = omega arith
 
 -- An entry is replaced: by one of the same node, by the same one removed, by the same one with another content.
 pub entry_kept : (es : List Entry) (n : ℕ) (e f : Entry) → n < length es → e ≡ get_or es n e → node_of f ≡ node_of e → nodes_of (slice_set es n f) ≡ nodes_of es

@@ -1,22 +1,31 @@
 //! The plain list of nodes: how it is changed.
 
-ghost use Rattle.std.specs.Prelude.{◌≡◌, ◌<◌, ◌≤◌, ◌++◌, None, true, drop, length, map, vec_len, IfOk, IfErr, OnOk, OnErr};
+ghost use Rattle.std.specs.Prelude.{◌≡◌, ◌<◌, ◌++◌, None, true, length, map, vec_len, IfOk, IfErr, OnOk, OnErr};
 ghost use Rattle.std.specs.List.{list_all};
+ghost use Rattle.file_tree.specs.PlaceViews.{is_one_name};
 ghost use Rattle.file_tree.specs.Places.{at_name};
 ghost use Rattle.file_tree.specs.Nodes.{node};
 ghost use Rattle.file_tree.specs.Changes.{filled, moved, removed, renamed, replaced_at, resized, written};
 ghost use Rattle.file_tree.specs.Refusals.{create_fault, created, put_byte_fault, remove_fault, rename_fault, truncate_fault};
 ghost use Rattle.file_tree.specs.WellFormed.{is_byte};
-ghost use Rattle.file_tree.specs.Views.{TellsTreeFault, kind_of, names_of, new_content, new_kind};
+ghost use Rattle.file_tree.specs.Views.{TellsTreeFault, kind_of, new_content, new_kind};
 ghost use Rattle.place_tree.specs.EntryViews.{node_of, nodes_of};
 
 use crate::entries::{Entry, child_in, holds_below};
-use crate::places::{child_place, is_child};
 use file_tree::contents::{content_to_make, kind_to_make, put};
-use file_tree::places::{append_names, copy_of, is_front, is_same_place};
-use file_tree::{Kind, New, NodeId, TreeFault};
+use file_tree::{Kind, New, NodeId, Place, TreeFault};
 use rights::limits::{MAX_BYTES, MAX_NODES};
 use std::alloc::{AllocError, Global};
+
+/// The place of a name in the directory at a place.
+fn child_place(alloc: Global, dir: &Place, name: &[u8]) -> Result<Place, AllocError>
+    requires { is_one_name name.now ≡ true }
+    ensures { IfOk result (λ place. place ≡ at_name dir.now name.now) }
+{
+    let mut place = dir.copy(alloc)?;
+    place.push(name)?;
+    Ok(place)
+}
 
 /// Makes a node of that name in a directory.
 #[tactic(auto, unfolding(file_tree::specs::Refusals::created, file_tree::specs::Refusals::create_fault, file_tree::specs::Nodes::child_of))]
@@ -27,7 +36,8 @@ pub(crate) fn create_in(
     name: &[u8],
     what: New<'_>,
 ) -> Result<NodeId, TreeFault>
-    requires { dir < vec_len entries.old }
+    requires there { dir < vec_len entries.old }
+    requires name { is_one_name name.now ≡ true }
     ensures ok { IfOk result (λ n. (n ≡ length (nodes_of entries.old.items))
         × (nodes_of entries.new.items ≡ created (nodes_of entries.old.items) dir name.now (new_kind what.entry) (new_content what.entry))) }
     ensures allowed { OnOk result (create_fault (nodes_of entries.old.items) dir name.now ≡ None) }
@@ -46,7 +56,7 @@ pub(crate) fn create_in(
     if number >= MAX_NODES {
         return Err(TreeFault::Full);
     }
-    let place = child_place(alloc, holder.place.as_slice(), name)?;
+    let place = child_place(alloc, &holder.place, name)?;
     let content = content_to_make(alloc, what)?;
     entries.push(Entry {
         kind: kind_to_make(what),
@@ -70,56 +80,35 @@ pub(crate) fn remove_in(entries: &mut Vec<Entry>, n: usize) -> Result<(), TreeFa
     if !entry.linked {
         return Err(TreeFault::Gone);
     }
-    if entry.place.is_empty() {
+    if entry.place.is_root() {
         return Err(TreeFault::NotEmpty);
     }
-    if holds_below(entries, entry.place.as_slice()) {
+    if holds_below(entries, &entry.place) {
         return Err(TreeFault::NotEmpty);
     }
     entries[n].linked = false;
     Ok(())
 }
 
-/// The place that begins with another front.
-fn moved_place(
-    alloc: Global,
-    from: &[Vec<u8>],
-    to: &[Vec<u8>],
-    place: &[Vec<u8>],
-) -> Result<Vec<Vec<u8>>, AllocError>
-    requires { length from.now ≤ length place.now }
-    ensures { IfOk result (λ made. names_of made.items ≡ names_of to.now ++ drop (length (names_of from.now)) (names_of place.now)) }
-{
-    let mut made = copy_of(alloc, to)?;
-    append_names(alloc, &mut made, &place[from.len()..])?;
-    Ok(made)
-}
-
 /// What a rename from one place to another makes of an entry.
-fn moved_entry(
-    alloc: Global,
-    from: &[Vec<u8>],
-    to: &[Vec<u8>],
-    entry: &Entry,
-) -> Result<Entry, AllocError>
-    ensures { IfOk result (λ made. node_of made ≡ moved (names_of from.now) (names_of to.now) (replaced_at (names_of to.now) (node_of entry.now))) }
+fn moved_entry(alloc: Global, from: &Place, to: &Place, entry: &Entry) -> Result<Entry, AllocError>
+    ensures { IfOk result (λ made. node_of made ≡ moved from.now to.now (replaced_at to.now (node_of entry.now))) }
 {
-    let stands = entry.place.as_slice();
     let content = Vec::from_slice(alloc, entry.content.as_slice())?;
     if entry.linked {
-        if is_same_place(to, stands) {
+        if to.is_same(&entry.place) {
             return Ok(Entry {
                 kind: entry.kind,
                 linked: false,
-                place: copy_of(alloc, stands)?,
+                place: entry.place.copy(alloc)?,
                 content,
             });
         }
-        if is_front(from, stands) {
+        if entry.place.begins_with(from) {
             return Ok(Entry {
                 kind: entry.kind,
                 linked: entry.linked,
-                place: moved_place(alloc, from, to, stands)?,
+                place: entry.place.moved(alloc, from, to)?,
                 content,
             });
         }
@@ -127,7 +116,7 @@ fn moved_entry(
     Ok(Entry {
         kind: entry.kind,
         linked: entry.linked,
-        place: copy_of(alloc, stands)?,
+        place: entry.place.copy(alloc)?,
         content,
     })
 }
@@ -135,11 +124,11 @@ fn moved_entry(
 /// What a rename from one place to another makes of all entries.
 fn moved_entries(
     alloc: Global,
-    from: &[Vec<u8>],
-    to: &[Vec<u8>],
+    from: &Place,
+    to: &Place,
     entries: &[Entry],
 ) -> Result<Vec<Entry>, AllocError>
-    ensures { IfOk result (λ made. nodes_of made.items ≡ map (λ m. moved (names_of from.now) (names_of to.now) (replaced_at (names_of to.now) m)) (nodes_of entries.now)) }
+    ensures { IfOk result (λ made. nodes_of made.items ≡ map (λ m. moved from.now to.now (replaced_at to.now m)) (nodes_of entries.now)) }
 {
     let mut made = Vec::new(alloc);
     for entry in entries {
@@ -159,6 +148,7 @@ pub(crate) fn rename_in(
 ) -> Result<(), TreeFault>
     requires there { n < vec_len entries.old }
     requires dir_there { dir < vec_len entries.old }
+    requires name { is_one_name name.now ≡ true }
     ensures ok { OnOk result (nodes_of entries.new.items ≡ renamed (nodes_of entries.old.items) n (at_name (node (nodes_of entries.old.items) dir).place name.now)) }
     ensures allowed { OnOk result (rename_fault (nodes_of entries.old.items) n dir name.now ≡ None) }
     ensures refused { IfErr result (TellsTreeFault (rename_fault (nodes_of entries.old.items) n dir name.now)) }
@@ -172,18 +162,18 @@ pub(crate) fn rename_in(
     if !holder.linked {
         return Err(TreeFault::Gone);
     }
-    let from = entry.place.as_slice();
-    if is_child(holder.place.as_slice(), name, from) {
+    let from = &entry.place;
+    if from.is_child(&holder.place, name) {
         return Ok(());
     }
-    let to = child_place(alloc, holder.place.as_slice(), name)?;
-    if is_front(from, to.as_slice()) {
+    let to = child_place(alloc, &holder.place, name)?;
+    if to.begins_with(from) {
         return Err(TreeFault::IntoItself);
     }
-    if holds_below(entries, to.as_slice()) {
+    if holds_below(entries, &to) {
         return Err(TreeFault::NotEmpty);
     }
-    let made = moved_entries(alloc, from, to.as_slice(), entries)?;
+    let made = moved_entries(alloc, from, &to, entries)?;
     *entries = made;
     Ok(())
 }

@@ -2,33 +2,30 @@
 
 ghost use Rattle.std.specs.Prelude.{◌≡◌, ◌<◌, Option, length, IfSome};
 ghost use Rattle.std.specs.Option.{option_copied};
-ghost use Rattle.file_tree.specs.Places.{at_name};
+ghost use Rattle.file_tree.specs.Places.{above, at_name};
 ghost use Rattle.file_tree.specs.Nodes.{child_of, has_below, node_at, parent_of, link_target};
-ghost use Rattle.file_tree.specs.Views.{names_of};
 ghost use Rattle.place_tree.specs.EntryViews.{nodes_of};
 
-use crate::places::is_child;
-use file_tree::Kind;
-use file_tree::places::{is_front, is_same_place};
+use file_tree::{Kind, Place};
 
 /// A node of the plain list, with its whole place.
 #[derive(Drop)]
 pub(crate) struct Entry {
     pub(crate) kind: Kind,
     pub(crate) linked: bool,
-    pub(crate) place: Vec<Vec<u8>>,
+    pub(crate) place: Place,
     pub(crate) content: Vec<u8>,
 }
 
-/// The number of the linked node at a place.
+/// The number of the linked node that a place stands in, which for the root's is the root.
 #[tactic(auto, unfolding(file_tree::specs::Nodes::node_at))]
-pub(crate) fn find_place(entries: &[Entry], place: &[Vec<u8>]) -> Option<usize>
-    ensures found { result ≡ node_at (nodes_of entries.now) (names_of place.now) }
+fn find_above(entries: &[Entry], place: &Place) -> Option<usize>
+    ensures found { result ≡ node_at (nodes_of entries.now) (above place.now) }
     ensures there { IfSome result (λ n. n < length entries.now) }
 {
     for (i, entry) in entries.iter().enumerate() {
         if entry.linked {
-            if is_same_place(place, entry.place.as_slice()) {
+            if place.stands_in(&entry.place) {
                 return Some(i);
             }
         }
@@ -38,13 +35,13 @@ pub(crate) fn find_place(entries: &[Entry], place: &[Vec<u8>]) -> Option<usize>
 
 /// The number of the linked node of a name in the directory at a place.
 #[tactic(auto, unfolding(file_tree::specs::Nodes::node_at))]
-pub(crate) fn find_child(entries: &[Entry], dir: &[Vec<u8>], name: &[u8]) -> Option<usize>
-    ensures found { result ≡ node_at (nodes_of entries.now) (at_name (names_of dir.now) name.now) }
+pub(crate) fn find_child(entries: &[Entry], dir: &Place, name: &[u8]) -> Option<usize>
+    ensures found { result ≡ node_at (nodes_of entries.now) (at_name dir.now name.now) }
     ensures there { IfSome result (λ n. n < length entries.now) }
 {
     for (i, entry) in entries.iter().enumerate() {
         if entry.linked {
-            if is_child(dir, name, entry.place.as_slice()) {
+            if entry.place.is_child(dir, name) {
                 return Some(i);
             }
         }
@@ -53,13 +50,13 @@ pub(crate) fn find_child(entries: &[Entry], dir: &[Vec<u8>], name: &[u8]) -> Opt
 }
 
 /// Whether some linked node lies below a place.
-pub(crate) fn holds_below(entries: &[Entry], place: &[Vec<u8>]) -> bool
-    ensures { result ≡ has_below (nodes_of entries.now) (names_of place.now) }
+pub(crate) fn holds_below(entries: &[Entry], place: &Place) -> bool
+    ensures { result ≡ has_below (nodes_of entries.now) place.now }
 {
     for entry in entries {
         if entry.linked {
-            if is_front(place, entry.place.as_slice()) {
-                if !is_same_place(place, entry.place.as_slice()) {
+            if entry.place.begins_with(place) {
+                if !place.is_same(&entry.place) {
                     return true;
                 }
             }
@@ -79,7 +76,7 @@ pub(crate) fn child_in(entries: &[Entry], dir: usize, name: &[u8]) -> Option<usi
     if !holder.linked {
         return None;
     }
-    find_child(entries, holder.place.as_slice(), name)
+    find_child(entries, &holder.place, name)
 }
 
 /// The directory that holds a node.
@@ -93,11 +90,10 @@ pub(crate) fn parent_in(entries: &[Entry], n: usize) -> Option<usize>
     if !entry.linked {
         return None;
     }
-    let place = entry.place.as_slice();
-    if place.is_empty() {
+    if entry.place.is_root() {
         return None;
     }
-    find_place(entries, &place[..place.len() - 1])
+    find_above(entries, &entry.place)
 }
 
 /// What a link holds.

@@ -4,12 +4,10 @@
 
 mod changes;
 mod entries;
-mod places;
 
 use crate::changes::{create_in, put_in, remove_in, rename_in, truncate_in};
 use crate::entries::{Entry, child_in, parent_in, target_in};
-use file_tree::places::{append_text, begins_with_path};
-use file_tree::{Kind, New, NodeId, Tree, TreeFault};
+use file_tree::{Kind, New, NodeId, Place, Tree, TreeFault};
 use std::alloc::Global;
 use std::marker::Model;
 
@@ -42,7 +40,7 @@ impl Tree for PlaceTree {
         entries.push(Entry {
             kind: Kind::Dir,
             linked: true,
-            place: Vec::new(alloc),
+            place: Place::root(alloc),
             content: Vec::new(alloc),
         })?;
         Ok(PlaceTree { alloc, entries })
@@ -84,11 +82,11 @@ impl Tree for PlaceTree {
     }
 
     fn place_begins(&self, n: NodeId, path: &[u8]) -> bool {
-        begins_with_path(path, self.entries[n.number()].place.as_slice())
+        self.entries[n.number()].place.begins_with_path(path)
     }
 
     fn place_text(&self, n: NodeId, out: &mut Vec<u8>) -> Result<(), TreeFault> {
-        append_text(self.entries[n.number()].place.as_slice(), out)?;
+        self.entries[n.number()].place.append_text(out)?;
         Ok(())
     }
 

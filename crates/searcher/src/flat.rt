@@ -4,11 +4,11 @@ ghost use Rattle.std.specs.Prelude.{◌≡◌, ◌+◌, ◌≤◌, ◌<◌, leng
 ghost use Rattle.std.specs.List.{list_all, list_any};
 ghost use Rattle.certificate.specs.Views.{bound_of, held_of, mode_of, target_of};
 ghost use Rattle.texts.specs.Views.{name_of};
-ghost use Rattle.file_tree.specs.Views.{names_of};
+ghost use Rattle.file_tree.specs.Nodes.{node};
 ghost use Rattle.instruction_set.specs.Views.{code_of, instruction_of, syscall_of};
 ghost use Rattle.task.specs.Limits.{is_descriptor, is_object, is_start};
 ghost use Rattle.task.specs.Plans.{programs_of_plan};
-ghost use Rattle.task.specs.Views.{first_descriptor_of, first_object_of, grants_of, start_of, starts_of};
+ghost use Rattle.task.specs.Views.{first_descriptor_of, first_object_of, grants_of, nodes_of, start_of, starts_of};
 ghost use Rattle.certificate.specs.Growths.{grown_by};
 ghost use Rattle.certificate.specs.GrowthViews.{Grows};
 ghost use Rattle.rules.specs.Outcomes.{enters_mode};
@@ -19,25 +19,24 @@ use certificate::{
     Bound, Cert, Class, FcntlsRange, Held, ModeBound, Pair, Refusal, RightsRange, Slot, Target,
     Version, push_block,
 };
-use file_tree::is_front;
 use instruction_set::Instruction;
 use std::alloc::{AllocError, Global};
-use task::{FirstDescriptor, FirstObject, Grant, Start, Task, none_marked, place_of};
+use task::{FirstDescriptor, FirstObject, Grant, Start, Task, TaskNode, node_begins, none_marked};
 use texts::Name;
 use transfer::enters_mode;
 
-/// The grant that holds a place, if one does.
+/// The grant that holds a node, by its number, if one does.
 #[tactic(auto, unfolding(crate::specs::Flat::grant_target))]
-fn grant_target(grants: &[Grant], place: &[Vec<u8>]) -> Target
-    ensures { target_of result ≡ grant_target (grants_of grants.now) (names_of place.now) }
+fn grant_target(grants: &[Grant], nodes: &[TaskNode], number: u16) -> Target
+    ensures { target_of result ≡ grant_target (grants_of grants.now) (node (nodes_of nodes.now) number).place }
 {
     match grants {
         [] => Target::AnyNode,
         [first, rest @ ..] => {
-            if is_front(&first.path, place) {
+            if node_begins(nodes, number, &first.path) {
                 return Target::InGrant(first.name);
             }
-            grant_target(rest, place)
+            grant_target(rest, nodes, number)
         }
     }
 }
@@ -48,10 +47,7 @@ fn first_target(task: &Task, object: FirstObject) -> Target
     ensures { target_of result ≡ first_target task.now (first_object_of object) }
 {
     match object {
-        FirstObject::Node { node, .. } => {
-            let place = place_of(task.nodes(), node);
-            grant_target(task.grants(), place)
-        }
+        FirstObject::Node { node, .. } => grant_target(task.grants(), task.nodes(), node),
         FirstObject::End { pair, side } => Target::Socket(Class::Initial(Pair::new(pair)), side),
     }
 }

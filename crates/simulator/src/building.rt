@@ -5,14 +5,14 @@ ghost use Rattle.rights.specs.Limits.{most_bytes};
 ghost use Rattle.file_tree.specs.Changes.{filled};
 ghost use Rattle.file_tree.specs.Refusals.{create_fault, created};
 ghost use Rattle.file_tree.specs.Nodes.{Dir, File, node};
-ghost use Rattle.file_tree.specs.Places.{is_file_name};
-ghost use Rattle.file_tree.specs.Views.{is_new, names_of, new_content, new_kind};
+ghost use Rattle.file_tree.specs.Places.{above, is_file_name};
+ghost use Rattle.file_tree.specs.Views.{is_new, new_content, new_kind};
 ghost use Rattle.file_tree.specs.WellFormed.{has_directory, is_directory_at};
 ghost use Rattle.task.specs.Limits.{is_tree};
 ghost use Rattle.task.specs.Views.{node_of, nodes_of};
 ghost use Rattle.simulator.specs.Starts.{AreNumbers, IsMadeIn};
 
-use file_tree::{Kind, New, NodeId, Tree, TreeFault, is_same_place};
+use file_tree::{Kind, New, NodeId, Place, Tree, TreeFault};
 use rights::Memory;
 use std::alloc::Global;
 use task::TaskNode;
@@ -31,23 +31,18 @@ struct Made {
     directory: usize,
 }
 
-/// Whether the node is the directory at this place.
-fn is_directory(node: &TaskNode, place: &[Vec<u8>]) -> bool
-    ensures { result ≡ is_directory_at (names_of place.now) (node_of node.now) }
+/// Whether the node is the directory that this place stands in.
+fn is_directory(node: &TaskNode, place: &Place) -> bool
+    ensures { result ≡ is_directory_at (above place.now) (node_of node.now) }
 {
-    // Most places differ in length, so few names are compared.
-    let stands = node.place.as_slice();
-    if stands.len() != place.len() {
-        return false;
-    }
-    is_same_place(place, stands) && matches!(node.kind, Kind::Dir)
+    place.stands_in(&node.place) && matches!(node.kind, Kind::Dir)
 }
 
-/// The number of the first directory at this place, which is among these nodes.
-fn directory_at(nodes: &[TaskNode], place: &[Vec<u8>]) -> usize
-    requires { has_directory (nodes_of nodes.now) (names_of place.now) ≡ true }
+/// The number of the first directory that this place stands in, which is among these nodes.
+fn directory_at(nodes: &[TaskNode], place: &Place) -> usize
+    requires { has_directory (nodes_of nodes.now) (above place.now) ≡ true }
     ensures below { result < length nodes.now }
-    ensures directory { is_directory_at (names_of place.now) (node (nodes_of nodes.now) result) ≡ true }
+    ensures directory { is_directory_at (above place.now) (node (nodes_of nodes.now) result) ≡ true }
 {
     match nodes {
         [] => 0,
@@ -60,10 +55,10 @@ fn directory_at(nodes: &[TaskNode], place: &[Vec<u8>]) -> usize
     }
 }
 
-/// Whether the node of this number is among these, and is the directory at this place.
-fn is_directory_there(nodes: &[TaskNode], number: usize, place: &[Vec<u8>]) -> bool
+/// Whether the node of this number is among these, and is the directory that this place stands in.
+fn is_directory_there(nodes: &[TaskNode], number: usize, place: &Place) -> bool
     ensures below { result ≡ true → number < length nodes.now }
-    ensures directory { result ≡ true → is_directory_at (names_of place.now) (node (nodes_of nodes.now) number) ≡ true }
+    ensures directory { result ≡ true → is_directory_at (above place.now) (node (nodes_of nodes.now) number) ≡ true }
 {
     match nodes.get(number) {
         None => false,
@@ -71,11 +66,12 @@ fn is_directory_there(nodes: &[TaskNode], number: usize, place: &[Vec<u8>]) -> b
     }
 }
 
-/// The number of a directory at this place, which is among these nodes: most often that of the node before, or that node itself.
-fn directory_near(nodes: &[TaskNode], place: &[Vec<u8>], before: usize) -> usize
-    requires { has_directory (nodes_of nodes.now) (names_of place.now) ≡ true }
+/// The number of a directory that this place stands in, which is among these nodes: most often that of the node before, or that
+/// node itself.
+fn directory_near(nodes: &[TaskNode], place: &Place, before: usize) -> usize
+    requires { has_directory (nodes_of nodes.now) (above place.now) ≡ true }
     ensures below { result < length nodes.now }
-    ensures directory { is_directory_at (names_of place.now) (node (nodes_of nodes.now) result) ≡ true }
+    ensures directory { is_directory_at (above place.now) (node (nodes_of nodes.now) result) ≡ true }
 {
     if is_directory_there(nodes, before, place) {
         return before;
@@ -176,11 +172,11 @@ fn build_next<T: Tree>(
     ensures nodes { OnOk result (T.nodes tree.new ≡ take (made + 1) (nodes_of nodes.now)) }
 {
     let node = &nodes[made];
-    let [above @ .., name] = node.place.as_slice() else {
+    let Some(name) = node.place.name() else {
         // The root alone has no name, and it is made first.
         unreachable!()
     };
-    let directory = directory_near(&nodes[..made], above, before);
+    let directory = directory_near(&nodes[..made], &node.place, before);
     let number = build_node(tree, numbers[directory], name, node)?;
     Ok(Made { number, directory })
 }

@@ -3,7 +3,7 @@ use Rattle.std.specs.Prelude.{true, List, map}
 use Rattle.texts.specs.Views.{name_of}
 use Rattle.rights.specs.Views.{operation_of, side_seen}
 use Rattle.file_tree.specs.Nodes.{Node}
-use Rattle.file_tree.specs.Views.{kind_of, names_of}
+use Rattle.file_tree.specs.Views.{kind_of}
 use Rattle.fd_table.specs.Views.{access_seen}
 use Rattle.task.specs.declared.nodes.TaskNode.{TaskNode}
 use Rattle.task.specs.declared.grants.Grant.{Grant as GrantCode}
@@ -16,13 +16,13 @@ use Rattle.task.specs.Plans.{Grant, NamedProgram, FirstObject, On_node, On_end, 
 
 -- a node of a task was not removed
 abbrev pub node_of : TaskNode → Node
-node_of n = record { kind = kind_of n.kind; place = names_of n.place.items; linked = true; content = n.content.items }
+node_of n = record { kind = kind_of n.kind; place = n.place; linked = true; content = n.content.items }
 
 abbrev pub nodes_of : List TaskNode → List Node
 nodes_of nodes = map node_of nodes
 
 abbrev pub grant_of : GrantCode → Grant
-grant_of g = record { name = name_of g.name; path = names_of g.path.items; operations = map operation_of g.operations.items }
+grant_of g = record { name = name_of g.name; path = g.path; operations = map operation_of g.operations.items }
 
 abbrev pub grants_of : List GrantCode → List Grant
 grants_of grants = map grant_of grants

@@ -1,5 +1,6 @@
 //! Grants, of which a policy is a list.
 
+use file_tree::Place;
 use rights::Op;
 use texts::Name;
 
@@ -7,7 +8,7 @@ use texts::Name;
 #[derive(Drop)]
 pub struct Grant {
     pub name: Name,
-    /// The directory's place: the names from the root on.
-    pub path: Vec<Vec<u8>>,
+    /// The directory's place.
+    pub path: Place,
     pub operations: Vec<Op>,
 }

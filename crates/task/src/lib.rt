@@ -10,7 +10,7 @@ pub mod starts;
 pub mod tasks;
 
 pub use grants::Grant;
-pub use nodes::{TaskNode, place_of};
+pub use nodes::{TaskNode, node_begins, node_text};
 pub use policies::{grant_holds, grant_lists, grant_named};
 pub use programs::{NamedProgram, is_marked, none_marked};
 pub use starts::{FirstDescriptor, FirstObject, Start};

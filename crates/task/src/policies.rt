@@ -2,12 +2,12 @@
 
 ghost use Rattle.std.specs.Prelude.{◌≡◌, option_map};
 ghost use Rattle.rights.specs.Views.{operation_of};
-ghost use Rattle.file_tree.specs.Views.{names_of};
+ghost use Rattle.file_tree.specs.Nodes.{node};
 ghost use Rattle.task.specs.Policies.{grant_holds, grant_lists, grant_named};
-ghost use Rattle.task.specs.Views.{grant_of, grants_of};
+ghost use Rattle.task.specs.Views.{grant_of, grants_of, nodes_of};
 
 use crate::grants::Grant;
-use file_tree::is_front;
+use crate::nodes::{TaskNode, node_begins};
 use rights::Op;
 
 /// The first grant of this name, if there is one.
@@ -26,13 +26,14 @@ pub fn grant_named<'a>(grants: &'a [Grant], name: &[u8]) -> Option<&'a Grant>
     }
 }
 
-/// Whether a place is that of the grant of this name, or beneath it, name by name. A grant that isn't there holds none.
-pub fn grant_holds(grants: &[Grant], name: &[u8], place: &[Vec<u8>]) -> bool
-    ensures { result ≡ grant_holds (grants_of grants.now) name.now (names_of place.now) }
+/// Whether a node, by its number, is that of the grant of this name, or beneath it, name by name. A grant that isn't there holds
+/// none, and a node that isn't there counts as the root.
+pub fn grant_holds(grants: &[Grant], name: &[u8], nodes: &[TaskNode], number: u16) -> bool
+    ensures { result ≡ grant_holds (grants_of grants.now) name.now (node (nodes_of nodes.now) number).place }
 {
     match grant_named(grants, name) {
         None => false,
-        Some(grant) => is_front(&grant.path, place),
+        Some(grant) => node_begins(nodes, number, &grant.path),
     }
 }
 

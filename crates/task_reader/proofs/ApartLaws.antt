@@ -3,7 +3,7 @@ use Rattle.std.proofs.Common.{◌≡◌, ◌+◌, ◌<◌, ◌≤◌, ℕ, suc, 
 use Rattle.std.specs.Prelude.{◌==◌, ◌&&◌, not, option_and_then, if◌then◌else◌}
 use Rattle.std.specs.List.{list_all, sum_by}
 use Rattle.std.specs.Result.{IsOk}
-use Rattle.std.specs.List.Sorted.{IsPermutation, IsSorted, IsSortedBy}
+use Rattle.std.specs.List.Sorted.{IsPermutation, IsSortedBy}
 use Rattle.std.specs.Ordering.{is_lt, is_eq, nat_cmp, ordering_then, ordering_reverse}
 use Rattle.std.specs.declared.cmp.Ordering.{Ordering}
 use Rattle.std.specs.declared.cmp.Ordering.TheVariants.{Less, Equal, Greater}
@@ -243,31 +243,32 @@ all_apart-map {X = X} f apart (x ∷ xs) = ap (λ b. b && all_apart apart (map f
     each [] = refl
     each (y ∷ ys) = ap (λ b. apart (f x) (f y) && b) (each ys)
 
-sorted-by : {X : Type 0} (place : X → List (List ℕ)) (cmp : X → X → Ordering) → ((x y : X) → cmp x y ≡ place_cmp (place x) (place y)) → (xs : List X)
-    → IsSorted cmp xs → IsSortedBy (λ p q. is_lt (place_cmp p q)) (map place xs)
-sorted-by place cmp agree [] sorted k d low high = absurd (omega arith)
-sorted-by place cmp agree (x ∷ xs) sorted k d low high =
+-- what has places is ordered by them
+pub places-order : {X : Type 0} (place : X → List (List ℕ)) → IsStrictWeakOrder (λ x y. is_lt (place_cmp (place x) (place y)))
+places-order place = record {
+  one_way = λ x y. place-order.one_way (place x) (place y);
+  chain = λ x y z. place-order.chain (place x) (place y) (place z);
+}
+
+sorted-by : {X : Type 0} (place : X → List (List ℕ)) (xs : List X) → IsSortedBy (λ x y. is_lt (place_cmp (place x) (place y))) xs
+    → IsSortedBy (λ p q. is_lt (place_cmp p q)) (map place xs)
+sorted-by place [] sorted k d low high = absurd (omega arith)
+sorted-by place (x ∷ xs) sorted k d low high =
     let long : length (map place (x ∷ xs)) ≡ length (x ∷ xs) = length-map (x ∷ xs) place in
     let above : k + 1 < length (x ∷ xs) = omega arith in
     let first = get_or-map place (x ∷ xs) k x d (omega arith) in
     let second = get_or-map place (x ∷ xs) (k + 1) x d above in
     ap (λ p. is_lt (place_cmp (get_or (map place (x ∷ xs)) (k + 1) d) p)) first ∙ ap (λ p. is_lt (place_cmp p (place (get_or (x ∷ xs) k x)))) second
-    ∙ ap is_lt (sym (agree (get_or (x ∷ xs) (k + 1) x) (get_or (x ∷ xs) k x))) ∙ sorted k x low above
-
-pub slice_cmp-map : {X Y : Type 0} (f : X → Y) (cmp : Y → Y → Ordering) (xs ys : List X) → slice_cmp (λ x y. cmp (f x) (f y)) xs ys ≡ slice_cmp cmp (map f xs) (map f ys)
-slice_cmp-map f cmp [] [] = refl
-slice_cmp-map f cmp [] (y ∷ ys) = refl
-slice_cmp-map f cmp (x ∷ xs) [] = refl
-slice_cmp-map f cmp (x ∷ xs) (y ∷ ys) = ap (λ o. ordering_then (cmp (f x) (f y)) o) (slice_cmp-map f cmp xs ys)
+    ∙ sorted k x low above
 
 -- What has places is apart exactly if, once it is sorted by them, none begins with the one before it.
-pub sorted-places : {X : Type 0} (place : X → List (List ℕ)) (cmp : X → X → Ordering) → ((x y : X) → cmp x y ≡ place_cmp (place x) (place y)) → (before after : List X)
-    → IsPermutation before after → IsSorted cmp after → all_apart are_separate (map place before) ≡ none_begins_so (map place after)
-sorted-places place cmp agree before after permuted sorted =
+pub sorted-places : {X : Type 0} (place : X → List (List ℕ)) (before after : List X) → IsPermutation before after
+    → IsSortedBy (λ x y. is_lt (place_cmp (place x) (place y))) after → all_apart are_separate (map place before) ≡ none_begins_so (map place after)
+sorted-places place before after permuted sorted =
     all_apart-map place are_separate before
     ∙ permuted-apart (λ x y. are_separate (place x) (place y)) (λ x. never-apart-from-itself (place x)) (λ x y. apart-either-way (place x) (place y)) before after permuted
     ∙ sym (all_apart-map place are_separate after)
-    ∙ sorted-apart (map place after) (sorted-by place cmp agree after sorted)
+    ∙ sorted-apart (map place after) (sorted-by place after sorted)
 
 pub apart-grants : (grants : List Grant) → all_apart are_disjoint grants ≡ all_apart are_separate (map (λ g. g.path) grants)
 apart-grants grants = sym (all_apart-map (λ g. g.path) are_separate grants)

@@ -1,5 +1,6 @@
 -- An index stays one as nodes are added, and the path of the directory above.
-use Rattle.std.proofs.Common.{◌≡◌, ◌≢◌, ◌<◌, ◌≤◌, ◌-◌, ◌+◌, inl, inr, ℕ, suc, List, [], ◌∷◌, ◌++◌, Option, Some, None, option_map, Bool, true, false, cond, length, take, refl, ap}
+use Rattle.std.proofs.Common.{◌≡◌, ◌≢◌, ◌<◌, ◌≤◌, ◌-◌, ◌+◌, inl, inr, ℕ, suc, List, [], ◌∷◌, ◌++◌}
+use Rattle.std.proofs.Common.{Option, Some, None, option_map, Bool, true, false, cond, length, take, drop, take-append-drop, refl, ap}
 use Rattle.std.proofs.Common.{sym, subst, ◌∙◌, append_assoc, append-nil, arith}
 use Rattle.std.specs.Prelude.{◌==◌, ◌&&◌, ◌||◌, not, is_some, option_and_then, if◌then◌else◌}
 use Rattle.std.specs.Borrow.{Bor}
@@ -16,9 +17,9 @@ use Rattle.std.proofs.Math.Seq.{get_or-append_seam, take-append_seam}
 use Rattle.std.proofs.lemmas.List.Folds.{list_any-append}
 use Rattle.file_tree.specs.Refusals.{new_tree}
 use Rattle.file_tree.specs.Nodes.{Node, Dir, nowhere, node, node_at, node_from, is_dir, stands_at}
-use Rattle.file_tree.specs.Places.{same_place, names_text, place_text, above, at_name, is_path_name}
+use Rattle.file_tree.specs.Places.{same_place, place_text, above, at_name, is_path_name}
 use Rattle.file_tree.specs.WellFormed.{is_directory_at, has_directory}
-use Rattle.file_tree.proofs.PlaceLaws.{above_at_name, other_place}
+use Rattle.file_tree.proofs.PlaceLaws.{other_place}
 use Rattle.file_tree.proofs.NodeLaws.{linked_there, node_at_found, node_at_none, stands_is, stands_from, any_at}
 use Rattle.texts.specs.Parts.{parts}
 use Rattle.task_reader.specs.IndexViews.{number_in, is_directory, IsIndex, IsPath}
@@ -47,61 +48,19 @@ unfolding place_of
 path-names [] place is = absurd cc
 path-names (b ∷ text) place is = good-behind text place (if-some (b == 47) (names_behind text) place is).1
 
--- a place's last name stands behind the text of those before it
-names_text-append : (p q : List (List ℕ)) → names_text (p ++ q) ≡ names_text p ++ names_text q
-names_text-append [] q = refl
-names_text-append (name ∷ p) q = ap (λ t. (47 ∷ name) ++ t) (names_text-append p q) ∙ sym (append_assoc (47 ∷ name) (names_text p) (names_text q))
-
 all-front : (p q : List (List ℕ)) → list_all is_path_name (p ++ q) ≡ true → list_all is_path_name p ≡ true
 all-front [] q is = refl
 all-front (name ∷ p) q is =
     rw (both_left (is_path_name name) (list_all is_path_name (p ++ q)) is) (all-front p q (both_right (is_path_name name) (list_all is_path_name (p ++ q)) is))
 
-path-split : (path : List ℕ) (front : List (List ℕ)) (name : List ℕ) → IsPath path (at_name front name) → path ≡ names_text front ++ 47 ∷ name
-path-split path front name is =
-    sym (path-text path (at_name front name) is) ∙ written front ∙ names_text-append front (name ∷ []) ∙ ap (λ t. names_text front ++ 47 ∷ t) (append-nil name)
-  where
-    written : (front : List (List ℕ)) → place_text (front ++ name ∷ []) ≡ names_text (front ++ name ∷ [])
-    written [] = refl
-    written (first ∷ front) = refl
-
--- the path of a place has room for its last name and the `/` before it
-pub name-fits : (path : List ℕ) (front : List (List ℕ)) (name : List ℕ) → IsPath path (at_name front name) → length name + 1 ≤ length path
-name-fits path front name is =
-    let whole : length path ≡ length (names_text front) + suc (length name) = ap length (path-split path front name is) ∙ length-append (names_text front) (47 ∷ name) in
-    omega arith
-
--- Without them it is the path of the directory above.
-pub above-path : (path : List ℕ) (front : List (List ℕ)) (name : List ℕ) → 0 < length front → IsPath path (at_name front name)
-    → IsPath (take (length path - length name - 1) path) (above (at_name front name))
-above-path path [] name some is = absurd (omega arith)
-above-path path (first ∷ front) name some is =
-    let text = names_text (first ∷ front) in
-    let split = path-split path (first ∷ front) name is in
-    let whole : length path ≡ length text + suc (length name) = ap length split ∙ length-append text (47 ∷ name) in
-    let count : length path - length name - 1 ≡ length text = omega arith in
-    let cut : take (length path - length name - 1) path ≡ text = ap2 take _ _ _ _ count split ∙ take-append_seam text (47 ∷ name) in
-    let there : IsPath text (first ∷ front) = text-path (first ∷ front) (all-front (first ∷ front) (name ∷ []) (path-names path (at_name (first ∷ front) name) is)) in
-    subst (λ place. IsPath (take (length path - length name - 1) path) place) (sym (above_at_name (first ∷ front) name))
-    (subst (λ t. IsPath t (first ∷ front)) (sym cut) there)
-
--- above a place of one name at most is the root
-pub above-short : (place : List (List ℕ)) → length place < 2 → IsPath (47 ∷ []) (above place)
-unfolding place_of
-above-short [] short = refl
-above-short (name ∷ []) short = refl
-above-short (name ∷ next ∷ place) short = absurd (omega arith)
-
--- a list is what stands before its last, and its last
-last-of : {A : Type 0} (x : A) (xs : List A) (y : A) → y ≡ get_or (x ∷ xs) (length xs) y → x ∷ xs ≡ take (length xs) (x ∷ xs) ++ y ∷ []
-last-of x [] y is = ap (λ z. z ∷ []) (sym is)
-last-of x (next ∷ xs) y is = ap (λ rest. x ∷ rest) (last-of next xs y is)
-
-pub last-split : {A : Type 0} (xs : List A) (y : A) → 0 < length xs → y ≡ get_or xs (length xs - 1) y → xs ≡ take (length xs - 1) xs ++ y ∷ []
-last-split [] y some is = absurd (omega arith)
-last-split (x ∷ xs) y some is =
-    let count : suc (length xs) - 1 ≡ length xs = omega arith in
-    last-of x xs y (is ∙ ap (λ n. get_or (x ∷ xs) n y) count) ∙ ap (λ n. take n (x ∷ xs) ++ y ∷ []) (sym count)
+-- so the text of the place above is its path, by which a directory is found
+pub above-directory : {S : Type 0} (numbers : IndexMap (Bor (List ℕ)) ℕ S) (made : List Node) (path : List ℕ) (place : List (List ℕ)) → IsIndex numbers made
+    → IsPath path place → is_directory made (number_of_path made (place_text (above place))) ≡ has_directory made (above place)
+above-directory numbers made path place index is =
+    let count = length place - 1 in
+    let names : list_all is_path_name (above place) ≡ true =
+    all-front (above place) (drop count place) (ap (list_all is_path_name) (take-append-drop count place) ∙ path-names path place is) in
+    ap (λ read. is_directory made (option_and_then (node_at made) read)) (text-path (above place) names) ∙ sym (index.apart (above place))
 
 -- a node that is found is there
 pub there-numbered : (made : List Node) (path : List ℕ) (n : ℕ) → number_of_path made path ≡ Some n → n < length made
@@ -232,6 +191,11 @@ stands-free made place can = free (node_at made place) refl
         let any : list_any (stands_at place) made ≡ true = any_at (stands_at place) made n refl (node_at_found made place n is) in
         let no : not true ≡ true = ap not (sym any) ∙ not_any in
         absurd cc
+
+-- nothing can stand where no directory is
+pub cannot-stand : (made : List Node) (place : List (List ℕ)) → has_directory made (above place) ≡ false → can_stand made place ≡ false
+unfolding can_stand
+cannot-stand made place none = ap (λ b. b && not (list_any (stands_at place) made)) none
 
 -- what can stand in a directory that is there: what nothing stands at
 pub can-stand : (made : List Node) (place : List (List ℕ)) (at : Option ℕ) → has_directory made (above place) ≡ true → node_at made place ≡ at

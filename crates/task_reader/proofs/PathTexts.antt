@@ -73,11 +73,20 @@ parted (b ∷ name) begun place bytes names =
     ∙ parted name (begun ++ b ∷ []) place (both_right (is_file_name_byte b) (list_all is_file_name_byte name) bytes) names
     ∙ ap (λ n. n ∷ place) (append_assoc begun (b ∷ []) name)
 
-each-name : (place : List (List ℕ)) → list_all is_path_name place ≡ true → path_names place ≡ Some place
+pub each-name : (place : List (List ℕ)) → list_all is_path_name place ≡ true → path_names place ≡ Some place
 each-name [] names = refl
 each-name (name ∷ place) names =
     ap (λ b. cond b (option_map (λ rest. name ∷ rest) (path_names place)) None) (both_left (is_path_name name) (list_all is_path_name place) names)
     ∙ ap (option_map (λ rest. name ∷ rest)) (each-name place (both_right (is_path_name name) (list_all is_path_name place) names))
+
+pub not-each : (place : List (List ℕ)) → list_all is_path_name place ≡ false → path_names place ≡ None
+not-each [] other = absurd cc
+not-each (name ∷ place) other = go (is_path_name name) other (not-each place)
+  where
+    go : (here : Bool) → (here && list_all is_path_name place) ≡ false → (list_all is_path_name place ≡ false → path_names place ≡ None) →
+        cond here (option_map (λ rest. name ∷ rest) (path_names place)) None ≡ None
+    go true other rest = ap (option_map (λ rest. name ∷ rest)) (rest other)
+    go false other rest = refl
 
 behind-some : (name rest : List ℕ) → not (nat_eq (length name) 0) ≡ true → names_behind (name ++ rest) ≡ path_names (parts 47 (name ++ rest))
 behind-some [] rest some = absurd cc

@@ -3,27 +3,22 @@
 ghost use Rattle.std.specs.Prelude.{◌≡◌, true};
 ghost use Rattle.std.specs.List.{list_all};
 ghost use Rattle.file_tree.specs.Places.{is_file_name};
-ghost use Rattle.file_tree.specs.Views.{kind_of, names_of};
+ghost use Rattle.file_tree.specs.Views.{kind_of};
 ghost use Rattle.file_tree.specs.WellFormed.{is_byte, is_content, is_within_limits};
 ghost use Rattle.task_reader.specs.Reading.{is_short, keeps_limits};
 ghost use Rattle.task.specs.Views.{node_of, nodes_of};
 ghost use Rattle.task_reader.specs.WrittenViews.{node_seen, nodes_seen, task_seen};
 
 use crate::written::{WrittenNode, WrittenTask};
-use file_tree::{Kind, is_valid_name, is_valid_target};
+use file_tree::{Kind, Place, is_valid_name, is_valid_target};
 use rights::limits::{MAX_BYTES, MAX_GRANTS, MAX_NODES, MAX_PATH, MAX_PROCESSES, MAX_PROGRAMS};
 use task::TaskNode;
 
 /// Whether each name is one of a node's.
-fn are_names(place: &[Vec<u8>]) -> bool
-    ensures { result ≡ list_all is_file_name (names_of place.now) }
+fn are_names(place: &Place) -> bool
+    ensures { result ≡ list_all is_file_name place.now }
 {
-    for name in place {
-        if !is_valid_name(name) {
-            return false;
-        }
-    }
-    true
+    place.names().all(is_valid_name)
 }
 
 /// Whether a content is one of a node of that kind.

@@ -1,7 +1,6 @@
 //! The policy that a task's grants make.
 
 ghost use Rattle.std.specs.Prelude.{◌≡◌, IfErr, IfOk, map, option_map};
-ghost use Rattle.file_tree.specs.Views.{names_of};
 ghost use Rattle.task_reader.specs.FaultViews.{Checks, ReadsTask};
 ghost use Rattle.task_reader.specs.IndexViews.{IsIndex};
 ghost use Rattle.task.specs.Limits.{all_apart};
@@ -13,17 +12,16 @@ ghost use Rattle.task_reader.specs.declared.faults.TaskFault.TheVariants as faul
 
 use crate::faults::TaskFault;
 use crate::indexes::{IndexedNodes, number_at};
-use crate::paths::read_place;
 use crate::written::WrittenGrant;
-use file_tree::{Kind, is_front};
+use file_tree::{Kind, Place};
 use std::alloc::{AllocError, Global};
 use task::Grant;
 use texts::Name;
 
 /// The place of a path, if a directory stands there.
-fn directory_at<'t>(tree: &'t IndexedNodes<'_>, path: &str) -> Option<&'t [Vec<u8>]>
+fn directory_at<'t>(tree: &'t IndexedNodes<'_>, path: &str) -> Option<&'t Place>
     requires { IsIndex tree.now.numbers (nodes_of tree.now.nodes.items) }
-    ensures { option_map (λ p. names_of p.now) result ≡ granted_place (nodes_of tree.now.nodes.items) path.now }
+    ensures { option_map (λ p. p.now) result ≡ granted_place (nodes_of tree.now.nodes.items) path.now }
 {
     let number = number_at(tree, path.as_bytes())?;
     let node = &tree.nodes[number];
@@ -42,15 +40,12 @@ fn place_grant(
     requires { IsIndex tree.now.numbers (nodes_of tree.now.nodes.items) }
     ensures { IfOk result (λ placed. option_map grant_of placed ≡ grant_placed (nodes_of tree.now.nodes.items) (grant_seen grant.now)) }
 {
-    if directory_at(tree, grant.path).is_none() {
-        return Ok(None);
-    }
-    let Some(place) = read_place(alloc, grant.path.as_bytes())? else {
+    let Some(place) = directory_at(tree, grant.path) else {
         return Ok(None);
     };
     Ok(Some(Grant {
         name: Name::new(grant.name.as_bytes()),
-        path: place,
+        path: place.copy(alloc)?,
         operations: Vec::from_slice(alloc, &grant.operations)?,
     }))
 }
@@ -60,9 +55,9 @@ fn grant_places<'t>(
     alloc: Global,
     tree: &'t IndexedNodes<'_>,
     written: &[WrittenGrant<'_>],
-) -> Result<Option<Vec<&'t [Vec<u8>]>>, AllocError>
+) -> Result<Option<Vec<&'t Place>>, AllocError>
     requires { IsIndex tree.now.numbers (nodes_of tree.now.nodes.items) }
-    ensures { IfOk result (λ places. option_map (λ places. map (λ p. names_of p.now) places.items) places
+    ensures { IfOk result (λ places. option_map (λ places. map (λ p. p.now) places.items) places
         ≡ granted_places (nodes_of tree.now.nodes.items) (grants_seen written.now)) }
 {
     let mut places = Vec::with_capacity(alloc, written.len())?;
@@ -76,11 +71,11 @@ fn grant_places<'t>(
 }
 
 /// Whether no place begins with the one before it.
-fn none_begins_so(places: &[&[Vec<u8>]]) -> bool
-    ensures { result ≡ none_begins_so (map (λ p. names_of p.now) places.now) }
+fn none_begins_so(places: &[&Place]) -> bool
+    ensures { result ≡ none_begins_so (map (λ p. p.now) places.now) }
 {
     for at in 1..places.len() {
-        if is_front(places[at - 1], places[at]) {
+        if places[at].begins_with(places[at - 1]) {
             return false;
         }
     }
@@ -88,12 +83,12 @@ fn none_begins_so(places: &[&[Vec<u8>]]) -> bool
 }
 
 /// Whether none of some places begins with another. In the order of places, what begins with a place stands right behind it.
-fn are_apart(places: Vec<&[Vec<u8>]>) -> Result<bool, TaskFault>
-    ensures apart { IfOk result (λ apart. apart ≡ all_apart are_separate (map (λ p. names_of p.now) places.entry.items)) }
+fn are_apart(places: Vec<&Place>) -> Result<bool, TaskFault>
+    ensures apart { IfOk result (λ apart. apart ≡ all_apart are_separate (map (λ p. p.now) places.entry.items)) }
     ensures memory { IfErr result (λ error. error ≡ fault.Memory) }
 {
     let mut places = places;
-    places.sort()?;
+    places.sort_by(|place, other| place.compare(other))?;
     Ok(none_begins_so(&places))
 }
 

@@ -1,10 +1,6 @@
 //! What a new descriptor is bound by.
 
-ghost use Rattle.std.specs.Prelude.{◌≡◌, ◌++◌, option_map, true};
-ghost use Rattle.std.specs.List.{list_all};
-ghost use Rattle.std.specs.Str.{bytes_eq};
-ghost use Rattle.file_tree.specs.Places.{names_text, place_text};
-ghost use Rattle.file_tree.specs.Views.{names_of};
+ghost use Rattle.std.specs.Prelude.{◌≡◌, option_map};
 ghost use Rattle.certificate.specs.Views.{held_of, target_of};
 ghost use Rattle.rules.specs.Outcomes.{all_held, beneath_target, may_be_end, may_be_node, target_of_path, unknown_held};
 ghost use Rattle.task.specs.Views.{grants_of};
@@ -14,38 +10,6 @@ use rights::{Fcntls, Rights};
 use task::{Grant, Task};
 use texts::Name;
 
-/// Whether a text is this name and then more names, each after a `/`.
-fn is_joined(name: &[u8], names: &[Vec<u8>], text: &[u8]) -> bool
-    ensures { result ≡ bytes_eq (name.now ++ names_text (names_of names.now)) text.now }
-{
-    match name {
-        [] => match names {
-            [] => text.is_empty(),
-            [next, others @ ..] => match text {
-                [] => false,
-                [byte, rest @ ..] => *byte == b'/' && is_joined(next, others, rest),
-            },
-        },
-        [first, more @ ..] => match text {
-            [] => false,
-            [byte, rest @ ..] => first == byte && is_joined(more, names, rest),
-        },
-    }
-}
-
-/// Whether a text is that of a place.
-fn is_text_of(place: &[Vec<u8>], text: &[u8]) -> bool
-    ensures { result ≡ bytes_eq (place_text (names_of place.now)) text.now }
-{
-    match place {
-        [] => b"/".as_slice() == text,
-        [first, rest @ ..] => match text {
-            [] => false,
-            [byte, after @ ..] => *byte == b'/' && is_joined(first, rest, after),
-        },
-    }
-}
-
 /// What an open leads to, among these grants.
 fn target_among(grants: &[Grant], path: &[u8]) -> Target
     ensures { target_of result ≡ target_of_path (grants_of grants.now) path.now }
@@ -53,7 +17,7 @@ fn target_among(grants: &[Grant], path: &[u8]) -> Target
     match grants {
         [] => Target::AnyNode,
         [first, rest @ ..] => {
-            if is_text_of(&first.path, path) {
+            if first.path.text() == path {
                 return Target::InGrant(first.name);
             }
             target_among(rest, path)

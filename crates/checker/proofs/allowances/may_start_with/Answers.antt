@@ -7,11 +7,10 @@ use Rattle.certificate.specs.Order.{same_class}
 use Rattle.certificate.specs.Views.{held_end_of}
 use Rattle.checker.specs.AllowanceViews.{allowance_of}
 use Rattle.file_tree.specs.Nodes.{Node, node}
-use Rattle.file_tree.specs.Views.{names_of}
 use Rattle.rights.specs.Classes.{Initial}
 use Rattle.rights.specs.Views.{side_seen}
 use Rattle.rules.specs.Authority.{is_below_ceiling}
-use Rattle.task.specs.Views.{grant_of}
+use Rattle.task.specs.Views.{grant_of, nodes_of}
 use Rattle.checker.proofs.Folds.{any_seen}
 use Rattle.checker.proofs.allowances.may_start_with.Goals as goal
 
@@ -27,8 +26,8 @@ returns-in-Node c =
     let a = allowance_of c.args.allowance.now in
     let rights = c.args.descriptor.rights.0 in
     let grants = c.grants.result.now in
-    let placed = c.place_of-place.ensures ∙ ap (λ (nodes : List Node). (node nodes c.in-Node.node).place) c.nodes.ensures.nodes in
+    let placed = ap (λ (nodes : List Node). (node nodes c.in-Node.node).place) c.nodes-nodes.ensures.nodes in
     let any : c.any.result ≡ list_any (is_below_ceiling a rights (node c.args.task.now.nodes c.in-Node.node).place) c.args.task.now.grants =
-    any_seen (is_below_ceiling a rights (names_of c.place_of-place.result.now)) grant_of grants _ _ _ c.any.ensures.ran (YieldsList-from_slice grants cc)
+    any_seen (is_below_ceiling a rights (node (nodes_of c.nodes-nodes.result.now) c.in-Node.node).place) grant_of grants _ _ _ c.any.ensures.ran (YieldsList-from_slice grants cc)
     (λ x b q k. search (rules, tests)) ∙ (λ k. list_any (is_below_ceiling a rights (placed k)) (c.grants.ensures k)) in
     search (rules, tests)

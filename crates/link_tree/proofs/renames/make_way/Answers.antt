@@ -3,7 +3,6 @@ use Rattle.file_tree.specs.Nodes.{node, child_of}
 use Rattle.file_tree.specs.Places.{at_name}
 use Rattle.link_tree.specs.Links.{linked_nodes}
 use Rattle.link_tree.specs.LinkViews.{links_of}
-use Rattle.file_tree.specs.Views.{names_of}
 use Rattle.link_tree.proofs.LinkEntryLaws.{count_links}
 use Rattle.link_tree.proofs.LinkChanges.{filed_length}
 use Rattle.link_tree.proofs.LinkRenames.{way_some, blocked_some}
@@ -18,9 +17,9 @@ pub returns-in_ok-file_under-in-Some-clause-ok : goal.returns-in_ok-file_under-i
 returns-in_ok-file_under-in-Some-clause-ok c =
     let t = linked_nodes (links_of c.args.entries.now.items) in
     let found : Some c.in-Some.old ≡ child_of (linked_nodes (links_of c.args.entries.now.items)) c.args.dir c.args.name.now = rw c.deref.ensures.value at c.in-Some.ensures.found in
-    let place : names_of c.in_ok-place-in-Some.place.items ≡ (node (linked_nodes (links_of c.args.entries.now.items)) c.in-Some.old).place =
+    let place : c.in_ok-place-in-Some.place ≡ (node (linked_nodes (links_of c.args.entries.now.items)) c.in-Some.old).place =
     rw c.deref-in-Some.ensures.value at c.in_ok-place-in-Some.ensures in
     way_some (links_of c.args.entries.now.items) (links_of c.file_under-in-Some.new.entries.items) (links_of c.replace_stand.new.entries.items)
-    (child_of t c.args.dir c.args.name.now) c.in-Some.old (names_of c.in_ok-place-in-Some.place.items)
+    (child_of t c.args.dir c.args.name.now) c.in-Some.old c.in_ok-place-in-Some.place
     (at_name (node t c.args.dir).place c.args.name.now) c.args.dir c.args.name.now c.in_ok-key.key.items c.args.n
     found c.in_ok-file_under-in-Some.ensures.ok c.in_ok-key.ensures.items c.replace_stand.ensures.changed (place ∙ (blocked_some t c.args.dir c.in-Some.old c.args.name.now found).1)

@@ -1,24 +1,24 @@
-use Rattle.std.proofs.Common.{◌≡◌, ◌<◌, ◌≤◌, ◌++◌, List, [], ◌∷◌, length, take, true, sym, subst, ap, ◌∙◌, arith}
+use Rattle.std.proofs.Common.{◌≡◌, ◌<◌, ◌≤◌, ◌-◌, ◌++◌, List, [], ◌∷◌, Some, length, take, true, sym, subst, ap, ◌∙◌, arith}
 use Rattle.std.proofs.lemmas.List.{length-take-le, take-map}
 use Rattle.std.proofs.Math.ListN.{length-map}
 use Rattle.file_tree.specs.Nodes.{Node, node}
 use Rattle.file_tree.specs.Places.{above, at_name}
 use Rattle.rights.specs.Limits.{most_nodes}
-use Rattle.file_tree.specs.Views.{names_of}
+use Rattle.std.specs.Prelude.{slice_get}
+use Rattle.std.specs.Option.{option_copied}
+use Rattle.file_tree.proofs.PlaceLaws.{last_named, none_last}
 use Rattle.file_tree.specs.WellFormed.{has_directory, is_directory_at}
 use Rattle.task.specs.Limits.{can_follow}
 use Rattle.task.specs.Views.{node_of, nodes_of}
 use Rattle.simulator.specs.Starts.{IsMadeIn}
-use Rattle.simulator.proofs.Built.{Parts, any_default, can_at, few_nodes, has_holder, has_name, made_in, no_names, nodes_more, parts, take_more}
+use Rattle.simulator.proofs.Built.{any_default, can_at, few_nodes, has_holder, has_name, made_in, nodes_more, take_more}
 use Rattle.simulator.proofs.building.build_next.Goals as goal
 
 pub directory_near-directory-requires : goal.directory_near-directory-requires
 directory_near-directory-requires g c =
     let nodes : List Node = nodes_of c.args.nodes.now in
     let same : node nodes c.args.made ≡ node_of c.index-nodes-made.result = nodes_more node_of c.args.nodes.now c.args.made c.index-nodes-made.result c.requires.within c.index-nodes-made.is in
-    let facts : Parts (λ name. name.items) c.as_slice.result.now c.name-item.result = parts (λ name. name.items) c.as_slice.result.now c.name-item.result c.in-len1-up.len_at_least c.name-item.is in
-    let place = ap (λ s. above (names_of s)) c.as_slice.ensures.value ∙ ap (λ (m : Node). above m.place) (sym same) in
-    (λ i. has_directory (sym (take-map node_of c.args.made c.args.nodes.now) i) ((facts.front ∙ place) i))
+    (λ i. has_directory (sym (take-map node_of c.args.made c.args.nodes.now) i) (above (sym same i).place))
     ∙ has_holder (take c.args.made nodes) (node nodes c.args.made)
     (can_at nodes c.args.made c.requires.valid c.requires.some
     (subst (λ n. c.args.made < n) (sym (length-map c.args.nodes.now node_of)) c.requires.within))
@@ -29,18 +29,15 @@ build_node-requires-clause-made g c =
     let m : Node = node_of c.index-nodes-made.result in
     let low : c.args.made < length nodes = subst (λ n. c.args.made < n) (sym (length-map c.args.nodes.now node_of)) c.requires.within in
     let same : node nodes c.args.made ≡ m = nodes_more node_of c.args.nodes.now c.args.made c.index-nodes-made.result c.requires.within c.index-nodes-made.is in
-    let facts : Parts (λ name. name.items) c.as_slice.result.now c.name-item.result = parts (λ name. name.items) c.as_slice.result.now c.name-item.result c.in-len1-up.len_at_least c.name-item.is in
-    let place : names_of c.as_slice.result.now ≡ m.place = ap names_of c.as_slice.ensures.value in
     let test : can_follow (take c.args.made nodes) m ≡ true = subst (λ n. can_follow (take c.args.made nodes) n ≡ true) same (can_at nodes c.args.made c.requires.valid c.requires.some low) in
     let few : length nodes ≤ most_nodes = few_nodes nodes c.requires.valid in
     let made : length (take c.args.made nodes) ≡ c.args.made = length-take-le c.args.made nodes (omega arith) in
     let there : is_directory_at (above m.place) (node (take c.args.made nodes) c.directory_near-directory.result) ≡ true =
-    (λ i. is_directory_at (sym (facts.front ∙ ap above place) i) (node (take-map node_of c.args.made c.args.nodes.now i) c.directory_near-directory.result))
+    (λ i. is_directory_at (above m.place) (node (take-map node_of c.args.made c.args.nodes.now i) c.directory_near-directory.result))
     ∙ c.directory_near-directory.ensures.directory
     in
-    let named : at_name (above m.place) c.deref.result.now ≡ m.place =
-    (λ i. at_name (above (sym place i)) (c.deref.ensures.value i)) ∙ facts.whole ∙ place
-    in
+    let name : slice_get m.place (length m.place - 1) ≡ Some c.in-Some.name.now = sym c.in-Some.ensures in
+    let named : at_name (above m.place) c.in-Some.name.now ≡ m.place = last_named m.place c.in-Some.name.now name in
     let number : c.directory_near-directory.result < length c.args.numbers.now =
     (let below : c.directory_near-directory.result < length (take c.args.made c.args.nodes.now) = c.directory_near-directory.ensures.below in let slice : length
     (take c.args.made c.args.nodes.now) ≡ c.args.made = length-take-le c.args.made c.args.nodes.now
@@ -50,9 +47,9 @@ build_node-requires-clause-made g c =
     ∙ any_default c.args.numbers.now c.directory_near-directory.result c.index-numbers-directory.result 0 number
     ∙ c.requires.numbers c.directory_near-directory.result number
     in
-    subst (λ t. IsMadeIn t c.index-numbers-directory.result c.deref.result.now m) (sym c.requires.made)
-    (subst (λ d. IsMadeIn (take c.args.made nodes) d c.deref.result.now m) (sym directory)
-    (made_in (take c.args.made nodes) m c.directory_near-directory.result c.deref.result.now (omega arith) test there named))
+    subst (λ t. IsMadeIn t c.index-numbers-directory.result c.in-Some.name.now m) (sym c.requires.made)
+    (subst (λ d. IsMadeIn (take c.args.made nodes) d c.in-Some.name.now m) (sym directory)
+    (made_in (take c.args.made nodes) m c.directory_near-directory.result c.in-Some.name.now (omega arith) test there named))
 
 pub returns-clause-nodes : goal.returns-clause-nodes
 returns-clause-nodes g c =
@@ -69,7 +66,7 @@ unreachable-requires g c =
     let low : c.args.made < length nodes = subst (λ n. c.args.made < n) (sym (length-map c.args.nodes.now node_of)) c.requires.within in
     let same : node nodes c.args.made ≡ node_of c.index-nodes-made.result = nodes_more node_of c.args.nodes.now c.args.made c.index-nodes-made.result c.requires.within c.index-nodes-made.is in
     has_name nodes c.args.made c.requires.valid c.requires.some low
-    (ap (λ (m : Node). m.place) same ∙ ap names_of (sym c.as_slice.ensures.value) ∙ no_names (λ name. name.items) c.as_slice.result.now c.in_default.len_below)
+    (ap (λ (m : Node). m.place) same ∙ none_last c.index-nodes-made.result.place (sym c.name.ensures ∙ ap option_copied c.in_default.is))
 
 pub build_node-requires-clause-there : goal.build_node-requires-clause-there
 build_node-requires-clause-there g c =

@@ -1,14 +1,13 @@
-use Rattle.std.proofs.Common.{map, sym, ap, ◌∙◌}
-use Rattle.std.specs.Cmp.Lexicographic.{slice_cmp}
-use Rattle.file_tree.specs.Views.{names_of}
+use Rattle.std.proofs.Common.{map, rules, sym, ap, ◌∙◌}
+use Rattle.std.specs.Ordering.{is_lt}
+use Rattle.std.proofs.lemmas.List.Sorted.{answers_always}
 use Rattle.task_reader.specs.ApartViews.{none_begins_so}
-use Rattle.task_reader.proofs.ApartLaws.{name_cmp, slice_cmp-map, sorted-places}
+use Rattle.task_reader.proofs.ApartLaws.{place_cmp, places-order, sorted-places}
 use Rattle.task_reader.proofs.placed_grants.are_apart.Goals as goal
 
 pub returns-clause-apart : goal.returns-clause-apart
 returns-clause-apart c =
-    let places = c.args.places.items in
     let sorted =
-    sorted-places (λ p. names_of p.now) (λ x y. slice_cmp (λ v w. name_cmp v.items w.items) x.now y.now)
-    (λ x y. slice_cmp-map (λ v. v.items) name_cmp x.now y.now) places c.sort.new.self.items c.sort.ensures.permutation c.in_ok-sort.ensures.sorted in
-    c.none_begins_so.ensures ∙ ap (λ ps. none_begins_so (map (λ p. names_of p.now) ps)) c.deref.ensures.value ∙ sym sorted
+    c.in_ok-sort_by.ensures.sorted (λ x y. is_lt (place_cmp x.now y.now)) (places-order (λ p. p.now)) (answers_always _ _ _ (λ f a r g called. search rules)) in
+    c.none_begins_so.ensures ∙ ap (λ ps. none_begins_so (map (λ p. p.now) ps)) c.deref.ensures.value
+    ∙ sym (sorted-places (λ p. p.now) c.args.places.items c.sort_by.new.self.items c.sort_by.ensures.permutation sorted)

@@ -1,6 +1,5 @@
 use Rattle.std.proofs.Common.{◌≡◌, None, Some, map, option_map, false, true, refl, sym, ap, subst, ◌∙◌}
 use Rattle.std.specs.Result.{IsOk}
-use Rattle.file_tree.specs.Views.{names_of}
 use Rattle.task.specs.Views.{nodes_of}
 use Rattle.task_reader.specs.ApartViews.{granted_places}
 use Rattle.task_reader.specs.Reading.{Wrong_grant, or_mistake}
@@ -12,15 +11,15 @@ pub returns-in_default : goal.returns-in_default
 returns-in_default c =
     let tree = nodes_of c.args.tree.now.nodes.items in
     let grants = grants_seen c.args.written.now in
-    let none : granted_places tree grants ≡ None = sym c.in_ok-places.ensures ∙ ap (option_map (λ ps. map (λ p. names_of p.now) ps.items)) c.in_default.is in
+    let none : granted_places tree grants ≡ None = sym c.in_ok-places.ensures ∙ ap (option_map (λ ps. map (λ p. p.now) ps.items)) c.in_default.is in
     ap (or_mistake Wrong_grant) (no-policy tree grants none)
 
 pub returns-then-not-branch : goal.returns-then-not-branch
 returns-then-not-branch c =
     let tree = nodes_of c.args.tree.now.nodes.items in
     let grants = grants_seen c.args.written.now in
-    let places = map (λ p. names_of p.now) c.in-Some.places.items in
-    let some : granted_places tree grants ≡ Some places = sym c.in_ok-places.ensures ∙ ap (option_map (λ ps. map (λ p. names_of p.now) ps.items)) c.in-Some.is in
+    let places = map (λ p. p.now) c.in-Some.places.items in
+    let some : granted_places tree grants ≡ Some places = sym c.in_ok-places.ensures ∙ ap (option_map (λ ps. map (λ p. p.now) ps.items)) c.in-Some.is in
     let policy = policy-if tree grants places false some (sym c.if-not-branch.true ∙ c.in_ok-are_apart.ensures.apart) in
     ap (or_mistake Wrong_grant) policy.policy
 
@@ -28,7 +27,7 @@ pub returns : goal.returns
 returns c =
     let tree = nodes_of c.args.tree.now.nodes.items in
     let grants = grants_seen c.args.written.now in
-    let places = map (λ p. names_of p.now) c.in-Some.places.items in
-    let some : granted_places tree grants ≡ Some places = sym c.in_ok-places.ensures ∙ ap (option_map (λ ps. map (λ p. names_of p.now) ps.items)) c.in-Some.is in
+    let places = map (λ p. p.now) c.in-Some.places.items in
+    let some : granted_places tree grants ≡ Some places = sym c.in_ok-places.ensures ∙ ap (option_map (λ ps. map (λ p. p.now) ps.items)) c.in-Some.is in
     let policy = policy-if tree grants places true some (sym c.if-not-branch.false ∙ c.in_ok-are_apart.ensures.apart) in
     subst (λ p. IsOk (or_mistake Wrong_grant p)) (sym policy.policy) refl

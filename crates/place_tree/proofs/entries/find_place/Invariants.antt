@@ -1,9 +1,0 @@
-use Rattle.std.proofs.Common.{◌≡◌, drop}
-use Rattle.file_tree.specs.Nodes.{node_from}
-use Rattle.file_tree.specs.Views.{names_of}
-use Rattle.place_tree.specs.EntryViews.{nodes_of}
-use Rattle.place_tree.proofs.entries.find_place.Given as goal
-
--- what is left decides it
-abbrev pub invariant-loop-i : goal.invariant-loop-i
-invariant-loop-i l = node_from l.i (names_of l.place) (nodes_of (drop l.i l.entries)) ≡ node_from 0 (names_of l.place) (nodes_of l.entries)
