@@ -1,6 +1,11 @@
 -- Rows of what stands where in a text.
-use Rattle.std.proofs.Common.{◌≡◌, [], ◌∷◌, refl}
-use Rattle.std.specs.Prelude.{codes, Some, None}
+use Rattle.std.proofs.Common.{◌≡◌, ◌<◌, ℕ, ◌-◌, ◌^◌, List, [], ◌∷◌, ◌++◌, Bool, true, false, refl, sym, ap, ◌∙◌, arith}
+use Rattle.std.specs.Prelude.{codes, min, nat_lt, Some, None, if◌then◌else◌}
+use Rattle.std.specs.Fmt.{decimal}
+use Rattle.std.specs.List.{flat_map}
+use Rattle.task_text.specs.FaultLines.{more_line, placed_line}
+use Rattle.task_text.specs.FaultViews.{AddsFaultLines}
+use Rattle.task_text.specs.declared.pages.Page.{Page}
 use Rattle.task_text.specs.Instructions.{line_there, span_of, text_there}
 use Rattle.task_text.specs.Places.{part, place_at}
 
@@ -33,3 +38,31 @@ text_of_instruction = refl
 
 line_of_instruction : line_there (codes "x\n\nhalt") (3 ∷ 4 ∷ []) 7 (Some (1, 2)) ≡ 3
 line_of_instruction = refl
+
+-- a line of how many more, and none where there are no more
+more_faults : more_line 12 ≡ codes "faults that are left out: " ++ decimal 12 ++ codes "\n"
+more_faults = refl
+
+no_more_faults : more_line 0 ≡ []
+no_more_faults = refl
+
+-- Whatever the faults are, what is told of them begins a line of its own: nothing else is added.
+abbrev first : List ℕ → ℕ
+first [] = 0
+first (byte ∷ text) = byte
+
+unlike : (a b : ℕ) → a < b → a ≡ b → ⊥
+unlike a b below same = absurd (omega arith)
+
+told_of : (file : List ℕ) (faults : List (ℕ × List ℕ)) (more : ℕ) → flat_map (placed_line file) faults ++ more_line more ≡ codes "x" → ⊥
+told_of file [] more is = go (nat_lt 0 more) is
+  where
+    go : (some : Bool) → (if some then codes "faults that are left out: " ++ decimal (min more (2 ^ 32 - 1)) ++ codes "\n" else []) ≡ codes "x" → ⊥
+    go true is = unlike 102 120 (omega arith) (ap first is)
+    go false is = unlike 0 120 (omega arith) (ap first is)
+told_of file (fault ∷ faults) more is = unlike 108 120 (omega arith) (ap first is)
+
+another_text : (file : List ℕ) (before after : Page) → after.is_short ≡ false → before.bytes.items ≡ [] → after.bytes.items ≡ codes "x" → AddsFaultLines file before after → ⊥
+another_text file before after whole empty is adds =
+    told_of file adds.faults adds.more
+    (ap (λ text. text ++ (flat_map (placed_line file) adds.faults ++ more_line adds.more)) (sym empty) ∙ sym (adds.tells.adds whole) ∙ is)

@@ -1,7 +1,7 @@
 -- What the faults of a file add to a page.
-use Rattle.std.specs.Prelude.{ℕ, List}
+use Rattle.std.specs.Prelude.{ℕ, ◌≡◌, ◌≤◌, ◌++◌, List, length}
 use Rattle.std.specs.List.{flat_map}
-use Rattle.task_text.specs.FaultLines.{placed_line}
+use Rattle.task_text.specs.FaultLines.{more_line, most_told, placed_line}
 use Rattle.task_text.specs.PageViews.{Adds}
 use Rattle.task_text.specs.declared.field_faults.Line.{Line}
 use Rattle.task_text.specs.declared.pages.Page.{Page}
@@ -10,7 +10,11 @@ use Rattle.task_text.specs.declared.pages.Page.{Page}
 abbrev pub fault_of : Line → ℕ × List ℕ
 fault_of line = (line.offset, line.text.bytes.items)
 
--- a line was added for each of some faults, and nothing else, unless memory is refused by now
+-- A line was added for each of some faults, no more than are told, and a line of how many more there are, if there are any; and
+-- nothing else, unless memory is refused by now. Some are left out only where so many are told.
 pub record AddsFaultLines (file : List ℕ) (before after : Page) : Type 0 where
   pub faults : List (ℕ × List ℕ)
-  pub tells : Adds before after (flat_map (placed_line file) faults)
+  pub more : ℕ
+  pub few : length faults ≤ most_told
+  pub left_out : (more ≡ 0 → ⊥) → length faults ≡ most_told
+  pub tells : Adds before after (flat_map (placed_line file) faults ++ more_line more)

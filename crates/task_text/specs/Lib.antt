@@ -1,5 +1,6 @@
 pub mod PageViews
 pub mod Places
+pub mod PlaceViews
 pub mod Instructions
 pub mod ProgramViews
 pub mod FaultLines

@@ -2,12 +2,14 @@
 
 use crate::code_forms::{add_meant, has_known_words, wanted, words_of};
 use crate::field_faults::Faults;
-use crate::near::{is_known, meant};
+use crate::near::meant;
 use crate::pages::Page;
 use crate::pages::Piece::{Bytes, Text};
 use crate::places::part;
 use crate::program_texts::{ProgramText, is_blank};
+use indexmap::IndexSet;
 use prog_asm::{Form, LineFault, LineMistake, MNEMONICS, Span, line_faults};
+use rights::limits::MAX_INSTRUCTIONS;
 use std::alloc::{AllocError, Global};
 use texts::Lines;
 
@@ -21,16 +23,39 @@ fn mnemonics(alloc: Global) -> Result<Vec<&'static str>, AllocError> {
 }
 
 /// The labels of a program.
-fn labels_of(alloc: Global, text: &ProgramText) -> Result<Vec<&str>, AllocError> {
-    let mut labels = Vec::new(alloc);
-    for line in &text.lines {
-        if line.label.0 < line.label.1 {
-            if let Ok(label) = str::from_utf8(part(&text.code.bytes, line.label.0, line.label.1)) {
-                labels.push(label)?;
+#[derive(Drop)]
+struct Labels<'t> {
+    all: IndexSet<&'t [u8]>,
+    /// Those that may be meant: no more than a program may have.
+    known: Vec<&'t str>,
+}
+
+impl<'t> Labels<'t> {
+    /// The labels of the program of a text.
+    fn new(alloc: Global, text: &'t ProgramText) -> Result<Labels<'t>, AllocError> {
+        let mut labels = Labels {
+            all: IndexSet::new(alloc),
+            known: Vec::new(alloc),
+        };
+        for line in &text.lines {
+            labels.add(part(&text.code.bytes, line.label.0, line.label.1))?;
+        }
+        Ok(labels)
+    }
+
+    /// Adds the label of a line, if it has one.
+    fn add(&mut self, label: &'t [u8]) -> Result<(), AllocError> {
+        if label.is_empty() {
+            return Ok(());
+        }
+        self.all.insert(label)?;
+        if self.known.len() < MAX_INSTRUCTIONS {
+            if let Ok(label) = str::from_utf8(label) {
+                self.known.push(label)?;
             }
         }
+        Ok(())
     }
-    Ok(labels)
 }
 
 /// The word of a line around a byte.
@@ -197,22 +222,21 @@ impl<'a> CodeFault<'a> {
     }
 
     /// Tells of a label that no instruction has.
-    fn add_label(&self, faults: &mut Faults<'_>) -> Result<(), AllocError> {
-        let known = labels_of(faults.alloc, self.text)?;
-        if is_known(self.word(), &known) {
+    fn add_label(&self, faults: &mut Faults<'_>, labels: &Labels<'_>) {
+        let word = self.word();
+        if labels.all.contains(&word) {
             self.add(faults, "is the label of no instruction: none follows it");
         } else {
-            faults.add_word(self.offset(), "label", self.word(), &known);
+            faults.add_word(self.offset(), "label", word, &labels.known);
         }
-        Ok(())
     }
 
     /// Tells of the fault.
-    fn tell(&self, faults: &mut Faults<'_>) -> Result<(), AllocError> {
+    fn tell(&self, faults: &mut Faults<'_>, labels: &Labels<'_>) -> Result<(), AllocError> {
         match self.fault.mistake {
             LineMistake::Word => self.add_word(faults)?,
             LineMistake::Operand => self.add_operand(faults),
-            LineMistake::NoLabel => self.add_label(faults)?,
+            LineMistake::NoLabel => self.add_label(faults, labels),
             LineMistake::TwiceLabel => self.add(faults, "is a label for the second time"),
             LineMistake::TooMany => {
                 faults.add(
@@ -259,6 +283,7 @@ fn add_program(faults: &mut Faults<'_>, text: &ProgramText) -> Result<(), AllocE
     for line in Lines::new(&code) {
         lines.push(line)?;
     }
+    let labels = Labels::new(faults.alloc, text)?;
     for fault in &line_faults(faults.alloc, &code)? {
         if let Some(line) = lines.get(fault.line.saturating_sub(1)) {
             let (start, fault) = (line.offset, *fault);
@@ -269,7 +294,7 @@ fn add_program(faults: &mut Faults<'_>, text: &ProgramText) -> Result<(), AllocE
                 start,
                 fault,
             }
-            .tell(faults)?;
+            .tell(faults, &labels)?;
         }
     }
     Ok(())

@@ -1,7 +1,10 @@
 //! Faults in the keys and words of a task's text.
 
-ghost use Rattle.std.specs.Prelude.{OnOk};
-ghost use Rattle.task_text.specs.FaultViews.{AddsFaultLines};
+ghost use Rattle.std.specs.Prelude.{OnOk, map};
+ghost use Rattle.std.specs.List.{flat_map};
+ghost use Rattle.task_text.specs.FaultLines.{more_line, placed_line};
+ghost use Rattle.task_text.specs.FaultViews.{AddsFaultLines, fault_of};
+ghost use Rattle.task_text.specs.PageViews.{Adds};
 
 use crate::decoded::decode;
 use crate::fields::{Entry, Fields, Table, TableKind};
@@ -9,7 +12,7 @@ use crate::known_words::{Value, keys_of, kind_name, needed_keys, value_of};
 use crate::near::{is_known, meant};
 use crate::pages::Page;
 use crate::pages::Piece::{self, Bytes, Number, Text};
-use crate::places::place_at;
+use crate::places::{Cursor, part};
 use crate::tokens::{Token, TokenKind};
 use std::alloc::{AllocError, Global};
 use texts::is_name;
@@ -30,6 +33,38 @@ pub(crate) struct Faults<'a> {
     is_short: bool,
 }
 
+/// So many faults are told.
+const MOST_TOLD: usize = 100;
+
+/// Adds the lines of faults of this file to a page.
+fn add_lines(page: &mut Page, file: &[u8], lines: &[Line])
+    ensures { Adds page.old page.new (flat_map (placed_line file.now) (map fault_of lines.now)) }
+{
+    let mut cursor = Cursor::FIRST;
+    for line in lines {
+        let place = cursor.go_to(file, line.offset);
+        page.pieces(&[
+            Text("line "),
+            Number(place.line),
+            Text(", column "),
+            Number(place.column),
+            Text(": "),
+        ]);
+        page.page(&line.text);
+        page.text("\n");
+    }
+}
+
+/// Adds how many faults are left out, if there are any.
+fn add_more(page: &mut Page, more: usize)
+    ensures { Adds page.old page.new (more_line more) }
+{
+    if more > 0 {
+        let more = more.min(u32::MAX as usize) as u32;
+        page.pieces(&[Text("faults that are left out: "), Number(more), Text("\n")]);
+    }
+}
+
 impl<'a> Faults<'a> {
     /// No faults yet of a text.
     pub(crate) fn new(alloc: Global, file: &'a [u8]) -> Faults<'a> {
@@ -48,7 +83,7 @@ impl<'a> Faults<'a> {
         self.add_page(offset, text);
     }
 
-    /// Adds the lines of all faults of this file to a page, in the order of the text.
+    /// Adds the lines of the faults of this file to a page, in the order of the text: of the first hundred, and then how many more there are.
     pub(crate) fn tell(&mut self, file: &[u8], page: &mut Page) -> Result<(), AllocError>
         ensures { OnOk result (AddsFaultLines file.now page.old page.new) }
     {
@@ -56,18 +91,9 @@ impl<'a> Faults<'a> {
             return Err(AllocError);
         }
         self.lines.sort_by_key(|line| line.offset)?;
-        for line in &self.lines {
-            let place = place_at(file, line.offset);
-            page.pieces(&[
-                Text("line "),
-                Number(place.line),
-                Text(", column "),
-                Number(place.column),
-                Text(": "),
-            ]);
-            page.page(&line.text);
-            page.text("\n");
-        }
+        let told = self.lines.len().min(MOST_TOLD);
+        add_lines(page, file, &self.lines[..told]);
+        add_more(page, self.lines.len() - told);
         Ok(())
     }
 
@@ -100,6 +126,7 @@ impl<'a> Faults<'a> {
                 line.text(one);
                 line.text("` is meant?");
             }
+            None if known.is_empty() => line.text("` isn't there: there is none"),
             None => {
                 line.text("` is none of ");
                 add_list(&mut line, known);
@@ -238,14 +265,25 @@ fn add_entry(faults: &mut Faults<'_>, fields: &Fields, entry: &Entry) -> Result<
     }
 }
 
-/// Whether a word stands in a list before, by its place among all words.
+/// Whether a word stands in a list before, by its place among all words. A known word is found after few others that are known.
 fn is_twice(file: &[u8], fields: &Fields, number: usize) -> bool {
-    let Some(item) = fields.items.get(number) else {
+    let Some((item, before)) = fields
+        .items
+        .get(..number.saturating_add(1))
+        .and_then(|items| items.split_last())
+    else {
         return false;
     };
     let word = item.word.written(file);
-    fields.items.iter().take(number).any(|before| before.entry == item.entry
-        && before.word.written(file) == word)
+    for other in before.iter().rev() {
+        if other.entry != item.entry {
+            return false;
+        }
+        if other.word.written(file) == word {
+            return true;
+        }
+    }
+    false
 }
 
 /// A word of a list whose words are known: the word, the key of the list, and its words.
@@ -289,11 +327,11 @@ fn add_item(faults: &mut Faults<'_>, fields: &Fields, number: usize) {
 }
 
 /// Whether a table has a key, or one of its kind is there by a header.
-fn has_key(file: &[u8], fields: &Fields, table: usize, kind: TableKind, key: &str) -> bool {
-    if fields.has(file, table, key.as_bytes()) {
+fn has_key(file: &[u8], fields: &Fields, number: usize, table: &Table, key: &str) -> bool {
+    if fields.has(file, number, key.as_bytes()) {
         return true;
     }
-    let beneath = match (kind, key) {
+    let beneath = match (table.kind, key) {
         (TableKind::Top, "node") => TableKind::Node,
         (TableKind::Top, "grant") => TableKind::Grant,
         (TableKind::Top, "process") => TableKind::Process,
@@ -301,10 +339,7 @@ fn has_key(file: &[u8], fields: &Fields, table: usize, kind: TableKind, key: &st
         (TableKind::Process, "fd") => TableKind::Descriptor,
         _ => return false,
     };
-    fields
-        .tables
-        .iter()
-        .any(|other| other.kind == beneath && other.parent == table)
+    table.holds(beneath)
 }
 
 /// Whether the name of a table stands in a header.
@@ -323,7 +358,7 @@ fn add_missing(faults: &mut Faults<'_>, fields: &Fields, number: usize) {
         faults.add_word(table.start, "table", word, known);
     }
     for key in needed_keys(table.kind) {
-        if !has_key(faults.file, fields, number, table.kind, *key) {
+        if !has_key(faults.file, fields, number, table, *key) {
             add_lack(faults, table, *key);
         }
     }
@@ -344,16 +379,9 @@ fn add_lack(faults: &mut Faults<'_>, table: &Table, key: &'static str) {
 
 /// The name of a header, up to its bracket.
 fn table_name(file: &[u8], start: usize) -> &[u8] {
-    let mut end = start;
-    for (offset, byte) in file.iter().enumerate() {
-        if offset >= start {
-            if *byte == b']' || *byte == b'\n' {
-                break;
-            }
-            end = offset.saturating_add(1);
-        }
-    }
-    crate::places::part(file, start, end)
+    let rest = part(file, start, file.len());
+    let end = rest.iter().position(|byte| *byte == b']' || *byte == b'\n');
+    part(rest, 0, end.unwrap_or(rest.len()))
 }
 
 /// Tells of the faults in keys and words.

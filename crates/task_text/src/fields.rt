@@ -4,7 +4,7 @@ use crate::tokens::{Token, TokenKind, tokens_of};
 use std::alloc::{AllocError, Global};
 
 /// What a table is of, by where it stands.
-#[derive(Clone, Copy, PartialEq, Eq)]
+#[derive(Clone, Copy, PartialEq, Eq, Hash)]
 pub(crate) enum TableKind {
     Top,
     Node,
@@ -16,13 +16,24 @@ pub(crate) enum TableKind {
 }
 
 /// A table.
-#[derive(Clone, Copy)]
+#[derive(Drop)]
 pub(crate) struct Table {
     pub kind: TableKind,
     /// The offset of its first byte.
     pub start: usize,
     /// The table that it is in, by its place among all.
     pub parent: usize,
+    /// Its keys, by their places among all.
+    entries: Vec<usize>,
+    /// The kinds of the tables in it, each once.
+    inner: Vec<TableKind>,
+}
+
+impl Table {
+    /// Whether a table of this kind is in it.
+    pub(crate) fn holds(&self, kind: TableKind) -> bool {
+        self.inner.contains(&kind)
+    }
 }
 
 /// A key of a table, and the first token of its value.
@@ -77,6 +88,8 @@ struct Reader {
     step: Step,
     /// The table of the last header.
     current: usize,
+    /// The table of the last process.
+    process: usize,
 }
 
 /// The kind of the table that stands at a key of another.
@@ -126,51 +139,94 @@ impl Fields {
         (entry.table, kind)
     }
 
+    /// The first key of this name in a table.
+    fn entry_at(&self, file: &[u8], table: usize, key: &[u8]) -> Option<&Entry> {
+        for number in &self.tables.get(table)?.entries {
+            let entry = self.entries.get(*number)?;
+            if entry.key.written(file) == key {
+                return Some(entry);
+            }
+        }
+        None
+    }
+
     /// The value of a key of a table, if it has it.
     pub(crate) fn value_at(&self, file: &[u8], table: usize, key: &[u8]) -> Option<Token> {
-        let entry = self.entries.iter().find(|entry| entry.table == table
-            && entry.key.written(file) == key)?;
-        entry.value
+        self.entry_at(file, table, key)?.value
     }
 
     /// Whether a table has a key.
     pub(crate) fn has(&self, file: &[u8], table: usize, key: &[u8]) -> bool {
-        self.entries.iter().any(|entry| entry.table == table && entry.key.written(file) == key)
+        self.entry_at(file, table, key).is_some()
     }
 
-    /// The table of the last process before a header.
-    fn last_process(&self) -> usize {
-        let mut last = 0;
-        for (number, table) in self.tables.iter().enumerate() {
-            if table.kind == TableKind::Process {
-                last = number;
+    /// Adds a table of a kind, at this offset in another.
+    fn add_table(
+        &mut self,
+        kind: TableKind,
+        start: usize,
+        parent: usize,
+    ) -> Result<(), AllocError> {
+        if let Some(outer) = self.tables.get_mut(parent) {
+            if !outer.holds(kind) {
+                outer.inner.push(kind)?;
             }
         }
-        last
+        let alloc = *self.tables.allocator();
+        self.tables.push(Table {
+            kind,
+            start,
+            parent,
+            entries: Vec::new(alloc),
+            inner: Vec::new(alloc),
+        })?;
+        Ok(())
+    }
+
+    /// Adds a key of a table, without a value yet.
+    fn add_entry(&mut self, table: usize, key: Token) -> Result<(), AllocError> {
+        if let Some(table) = self.tables.get_mut(table) {
+            table.entries.push(self.entries.len())?;
+        }
+        self.entries.push(Entry {
+            table,
+            key,
+            value: None,
+        })?;
+        Ok(())
     }
 }
 
 impl Reader {
+    /// Adds a table, and tells its place among all.
+    fn add_table(
+        &mut self,
+        kind: TableKind,
+        start: usize,
+        parent: usize,
+    ) -> Result<usize, AllocError> {
+        let table = self.fields.tables.len();
+        self.fields.add_table(kind, start, parent)?;
+        if kind == TableKind::Process {
+            self.process = table;
+        }
+        Ok(table)
+    }
+
     /// The table whose keys are read.
     fn table(&self) -> usize {
-        let mut found = self.current;
-        for frame in &self.frames {
+        for frame in self.frames.iter().rev() {
             if let Frame::Braces { table } = frame {
-                found = *table;
+                return *table;
             }
         }
-        found
+        self.current
     }
 
     /// Begins a table in braces, at this offset, as the value of a key.
     fn open_table(&mut self, file: &[u8], entry: usize, start: usize) -> Result<(), AllocError> {
         let (parent, kind) = self.fields.beneath(file, entry);
-        let table = self.fields.tables.len();
-        self.fields.tables.push(Table {
-            kind,
-            start,
-            parent,
-        })?;
+        let table = self.add_table(kind, start, parent)?;
         self.frames.push(Frame::Braces { table })?;
         self.step = Step::Key;
         Ok(())
@@ -180,15 +236,10 @@ impl Reader {
     fn close_header(&mut self, file: &[u8], name: Token) -> Result<(), AllocError> {
         let kind = kind_beneath(TableKind::Top, name.written(file));
         let parent = match kind {
-            TableKind::Descriptor => self.fields.last_process(),
+            TableKind::Descriptor => self.process,
             _ => 0,
         };
-        self.current = self.fields.tables.len();
-        self.fields.tables.push(Table {
-            kind,
-            start: name.start,
-            parent,
-        })?;
+        self.current = self.add_table(kind, name.start, parent)?;
         Ok(())
     }
 
@@ -255,11 +306,7 @@ impl Reader {
         }
         let entry = self.fields.entries.len();
         let table = self.table();
-        self.fields.entries.push(Entry {
-            table,
-            key,
-            value: None,
-        })?;
+        self.fields.add_entry(table, key)?;
         self.step = Step::Value { entry };
         Ok(())
     }
@@ -314,16 +361,13 @@ pub(crate) fn fields_of(alloc: Global, file: &[u8]) -> Result<Fields, AllocError
         entries: Vec::new(alloc),
         items: Vec::new(alloc),
     };
-    fields.tables.push(Table {
-        kind: TableKind::Top,
-        start: 0,
-        parent: 0,
-    })?;
+    fields.add_table(TableKind::Top, 0, 0)?;
     let mut reader = Reader {
         fields,
         frames: Vec::new(alloc),
         step: Step::Key,
         current: 0,
+        process: 0,
     };
     for token in &tokens_of(alloc, file)? {
         reader.take(file, *token)?;

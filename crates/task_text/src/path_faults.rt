@@ -3,11 +3,13 @@
 use crate::decoded::decode;
 use crate::field_faults::Faults;
 use crate::fields::{Fields, Table, TableKind};
-use crate::near::{is_known, meant};
+use crate::near::meant;
+use crate::pages::Page;
 use crate::pages::Piece::{Bytes, Text};
 use crate::places::part;
 use crate::tokens::{Token, TokenKind};
-use rights::limits::{MAX_DESCRIPTORS, MAX_NAME};
+use indexmap::IndexMap;
+use rights::limits::{MAX_DESCRIPTORS, MAX_GRANTS, MAX_NAME, MAX_PROGRAMS};
 use std::alloc::{AllocError, Global};
 use texts::{is_number, number_up_to};
 
@@ -31,6 +33,24 @@ struct Item {
     is_directory: bool,
     is_link: bool,
     writes: bool,
+}
+
+/// What a table is found by: a node by its path, a grant and a program by their names, a descriptor by its number in its process.
+#[derive(Clone, Copy, PartialEq, Eq, Hash)]
+struct Key<'t> {
+    kind: TableKind,
+    parent: usize,
+    word: &'t [u8],
+}
+
+/// What all tables tell, and which of those that are found by the same comes first, by its place among all.
+#[derive(Drop)]
+struct Known<'t> {
+    items: &'t [Item],
+    firsts: IndexMap<Key<'t>, usize>,
+    /// The grants and the names of the programs, as many as a task may have.
+    grants: Vec<usize>,
+    programs: Vec<&'t str>,
 }
 
 /// What the key of a table stands for, and where it stands; where the table hasn't the key, an empty text at the table.
@@ -61,15 +81,6 @@ fn text_of(alloc: Global, file: &[u8], token: Token) -> Result<Vec<u8>, AllocErr
     }
 }
 
-/// Whether a list of a table has this word.
-fn lists(faults: &Faults<'_>, fields: &Fields, table: usize, key: &[u8], word: &[u8]) -> bool {
-    fields.items.iter().any(|item| {
-        item.word.written(faults.file) == word
-            && fields.entries.get(item.entry).is_some_and(|entry| entry.table == table
-                && entry.key.written(faults.file) == key)
-    })
-}
-
 /// What a table tells.
 fn read_item(
     faults: &Faults<'_>,
@@ -94,8 +105,23 @@ fn read_item(
         number: told_at(faults, fields, number, table.start, b"number")?,
         is_directory,
         is_link,
-        writes: lists(faults, fields, number, b"flags", b"write"),
+        writes: false,
     })
+}
+
+/// Notes which tables list the flag `write`.
+fn note_writes(items: &mut [Item], file: &[u8], fields: &Fields) {
+    for word in &fields.items {
+        if word.word.written(file) == b"write".as_slice() {
+            if let Some(entry) = fields.entries.get(word.entry) {
+                if entry.key.written(file) == b"flags".as_slice() {
+                    if let Some(item) = items.get_mut(entry.table) {
+                        item.writes = true;
+                    }
+                }
+            }
+        }
+    }
 }
 
 /// All that tables tell, in the order of the text.
@@ -104,6 +130,7 @@ fn all_items(faults: &Faults<'_>, fields: &Fields) -> Result<Vec<Item>, AllocErr
     for (number, table) in fields.tables.iter().enumerate() {
         items.push(read_item(faults, fields, number, table)?)?;
     }
+    note_writes(&mut items, faults.file, fields);
     Ok(items)
 }
 
@@ -177,75 +204,149 @@ fn without_slash(path: &[u8]) -> &[u8] {
     path.strip_suffix(b"/".as_slice()).unwrap_or(path)
 }
 
-/// The first node of a path among these, by its place among them.
-fn node_at(items: &[Item], path: &[u8]) -> Option<usize> {
-    let path = without_slash(path);
-    for (number, item) in items.iter().enumerate() {
-        if item.kind == TableKind::Node && without_slash(&item.path.bytes) == path {
-            return Some(number);
-        }
+impl Item {
+    /// What it is found by, if anything.
+    fn key(&self) -> Option<Key<'_>> {
+        let (parent, word) = match self.kind {
+            TableKind::Node => (0, without_slash(&self.path.bytes)),
+            TableKind::Grant | TableKind::Program => (0, self.name.bytes.as_slice()),
+            TableKind::Descriptor => (self.parent, self.number.bytes.as_slice()),
+            TableKind::Top | TableKind::Process | TableKind::Other => return None,
+        };
+        Some(Key {
+            kind: self.kind,
+            parent,
+            word,
+        })
     }
-    None
 }
 
-/// Whether the node of a path is a directory; the root is one.
-fn is_directory(items: &[Item], path: &[u8]) -> bool {
-    if without_slash(path).is_empty() {
-        return true;
+impl<'t> Known<'t> {
+    /// What these tables tell.
+    fn new(alloc: Global, items: &'t [Item]) -> Result<Known<'t>, AllocError> {
+        let mut known = Known {
+            items,
+            firsts: IndexMap::with_capacity(alloc, items.len())?,
+            grants: Vec::new(alloc),
+            programs: Vec::new(alloc),
+        };
+        for (number, item) in items.iter().enumerate() {
+            known.add(number, item)?;
+        }
+        Ok(known)
     }
-    match node_at(items, path) {
-        Some(number) => match items.get(number) {
-            Some(item) => item.is_directory,
+
+    /// Adds a table, by its place among all.
+    fn add(&mut self, number: usize, item: &'t Item) -> Result<(), AllocError> {
+        if let Some(key) = item.key() {
+            if !self.firsts.contains_key(&key) {
+                self.firsts.insert(key, number)?;
+            }
+        }
+        if item.kind == TableKind::Grant && self.grants.len() < MAX_GRANTS {
+            self.grants.push(number)?;
+        }
+        if item.kind == TableKind::Program && self.programs.len() < MAX_PROGRAMS {
+            if let Ok(name) = str::from_utf8(&item.name.bytes) {
+                self.programs.push(name)?;
+            }
+        }
+        Ok(())
+    }
+
+    /// Whether another table before this one is found by the same.
+    fn is_twice(&self, number: usize, item: &Item) -> bool {
+        match item.key() {
+            Some(key) => self.firsts.get(&key).copied() != Some(number),
             None => false,
-        },
-        None => false,
+        }
+    }
+
+    /// The first node of a path, by its place among all.
+    fn node_at(&self, path: &[u8]) -> Option<usize> {
+        let key = Key {
+            kind: TableKind::Node,
+            parent: 0,
+            word: without_slash(path),
+        };
+        self.firsts.get(&key).copied()
+    }
+
+    /// Whether a program has this name.
+    fn has_program(&self, name: &[u8]) -> bool {
+        let key = Key {
+            kind: TableKind::Program,
+            parent: 0,
+            word: name,
+        };
+        self.firsts.contains_key(&key)
+    }
+
+    /// Whether the node of a path is a directory; the root is one.
+    fn is_directory(&self, path: &[u8]) -> bool {
+        if without_slash(path).is_empty() {
+            return true;
+        }
+        match self.node_at(path) {
+            Some(number) => self.items.get(number).is_some_and(|item| item.is_directory),
+            None => false,
+        }
+    }
+
+    /// The path of a grant before this table that lies in a path, or in which that lies.
+    fn nested_before(&self, number: usize, path: &[u8]) -> Option<&[u8]> {
+        for grant in &self.grants {
+            if *grant < number {
+                if let Some(before) = self.items.get(*grant) {
+                    if are_nested(path, &before.path.bytes) {
+                        return Some(&before.path.bytes);
+                    }
+                }
+            }
+        }
+        None
     }
 }
 
 /// What is wrong with the place of a node.
-fn node_fault(items: &[Item], number: usize, path: &[u8]) -> Option<&'static str> {
+fn node_fault(known: &Known<'_>, number: usize, path: &[u8]) -> Option<&'static str> {
     if path == b"/".as_slice() {
         return Some("is there without being listed");
     }
-    if node_at(items, path) != Some(number) {
+    if known.node_at(path) != Some(number) {
         return Some("is listed before");
     }
     let above = directory_of(path);
     if above.is_empty() {
         return None;
     }
-    let Some(other) = node_at(items, above) else {
+    let Some(other) = known.node_at(above) else {
         return Some("stands in a directory that isn't listed");
     };
     if other > number {
         return Some("comes before its directory");
     }
-    if !is_directory(items, above) {
+    if !known.is_directory(above) {
         return Some("stands in what is no directory");
     }
     None
 }
 
 /// Tells of the faults of a grant.
-fn add_grant<'t>(faults: &mut Faults<'_>, items: &'t [Item], number: usize, item: &'t Item) {
+fn add_grant(faults: &mut Faults<'_>, known: &Known<'_>, number: usize, item: &Item) {
     let path = item.path.bytes.as_slice();
-    if !is_directory(items, path) {
+    if !known.is_directory(path) {
         faults.add_of(item.path.place, path, "is no directory that is listed");
         return;
     }
-    let nested = items.iter().take(number).find(|before| before.kind == TableKind::Grant
-        && are_nested(path, &before.path.bytes));
-    if let Some(before) = nested {
-        faults.add(
-            item.path.place,
-            &[
-                Text("`"),
-                Bytes(path),
-                Text("` and the grant of `"),
-                Bytes(&before.path.bytes),
-                Text("` lie in one another"),
-            ],
-        );
+    if let Some(before) = known.nested_before(number, path) {
+        let mut line = Page::new(faults.alloc);
+        line.text("`");
+        line.bytes(path);
+        line.text("` and the grant of `");
+        line.bytes(before);
+        line.text("` lie in one another");
+        faults.add_page(item.path.place, line);
     }
 }
 
@@ -254,26 +355,20 @@ fn are_nested(path: &[u8], other: &[u8]) -> bool {
     is_beneath(path, other) || is_beneath(other, path)
 }
 
-/// Whether a descriptor's number stands in its process before.
-fn is_number_twice(items: &[Item], number: usize, item: &Item) -> bool {
-    items.iter().take(number).any(|before| {
-        before.kind == TableKind::Descriptor
-            && before.parent == item.parent
-            && before.number.bytes == item.number.bytes
-    })
-}
-
 /// What is wrong with the path of a descriptor.
-fn opened_fault(items: &[Item], item: &Item) -> Option<&'static str> {
+fn opened_fault(known: &Known<'_>, item: &Item) -> Option<&'static str> {
     let path = item.path.bytes.as_slice();
-    if is_directory(items, path) {
+    if known.is_directory(path) {
         return if item.writes {
             Some("is a directory, which isn't opened for writing")
         } else {
             None
         };
     }
-    let Some(node) = items.get(node_at(items, path).unwrap_or(items.len())) else {
+    let node = known
+        .node_at(path)
+        .and_then(|number| known.items.get(number));
+    let Some(node) = node else {
         return Some("is no node that is listed");
     };
     if node.is_link {
@@ -283,53 +378,36 @@ fn opened_fault(items: &[Item], item: &Item) -> Option<&'static str> {
 }
 
 /// Tells of the faults of a descriptor.
-fn add_descriptor(faults: &mut Faults<'_>, items: &[Item], number: usize, item: &Item) {
+fn add_descriptor(faults: &mut Faults<'_>, known: &Known<'_>, number: usize, item: &Item) {
     let digits = item.number.bytes.as_slice();
     if is_number(digits) && number_up_to(digits, MAX_DESCRIPTORS as u32 - 1).is_err() {
         faults.add_of(item.number.place, digits, "is no number from 0 to 15");
     }
-    if !digits.is_empty() && is_number_twice(items, number, item) {
+    if !digits.is_empty() && known.is_twice(number, item) {
         faults.add(
             item.number.place,
             &[Text("descriptor "), Bytes(digits), Text(" is given before")],
         );
     }
     if item.has_path {
-        if let Some(fault) = opened_fault(items, item) {
+        if let Some(fault) = opened_fault(known, item) {
             faults.add_of(item.path.place, &item.path.bytes, fault);
         }
     }
 }
 
-/// The names of the programs.
-fn program_names(alloc: Global, items: &[Item]) -> Result<Vec<&str>, AllocError> {
-    let mut names = Vec::new(alloc);
-    for program in items {
-        if program.kind == TableKind::Program {
-            if let Ok(name) = str::from_utf8(&program.name.bytes) {
-                names.push(name)?;
-            }
-        }
-    }
-    Ok(names)
-}
-
 /// Tells that the program of a process isn't there.
-fn add_process(faults: &mut Faults<'_>, items: &[Item], item: &Item) -> Result<(), AllocError> {
-    let known = program_names(faults.alloc, items)?;
-    let path = item.path.bytes.as_slice();
-    if item.has_path && !is_known(path, &known) {
-        faults.add_word(item.path.place, "program", path, &known);
+fn add_process(faults: &mut Faults<'_>, known: &Known<'_>, item: &Item) {
+    let name = item.path.bytes.as_slice();
+    if item.has_path && !known.has_program(name) {
+        faults.add_word(item.path.place, "program", name, &known.programs);
     }
-    Ok(())
 }
 
 /// Tells that a name is given before.
-fn add_name(faults: &mut Faults<'_>, items: &[Item], number: usize, item: &Item) {
+fn add_name(faults: &mut Faults<'_>, known: &Known<'_>, number: usize, item: &Item) {
     let name = item.name.bytes.as_slice();
-    let is_twice = items.iter().take(number).any(|before| before.kind == item.kind
-        && before.name.bytes.as_slice() == name);
-    if is_twice && !name.is_empty() {
+    if !name.is_empty() && known.is_twice(number, item) {
         faults.add_of(item.name.place, name, "is given before");
     }
 }
@@ -347,30 +425,33 @@ fn path_fault(item: &Item) -> Option<&'static str> {
 }
 
 /// Tells of the faults of what a table tells, by its place among all.
-fn add_item(
-    faults: &mut Faults<'_>,
-    items: &[Item],
-    number: usize,
-    item: &Item,
-) -> Result<(), AllocError> {
+fn add_item(faults: &mut Faults<'_>, known: &Known<'_>, number: usize, item: &Item) {
     if let Some(fault) = path_fault(item) {
         faults.add_of(item.path.place, &item.path.bytes, fault);
-        return Ok(());
+        return;
     }
     match item.kind {
         TableKind::Node if item.has_path => {
-            if let Some(fault) = node_fault(items, number, &item.path.bytes) {
+            if let Some(fault) = node_fault(known, number, &item.path.bytes) {
                 faults.add_of(item.path.place, &item.path.bytes, fault);
             }
         }
         TableKind::Grant if item.has_path => {
-            add_grant(faults, items, number, item);
-            add_name(faults, items, number, item);
+            add_grant(faults, known, number, item);
+            add_name(faults, known, number, item);
         }
-        TableKind::Program => add_name(faults, items, number, item),
-        TableKind::Process => add_process(faults, items, item)?,
-        TableKind::Descriptor => add_descriptor(faults, items, number, item),
-        _ => {}
+        TableKind::Program => add_name(faults, known, number, item),
+        TableKind::Process => add_process(faults, known, item),
+        TableKind::Descriptor => add_descriptor(faults, known, number, item),
+        TableKind::Node | TableKind::Grant | TableKind::Top | TableKind::Other => {}
+    }
+}
+
+/// Tells of the faults of what all tables tell.
+fn add_items(faults: &mut Faults<'_>, items: &[Item]) -> Result<(), AllocError> {
+    let known = Known::new(faults.alloc, items)?;
+    for (number, item) in items.iter().enumerate() {
+        add_item(faults, &known, number, item);
     }
     Ok(())
 }
@@ -378,8 +459,5 @@ fn add_item(
 /// Tells of the faults in paths, numbers and names.
 pub(crate) fn add_path_faults(faults: &mut Faults<'_>, fields: &Fields) -> Result<(), AllocError> {
     let items = all_items(faults, fields)?;
-    for (number, item) in items.iter().enumerate() {
-        add_item(faults, &items, number, item)?;
-    }
-    Ok(())
+    add_items(faults, &items)
 }

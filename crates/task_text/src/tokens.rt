@@ -69,8 +69,15 @@ impl Token {
 enum Within {
     Blanks,
     Comment,
-    Word { start: usize },
-    Quotes { quoting: Quoting, start: usize },
+    Word {
+        start: usize,
+    },
+    Quotes {
+        quoting: Quoting,
+        start: usize,
+        /// The next byte is behind a backslash that begins an escape.
+        is_escaped: bool,
+    },
 }
 
 /// A reader of tokens.
@@ -108,15 +115,6 @@ fn has_three(file: &[u8], offset: usize, quote: u8) -> bool {
     three.len() == 3 && three.iter().all(|&byte| byte == quote)
 }
 
-/// Whether the byte at an offset has an odd number of backslashes before it, back to a start.
-fn is_escaped(file: &[u8], start: usize, offset: usize) -> bool {
-    let mut is_odd = false;
-    for byte in part(file, start, offset) {
-        is_odd = *byte == b'\\' && !is_odd;
-    }
-    is_odd
-}
-
 impl Reader {
     /// Adds a token.
     fn push(&mut self, kind: TokenKind, start: usize, end: usize) -> Result<(), AllocError> {
@@ -136,7 +134,11 @@ impl Reader {
         };
         let start = offset.saturating_add(if is_long { 3 } else { 1 });
         self.next = start;
-        self.within = Within::Quotes { quoting, start };
+        self.within = Within::Quotes {
+            quoting,
+            start,
+            is_escaped: false,
+        };
     }
 
     /// Takes a byte between words.
@@ -157,9 +159,9 @@ impl Reader {
     /// Takes a byte within a text in quotes of one line.
     fn in_quotes(
         &mut self,
-        file: &[u8],
         quoting: Quoting,
         start: usize,
+        is_inner: bool,
         offset: usize,
         byte: u8,
     ) -> Result<(), AllocError> {
@@ -167,7 +169,6 @@ impl Reader {
             self.push(TokenKind::Unclosed, start, offset)?;
             return self.push(TokenKind::NewLine, offset, offset.saturating_add(1));
         }
-        let is_inner = quoting.has_escapes() && is_escaped(file, start, offset);
         if byte == quoting.quote() && !is_inner {
             return self.push(TokenKind::Text(quoting), start, offset);
         }
@@ -180,10 +181,10 @@ impl Reader {
         file: &[u8],
         quoting: Quoting,
         start: usize,
+        is_inner: bool,
         offset: usize,
     ) -> Result<(), AllocError> {
         let quote = quoting.quote();
-        let is_inner = quoting.has_escapes() && is_escaped(file, start, offset);
         let is_last = has_three(file, offset, quote)
             && !has_three(file, offset.saturating_add(1), quote);
         if is_last && !is_inner {
@@ -213,14 +214,22 @@ impl Reader {
                 self.push(TokenKind::Word, start, offset)?;
                 self.between(file, offset, byte)
             }
-            Within::Quotes { quoting, start } => match quoting {
-                Quoting::Basic | Quoting::Literal => {
-                    self.in_quotes(file, quoting, start, offset, byte)
+            Within::Quotes {
+                quoting,
+                start,
+                is_escaped: is_inner,
+            } => {
+                let is_escaped = quoting.has_escapes() && byte == b'\\' && !is_inner;
+                self.within = Within::Quotes {
+                    quoting,
+                    start,
+                    is_escaped,
+                };
+                if quoting.is_long() {
+                    return self.in_long_quotes(file, quoting, start, is_inner, offset);
                 }
-                Quoting::LongBasic | Quoting::LongLiteral => {
-                    self.in_long_quotes(file, quoting, start, offset)
-                }
-            },
+                self.in_quotes(quoting, start, is_inner, offset, byte)
+            }
         }
     }
 }

@@ -1,0 +1,24 @@
+use Rattle.std.proofs.Common.{ℕ, ◌≡◌, ◌≤◌, ◌-◌, ◌∙◌, length, map, take, arith, subst, sym}
+use Rattle.std.proofs.Math.ListN.{length-map}
+use Rattle.std.proofs.lemmas.List.{length-take-le}
+use Rattle.task_text.specs.FaultViews.{fault_of}
+use Rattle.task_text.proofs.PageLaws.{adds_both}
+use Rattle.task_text.proofs.field_faults.Faults.tell.Goals as goal
+
+pub returns : goal.returns
+returns c =
+    let told = c.min-told.result in
+    let lines = c.deref.result.now in
+    let few : told ≤ 100 = omega (arith, c.min-told.ensures) in
+    let within : told ≤ length lines = omega (arith, c.min-told.ensures, c.len.ensures, c.deref.ensures.len) in
+    let many = length-map (take told lines) fault_of ∙ length-take-le told lines within in
+    record {
+      faults = map fault_of (take told lines);
+      more = c.len-2.result - told;
+      few = subst (λ n. n ≤ 100) (sym many) few;
+      left_out = λ some. many ∙ full some;
+      tells = adds_both _ _ _ _ _ c.add_lines.ensures c.add_more.ensures;
+    }
+  where
+    full : (c.len-2.result - c.min-told.result ≡ 0 → ⊥) → c.min-told.result ≡ 100
+    full some = omega (arith, c.min-told.ensures, c.len.ensures, c.len-2.ensures, some)
