@@ -11,7 +11,7 @@ use Rattle.std.proofs.lemmas.Option.{slice_get-map, slice_get_read}
 use Rattle.task.specs.Plans.{Plan, program_name, programs_of_plan}
 use Rattle.task.specs.Limits.{is_plan}
 use Rattle.rules.specs.Carrying.{carried_on}
-use Rattle.rules.specs.Expansions.{or_carried, code_named, may_carry, carried_by, carried_past, carried_to, expansion}
+use Rattle.rules.specs.Expansions.{or_carried, code_named, may_carry, carried_by, carried_to, bound_there, expansion}
 use Rattle.rules.proofs.expansions.Arriving.{code_is, expansion_bounds}
 use Rattle.certificate.specs.Views.{bound_of}
 use Rattle.texts.specs.Views.{name_of}
@@ -36,34 +36,44 @@ pub named_code : (plan : Plan) (program : ℕ) (name : List ℕ) (code : List In
 named_code plan program name code valid named there is =
     is ∙ sym (code_is plan program valid there) ∙ ap (code_named plan.programs) (sym named)
 
-module _ (plan : Plan) (c : Certificate) (program point : ℕ) (name : List ℕ) (carried : Option Bound) (valid : is_plan plan ≡ true) (merely : ∥ IsCertificate c ∥₁)
-    (named : name ≡ program_name plan program) (is : carried ≡ carried_to plan c name point) where
-  pub bound_is : (o : Option Bound) → o ≡ or_carried (bound_at c name point) carried → bound_at (expansion plan c) (program_name plan program) point ≡ o
-  bound_is o same =
-      ap (λ n. bound_at (expansion plan c) n point) (sym named) ∙ bound_made c _ _ merely (expansion_bounds plan c name point valid)
-      ∙ ap (or_carried (bound_at c name point)) (sym is) ∙ sym same
+pub bound_is : (plan : Plan) (c : Certificate) (program point : ℕ) (name : List ℕ) (bound : Option Bound) → is_plan plan ≡ true → ∥ IsCertificate c ∥₁ → name ≡ program_name plan program
+    → bound ≡ bound_there plan c name point → bound_at (expansion plan c) (program_name plan program) point ≡ bound
+bound_is plan c program point name bound valid merely named is =
+    ap (λ n. bound_at (expansion plan c) n point) (sym named) ∙ bound_made c _ _ merely (expansion_bounds plan c name point valid) ∙ sym is
 
--- What is carried past a point is what is carried to the next.
-pub carried_next : (plan : Plan) (c : Certificate) (name : List ℕ) (point : ℕ) (carried next : Option Bound) → next ≡ carried_past plan c name point carried
-    → carried ≡ carried_to plan c name point → next ≡ carried_to plan c name (point + 1)
+-- where nothing is carried, a bound is the one that is given
+pub or_none : (o : Option Bound) → or_carried o None ≡ o
+or_none None = refl
+or_none (Some b) = refl
+
+-- The bound of point 0 is what is given there.
+pub bound_first : (plan : Plan) (c : Certificate) (name : List ℕ) (bound : Option Bound) → bound ≡ bound_at c name 0 → bound ≡ bound_there plan c name 0
 unfolding carried_to
-carried_next plan c name point carried next past is =
+bound_first plan c name bound is = is ∙ sym (or_none (bound_at c name 0))
+
+-- The bound of the next point is what is given there, or else what a point's own bound carries on.
+pub bound_next : (plan : Plan) (c : Certificate) (name : List ℕ) (point : ℕ) (bound carried next : Option Bound) → bound ≡ bound_there plan c name point
+    → carried ≡ carried_by plan c name point (slice_get (code_named plan.programs name) point) bound
+    → next ≡ or_carried (bound_at c name (point + 1)) carried → next ≡ bound_there plan c name (point + 1)
+unfolding carried_to
+bound_next plan c name point bound carried next is past met =
     let more : suc point ≡ point + 1 = omega arith in
-    subst (λ n. next ≡ carried_to plan c name n) more (past ∙ ap (carried_past plan c name point) is)
+    let on : carried ≡ carried_to plan c name (suc point) = past ∙ ap (carried_by plan c name point (slice_get (code_named plan.programs name) point)) is in
+    met ∙ (λ k. or_carried (bound_at c name (point + 1)) ((on ∙ ap (carried_to plan c name) more) k))
 
--- and where a point of a program is asked, what it carries on is that
-pub carried_along : (at : AskedPoint) (of : AskedProgram) (point : ℕ) → at.of.now ≡ of → at.point ≡ point
-    → option_map bound_of at.next ≡ carried_to of.task.now of.cert.now (name_of of.name) (point + 1)
-carried_along at of point own there = at.carries ∙ (λ k. carried_to (own k).task.now (own k).cert.now (name_of (own k).name) (there k + 1))
+-- and where a point of a program is asked, that is where it leads
+pub bound_along : (at : AskedPoint) (of : AskedProgram) (point : ℕ) → at.of.now ≡ of → at.point ≡ point
+    → option_map bound_of at.there ≡ bound_there of.task.now of.cert.now (name_of of.name) (point + 1)
+bound_along at of point own there = at.leads ∙ (λ k. bound_there (own k).task.now (own k).cert.now (name_of (own k).name) (there k + 1))
 
-pub carried_is : (plan : Plan) (c : Certificate) (name : List ℕ) (point : ℕ) (carried : Option Bound) (code : List Instruction) (i : Instruction) (b : Bound)
-    → code ≡ code_named plan.programs name → slice_get code point ≡ Some i → Some b ≡ or_carried (bound_at c name point) carried → may_carry c.version code (point + 1) ≡ true
-    → carried_on plan c name point b i ≡ carried_past plan c name point carried
-carried_is plan c name point carried code i b is here bound may =
+pub carried_is : (plan : Plan) (c : Certificate) (name : List ℕ) (point : ℕ) (code : List Instruction) (i : Instruction) (b : Bound)
+    → code ≡ code_named plan.programs name → slice_get code point ≡ Some i → may_carry c.version code (point + 1) ≡ true
+    → carried_on plan c name point b i ≡ carried_by plan c name point (slice_get (code_named plan.programs name) point) (Some b)
+carried_is plan c name point code i b is here may =
     let more : suc point ≡ point + 1 = omega arith in
     sym (ap (λ may. if may then carried_on plan c name point b i else None) (λ k. may_carry c.version (sym is k) (more k))
     ∙ ap (λ may. if may then carried_on plan c name point b i else None) may)
-    ∙ (λ k. carried_by plan c name point (there k) (bound k))
+    ∙ (λ k. carried_by plan c name point (there k) (Some b))
   where
     there : Some i ≡ slice_get (code_named plan.programs name) point
     there = sym here ∙ ap (λ code. slice_get code point) is

@@ -1,6 +1,6 @@
 -- Points of the code that the rules are asked of.
-use Rattle.std.specs.Prelude.{◌+◌, ℕ, Bool, List, Option, Some, option_map}
-use Rattle.certificate.specs.Bounds.{Authority, Bound, Certificate}
+use Rattle.std.specs.Prelude.{◌+◌, ◌==◌, ℕ, Bool, List, Option, Some, option_map, if◌then◌else◌}
+use Rattle.certificate.specs.Bounds.{Authority, Bound, Certificate, bound_at}
 use Rattle.certificate.specs.Views.{bound_of}
 use Rattle.texts.specs.Views.{name_of}
 use Rattle.checker.specs.Findings.{tests_with}
@@ -10,7 +10,7 @@ use Rattle.checker.specs.declared.asked.AskedProgram.{AskedProgram}
 use Rattle.instruction_set.specs.Programs.{Instruction, Invoke, Syscall}
 use Rattle.instruction_set.specs.Views.{instruction_of}
 use Rattle.rules.specs.Authority.{authority_at}
-use Rattle.rules.specs.Expansions.{bound_met, expansion}
+use Rattle.rules.specs.Expansions.{expansion}
 use Rattle.rules.specs.Outcomes.{Outcome, successes_in}
 use Rattle.rules.specs.Rules.{Test, starts_in_authority}
 use Rattle.task.specs.Plans.{program_name}
@@ -50,4 +50,4 @@ abbrev pub successes_from : AskedPoint → Bound → List Outcome
 successes_from at b = successes_in at.of.now.task.now (expansion_of at.of.now) (name_of_point at) at.point b (instruction_of_point at)
 
 abbrev pub met_from : AskedPoint → ℕ → Option Bound
-met_from at point = bound_met at.of.now.cert.now (name_of_point at) (at.point + 1) (option_map bound_of at.next) point
+met_from at point = if point == at.point + 1 then option_map bound_of at.there else bound_at at.of.now.cert.now (name_of_point at) point

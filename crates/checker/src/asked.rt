@@ -9,7 +9,7 @@ ghost use Rattle.checker.specs.AllowanceViews.{allowance_of};
 ghost use Rattle.instruction_set.specs.Views.{code_of, instruction_of};
 ghost use Rattle.rights.specs.Limits.{most_instructions};
 ghost use Rattle.rules.specs.Authority.{authority_at};
-ghost use Rattle.rules.specs.Expansions.{carried_to, code_named};
+ghost use Rattle.rules.specs.Expansions.{bound_there, code_named};
 ghost use Rattle.rules.specs.Rules.{marked_at};
 ghost use Rattle.task.specs.Limits.{is_plan};
 ghost use Rattle.task.specs.Plans.{program_name, programs_of_plan};
@@ -55,10 +55,10 @@ pub(crate) struct AskedPoint<'a> {
     pub instruction: &'a Instruction,
     /// Its bound, if it has one.
     pub bound: Option<Bound>,
-    /// What is carried on from it.
-    pub next: Option<Bound>,
+    /// That of the point behind it.
+    pub there: Option<Bound>,
     pub ghost stands: { slice_get (code_named of.now.task.now.programs (name_of of.now.name)) point ≡ Some (instruction_of instruction.now) },
-    pub ghost carries: { option_map bound_of next ≡ carried_to of.now.task.now of.now.cert.now (name_of of.now.name) (point + 1) },
+    pub ghost leads: { option_map bound_of there ≡ bound_there of.now.task.now of.now.cert.now (name_of of.now.name) (point + 1) },
     pub ghost known: { leaves_known (instruction_of instruction.now) ≡ true },
 }
 
@@ -91,24 +91,32 @@ impl<'a> AskedProgram<'a> {
         })
     }
 
-    /// A point of it, to which this is carried.
-    pub(crate) fn at(&'a self, point: usize, carried: &Option<Bound>) -> AskedPoint<'a>
+    /// The bound of its first point, to which nothing is carried.
+    pub(crate) fn first_bound(&self) -> Option<Bound>
+        ensures { option_map bound_of result ≡ bound_there self.now.task.now self.now.cert.now (name_of self.now.name) 0 }
+    {
+        self.cert.bound_at(self.name.as_bytes(), 0)
+    }
+
+    /// A point of it, which has this bound.
+    pub(crate) fn at(&'a self, point: usize, bound: &Option<Bound>) -> AskedPoint<'a>
         requires point { point < length self.now.code.now }
-        requires carried { option_map bound_of carried.now ≡ carried_to self.now.task.now self.now.cert.now (name_of self.now.name) point }
+        requires bound { option_map bound_of bound.now ≡ bound_there self.now.task.now self.now.cert.now (name_of self.now.name) point }
         ensures program { result.of.now ≡ self.now }
         ensures point { result.point ≡ point }
         ensures tests { tests_of result ≡ tests_there self.now.task.now (expansion_of self.now) self.now.program point }
     {
         let instruction = &self.code[point];
-        let bound = bound_with(self.cert, &self.name, point, carried);
+        let next = point + 1;
         let point = point as u8;
-        let next = carried_past(self.task, self.cert, &self.name, self.code, point, carried);
+        let carried = carried_past(self.task, self.cert, &self.name, self.code, point, bound);
+        let there = bound_with(self.cert, &self.name, next, &carried);
         AskedPoint {
             of: self,
             point,
             instruction,
-            bound,
-            next,
+            bound: *bound,
+            there,
         }
     }
 }
@@ -116,13 +124,13 @@ impl<'a> AskedProgram<'a> {
 impl<'a> AskedPoint<'a> {
     ghost use Rattle.checker.specs.PointViews.{met_from};
 
-    /// The bound that an outcome meets at a point: the one that is given, or at the next point what is carried on.
+    /// The bound that an outcome meets at a point: at the one behind it that one's, elsewhere the one that is given.
     pub(crate) fn bound_met(&self, point: usize) -> Option<Bound>
         ensures { option_map bound_of result ≡ met_from self.now point }
     {
-        match self.of.cert.bound_at(self.of.name.as_bytes(), point) {
-            None if point == self.point as usize + 1 => self.next,
-            given => given,
+        if point == self.point as usize + 1 {
+            return self.there;
         }
+        self.of.cert.bound_at(self.of.name.as_bytes(), point)
     }
 }

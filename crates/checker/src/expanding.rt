@@ -50,7 +50,7 @@ fn push_program(expanded: &mut Cert, task: &Task, cert: &Cert, name: &Name) -> R
         let bound = bound_with(cert, name, point, &carried);
         let point = point as u8;
         push_point(expanded, name, point, bound)?;
-        carried = carried_past(task, cert, name, code, point, &carried);
+        carried = carried_past(task, cert, name, code, point, &bound);
     }
     Ok(())
 }

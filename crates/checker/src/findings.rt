@@ -49,16 +49,16 @@ fn add_unkept(
     }
 }
 
-/// Adds the rules that are broken at the points of a program. One bound is kept, which is carried along.
+/// Adds the rules that are broken at the points of a program. One bound is kept, that of the point that is asked.
 fn add_points<'a>(found: &mut Vec<BrokenRule>, of: &'a AskedProgram<'a>) -> Result<(), AllocError>
     ensures { OnOk result (map broken_rule_of found.new.items ≡ map broken_rule_of found.old.items
         ++ findings_before of.now.task.now (expansion_of of.now) of.now.program (length (programs_of_plan of.now.task.now of.now.program))) }
 {
-    let mut carried = None;
+    let mut bound = of.first_bound();
     for point in 0..of.code.len() {
-        let at = of.at(point, &carried);
+        let at = of.at(point, &bound);
         add_unkept(found, &RULES, &at)?;
-        carried = at.next;
+        bound = at.there;
     }
     Ok(())
 }

@@ -39,23 +39,23 @@ struct Found {
     rule: Rule,
 }
 
-/// The first point of a program where a rule is broken. One bound is kept, which is carried along.
+/// The first point of a program where a rule is broken. One bound is kept, that of the point that is asked.
 fn first_in<'a>(of: &'a AskedProgram<'a>) -> Option<Found>
     ensures { MatchOption result
         ((point : ℕ) → found_at of.now.task.now (expansion_of of.now) of.now.program point ≡ None)
         (λ found. (found_at of.now.task.now (expansion_of of.now) of.now.program found.point ≡ Some (rule_number found.rule))
         × ((point : ℕ) → point < found.point → found_at of.now.task.now (expansion_of of.now) of.now.program point ≡ None)) }
 {
-    let mut carried = None;
+    let mut bound = of.first_bound();
     for point in 0..of.code.len() {
-        let at = of.at(point, &carried);
+        let at = of.at(point, &bound);
         if let Some(rule) = first_broken(&at) {
             return Some(Found {
                 point: at.point,
                 rule,
             });
         }
-        carried = at.next;
+        bound = at.there;
     }
     None
 }

@@ -4,9 +4,9 @@ use Rattle.task_text.specs.Places.{place_at}
 use Rattle.task_text.specs.declared.places.Cursor.{Cursor}
 use Rattle.task_text.specs.declared.places.Place.{Place}
 
-abbrev pub place_of : Place → ℕ × ℕ
-place_of place = (place.line, place.column)
+abbrev pub place_seen : Place → ℕ × ℕ
+place_seen place = (place.line, place.column)
 
 -- a cursor tells where the byte at its offset stands
 abbrev pub StandsIn : List ℕ → Cursor → Type 0
-StandsIn file cursor = place_of cursor.place ≡ place_at file cursor.offset
+StandsIn file cursor = place_seen cursor.place ≡ place_at file cursor.offset

@@ -3,7 +3,7 @@
 ghost use Rattle.std.specs.Prelude.{◌≡◌};
 ghost use Rattle.task_text.specs.Places as places;
 ghost use Rattle.task_text.specs.Places.{passed, place_at};
-ghost use Rattle.task_text.specs.PlaceViews.{StandsIn, place_of};
+ghost use Rattle.task_text.specs.PlaceViews.{StandsIn, place_seen};
 
 /// A line and a column, each counted from 1.
 #[derive(Clone, Copy)]
@@ -18,7 +18,7 @@ impl Place {
 
     /// What stands behind this byte, which stands there; a tab is one column.
     fn past(self, byte: u8) -> Place
-        ensures { place_of result ≡ passed byte (place_of self) }
+        ensures { place_seen result ≡ passed byte (place_seen self) }
     {
         if byte == b'\n' {
             return Place {
@@ -50,7 +50,7 @@ impl Cursor {
     /// Goes to an offset of the same file, from the first byte again where it is past that; tells where its byte stands.
     pub(crate) fn go_to(&mut self, file: &[u8], offset: usize) -> Place
         requires { StandsIn file.now self.old }
-        ensures place { place_of result ≡ place_at file.now offset }
+        ensures place { place_seen result ≡ place_at file.now offset }
         ensures stands { StandsIn file.now self.new }
     {
         if offset < self.offset {
@@ -69,7 +69,7 @@ impl Cursor {
 
 /// Where the byte at an offset stands.
 pub(crate) fn place_at(file: &[u8], offset: usize) -> Place
-    ensures { place_of result ≡ place_at file.now offset }
+    ensures { place_seen result ≡ place_at file.now offset }
 {
     let mut cursor = Cursor::FIRST;
     cursor.go_to(file, offset)

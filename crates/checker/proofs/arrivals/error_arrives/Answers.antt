@@ -18,5 +18,5 @@ returns-in-Some c =
     let one : outcome_of c.in-Some.outcome ∷ [] ≡ error_outcomes (bound_of c.args.bound.now) (instruction_of_point at) =
     sym (ap outcomes_of c.in-Some.is) ∙ c.failure.ensures in
     c.visit.ensures.value ∙ alone (test (outcome_of c.in-Some.outcome)) ∙ ap (list_all test) one
-    ∙ errors_as of.task.now of.cert.now of.valid of.made (name_of_point at) at.point (instruction_of_point at) (option_map bound_of at.next) at.stands at.carries
+    ∙ errors_as of.task.now of.cert.now of.valid of.made (name_of_point at) at.point (instruction_of_point at) (option_map bound_of at.there) at.stands at.leads
     (bound_of c.args.bound.now) c.args.arrival

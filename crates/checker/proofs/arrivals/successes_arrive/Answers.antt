@@ -10,5 +10,5 @@ returns c =
     let at = c.args.at.now in
     let of = at.of.now in
     c.successes_pass.ensures.0
-    ∙ successes_as of.task.now of.cert.now of.valid of.made (name_of_point at) at.point (instruction_of_point at) (option_map bound_of at.next) at.stands at.carries
+    ∙ successes_as of.task.now of.cert.now of.valid of.made (name_of_point at) at.point (instruction_of_point at) (option_map bound_of at.there) at.stands at.leads
     (bound_of c.args.bound.now) c.args.arrival

@@ -4,7 +4,8 @@ use Rattle.certificate.specs.Growths.{grown_by}
 use Rattle.certificate.specs.GrowthViews.{Grows}
 use Rattle.certificate.specs.Views.{bound_of}
 use Rattle.texts.specs.Views.{name_of}
-use Rattle.rules.specs.Expansions.{with_bound}
+use Rattle.std.specs.List.{slice_get}
+use Rattle.rules.specs.Expansions.{carried_by, code_named, with_bound}
 use Rattle.checker.proofs.Along.{along_end, along_failed, along_next, passed_on}
 use Rattle.checker.proofs.expanding.push_program.Goals as goal
 
@@ -23,7 +24,8 @@ loop-point-preserved c =
     let name = name_of c.args.name.now in
     along_next plan cert name (option_map bound_of c.loop-point.carried) c.loop-point.point c.loop-point-test.true c.loop-point.expanded c.push_point.new.expanded
     (option_map bound_of c.carried_past-carried.result)
-    (ap (λ b. grown_by (with_bound name c.loop-point.point b) c.loop-point.expanded) (sym c.bound_with-bound.ensures) ∙ c.in_ok-push_point.ensures) c.carried_past-carried.ensures
+    (ap (λ b. grown_by (with_bound name c.loop-point.point b) c.loop-point.expanded) (sym c.bound_with-bound.ensures) ∙ c.in_ok-push_point.ensures)
+    (c.carried_past-carried.ensures ∙ ap (carried_by plan cert name c.loop-point.point (slice_get (code_named plan.programs name) c.loop-point.point)) c.bound_with-bound.ensures)
     ∙ c.loop-point.invariant
 
 pub returns : goal.returns

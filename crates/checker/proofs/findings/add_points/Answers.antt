@@ -5,20 +5,18 @@ use Rattle.instruction_set.specs.Views.{instruction_of}
 use Rattle.std.proofs.Math.ListN.{length-map}
 use Rattle.task.specs.Plans.{programs_of_plan}
 use Rattle.checker.specs.PointViews.{expansion_of, instruction_of_point}
-use Rattle.rules.specs.Expansions.{carried_to}
 use Rattle.checker.specs.FindingViews.{broken_rule_of}
 use Rattle.checker.specs.Findings.{findings_before, findings_in}
 use Rattle.checker.proofs.Apart.{along_next, along_none}
 use Rattle.checker.proofs.OneByOne.{unkept_is}
-use Rattle.checker.proofs.Standing.{carried_along}
+use Rattle.checker.proofs.Standing.{bound_along}
 use Rattle.checker.proofs.findings.add_points.Goals as goal
 
 pub loop-point-init : goal.loop-point-init
-unfolding carried_to
-loop-point-init c = (along_none c.args.of.now.task.now (expansion_of c.args.of.now) c.args.of.now.program (map broken_rule_of c.args.found.now.items), refl)
+loop-point-init c = (along_none c.args.of.now.task.now (expansion_of c.args.of.now) c.args.of.now.program (map broken_rule_of c.args.found.now.items), c.first_bound-bound.ensures)
 
 pub loop-point-preserved : goal.loop-point-preserved
-loop-point-preserved c = (found, carried_along c.at-at.result c.args.of.now c.loop-point.point c.at-at.ensures.program c.at-at.ensures.point)
+loop-point-preserved c = (found, bound_along c.at-at.result c.args.of.now c.loop-point.point c.at-at.ensures.program c.at-at.ensures.point)
   where
     found : map broken_rule_of c.add_unkept.new.found.items
         ≡ map broken_rule_of c.args.found.now.items ++ findings_before c.args.of.now.task.now (expansion_of c.args.of.now) c.args.of.now.program (c.loop-point.point + 1)

@@ -6,20 +6,18 @@ use Rattle.std.proofs.Math.ListN.{length-map}
 use Rattle.std.proofs.lemmas.Option.{slice_get_past}
 use Rattle.task.specs.Plans.{programs_of_plan}
 use Rattle.checker.specs.PointViews.{expansion_of}
-use Rattle.rules.specs.Expansions.{carried_to}
 use Rattle.rules.specs.Rules.{least_broken}
 use Rattle.rules.specs.Verdicts.{found_at}
 use Rattle.checker.proofs.OneByOne.{found_is}
 use Rattle.checker.proofs.PastEnds.{no_instruction}
-use Rattle.checker.proofs.Standing.{carried_along}
+use Rattle.checker.proofs.Standing.{bound_along}
 use Rattle.checker.proofs.verdicts.first_in.Goals as goal
 
 pub loop-point-init : goal.loop-point-init
-unfolding carried_to
-loop-point-init c = (λ k below. absurd (omega arith), refl)
+loop-point-init c = (λ k below. absurd (omega arith), c.first_bound-bound.ensures)
 
 pub loop-point-preserved : goal.loop-point-preserved
-loop-point-preserved c = (λ k below. here k below (lt_or_le k c.loop-point.point), carried_along c.at-at.result c.args.of.now c.loop-point.point c.at-at.ensures.program c.at-at.ensures.point)
+loop-point-preserved c = (λ k below. here k below (lt_or_le k c.loop-point.point), bound_along c.at-at.result c.args.of.now c.loop-point.point c.at-at.ensures.program c.at-at.ensures.point)
   where
     here : (k : ℕ) → k < c.loop-point.point + 1 → (k < c.loop-point.point) ⊎ (c.loop-point.point ≤ k)
         → found_at c.args.of.now.task.now (expansion_of c.args.of.now) c.args.of.now.program k ≡ None

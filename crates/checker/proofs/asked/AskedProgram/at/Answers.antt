@@ -6,7 +6,7 @@ use Rattle.texts.specs.Views.{name_of}
 use Rattle.instruction_set.specs.Views.{code_of, instruction_of}
 use Rattle.checker.specs.PointViews.{expansion_of}
 use Rattle.checker.proofs.Apart.{tests_are}
-use Rattle.checker.proofs.Standing.{bound_is, carried_next, read_there}
+use Rattle.checker.proofs.Standing.{bound_is, bound_next, read_there}
 use Rattle.rights.proofs.Lists.{list_all-slice_get}
 use Rattle.transfer.specs.Limits.{leaves_known}
 use Rattle.checker.proofs.asked.AskedProgram.at.Goals as goal
@@ -17,11 +17,11 @@ invariant_of-result-clause-stands c =
     sym (ap (λ code. slice_get code c.args.point) of.stands)
     ∙ read_there of.code.now c.args.point c.index-self-point.result c.requires.point c.index-self-point.is
 
-pub invariant_of-result-clause-carries : goal.invariant_of-result-clause-carries
-invariant_of-result-clause-carries c =
+pub invariant_of-result-clause-leads : goal.invariant_of-result-clause-leads
+invariant_of-result-clause-leads c =
     let of = c.args.self.now in
-    carried_next of.task.now of.cert.now (name_of of.name) c.args.point (option_map bound_of c.args.carried.now) (option_map bound_of c.carried_past-next.result)
-    c.carried_past-next.ensures c.requires.carried
+    bound_next of.task.now of.cert.now (name_of of.name) c.args.point (option_map bound_of c.args.bound.now) (option_map bound_of c.carried_past-carried.result)
+    (option_map bound_of c.bound_with-there.result) c.requires.bound c.carried_past-carried.ensures c.bound_with-there.ensures
 
 pub invariant_of-result-clause-known : goal.invariant_of-result-clause-known
 invariant_of-result-clause-known c =
@@ -35,6 +35,6 @@ returns-clause-tests c =
     let i = instruction_of (slice_index_or of.code.now c.args.point c.index-self-point.result) in
     let there = sym (ap (λ code. slice_get code c.args.point) of.coded)
     ∙ read_there of.code.now c.args.point c.index-self-point.result c.requires.point c.index-self-point.is in
-    let bounded = bound_is of.task.now of.cert.now of.program c.args.point (name_of of.name) (option_map bound_of c.args.carried.now) of.valid of.made of.named
-    c.requires.carried (option_map bound_of c.bound_with-bound.result) c.bound_with-bound.ensures in
-    tests_are of.task.now (expansion_of of) of.program c.args.point i (option_map bound_of c.bound_with-bound.result) there (sym bounded)
+    let bounded = bound_is of.task.now of.cert.now of.program c.args.point (name_of of.name) (option_map bound_of c.args.bound.now) of.valid of.made of.named
+    c.requires.bound in
+    tests_are of.task.now (expansion_of of) of.program c.args.point i (option_map bound_of c.args.bound.now) there (sym bounded)

@@ -1,7 +1,7 @@
 use Rattle.std.proofs.Common.{◌≡◌, ◌≤◌, ◌+◌, ◌<◌, ℕ, suc, length, sym, ap, subst, ◌∙◌, arith}
 use Rattle.std.proofs.lemmas.Bool.{ltb-false, ltb-true}
 use Rattle.task_text.specs.Places.{counted_from, passed, place_at}
-use Rattle.task_text.specs.PlaceViews.{place_of}
+use Rattle.task_text.specs.PlaceViews.{place_seen}
 use Rattle.task_text.specs.declared.places.Cursor.{Cursor}
 use Rattle.task_text.proofs.PlaceLaws.{none-before, one_on, past_end}
 use Rattle.task_text.proofs.places.Cursor.go_to.Goals as goal
@@ -9,7 +9,7 @@ use Rattle.task_text.proofs.places.Cursor.go_to.Goals.{then-offset-self, else-of
 
 pub loop-self-init : goal.loop-self-init
 loop-self-init c =
-    let Stands : Cursor → Type 0 = λ cursor. (place_of cursor.place ≡ place_at c.args.file.now cursor.offset) × (cursor.offset ≤ c.args.offset) in
+    let Stands : Cursor → Type 0 = λ cursor. (place_seen cursor.place ≡ place_at c.args.file.now cursor.offset) × (cursor.offset ≤ c.args.offset) in
     elim c.if-offset-self.branch [
       | then-offset-self w ↦ subst Stands (sym w.self-is) (sym (none-before c.args.file.now (1, 1)), omega arith)
       | else-offset-self w ↦ let before = w.if-offset-self.false in subst Stands (sym w.self-is) (c.requires, omega (arith, before))
