@@ -1,11 +1,14 @@
 //! Lines of a trace.
 
-ghost use Rattle.std.specs.Prelude.{◌≡◌};
+ghost use Rattle.std.specs.Prelude.{◌≡◌, IfOk, IfSome};
 ghost use Rattle.syscalls.specs.CallViews as called;
-ghost use Rattle.simulator.specs.Views.{result_of};
+ghost use Rattle.syscalls.specs.Views.{AreThere};
+ghost use Rattle.simulator.specs.Views.{line_in, line_of, result_of};
 
-use rights::{Cause, Errno};
-use syscalls::{Effect, Outcome};
+use file_tree::Tree;
+use rights::{Cause, Errno, Memory};
+use std::alloc::Global;
+use syscalls::{Effect, Effects, Outcome};
 
 /// What a step comes to.
 #[derive(Clone, Copy, PartialEq, Eq)]
@@ -39,6 +42,37 @@ pub struct Acted {
 pub struct Line {
     pub process: u8,
     pub acted: Option<Acted>,
+}
+
+/// What a process that was made did, in the world that it left: the places of the effects are those of nodes there.
+#[derive(Drop)]
+pub(crate) struct Stepped {
+    pub program: u8,
+    pub point: u8,
+    pub outcome: LineResult,
+    pub effects: Effects,
+}
+
+/// The line of a step, with the places of its effects written.
+pub(crate) fn line_written<T: Tree>(
+    alloc: Global,
+    tree: &T,
+    process: u8,
+    stepped: Option<Stepped>,
+) -> Result<Line, Memory>
+    requires { IfSome stepped (λ s. AreThere (T.nodes tree.now) s.effects) }
+    ensures { IfOk result (λ line. line_of line ≡ line_in (T.nodes tree.now) process stepped) }
+{
+    let acted = match stepped {
+        None => None,
+        Some(stepped) => Some(Acted {
+            program: stepped.program,
+            point: stepped.point,
+            outcome: stepped.outcome,
+            effects: stepped.effects.written(alloc, tree)?,
+        }),
+    };
+    Ok(Line { process, acted })
 }
 
 /// What a call came to, as a line says it.

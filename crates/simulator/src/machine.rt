@@ -1,22 +1,22 @@
 //! A machine that runs a task step by step.
 
-ghost use Rattle.std.specs.Prelude.{◌≡◌, ◌<◌, ◌↔◌, IfOk, IsErrOf, OnErr, OnOk, slice_get, true, false};
+ghost use Rattle.std.specs.Prelude.{◌≡◌, ◌<◌, ◌↔◌, IfOk, IfSome, IsErrOf, OnErr, OnOk, slice_get, true, false};
 ghost use Rattle.kernel.specs.Renamings.{DiffersInNumbers};
 ghost use Rattle.kernel.specs.Hostile.{Does};
 ghost use Rattle.kernel.specs.WellFormed.{IsWellFormed};
 ghost use Rattle.instruction_set.specs.Views.{instruction_of};
-ghost use Rattle.syscalls.specs.Views.{event_of};
+ghost use Rattle.syscalls.specs.Views.{AreThere, event_of};
 ghost use Rattle.task.specs.Begins.{first_world};
 ghost use Rattle.task.specs.Limits.{is_plan};
 ghost use Rattle.task.specs.Plans.{programs_of_plan};
 ghost use Rattle.simulator.specs.Deeds.{may_stand_at};
 ghost use Rattle.simulator.specs.Machines.{machine_world};
 ghost use Rattle.simulator.specs.Steps.{StepsMachine, StepsMachineAs};
-ghost use Rattle.simulator.specs.Views.{line_of};
+ghost use Rattle.simulator.specs.Views.{line_in, line_of};
 
-use crate::lines::Line;
+use crate::lines::{Line, Stepped};
 use crate::starting::first_world;
-use crate::steps::{may_stand_at, step_world, step_world_as};
+use crate::steps::{advance, may_stand_at, step_world, step_world_as};
 use fd_table::Files;
 use file_tree::Tree;
 use instruction_set::Instruction;
@@ -108,6 +108,31 @@ impl<'a, T: Tree> Machine<'a, T> {
         }
         match step_world(self.alloc, self.task, &mut self.world, event) {
             Ok(line) => Ok(line),
+            Err(_) => {
+                self.spent = true;
+                Err(Stop::Memory)
+            }
+        }
+    }
+
+    /// The same, with what the process did, if it was made, in place of its line.
+    pub(crate) fn advance(&mut self, event: Event) -> Result<Option<Stepped>, Stop>
+        ensures step { IfOk result (λ stepped. StepsMachine (programs_of_plan self.old.plan) (machine_world self.old) (event_of event)
+            (line_in self.new.tree event.process stepped) (machine_world self.new)) }
+        ensures there { IfOk result (λ stepped. IfSome stepped (λ s. AreThere self.new.tree s.effects)) }
+        ensures well_formed { OnOk result (IsWellFormed (programs_of_plan self.new.plan) (machine_world self.new)) }
+        ensures plan { self.new.plan ≡ self.old.plan }
+        ensures spent { IsErrOf result Stop.Spent ↔ (self.old.spent ≡ true) }
+        ensures runs_on { OnOk result (self.new.spent ≡ false) }
+        ensures stops { OnErr result (self.new.spent ≡ true) }
+        ensures no_device { IsErrOf result Stop.Device → ⊥ }
+        ensures byte { OnOk result (event.input < 256) }
+    {
+        if self.spent {
+            return Err(Stop::Spent);
+        }
+        match advance(self.alloc, self.task, &mut self.world, event) {
+            Ok(stepped) => Ok(stepped),
             Err(_) => {
                 self.spent = true;
                 Err(Stop::Memory)

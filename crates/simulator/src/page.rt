@@ -1,7 +1,10 @@
 //! The page on which the lines of a trace are gathered.
 
-ghost use Rattle.std.specs.Prelude.{◌≡◌, ◌+◌, ◌++◌, ◌∷◌, ◌≤◌, [], IfOk, OnErr, OnOk, length, replicate, take, vec_len};
+ghost use Rattle.file_tree.specs.Nodes.{node};
+ghost use Rattle.file_tree.specs.Places.{place_text};
+ghost use Rattle.std.specs.Prelude.{◌≡◌, ◌+◌, ◌++◌, ◌∷◌, ◌<◌, ◌≤◌, [], IfOk, OnErr, OnOk, length, replicate, take, vec_len};
 
+use file_tree::{NodeId, Tree};
 use std::alloc::{AllocError, Global};
 use std::marker::Model;
 
@@ -17,6 +20,8 @@ pub(crate) struct Page {
     start: usize,
     /// Where the line ends so far.
     end: usize,
+    /// Room for a place, which is taken again and again.
+    place: Vec<u8>,
 }
 
 impl Model for Page {
@@ -52,6 +57,35 @@ fn put_bytes(room: &mut Vec<u8>, at: usize, bytes: &[u8])
     room[at..at + bytes.len()].copy_from_slice(bytes);
 }
 
+/// Puts the bytes here in the room, of which it makes more where they need that, and tells where they end. What stands before
+/// them stays.
+#[inline(always)]
+fn append_at(room: &mut Vec<u8>, at: usize, bytes: &[u8]) -> Result<usize, AllocError>
+    requires { at ≤ vec_len room.old }
+    ensures put { IfOk result (λ end. take end room.new.items ≡ take at room.old.items ++ bytes.now) }
+    ensures end { IfOk result (λ end. (at ≤ end) × (end ≤ vec_len room.new)) }
+    ensures before { take at room.new.items ≡ take at room.old.items }
+    ensures len { vec_len room.old ≤ vec_len room.new }
+{
+    if bytes.len() > room.len() - at {
+        make_room(room, bytes.len())?;
+    }
+    put_bytes(room, at, bytes);
+    Ok(at + bytes.len())
+}
+
+/// Writes the place of a node over what was written before.
+fn write_place<T: Tree>(place: &mut Vec<u8>, tree: &T, n: NodeId) -> Result<(), AllocError>
+    requires { n < length (T.nodes tree.now) }
+    ensures { OnOk result (place.new.items ≡ place_text (node (T.nodes tree.now) n).place) }
+{
+    place.clear();
+    if tree.place_text(n, place).is_err() {
+        return Err(AllocError);
+    }
+    Ok(())
+}
+
 /// Puts the word here in the room.
 fn put_word<const N: usize>(room: &mut Vec<u8>, at: usize, word: &[u8; N])
     requires { at + N ≤ vec_len room.old }
@@ -73,10 +107,12 @@ impl Page {
             room: Vec::from_slice(alloc, &[0; ROOM])?,
             start: 0,
             end: 0,
+            place: Vec::new(alloc),
         })
     }
 
     /// Appends a byte to the line.
+    #[inline(always)]
     pub(crate) fn push(&mut self, byte: u8) -> Result<(), AllocError>
         ensures lines { self.new.lines ≡ self.old.lines }
         ensures line { OnOk result (self.new.line ≡ self.old.line ++ byte ∷ []) }
@@ -90,19 +126,28 @@ impl Page {
     }
 
     /// Appends bytes to the line.
+    #[inline(always)]
     pub(crate) fn append(&mut self, bytes: &[u8]) -> Result<(), AllocError>
         ensures lines { self.new.lines ≡ self.old.lines }
         ensures line { OnOk result (self.new.line ≡ self.old.line ++ bytes.now) }
     {
-        if bytes.len() > self.room.len() - self.end {
-            make_room(&mut self.room, bytes.len())?;
-        }
-        put_bytes(&mut self.room, self.end, bytes);
-        self.end += bytes.len();
+        self.end = append_at(&mut self.room, self.end, bytes)?;
+        Ok(())
+    }
+
+    /// Appends the place of a node to the line.
+    pub(crate) fn append_place<T: Tree>(&mut self, tree: &T, n: NodeId) -> Result<(), AllocError>
+        requires { n < length (T.nodes tree.now) }
+        ensures lines { self.new.lines ≡ self.old.lines }
+        ensures line { OnOk result (self.new.line ≡ self.old.line ++ place_text (node (T.nodes tree.now) n).place) }
+    {
+        write_place(&mut self.place, tree, n)?;
+        self.end = append_at(&mut self.room, self.end, &self.place)?;
         Ok(())
     }
 
     /// Appends a word to the line.
+    #[inline(always)]
     pub(crate) fn append_word<const N: usize>(&mut self, word: &[u8; N]) -> Result<(), AllocError>
         ensures lines { self.new.lines ≡ self.old.lines }
         ensures line { OnOk result (self.new.line ≡ self.old.line ++ word.now) }

@@ -77,10 +77,10 @@ pub fn simulate<W: Out>(
     let mut machine: Machine<'_, LinkTree> = Machine::start(alloc, task)?;
     let mut page = Page::new(alloc)?;
     for event in events {
-        let Ok(line) = machine.step(*event) else {
+        let Ok(stepped) = machine.advance(*event) else {
             return Err(write_left(page.lines(), out));
         };
-        if push_line(&mut page, task, &line).is_err() {
+        if push_line(&mut page, task, machine.tree(), event.process, &stepped).is_err() {
             return Err(write_left(page.lines(), out));
         }
         write_piece(&mut page, out)?;

@@ -1,37 +1,27 @@
 //! The text of a trace.
 
-ghost use Rattle.std.specs.Prelude.{◌≡◌, ◌++◌, [], OnErr, OnOk, Some, codes};
+ghost use Rattle.std.specs.Prelude.{◌≡◌, ◌<◌, ◌++◌, [], IfSome, OnErr, OnOk, Some, codes, length};
 ghost use Rattle.std.specs.Fmt.{decimal};
 ghost use Rattle.std.specs.List.{flat_map};
 ghost use Rattle.rights.specs.OperationLists.{operation_name};
 ghost use Rattle.rights.specs.Views.{cause_of, errno_of, operation_of};
+ghost use Rattle.file_tree.specs.Nodes.{node};
 ghost use Rattle.kernel.specs.Steps.{Failed};
-ghost use Rattle.syscalls.specs.Views.{effect_of, effects_of};
+ghost use Rattle.syscalls.specs.Shows.{shown_at};
+ghost use Rattle.syscalls.specs.Views.{AreThere, effects_in};
 ghost use Rattle.task.specs.Views.{programs_of};
 ghost use Rattle.simulator.specs.Traces.{acted_text, effect_text, line_text, result_text};
-ghost use Rattle.simulator.specs.Views.{acted_of, line_of, result_of};
+ghost use Rattle.simulator.specs.Views.{line_in, result_of, stepped_in};
 
-use crate::lines::{Acted, Line, LineResult};
+use crate::lines::{LineResult, Stepped};
 use crate::page::Page;
+use file_tree::{NodeId, Tree};
 use rights::{Cause, Errno, Op};
 use std::alloc::AllocError;
-use syscalls::Effect;
+use syscalls::Effects;
 use task::Task;
 
-/// Appends a number in decimal, digit by digit.
-fn push_digits(page: &mut Page, number: u32) -> Result<(), AllocError>
-    ensures lines { page.new.lines ≡ page.old.lines }
-    ensures line { OnOk result (page.new.line ≡ page.old.line ++ decimal number) }
-{
-    if number >= 100 {
-        push_digits(page, number / 10)?;
-    } else if number >= 10 {
-        page.push(b'0' + (number / 10) as u8)?;
-    }
-    page.push(b'0' + (number % 10) as u8)
-}
-
-/// Appends a number in decimal; most have one digit.
+/// Appends a number in decimal, two digits at once; most have one or two.
 fn push_number(page: &mut Page, number: u32) -> Result<(), AllocError>
     ensures lines { page.new.lines ≡ page.old.lines }
     ensures line { OnOk result (page.new.line ≡ page.old.line ++ decimal number) }
@@ -39,7 +29,10 @@ fn push_number(page: &mut Page, number: u32) -> Result<(), AllocError>
     if number < 10 {
         return page.push(b'0' + number as u8);
     }
-    push_digits(page, number)
+    if number >= 100 {
+        push_number(page, number / 100)?;
+    }
+    page.append_word(&[b'0' + (number / 10 % 10) as u8, b'0' + (number % 10) as u8])
 }
 
 /// Appends why a call failed, as ` ! EBADF BadDescriptor`.
@@ -88,42 +81,78 @@ fn push_operation(page: &mut Page, op: Op) -> Result<(), AllocError>
     }
 }
 
-/// Appends the effects, one after another, each as ` read /work/in`.
-fn push_effects(page: &mut Page, effects: &[Effect]) -> Result<(), AllocError>
+/// Appends an operation on a node, as ` read /work/in`.
+#[inline(never)]
+fn push_done<T: Tree>(page: &mut Page, tree: &T, op: Op, n: NodeId) -> Result<(), AllocError>
+    requires { n < length (T.nodes tree.now) }
     ensures lines { page.new.lines ≡ page.old.lines }
-    ensures line { OnOk result (page.new.line ≡ page.old.line ++ flat_map effect_text (effects_of effects.now)) }
+    ensures line { OnOk result (page.new.line ≡ page.old.line ++ effect_text (shown_at (operation_of op) (node (T.nodes tree.now) n).place)) }
 {
-    for effect in effects {
-        push_operation(page, effect.op)?;
-        page.append(&effect.place)?;
+    push_operation(page, op)?;
+    page.append_place(tree, n)
+}
+
+/// Appends the effects, one after another.
+#[inline(always)]
+fn push_effects<T: Tree>(page: &mut Page, tree: &T, effects: &Effects) -> Result<(), AllocError>
+    requires { AreThere (T.nodes tree.now) effects.now }
+    ensures lines { page.new.lines ≡ page.old.lines }
+    ensures line { OnOk result (page.new.line ≡ page.old.line ++ flat_map effect_text (effects_in (T.nodes tree.now) effects.now)) }
+{
+    match effects {
+        Effects::Nothing => Ok(()),
+        Effects::One(op, n) => push_done(page, tree, *op, *n),
+        Effects::Renamed(n, from) => {
+            push_operation(page, Op::Remove)?;
+            page.append(from)?;
+            push_done(page, tree, Op::Create, *n)
+        }
+        Effects::Replaced(n, from) => {
+            push_done(page, tree, Op::Remove, *n)?;
+            push_operation(page, Op::Remove)?;
+            page.append(from)?;
+            push_done(page, tree, Op::Create, *n)
+        }
     }
-    Ok(())
 }
 
 /// Appends what a process that was made did.
-fn push_acted(page: &mut Page, task: &Task, acted: &Acted) -> Result<(), AllocError>
+fn push_stepped<T: Tree>(
+    page: &mut Page,
+    task: &Task,
+    tree: &T,
+    stepped: &Stepped,
+) -> Result<(), AllocError>
+    requires { AreThere (T.nodes tree.now) stepped.now.effects }
     ensures lines { page.new.lines ≡ page.old.lines }
-    ensures line { OnOk result (page.new.line ≡ page.old.line ++ acted_text task.now (Some (acted_of acted.now))) }
+    ensures line { OnOk result (page.new.line ≡ page.old.line ++ acted_text task.now (Some (stepped_in (T.nodes tree.now) stepped.now))) }
 {
     page.push(b' ')?;
-    page.append(task.program_name(acted.program))?;
+    page.append(task.program_name(stepped.program))?;
     page.push(b':')?;
-    push_number(page, u32::from(acted.point))?;
-    push_result(page, acted.outcome)?;
-    push_effects(page, &acted.effects)
+    push_number(page, u32::from(stepped.point))?;
+    push_result(page, stepped.outcome)?;
+    push_effects(page, tree, &stepped.effects)
 }
 
-/// Adds the text of a line, with its line feed, to the whole lines. After a refused growth these are as they were.
-pub(crate) fn push_line(page: &mut Page, task: &Task, line: &Line) -> Result<(), AllocError>
-    requires { page.old.line ≡ [] }
-    ensures ok { OnOk result (page.new.lines ≡ page.old.lines ++ line_text task.now (line_of line.now)) }
+/// Adds the text of a step's line, with its line feed, to the whole lines. After a refused growth these are as they were.
+pub(crate) fn push_line<T: Tree>(
+    page: &mut Page,
+    task: &Task,
+    tree: &T,
+    process: u8,
+    stepped: &Option<Stepped>,
+) -> Result<(), AllocError>
+    requires begun { page.old.line ≡ [] }
+    requires there { IfSome stepped.now (λ s. AreThere (T.nodes tree.now) s.effects) }
+    ensures ok { OnOk result (page.new.lines ≡ page.old.lines ++ line_text task.now (line_in (T.nodes tree.now) process stepped.now)) }
     ensures begun { OnOk result (page.new.line ≡ []) }
     ensures err { OnErr result (page.new.lines ≡ page.old.lines) }
 {
-    push_number(page, u32::from(line.process))?;
-    match &line.acted {
+    push_number(page, u32::from(process))?;
+    match stepped {
         None => page.append_word(b" - none")?,
-        Some(acted) => push_acted(page, task, acted)?,
+        Some(stepped) => push_stepped(page, task, tree, stepped)?,
     }
     page.push(b'\n')?;
     page.end_line();

@@ -1,6 +1,6 @@
 -- From the parts of a call to the whole: its process, and its fresh numbers.
-use Rattle.std.proofs.Common.{◌≡◌, ◌≢◌, ◌+◌, ◌<◌, ◌≤◌, arith, ℕ, Bool, List, [], ◌++◌, map, length, slice_set, refl, ap, sym, subst, ◌∙◌, append-nil}
-use Rattle.std.specs.Prelude.{Option, Some, None, Result}
+use Rattle.std.proofs.Common.{◌≡◌, ◌≢◌, ◌<◌, ◌≤◌, arith, ℕ, Bool, List, [], ◌++◌, map, length, slice_set, refl, ap, sym, subst, ◌∙◌, append-nil}
+use Rattle.std.specs.Prelude.{Option, Some, None}
 use Rattle.std.specs.List.{slice_get}
 use Rattle.std.proofs.Math.ListN.{get_or}
 use Rattle.std.proofs.lemmas.Option.{slice_get_within, get_or_from_slice_get}
@@ -9,20 +9,14 @@ use Rattle.file_tree.specs.Nodes.{Node}
 use Rattle.fd_table.specs.Descriptions.{Object, At_node, At_end, Descriptor, IfHeld}
 use Rattle.fd_table.specs.OpenFiles.{OpenFiles, Alike}
 use Rattle.rights.specs.Errors.{Errno, Cause}
-use Rattle.rights.specs.Views.{errno_of, cause_of}
-use Rattle.rights.specs.declared.errors.Errno.{Errno as ErrnoCode}
-use Rattle.rights.specs.declared.errors.Cause.{Cause as CauseCode}
 use Rattle.syscalls.specs.declared.outcomes.Besides.{Besides}
 use Rattle.syscalls.specs.declared.outcomes.Besides.TheVariants as besides
-use Rattle.syscalls.specs.declared.outcomes.Success.{Success}
-use Rattle.syscalls.specs.declared.outcomes.Refusal.{Refusal}
-use Rattle.syscalls.specs.declared.outcomes.Refusal.TheVariants as refusal
 use Rattle.instruction_set.specs.Programs.{Syscall}
 use Rattle.kernel.specs.World.{World, Choice, IsFresh}
 use Rattle.kernel.specs.Answers.{Event, TreeChange, TableChange, Same_table, Set_entry, Clear_entry, New_file, New_pair, New_process, QueueChange, StateChange, Change, Fails, Waits, Walks}
 use Rattle.kernel.specs.Calls.{answer}
 use Rattle.kernel.specs.Changes.{files_after, changed, given, children, processes_after}
-use Rattle.kernel.specs.Steps.{LineResult, Value, Failed, Waiting, Walks_on, Programs, answered, failed}
+use Rattle.kernel.specs.Steps.{Value, Failed, Waiting, Walks_on, Programs, answered, failed}
 use Rattle.kernel.specs.WellFormed.{Numbering, IsObject, IsDescriptor, IsWorld}
 use Rattle.lookup.proofs.UnderWay.{there_if_opened}
 use Rattle.kernel.specs.Runs.{MayChoose}
@@ -31,7 +25,7 @@ use Rattle.kernel.proofs.Fresh.{fresh_some}
 use Rattle.kernel.proofs.Keeping.{may_choose}
 use Rattle.syscalls.specs.Shows.{Shown, shown}
 use Rattle.syscalls.specs.Views.{world_with}
-use Rattle.syscalls.specs.AnswerViews.{Suits, IsBesides, Succeeds, RefusesAlone, Meets, IsIdle, IsReady, IsReadyDescription, IsReadyObject}
+use Rattle.syscalls.specs.AnswerViews.{Suits, IsBesides, Succeeds, IsIdle, IsReady, IsReadyDescription, IsReadyObject}
 use Rattle.syscalls.specs.MayCall.{MayCall}
 use Rattle.syscalls.specs.CallViews.{Comes, processes_as, succeeded_as}
 use Rattle.syscalls.proofs.Keeping.{alike_refl}

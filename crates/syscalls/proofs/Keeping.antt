@@ -2,9 +2,11 @@
 use Rattle.std.proofs.Common.{◌≡◌, ◌<◌, ℕ, Bool, true, List, [], ◌∷◌, refl, sym, ◌∙◌, map, length}
 use Rattle.std.specs.Prelude.{Option, Some, None, Ok}
 use Rattle.file_tree.specs.Nodes.{Kind, Node, node, child_of}
+use Rattle.rights.specs.Operations.{Operation}
+use Rattle.file_tree.specs.Changes.{filled}
 use Rattle.file_tree.specs.Places.{at_name}
 use Rattle.file_tree.specs.Refusals.{created, create_fault}
-use Rattle.file_tree.proofs.TreeLaws.{child_by_place}
+use Rattle.file_tree.proofs.TreeLaws.{child_by_place, filled_length, filled_same}
 use Rattle.syscalls.proofs.Tests.{below}
 use Rattle.fd_table.specs.Descriptions.{Access, Message, Descriptor, State}
 use Rattle.fd_table.specs.Filled.{with_state, Opens}
@@ -12,12 +14,14 @@ use Rattle.fd_table.specs.OpenFiles.{OpenFiles, Alike, SameDescription, SameDesc
 use Rattle.kernel.specs.World.{World, Choice}
 use Rattle.kernel.specs.Answers.{Effect, TreeChange, TableChange, Same_table, Set_entry, Clear_entry, New_file, New_pair, New_process, QueueChange, Make, Set_state, Answer, Gives, same}
 use Rattle.kernel.specs.Changes.{tree_after, files_after}
+use Rattle.syscalls.specs.declared.effects.Effects.{Effects}
+use Rattle.syscalls.specs.declared.effects.Effects.TheVariants as effects
 use Rattle.syscalls.specs.declared.outcomes.Besides.{Besides}
 use Rattle.syscalls.specs.declared.outcomes.Besides.TheVariants as besides
 use Rattle.syscalls.specs.declared.outcomes.Success.{Success}
-use Rattle.syscalls.specs.Shows.{Shown, shown}
+use Rattle.syscalls.specs.Shows.{Shown, shown, shown_at}
 use Rattle.syscalls.specs.AnswerViews.{Meets, Succeeds, Suits, IsBesides, IsIdle}
-use Rattle.syscalls.specs.Views.{IsSuccess}
+use Rattle.syscalls.specs.Views.{AreThere, IsSuccess, effects_in}
 
 same_description : (f : OpenFiles) (o : Option Descriptor) → SameDescription f f o
 same_description f None = tt
@@ -40,10 +44,22 @@ alike_refl f idle = record {
 pub any_choice : Choice
 any_choice = record { first = 0; second = 0; pair = 0 }
 
--- what a call came to that succeeds
-pub meets : {w : World} {p : ℕ} {t : List Node} {f : OpenFiles} {a : Answer} {success : Success} {value : ℕ} {b : Besides} {shows : List Shown} →
-    IsSuccess success value b shows → Succeeds w p t f value b shows a → Meets w p t f (Ok success) a
-meets is succeeds = rw (is.value, is.besides, is.effects) succeeds
+-- what a call came to that succeeds, and did this, or nothing
+pub meets_with : {w : World} {p : ℕ} {t : List Node} {f : OpenFiles} {a : Answer} {success : Success} {value : ℕ} {b : Besides} {does : Effects} →
+    IsSuccess success value b does → AreThere t does → Succeeds w p t f value b (effects_in t does) a → Meets w p t f (Ok success) a
+meets_with is there succeeds = rw (is.value, is.besides, is.effects) (succeeds, there)
+
+pub meets : {w : World} {p : ℕ} {t : List Node} {f : OpenFiles} {a : Answer} {success : Success} {value : ℕ} {b : Besides} →
+    IsSuccess success value b effects.Nothing → Succeeds w p t f value b [] a → Meets w p t f (Ok success) a
+meets is succeeds = meets_with is tt succeeds
+
+-- what was done to a node whose content alone was changed, and that it is still there
+pub filled_shows : (t after : List Node) (n : ℕ) (content : List ℕ) (op : Operation) → n < length t → after ≡ filled t n content →
+    shown_at op (node t n).place ∷ [] ≡ shown_at op (node after n).place ∷ []
+filled_shows t after n content op there is = rw (is, filled_same t n content there) refl
+
+pub filled_there : (t after : List Node) (n : ℕ) (content : List ℕ) → n < length t → after ≡ filled t n content → n < length after
+filled_there t after n content there is = rw (is, filled_length t n content) there
 
 -- a change of the tree alone
 pub tree_succeeds : (w : World) (p : ℕ) (t : List Node) (value : ℕ) (shows : List Shown) (a : Answer) (change : TreeChange) (effects : List Effect) →

@@ -12,7 +12,7 @@ use Rattle.fd_table.specs.OpenFiles.{OpenFiles}
 use Rattle.instruction_set.specs.Programs.{Syscall}
 use Rattle.rights.specs.Views.{errno_of, cause_of}
 use Rattle.kernel.specs.World.{World}
-use Rattle.kernel.specs.Answers.{Event, Waits}
+use Rattle.kernel.specs.Answers.{Answer, Event, Waits}
 use Rattle.kernel.specs.Calls.{answer}
 use Rattle.kernel.specs.Changes.{children}
 use Rattle.kernel.specs.Steps.{LineResult, Programs, Value, Failed, Waiting, Walks_on, failed}
@@ -20,13 +20,14 @@ use Rattle.kernel.specs.Walks.{FitsIfWalking}
 use Rattle.kernel.specs.WellFormed.{Numbering, IsWorld}
 use Rattle.kernel.proofs.FittingWalks.{none_under}
 use Rattle.kernel.proofs.KeptWalks.{if_walking_later}
+use Rattle.syscalls.specs.declared.effects.Effects.{Effects}
 use Rattle.syscalls.specs.declared.outcomes.Refusal.{Refusal}
 use Rattle.syscalls.specs.declared.outcomes.Refusal.TheVariants as refusal
 use Rattle.syscalls.specs.declared.outcomes.Success.{Success}
 use Rattle.syscalls.specs.AnswerViews.{DoesNothing, Meets}
 use Rattle.syscalls.specs.CallViews.{Comes, Settles, succeeded_as}
 use Rattle.syscalls.specs.Shows.{Shown}
-use Rattle.syscalls.specs.Views.{change_of, effects_of, world_with}
+use Rattle.syscalls.specs.Views.{AreThere, change_of, effects_in, world_with}
 use Rattle.syscalls.proofs.Calling.{fails, same_process, same_world, stands, succeeds_as, waits, walks}
 use Rattle.syscalls.proofs.Unwaiting.{looks_nothing}
 
@@ -101,23 +102,35 @@ module _ (programs : Programs) (t : List Node) (f : OpenFiles) (processes : List
       let none : s.walk ≡ None = none_under t f.objects (f.table p) s call s.walk (looks_nothing w p s e call waiting) fits in
       ap (slice_set processes p) (ap (λ o. record s { walk = o }) (sym none)) ∙ set_itself processes p s made
 
-  pub settled : (came : Result Success Refusal) → Meets w p after left came (answer w p s e call) → (told : LineResult) (shows : List Shown) (others : List ProcessState) →
-      Settles (slice_set processes p (rested s)) p (rested s) otherwise came told shows others → Comes w p s e call otherwise told shows (world_with after left others)
-  settled (Ok success) meets told shows others is =
-      told_as told (Value success.value) shows (effects_of success.effects.items) (world_with after left others) (world_with after left others) is.0 is.1 refl
-      (succeeds_as programs t f processes numbering good p s e call otherwise after left (effects_of success.effects.items) success.value success.besides meets others
+  pub settled : (came : Result Success Refusal) → Meets w p after left came (answer w p s e call) → (told : LineResult) (does : Effects) (others : List ProcessState) →
+      Settles (slice_set processes p (rested s)) p (rested s) otherwise came told does others →
+      Comes w p s e call otherwise told (effects_in after does) (world_with after left others)
+  settled (Ok success) meets told does others is =
+      told_as told (Value success.value) (effects_in after does) (effects_in after success.effects) (world_with after left others) (world_with after left others)
+      is.0 (ap (effects_in after) is.1) refl
+      (succeeds_as programs t f processes numbering good p s e call otherwise after left (effects_in after success.effects) success.value success.besides meets.0 others
       (is.2 ∙ ap (λ list. list ++ children (change_of success.besides).table (succeeded_as s success.value success.besides))
       (set_twice processes p (rested s) (succeeded_as s success.value success.besides))))
-  settled (Err (refusal.Fails errno cause)) meets told shows others is =
-      told_as told (Failed (errno_of errno) (cause_of cause)) shows [] (world_with after left others) (world_with t f (slice_set processes p (failed s (errno_of errno) otherwise))) is.0 is.1
+  settled (Err (refusal.Fails errno cause)) meets told does others is =
+      told_as told (Failed (errno_of errno) (cause_of cause)) (effects_in after does) [] (world_with after left others)
+      (world_with t f (slice_set processes p (failed s (errno_of errno) otherwise))) is.0 (ap (effects_in after) is.1)
       (unchanged others (slice_set processes p (failed s (errno_of errno) otherwise)) meets.1 (is.2 ∙ set_twice processes p (rested s) (failed s (errno_of errno) otherwise)))
       (fails programs t f processes numbering good p s e call otherwise (errno_of errno) (cause_of cause) meets.0)
-  settled (Err refusal.Waits) meets told shows others is =
-      told_as told Waiting shows [] (world_with after left others) w is.0 is.1 (unchanged others processes meets.1 (is.2 ∙ was_rested meets.0))
-      (waits programs t f processes numbering good p s e call otherwise meets.0)
-  settled (Err (refusal.Walks walking)) meets told shows others is =
+  settled (Err refusal.Waits) meets told does others is =
+      told_as told Waiting (effects_in after does) [] (world_with after left others) w is.0 (ap (effects_in after) is.1)
+      (unchanged others processes meets.1 (is.2 ∙ was_rested meets.0)) (waits programs t f processes numbering good p s e call otherwise meets.0)
+  settled (Err (refusal.Walks walking)) meets told does others is =
       let walker : ProcessState = record s { walk = Some (walking_of walking) } in
-      told_as told Walks_on shows [] (world_with after left others) (world_with t f (slice_set processes p walker)) is.0 is.1
+      told_as told Walks_on (effects_in after does) [] (world_with after left others) (world_with t f (slice_set processes p walker)) is.0 (ap (effects_in after) is.1)
       (unchanged others (slice_set processes p walker) meets.1 (is.2 ∙ set_twice processes p (rested s) walker))
       (walks programs t f processes numbering good p s e call otherwise (walking_of walking) meets.0)
-  settled (Err refusal.Memory) meets told shows others is = absurd is
+  settled (Err refusal.Memory) meets told does others is = absurd is
+
+-- what a call did is there
+pub there_told : (w : World) (p : ℕ) (after : List Node) (left : OpenFiles) (a : Answer) (came : Result Success Refusal) → Meets w p after left came a →
+    (processes others : List ProcessState) (s : ProcessState) (otherwise : ℕ) (told : LineResult) (does : Effects) → Settles processes p s otherwise came told does others → AreThere after does
+there_told w p after left a (Ok success) meets processes others s otherwise told does is = subst (AreThere after) (sym is.1) meets.1
+there_told w p after left a (Err (refusal.Fails errno cause)) meets processes others s otherwise told does is = rw is.1 tt
+there_told w p after left a (Err refusal.Waits) meets processes others s otherwise told does is = rw is.1 tt
+there_told w p after left a (Err (refusal.Walks walking)) meets processes others s otherwise told does is = rw is.1 tt
+there_told w p after left a (Err refusal.Memory) meets processes others s otherwise told does is = absurd is

@@ -45,7 +45,7 @@ use Rattle.syscalls.specs.declared.operands.Target.{Target}
 use Rattle.syscalls.specs.declared.operands.Target.TheVariants as target
 use Rattle.syscalls.specs.declared.operands.Numbered.{Numbered}
 use Rattle.syscalls.specs.Shows.{Shown, shown}
-use Rattle.syscalls.specs.Views.{change_of, effects_of, world_with}
+use Rattle.syscalls.specs.Views.{AreThere, change_of, effects_in, world_with}
 
 -- the chosen numbers that a change needs are free
 abbrev pub Suits : OpenFiles → Choice → TableChange → Type 0
@@ -89,9 +89,9 @@ RefusesAlone refusal.Waits w t f a = (a ≡ Waits) × DoesNothing w t f
 RefusesAlone (refusal.Walks walking) w t f a = (a ≡ Walks (walking_of walking)) × DoesNothing w t f
 RefusesAlone refusal.Memory w t f a = Unit {0}
 
--- What the code came to, with the tree and what is open after it, is what the model answers.
+-- What the code came to, with the tree and what is open after it, is what the model answers; what it did is of nodes of that tree.
 abbrev pub Meets : World → ℕ → List Node → OpenFiles → Result Success Refusal → Answer → Type 0
-Meets w p t f (Ok success) a = Succeeds w p t f success.value success.besides (effects_of success.effects.items) a
+Meets w p t f (Ok success) a = Succeeds w p t f success.value success.besides (effects_in t success.effects) a × AreThere t success.effects
 Meets w p t f (Err refused) a = RefusesAlone refused w t f a
 
 -- A test of the model goes on with what the code found, or is refused as the code is.

@@ -1,8 +1,9 @@
 -- What the values of the code stand for.
-use Rattle.std.specs.Prelude.{◌≡◌, ℕ, List, map, true}
+use Rattle.std.specs.Prelude.{◌≡◌, ◌<◌, ℕ, List, [], ◌∷◌, length, map, true}
 use Rattle.rights.specs.Views.{operation_of}
 use Rattle.process.specs.State.{ProcessState}
-use Rattle.file_tree.specs.Nodes.{Node}
+use Rattle.rights.specs.Operations.{Create, Remove}
+use Rattle.file_tree.specs.Nodes.{Node, node}
 use Rattle.fd_table.specs.OpenFiles.{OpenFiles}
 use Rattle.fd_table.specs.Kept.{open_files}
 use Rattle.kernel.specs.World.{World}
@@ -10,11 +11,13 @@ use Rattle.fd_table.specs.Descriptions.{Made_at}
 use Rattle.kernel.specs.Answers.{Event, Change, New_pair, New_process, same}
 use Rattle.syscalls.specs.declared.outcomes.Besides.{Besides}
 use Rattle.syscalls.specs.declared.outcomes.Besides.TheVariants as besides
+use Rattle.syscalls.specs.declared.effects.Effects.{Effects}
+use Rattle.syscalls.specs.declared.effects.Effects.TheVariants as effects
 use Rattle.syscalls.specs.declared.events.Event.{Event as EventCode}
 use Rattle.syscalls.specs.declared.outcomes.Effect.{Effect as EffectCode}
 use Rattle.syscalls.specs.declared.outcomes.Success.{Success}
 use Rattle.syscalls.specs.declared.world.World.{World as WorldCode}
-use Rattle.syscalls.specs.Shows.{Shown}
+use Rattle.syscalls.specs.Shows.{Shown, shown_at}
 
 abbrev pub event_of : EventCode → Event
 event_of e = record { process = e.process; input = e.input; refuse = e.refuse }
@@ -25,11 +28,26 @@ effect_of e = record { operation = operation_of e.op; place = e.place.items }
 abbrev pub effects_of : List EffectCode → List Shown
 effects_of effects = map effect_of effects
 
--- A success with this value, which makes this of its process besides, and shows this.
-pub record IsSuccess (success : Success) (gives : ℕ) (makes : Besides) (shows : List Shown) : Type 0 where
+-- What a call did, where it left these nodes.
+abbrev pub effects_in : List Node → Effects → List Shown
+effects_in t effects.Nothing = []
+effects_in t (effects.One op n) = shown_at (operation_of op) (node t n).place ∷ []
+effects_in t (effects.Renamed n from) = record { operation = Remove; place = from.items } ∷ shown_at Create (node t n).place ∷ []
+effects_in t (effects.Replaced n from) =
+    shown_at Remove (node t n).place ∷ record { operation = Remove; place = from.items } ∷ shown_at Create (node t n).place ∷ []
+
+-- The node that they name is one of these.
+abbrev pub AreThere : List Node → Effects → Type 0
+AreThere t effects.Nothing = Unit {0}
+AreThere t (effects.One op n) = n < length t
+AreThere t (effects.Renamed n from) = n < length t
+AreThere t (effects.Replaced n from) = n < length t
+
+-- A success with this value, which makes this of its process besides, and did this.
+pub record IsSuccess (success : Success) (gives : ℕ) (makes : Besides) (does : Effects) : Type 0 where
   pub value : success.value ≡ gives
   pub besides : success.besides ≡ makes
-  pub effects : effects_of success.effects.items ≡ shows
+  pub effects : success.effects ≡ does
 
 -- The least change that makes this of the processes. (Of a pair only its second number counts there.)
 abbrev pub change_of : Besides → Change

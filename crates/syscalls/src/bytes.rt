@@ -14,9 +14,10 @@ ghost use Rattle.kernel.specs.Answers as answers;
 ghost use Rattle.kernel.specs.Calls as model;
 ghost use Rattle.syscalls.specs.AnswerViews.{Calls, Does, DoesFor, IsIdle, IsReadyAt, IsReadyDescription, value_at};
 
+use crate::effects::Effects;
 use crate::kernels::Kernel;
 use crate::operands::{OpenNode, Target};
-use crate::outcomes::{Refusal, Success, effects_at, want_of_memory};
+use crate::outcomes::{Refusal, Success, want_of_memory};
 use fd_table::{DescriptionId, End};
 use file_tree::{NodeId, Tree};
 use instruction_set::Operand;
@@ -51,7 +52,7 @@ impl<T: Tree> Kernel<'_, T> {
             return Err(Refusal::Fails(Errno::EBADF, Cause::Access));
         }
         let offset = self.offset_of(description);
-        let effects = effects_at(self.alloc, self.tree, Op::Read, found.node)?;
+        let effects = Effects::One(Op::Read, found.node);
         match self.tree.byte_at(found.node, offset as usize) {
             None => Ok(Success::with_effects(END, effects)),
             Some(byte) => {
@@ -72,7 +73,7 @@ impl<T: Tree> Kernel<'_, T> {
             return Err(Refusal::Fails(Errno::EINVAL, Cause::Refused));
         }
         self.files.set_offset(description, offset as u16);
-        Ok(Success::value(self.alloc, offset))
+        Ok(Success::value(offset))
     }
 
     /// Sets the offset of a file, at most to the greatest length. (lseek(2))
@@ -139,12 +140,12 @@ impl<T: Tree> Kernel<'_, T> {
         if self.caller.refuse {
             return Err(Refusal::Fails(Errno::ENOSPC, Cause::Refused));
         }
-        let effects = effects_at(self.alloc, self.tree, Op::Write, found.node)?;
         let byte = self.byte_of(value);
         self.tree
             .put_byte(found.node, offset, byte)
             .map_err(want_of_memory)?;
         self.files.set_offset(description, offset as u16 + 1);
+        let effects = Effects::One(Op::Write, found.node);
         Ok(Success::with_effects(1, effects))
     }
 
@@ -163,8 +164,8 @@ impl<T: Tree> Kernel<'_, T> {
         if len > MAX_BYTES {
             return Err(Refusal::Fails(Errno::EFBIG, Cause::Full));
         }
-        let effects = effects_at(self.alloc, self.tree, Op::Write, file.node)?;
         self.tree.truncate(file.node, len).map_err(want_of_memory)?;
+        let effects = Effects::One(Op::Write, file.node);
         Ok(Success::with_effects(0, effects))
     }
 

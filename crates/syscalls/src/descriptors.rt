@@ -44,7 +44,7 @@ impl<T: Tree> Kernel<'_, T> {
         let number = self.free_number()?;
         let process = self.caller.number;
         self.files.share(process, held.number, process, number);
-        Ok(Success::value(self.alloc, number as u32))
+        Ok(Success::value(number as u32))
     }
 
     /// Frees a number. (close(2))
@@ -55,7 +55,7 @@ impl<T: Tree> Kernel<'_, T> {
         let held = self.held(operand)?;
         let process = self.caller.number;
         self.files.close(process, held.number);
-        Ok(Success::value(self.alloc, 0))
+        Ok(Success::value(0))
     }
 
     /// Leaves a descriptor these rights, which it has to have. (cap_rights_limit(2))
@@ -69,7 +69,7 @@ impl<T: Tree> Kernel<'_, T> {
         }
         let process = self.caller.number;
         self.files.limit(process, held.number, rights, held.fcntls);
-        Ok(Success::value(self.alloc, 0))
+        Ok(Success::value(0))
     }
 
     /// Leaves a descriptor these fcntl commands, which it has to have. (cap_fcntls_limit(2))
@@ -84,7 +84,7 @@ impl<T: Tree> Kernel<'_, T> {
         let process = self.caller.number;
         self.files
             .limit(process, held.number, held.rights, commands);
-        Ok(Success::value(self.alloc, 0))
+        Ok(Success::value(0))
     }
 
     /// Has what was written stored, which it is at once. (fsync(2); that a directory may be asked too is own)
@@ -95,7 +95,7 @@ impl<T: Tree> Kernel<'_, T> {
         let reached = self.reach(operand, Call::Fsync)?;
         match reached.target {
             Target::End(_) => Err(Refusal::Fails(Errno::EINVAL, Cause::Kind)),
-            Target::Node(_) => Ok(Success::value(self.alloc, 0)),
+            Target::Node(_) => Ok(Success::value(0)),
         }
     }
 
@@ -108,7 +108,7 @@ impl<T: Tree> Kernel<'_, T> {
         let target = reached.target;
         match target {
             Target::Node(found) => self.stat(found.node),
-            Target::End(_) => Ok(Success::value(self.alloc, SOCKET)),
+            Target::End(_) => Ok(Success::value(SOCKET)),
         }
     }
 
@@ -138,7 +138,7 @@ impl<T: Tree> Kernel<'_, T> {
     {
         let description = self.commanded(operand, Call::FcntlGetfl, Fcntls::GETFL)?;
         let status = self.files.what(description).status;
-        Ok(Success::value(self.alloc, status.number() as u32))
+        Ok(Success::value(status.number() as u32))
     }
 
     /// Sets the status flags of a description.
@@ -158,7 +158,7 @@ impl<T: Tree> Kernel<'_, T> {
                 nonblock: flags >= 2,
             },
         );
-        Ok(Success::value(self.alloc, 0))
+        Ok(Success::value(0))
     }
 
     /// Sets the status flags. (fcntl(2), F_SETFL)

@@ -5,6 +5,7 @@ mod bytes;
 mod calls;
 mod changes;
 mod descriptors;
+pub mod effects;
 pub mod events;
 mod kernels;
 mod lookups;
@@ -16,6 +17,7 @@ mod processes;
 mod sockets;
 pub mod world;
 
+pub use effects::Effects;
 pub use events::Event;
 pub use outcomes::{Effect, Outcome};
-pub use world::{World, call};
+pub use world::{Called, World, call};

@@ -3,7 +3,7 @@
 ghost use Rattle.std.specs.Prelude.{[], ◌<◌, ◌∷◌, ◌≡◌, ◌≢◌, IfErr, IfOk, List, None, ℕ, length, true};
 ghost use Rattle.file_tree.specs.Nodes as nodes;
 ghost use Rattle.file_tree.specs.Nodes.{Dir};
-ghost use Rattle.file_tree.specs.Places.{at_name, begins, is_file_name};
+ghost use Rattle.file_tree.specs.Places.{at_name, begins, is_file_name, place_text};
 ghost use Rattle.file_tree.specs.Views.{kind_of};
 ghost use Rattle.file_tree.specs.WellFormed.{IsTree};
 ghost use Rattle.fd_table.specs.Descriptions.{Descriptor};
@@ -19,19 +19,18 @@ ghost use Rattle.kernel.specs.Calls as model;
 ghost use Rattle.kernel.specs.Calls.{kind_number, made_directory, stats, stats_at, unlinks};
 ghost use Rattle.kernel.specs.Walks.{IfOne, IfTwo};
 ghost use Rattle.syscalls.specs.AnswerViews.{DoesFor, GoesOn, IsFoundAt, IsReadyAt, MayReplace};
-ghost use Rattle.syscalls.specs.Views.{effect_of, effects_of};
 
 use crate::changes::create_node;
+use crate::effects::{Effects, place_of};
 use crate::kernels::Kernel;
 use crate::operands::{need_of, second_need};
-use crate::outcomes::{Effect, Refusal, Success, effect_at, effects_at, place_of};
+use crate::outcomes::{Refusal, Success};
 use file_tree::{Kind, New, NodeId, Tree, TreeFault};
 use instruction_set::Operand;
 use lookup::{Found, Last, last_name};
 use process::Walking;
 use rights::limits::MAX_NODES;
 use rights::{Call, Cause, Errno, Op};
-use std::alloc::Global;
 
 /// 1 for a file, 2 for a directory. (fstat(2))
 fn number_of(kind: Kind) -> u32
@@ -44,32 +43,6 @@ fn number_of(kind: Kind) -> u32
     }
 }
 
-/// These effects, in this order, with room for a third.
-fn two_effects(alloc: Global, first: Effect, second: Effect) -> Result<Vec<Effect>, Refusal>
-    ensures effects { IfOk result (λ effects. effects_of effects.items ≡ effect_of first ∷ effect_of second ∷ []) }
-    ensures only_memory { IfErr result (λ e. e ≡ Refusal.Memory) }
-{
-    let mut effects = Vec::with_capacity(alloc, 3)?;
-    effects.push(first)?;
-    effects.push(second)?;
-    Ok(effects)
-}
-
-/// These effects, in this order.
-fn three_effects(
-    alloc: Global,
-    first: Effect,
-    second: Effect,
-    third: Effect,
-) -> Result<Vec<Effect>, Refusal>
-    ensures effects { IfOk result (λ effects. effects_of effects.items ≡ effect_of first ∷ effect_of second ∷ effect_of third ∷ []) }
-    ensures only_memory { IfErr result (λ e. e ≡ Refusal.Memory) }
-{
-    let mut effects = two_effects(alloc, first, second)?;
-    effects.push(third)?;
-    Ok(effects)
-}
-
 impl<T: Tree> Kernel<'_, T> {
     /// What a node is. (fstat(2))
     pub fn stat(self, n: NodeId) -> Result<Success, Refusal>
@@ -78,8 +51,7 @@ impl<T: Tree> Kernel<'_, T> {
         ensures { DoesFor T.nodes self.entry self.exit.0.now self.exit.1.0.now result (λ w p s e. stats w p s e n) }
     {
         let value = number_of(self.tree.kind(n));
-        let effects = effects_at(self.alloc, self.tree, Op::Look, n)?;
-        Ok(Success::with_effects(value, effects))
+        Ok(Success::with_effects(value, Effects::One(Op::Look, n)))
     }
 
     /// What is found at a path. (fstatat(2), stat(2))
@@ -138,8 +110,8 @@ impl<T: Tree> Kernel<'_, T> {
         if self.caller.refuse {
             return Err(Refusal::Fails(Errno::ENOSPC, Cause::Refused));
         }
-        let made = create_node(self.alloc, self.tree, dir, last_name(path), New::Dir)?;
-        Ok(Success::with_effects(0, made.effects))
+        let n = create_node(self.tree, dir, last_name(path), New::Dir)?;
+        Ok(Success::with_effects(0, Effects::One(Op::Create, n)))
     }
 
     /// Makes a directory beneath a directory. (mkdirat(2))
@@ -191,9 +163,8 @@ impl<T: Tree> Kernel<'_, T> {
             };
             return Err(Refusal::Fails(errno, Cause::Path));
         }
-        let effects = effects_at(self.alloc, self.tree, Op::Remove, n)?;
         match self.tree.remove(n) {
-            Ok(()) => Ok(Success::with_effects(0, effects)),
+            Ok(()) => Ok(Success::with_effects(0, Effects::One(Op::Remove, n))),
             Err(fault) => match fault {
                 TreeFault::NotEmpty => Err(Refusal::Fails(Errno::ENOTEMPTY, Cause::Path)),
                 TreeFault::Memory => Err(Refusal::Memory),
@@ -247,7 +218,7 @@ impl<T: Tree> Kernel<'_, T> {
         requires free { nodes.child_of (T.nodes self.tree.now) dir name.now ≡ None }
         ensures { DoesFor T.nodes self.entry self.exit.0.now self.exit.1.0.now result (λ w p s e. model.renamed_free w p s e n (at_name (nodes.node w.tree dir).place name.now)) }
     {
-        let from = effect_at(self.alloc, self.tree, Op::Remove, n)?;
+        let from = place_of(self.alloc, self.tree, n)?;
         match self.tree.rename(n, dir, name) {
             Err(fault) => match fault {
                 TreeFault::IntoItself => Err(Refusal::Fails(Errno::EINVAL, Cause::Path)),
@@ -255,24 +226,19 @@ impl<T: Tree> Kernel<'_, T> {
                 TreeFault::Exists | TreeFault::NotEmpty | TreeFault::Full | TreeFault::Gone =>
                     unreachable!(),
             },
-            Ok(()) => {
-                let to = effect_at(self.alloc, self.tree, Op::Create, n)?;
-                let effects = two_effects(self.alloc, from, to)?;
-                Ok(Success::with_effects(0, effects))
-            }
+            Ok(()) => Ok(Success::with_effects(0, Effects::Renamed(n, from))),
         }
     }
 
-    /// Whether a node's place begins with another's: it is that node, or below it.
-    fn is_within(&self, n: NodeId, upper: NodeId) -> Result<bool, Refusal>
+    /// Whether a node's place begins with another's, which has this text: it is that node, or below it.
+    fn is_within(&self, n: NodeId, upper: NodeId, place: &[u8]) -> bool
         requires there { n < length (T.nodes self.now.tree.now) }
         requires upper { upper < length (T.nodes self.now.tree.now) }
         requires tree { IsTree (T.nodes self.now.tree.now) }
-        ensures only_memory { IfErr result (λ e. e ≡ Refusal.Memory) }
-        ensures within { IfOk result (λ within. within ≡ begins (nodes.node (T.nodes self.now.tree.now) upper).place (nodes.node (T.nodes self.now.tree.now) n).place) }
+        requires place { place.now ≡ place_text (nodes.node (T.nodes self.now.tree.now) upper).place }
+        ensures { result ≡ begins (nodes.node (T.nodes self.now.tree.now) upper).place (nodes.node (T.nodes self.now.tree.now) n).place }
     {
-        let path = place_of(self.alloc, self.tree, upper)?;
-        Ok(self.tree.place_begins(n, &path))
+        self.tree.place_begins(n, place)
     }
 
     /// Gives a node the place of another one, which is removed. The kinds have to fit. (rename(2), ENOTDIR, EISDIR, ENOTEMPTY)
@@ -288,7 +254,8 @@ impl<T: Tree> Kernel<'_, T> {
         requires name { is_file_name name.now ≡ true }
         ensures { DoesFor T.nodes self.entry self.exit.0.now self.exit.1.0.now result (λ w p s e. model.renamed_over w p s e n over) }
     {
-        if self.is_within(over, n)? {
+        let from = place_of(self.alloc, self.tree, n)?;
+        if self.is_within(over, n, &from) {
             return Err(Refusal::Fails(Errno::EINVAL, Cause::Path));
         }
         let moves_directory = self.is_directory(n);
@@ -303,8 +270,6 @@ impl<T: Tree> Kernel<'_, T> {
         let Some(dir) = self.tree.parent(over) else {
             unreachable!()
         };
-        let replaced = effect_at(self.alloc, self.tree, Op::Remove, over)?;
-        let from = effect_at(self.alloc, self.tree, Op::Remove, n)?;
         match self.tree.rename(n, dir, name) {
             Err(fault) => match fault {
                 TreeFault::NotEmpty => Err(Refusal::Fails(Errno::ENOTEMPTY, Cause::Path)),
@@ -312,11 +277,7 @@ impl<T: Tree> Kernel<'_, T> {
                 TreeFault::Exists | TreeFault::Full | TreeFault::IntoItself | TreeFault::Gone =>
                     unreachable!(),
             },
-            Ok(()) => {
-                let to = effect_at(self.alloc, self.tree, Op::Create, n)?;
-                let effects = three_effects(self.alloc, replaced, from, to)?;
-                Ok(Success::with_effects(0, effects))
-            }
+            Ok(()) => Ok(Success::with_effects(0, Effects::Replaced(n, from))),
         }
     }
 
@@ -344,7 +305,7 @@ impl<T: Tree> Kernel<'_, T> {
             Found::Node(over) => over,
         };
         if n.number() == over.number() {
-            return Ok(Success::value(self.alloc, 0));
+            return Ok(Success::value(0));
         }
         if !may_replace {
             return Err(Refusal::Fails(Errno::ENOTCAPABLE, Cause::MissingRight));

@@ -23,11 +23,12 @@ ghost use Rattle.kernel.specs.Changes.{tree_after};
 ghost use Rattle.kernel.specs.Walks.{IfOne};
 ghost use Rattle.syscalls.specs.AnswerViews.{DoesFor, GoesOn, IsFoundAt, IsReadyAt, IsReadyDescription, Passes, beneath_seen, held_at, number_seen};
 ghost use Rattle.syscalls.specs.Shows.{shown};
-ghost use Rattle.syscalls.specs.Views.{effects_of};
+ghost use Rattle.syscalls.specs.Views.{AreThere, effects_in};
 
 use crate::changes::create_node;
+use crate::effects::Effects;
 use crate::kernels::Kernel;
-use crate::outcomes::{Effect, Refusal, Success, effects_at, want_of_memory};
+use crate::outcomes::{Refusal, Success, want_of_memory};
 use fd_table::DescriptionId;
 use file_tree::{Kind, New, NodeId, Tree};
 use instruction_set::Operand;
@@ -35,7 +36,6 @@ use lookup::{Found, Last, Way, last_name};
 use process::Walking;
 use rights::limits::MAX_NODES;
 use rights::{Call, Cause, Errno, Fcntls, Op, OpenFlags, Position, Rights, needs};
-use std::alloc::Global;
 
 /// How a node is to be opened, and with what rights.
 #[derive(Clone, Copy)]
@@ -71,24 +71,19 @@ fn last_if(flags: OpenFlags) -> Last
 }
 
 /// Empties a file that is opened so. (open(2), O_TRUNC)
-fn emptied<T: Tree>(
-    alloc: Global,
-    tree: &mut T,
-    n: NodeId,
-    trunc: bool,
-) -> Result<Vec<Effect>, Refusal>
+fn emptied<T: Tree>(tree: &mut T, n: NodeId, trunc: bool) -> Result<Effects, Refusal>
     requires there { n < length (T.nodes tree.old) }
     requires file { (nodes.node (T.nodes tree.old) n).kind ≡ File }
     ensures tree { IfOk result (λ effects. T.nodes tree.new ≡ tree_after (T.nodes tree.old) (model.truncated trunc n)) }
-    ensures effects { IfOk result (λ effects. effects_of effects.items ≡ map shown (model.truncates trunc (nodes.node (T.nodes tree.old) n).place)) }
+    ensures effects { IfOk result (λ effects. effects_in (T.nodes tree.new) effects ≡ map shown (model.truncates trunc (nodes.node (T.nodes tree.old) n).place)) }
+    ensures there { IfOk result (AreThere (T.nodes tree.new)) }
     ensures only_memory { IfErr result (λ e. e ≡ Refusal.Memory) }
 {
     if !trunc {
-        return Ok(Vec::new(alloc));
+        return Ok(Effects::Nothing);
     }
-    let effects = effects_at(alloc, tree, Op::Write, n)?;
     tree.truncate(n, 0).map_err(want_of_memory)?;
-    Ok(effects)
+    Ok(Effects::One(Op::Write, n))
 }
 
 impl<T: Tree> Kernel<'_, T> {
@@ -122,7 +117,7 @@ impl<T: Tree> Kernel<'_, T> {
         let process = self.caller.number;
         self.files
             .open_node(process, number, n, flags, how.rights, how.fcntls)?;
-        Ok(Success::value(self.alloc, number as u32))
+        Ok(Success::value(number as u32))
     }
 
     /// Opens a file that is there.
@@ -136,7 +131,7 @@ impl<T: Tree> Kernel<'_, T> {
         let number = self.granted_number()?;
         let flags = how.flags;
         let process = self.caller.number;
-        let effects = emptied(self.alloc, self.tree, n, flags.trunc())?;
+        let effects = emptied(self.tree, n, flags.trunc())?;
         self.files
             .open_node(process, number, n, flags, how.rights, how.fcntls)?;
         Ok(Success::with_effects(number as u32, effects))
@@ -162,11 +157,12 @@ impl<T: Tree> Kernel<'_, T> {
             return Err(Refusal::Fails(Errno::ENFILE, Cause::Refused));
         }
         let process = self.caller.number;
-        let made = create_node(self.alloc, self.tree, dir, name, New::File)?;
-        let (flags, n) = (how.flags, made.node);
+        let n = create_node(self.tree, dir, name, New::File)?;
+        let flags = how.flags;
         self.files
             .open_node(process, number, n, flags, how.rights, how.fcntls)?;
-        Ok(Success::with_effects(number as u32, made.effects))
+        let effects = Effects::One(Op::Create, n);
+        Ok(Success::with_effects(number as u32, effects))
     }
 
     /// Opens what is found at a path, or makes a file of its last name.

@@ -1,20 +1,14 @@
 //! What a call comes to.
 
-ghost use Rattle.std.specs.Prelude.{◌≡◌, ◌<◌, ◌∷◌, [], IfOk, IfErr, length};
-ghost use Rattle.rights.specs.Views.{operation_of};
-ghost use Rattle.file_tree.specs.Nodes.{node};
-ghost use Rattle.file_tree.specs.Places.{place_text};
-ghost use Rattle.syscalls.specs.Shows.{shown_at};
-ghost use Rattle.syscalls.specs.Views.{IsSuccess, effect_of, effects_of};
+ghost use Rattle.std.specs.Prelude.{◌≡◌};
+ghost use Rattle.syscalls.specs.Views.{IsSuccess};
 ghost use Rattle.syscalls.specs.declared.outcomes.Refusal.TheVariants as refusal;
 
-use file_tree::{NodeId, Tree, TreeFault};
+use crate::effects::Effects;
+use file_tree::TreeFault;
 use process::Walking;
 use rights::{Cause, Errno, Memory, Op};
-use std::alloc::{AllocError, AllocFailed, Global};
-
-/// So many bytes hold the text of most places.
-const USUAL_PLACE: usize = 64;
+use std::alloc::{AllocError, AllocFailed};
 
 /// An operation at a place, written as a trace prints it: `/` for the root, else each name after a `/`.
 #[derive(Drop, PartialEq, Eq)]
@@ -53,31 +47,31 @@ pub(crate) enum Besides {
 pub(crate) struct Success {
     pub value: u32,
     pub besides: Besides,
-    pub effects: Vec<Effect>,
+    pub effects: Effects,
 }
 
 impl Success {
     /// It gives this value, and does nothing that is shown.
-    pub fn value(alloc: Global, value: u32) -> Success
-        ensures { IsSuccess result value Besides.Nothing [] }
+    pub fn value(value: u32) -> Success
+        ensures { IsSuccess result value Besides.Nothing Effects.Nothing }
     {
-        Success::besides(alloc, value, Besides::Nothing)
+        Success::besides(value, Besides::Nothing)
     }
 
     /// It gives this value, and makes this of the process besides.
-    pub fn besides(alloc: Global, value: u32, besides: Besides) -> Success
-        ensures { IsSuccess result value besides [] }
+    pub fn besides(value: u32, besides: Besides) -> Success
+        ensures { IsSuccess result value besides Effects.Nothing }
     {
         Success {
             value,
             besides,
-            effects: Vec::new(alloc),
+            effects: Effects::Nothing,
         }
     }
 
     /// It gives this value, and did this.
-    pub fn with_effects(value: u32, effects: Vec<Effect>) -> Success
-        ensures { IsSuccess result value Besides.Nothing (effects_of effects.items) }
+    pub fn with_effects(value: u32, effects: Effects) -> Success
+        ensures { IsSuccess result value Besides.Nothing effects }
     {
         Success {
             value,
@@ -130,49 +124,4 @@ pub(crate) fn want_of_memory(fault: TreeFault) -> Refusal
         TreeFault::Memory => Refusal::Memory,
         _ => unreachable!(),
     }
-}
-
-/// A node's place as text.
-pub(crate) fn place_of<T: Tree>(alloc: Global, tree: &T, n: NodeId) -> Result<Vec<u8>, Refusal>
-    requires { n < length (T.nodes tree.now) }
-    ensures place { IfOk result (λ place. place.items ≡ place_text (node (T.nodes tree.now) n).place) }
-    ensures only_memory { IfErr result (λ e. e ≡ Refusal.Memory) }
-{
-    let mut place = Vec::with_capacity(alloc, USUAL_PLACE)?;
-    if tree.place_text(n, &mut place).is_err() {
-        return Err(Refusal::Memory);
-    }
-    Ok(place)
-}
-
-/// The effect of an operation on a node, at the place that it has.
-pub(crate) fn effect_at<T: Tree>(
-    alloc: Global,
-    tree: &T,
-    op: Op,
-    n: NodeId,
-) -> Result<Effect, Refusal>
-    requires { n < length (T.nodes tree.now) }
-    ensures effect { IfOk result (λ effect. effect_of effect ≡ shown_at (operation_of op) (node (T.nodes tree.now) n).place) }
-    ensures only_memory { IfErr result (λ e. e ≡ Refusal.Memory) }
-{
-    let place = place_of(alloc, tree, n)?;
-    Ok(Effect { op, place })
-}
-
-/// That effect alone.
-pub(crate) fn effects_at<T: Tree>(
-    alloc: Global,
-    tree: &T,
-    op: Op,
-    n: NodeId,
-) -> Result<Vec<Effect>, Refusal>
-    requires { n < length (T.nodes tree.now) }
-    ensures effects { IfOk result (λ effects. effects_of effects.items ≡ shown_at (operation_of op) (node (T.nodes tree.now) n).place ∷ []) }
-    ensures only_memory { IfErr result (λ e. e ≡ Refusal.Memory) }
-{
-    let effect = effect_at(alloc, tree, op, n)?;
-    let mut effects = Vec::with_capacity(alloc, 1)?;
-    effects.push(effect)?;
-    Ok(effects)
 }

@@ -25,7 +25,7 @@ impl<T: Tree> Kernel<'_, T> {
         requires { IsReadyAt T.nodes self }
         ensures { Calls T.nodes self.entry self.exit.0.now self.exit.1.0.now (Ok result) programs.Cap_getmode }
     {
-        Success::value(self.alloc, mode_number(self.caller.process.mode()))
+        Success::value(mode_number(self.caller.process.mode()))
     }
 
     /// Enters capability mode, for good. (cap_enter(2))
@@ -33,7 +33,7 @@ impl<T: Tree> Kernel<'_, T> {
         requires { IsReadyAt T.nodes self }
         ensures { Calls T.nodes self.entry self.exit.0.now self.exit.1.0.now (Ok result) programs.Cap_enter }
     {
-        Success::besides(self.alloc, 0, Besides::Mode)
+        Success::besides(0, Besides::Mode)
     }
 
     /// Makes a child: a copy of its parent, the mode too, in which the call gives 0, with a copy of the parent's table.
@@ -52,6 +52,6 @@ impl<T: Tree> Kernel<'_, T> {
         }
         let parent = self.caller.number;
         self.files.copy_table(parent, made as u8);
-        Ok(Success::besides(self.alloc, made as u32, Besides::Child))
+        Ok(Success::besides(made as u32, Besides::Child))
     }
 }

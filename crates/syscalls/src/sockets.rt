@@ -78,7 +78,7 @@ impl<T: Tree> Kernel<'_, T> {
         let class = class_of(self.caller.process);
         self.files.open_pair(class, Some(a), Some(b))?;
         let besides = Besides::Second(second as u32);
-        Ok(Success::besides(self.alloc, first as u32, besides))
+        Ok(Success::besides(first as u32, besides))
     }
 
     /// Whether the description is told not to block.
@@ -102,11 +102,11 @@ impl<T: Tree> Kernel<'_, T> {
                 if self.files.is_open(end.pair, end.side.other()) {
                     return Err(blocked(self.is_nonblocking(description)));
                 }
-                Ok(Success::value(self.alloc, END))
+                Ok(Success::value(END))
             }
             Some(front) => {
                 self.files.receive(*end);
-                Ok(Success::value(self.alloc, front.byte as u32))
+                Ok(Success::value(front.byte as u32))
             }
         }
     }
@@ -127,7 +127,7 @@ impl<T: Tree> Kernel<'_, T> {
     {
         let nonblock = self.is_nonblocking(description);
         match self.files.send(*end, byte, passed) {
-            Ok(()) => Ok(Success::value(self.alloc, 1)),
+            Ok(()) => Ok(Success::value(1)),
             Err(SendFault::Closed) => Err(Refusal::Fails(Errno::EPIPE, Cause::Refused)),
             Err(SendFault::Full) => Err(blocked(nonblock)),
             Err(SendFault::Memory) => Err(Refusal::Memory),
@@ -193,7 +193,7 @@ impl<T: Tree> Kernel<'_, T> {
         }
         let process = self.caller.number;
         self.files.receive_to(*end, process, number);
-        Ok(Success::value(self.alloc, number as u32))
+        Ok(Success::value(number as u32))
     }
 
     /// Receives a descriptor under the lowest free number. (recvmsg(2), SCM_RIGHTS)

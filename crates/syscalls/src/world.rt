@@ -1,6 +1,6 @@
 //! The state of a run, and a system call of one of its processes.
 
-ghost use Rattle.std.specs.Prelude.{◌≡◌, ◌<◌, ◌+◌, [], IfOk, None, OnOk, Some, length, slice_set};
+ghost use Rattle.std.specs.Prelude.{◌≡◌, ◌<◌, ◌+◌, IfOk, None, OnOk, Some, length, slice_set};
 ghost use Rattle.std.specs.List.{slice_get};
 ghost use Rattle.process.specs.State.{ProcessState};
 ghost use Rattle.process.specs.Views.{walking_in, walking_of};
@@ -8,8 +8,9 @@ ghost use Rattle.instruction_set.specs.Programs as programs;
 ghost use Rattle.instruction_set.specs.Views.{instruction_of, syscall_of};
 ghost use Rattle.syscalls.specs.CallViews.{Settles, processes_as, result_of, succeeded_as};
 ghost use Rattle.syscalls.specs.MayCall.{CallComes, MayCall, MayInvoke};
-ghost use Rattle.syscalls.specs.Views.{effects_of, event_of, world_of};
+ghost use Rattle.syscalls.specs.Views.{AreThere, effects_in, effects_of, event_of, world_of};
 
+use crate::effects::Effects;
 use crate::events::Event;
 use crate::kernels::{Caller, Kernel};
 use crate::outcomes::{Besides, Effect, Outcome, Refusal, Success};
@@ -64,12 +65,22 @@ fn go_on(
     Ok(())
 }
 
+/// What a call came to, with its effects.
+#[derive(Drop)]
+pub struct Called {
+    pub outcome: Outcome,
+    pub effects: Effects,
+}
+
 /// What a call came to that has no effect.
-fn told(alloc: Global, outcome: Outcome) -> (Outcome, Vec<Effect>)
-    ensures outcome { result.0 ≡ outcome }
-    ensures nothing { result.1.items ≡ [] }
+fn told(outcome: Outcome) -> Called
+    ensures outcome { result.outcome ≡ outcome }
+    ensures nothing { result.effects ≡ Effects.Nothing }
 {
-    (outcome, Vec::new(alloc))
+    Called {
+        outcome,
+        effects: Effects::Nothing,
+    }
 }
 
 /// Takes what the call of a process has under way out of the process.
@@ -95,32 +106,34 @@ fn walk_on(processes: &mut Vec<Process>, number: u8, walking: Walking)
 
 /// What becomes of the process, by what its call came to.
 fn settle(
-    alloc: Global,
     processes: &mut Vec<Process>,
     number: u8,
     otherwise: u8,
     came: Result<Success, Refusal>,
-) -> Result<(Outcome, Vec<Effect>), Memory>
+) -> Result<Called, Memory>
     requires made { number < length processes.old.items }
     requires next { (s : ProcessState) → slice_get processes.old.items number ≡ Some s → s.point + 1 < 256 }
-    ensures { IfOk result (λ told. (s : ProcessState) → slice_get processes.old.items number ≡ Some s
-        → Settles processes.old.items number s otherwise came (result_of told.0) (effects_of told.1.items) processes.new.items) }
+    ensures { IfOk result (λ called. (s : ProcessState) → slice_get processes.old.items number ≡ Some s
+        → Settles processes.old.items number s otherwise came (result_of called.outcome) called.effects processes.new.items) }
 {
     match came {
         Ok(success) => {
             go_on(processes, number, success.value, success.besides)?;
-            Ok((Outcome::Value(success.value), success.effects))
+            Ok(Called {
+                outcome: Outcome::Value(success.value),
+                effects: success.effects,
+            })
         }
         Err(refused) => match refused {
             Refusal::Fails(errno, cause) => {
                 let process = &mut processes[number as usize];
                 process.fail(u32::from(errno.number()), otherwise);
-                Ok(told(alloc, Outcome::Error(errno, cause)))
+                Ok(told(Outcome::Error(errno, cause)))
             }
-            Refusal::Waits => Ok(told(alloc, Outcome::Wait)),
+            Refusal::Waits => Ok(told(Outcome::Wait)),
             Refusal::Walks(walking) => {
                 walk_on(processes, number, walking);
-                Ok(told(alloc, Outcome::Walk))
+                Ok(told(Outcome::Walk))
             }
             Refusal::Memory => Err(Memory),
         },
@@ -136,10 +149,11 @@ impl<T: Tree> World<T> {
         call: &Syscall,
         otherwise: u8,
         event: Event,
-    ) -> Result<(Outcome, Vec<Effect>), Memory>
+    ) -> Result<Called, Memory>
         requires { MayCall (world_of T.nodes self.old) number (syscall_of call.now) }
-        ensures { IfOk result (λ told. CallComes (world_of T.nodes self.old) number (event_of event) (programs.Invoke (syscall_of call.now) otherwise)
-            (result_of told.0) (effects_of told.1.items) (world_of T.nodes self.new)) }
+        ensures comes { IfOk result (λ called. CallComes (world_of T.nodes self.old) number (event_of event) (programs.Invoke (syscall_of call.now) otherwise)
+            (result_of called.outcome) (effects_in (T.nodes self.new.tree) called.effects) (world_of T.nodes self.new)) }
+        ensures there { IfOk result (λ called. AreThere (T.nodes self.new.tree) called.effects) }
     {
         let walk = take_walk(&mut self.processes, number);
         let kernel = Kernel {
@@ -154,7 +168,26 @@ impl<T: Tree> World<T> {
             alloc,
         };
         let came = kernel.perform(call, walk);
-        settle(alloc, &mut self.processes, number, otherwise, came)
+        settle(&mut self.processes, number, otherwise, came)
+    }
+
+    /// A system call of a process at an event, as `call`, whose effects have their places by nodes of the tree then.
+    pub fn call(
+        &mut self,
+        alloc: Global,
+        process: usize,
+        instruction: &Instruction,
+        event: Event,
+    ) -> Result<Called, Memory>
+        requires { MayInvoke (world_of T.nodes self.old) process (instruction_of instruction.now) }
+        ensures comes { IfOk result (λ called. CallComes (world_of T.nodes self.old) process (event_of event) (instruction_of instruction.now)
+            (result_of called.outcome) (effects_in (T.nodes self.new.tree) called.effects) (world_of T.nodes self.new)) }
+        ensures there { IfOk result (λ called. AreThere (T.nodes self.new.tree) called.effects) }
+    {
+        let Instruction::Invoke { call, otherwise } = instruction else {
+            unreachable!()
+        };
+        self.invoke(alloc, process as u8, call, *otherwise, event)
     }
 }
 
@@ -179,8 +212,7 @@ pub fn call<T: Tree>(
     ensures { IfOk result (λ told. CallComes (world_of T.nodes world.old) process (event_of event) (instruction_of instruction.now)
         (result_of told.0) (effects_of told.1.items) (world_of T.nodes world.new)) }
 {
-    let Instruction::Invoke { call, otherwise } = instruction else {
-        unreachable!()
-    };
-    world.invoke(alloc, process as u8, call, *otherwise, event)
+    let called = world.call(alloc, process, instruction, event)?;
+    let effects = called.effects.written(alloc, &world.tree)?;
+    Ok((called.outcome, effects))
 }

@@ -7,7 +7,7 @@ use Rattle.instruction_set.specs.Views.{instruction_of}
 use Rattle.kernel.specs.World.{World}
 use Rattle.syscalls.specs.Views.{world_of}
 use Rattle.simulator.proofs.Aside.{changed_past}
-use Rattle.simulator.proofs.DeedsDone.{follows_own, handed_else, handed_if, handed_set, has_paths, is_deed_of, no_deed_of, registers_fit}
+use Rattle.simulator.proofs.DeedsDone.{follows_own, handed_else, handed_if, handed_set, has_paths, is_deed_of, registers_fit}
 use Rattle.simulator.proofs.deeds.hand.Goals as goal
 
 pub returns-then-at-len-clause-handed : goal.returns-then-at-len-clause-handed

@@ -19,7 +19,7 @@ use Rattle.task.specs.Plans.{Plan, programs_of_plan}
 use Rattle.simulator.specs.Machines.{machine_world}
 use Rattle.simulator.specs.Lines.{Line}
 use Rattle.simulator.specs.Steps.{StepsMachine}
-use Rattle.simulator.specs.Views.{line_of}
+use Rattle.simulator.specs.Views.{line_in}
 use Rattle.simulator.proofs.Splitting.{map-drop, drop-end}
 use Rattle.simulator.proofs.Tracing.{IsTraced, bytes_more, traced-start, traced-step, traced-moved, traced-end, traced-front}
 use Rattle.simulator.proofs.simulation.simulate.Goals as goal
@@ -80,9 +80,9 @@ returns-in_err-write_piece-clause-err g c =
     let none : EventCode = record { process = 0; input = 0; refuse = false } in
     let e : Event = event_of (slice_index_or c.args.events.now c.loop-event.event-index none) in
     let left : List Event = map event_of (drop (c.loop-event.event-index + 1) c.args.events.now) in
-    let line : Line = line_of c.in-Ok.line in
     let w = machine_world c.loop-event.machine in
-    let next = machine_world c.step.new.self in
+    let next = machine_world c.advance.new.self in
+    let line : Line = line_in next.tree e.process c.in-Ok.stepped in
     let so_far = subst (IsTraced plan events (g.W.Out.taken c.args.out.now) (g.W.Out.taken c.loop-event.out) c.loop-event.page.lines w)
     (map-drop event_of c.args.events.now c.loop-event.event-index none c.loop-event-test.true) inv.traced
     in
@@ -102,15 +102,15 @@ loop-event-preserved g c =
     let none : EventCode = record { process = 0; input = 0; refuse = false } in
     let e : Event = event_of (slice_index_or c.args.events.now c.loop-event.event-index none) in
     let left : List Event = map event_of (drop (c.loop-event.event-index + 1) c.args.events.now) in
-    let line : Line = line_of c.in-Ok.line in
     let w = machine_world c.loop-event.machine in
-    let next = machine_world c.step.new.self in
+    let next = machine_world c.advance.new.self in
+    let line : Line = line_in next.tree e.process c.in-Ok.stepped in
     let so_far = subst (IsTraced plan events (g.W.Out.taken c.args.out.now) (g.W.Out.taken c.loop-event.out) c.loop-event.page.lines w)
     (map-drop event_of c.args.events.now c.loop-event.event-index none c.loop-event-test.true) inv.traced
     in
     let byte : IsEvent e = c.in-Ok.ensures.byte in
     let s = subst (λ (p : Plan). StepsMachine (programs_of_plan p) w e line next) inv.plan c.in-Ok.ensures.step in
-    let same : c.step.new.self.plan ≡ plan = c.in-Ok.ensures.plan ∙ inv.plan in
+    let same : c.advance.new.self.plan ≡ plan = c.in-Ok.ensures.plan ∙ inv.plan in
     let more : c.push_line.new.page.lines ≡ c.loop-event.page.lines ++ line_text plan line =
     grind (arith, common_steps, c.push_line.ensures.ok, c.if-is_err.ensures.value, c.if-is_err.false)
     in

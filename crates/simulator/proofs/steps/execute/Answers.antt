@@ -1,4 +1,4 @@
-use Rattle.std.proofs.Common.{◌<◌, ◌≡◌, List, length, subst, sym}
+use Rattle.std.proofs.Common.{◌<◌, ◌≡◌, List, ap, length, subst, sym}
 use Rattle.std.specs.Prelude.{Some}
 use Rattle.std.specs.List.{slice_get}
 use Rattle.fd_table.specs.Kept.{open_files}
@@ -8,7 +8,7 @@ use Rattle.kernel.specs.Steps.{halted}
 use Rattle.instruction_set.specs.Views.{instruction_of}
 use Rattle.syscalls.specs.CallViews.{result_of as outcome_of}
 use Rattle.syscalls.specs.MayCall.{CallComes, MayInvoke}
-use Rattle.syscalls.specs.Views.{effects_of, event_of, world_of, world_with}
+use Rattle.syscalls.specs.Views.{effects_in, event_of, world_of, world_with}
 use Rattle.simulator.specs.Views.{result_of}
 use Rattle.simulator.proofs.Doing.{calls_unchanged, ends_unchanged, executes_called, executes_ended, executes_moved, made_few, made_within, may_call, needs_next}
 use Rattle.simulator.proofs.steps.execute.Goals as goal
@@ -34,17 +34,24 @@ call-requires g c =
     c.index_mut.ensures.value (instruction_of c.args.instruction.now) c.requires.may c.in-Calls.ensures.action c.in-Calls.ensures.process))
     (may_call (world_of g.T.Tree.nodes c.args.world.now) c.args.event.process (instruction_of c.args.instruction.now) c.requires.may c.in-Calls.ensures.action)
 
-pub returns-in-Moves : goal.returns-in-Moves
-returns-in-Moves g c =
+pub returns-in-Moves-clause-executes : goal.returns-in-Moves-clause-executes
+returns-in-Moves-clause-executes g c =
     executes_moved (world_of g.T.Tree.nodes c.args.world.now) (event_of c.args.event) c.index_mut.result.now c.act.new.process (instruction_of c.args.instruction.now)
-    (result_of c.without_effects.result.outcome) (effects_of c.without_effects.result.effects.items) c.requires.may c.index_mut.ensures.value c.in-Moves.ensures.action
-    c.in-Moves.ensures.process
-    c.without_effects.ensures.outcome c.without_effects.ensures.effects
+    (result_of c.without_effects.result.outcome) (effects_in (g.T.Tree.nodes c.args.world.now.tree) c.without_effects.result.effects) c.requires.may c.index_mut.ensures.value
+    c.in-Moves.ensures.action c.in-Moves.ensures.process
+    c.without_effects.ensures.outcome (ap (effects_in (g.T.Tree.nodes c.args.world.now.tree)) c.without_effects.ensures.effects)
 
-pub returns-in-Ends : goal.returns-in-Ends
-returns-in-Ends g c =
+pub returns-in-Moves-clause-there : goal.returns-in-Moves-clause-there
+returns-in-Moves-clause-there g c = rw c.without_effects.ensures.effects tt
+
+pub returns-in-Ends-clause-there : goal.returns-in-Ends-clause-there
+returns-in-Ends-clause-there g c = rw c.halt.ensures.effects tt
+
+pub returns-in-Ends-clause-executes : goal.returns-in-Ends-clause-executes
+returns-in-Ends-clause-executes g c =
     executes_ended (world_of g.T.Tree.nodes c.args.world.now) (event_of c.args.event) (instruction_of c.args.instruction.now)
-    (result_of c.halt.result.outcome) (effects_of c.halt.result.effects.items) _ c.requires.may c.in-Ends.ensures.action c.halt.ensures.outcome c.halt.ensures.effects
+    (result_of c.halt.result.outcome) (effects_in (g.T.Tree.nodes c.halt.new.world.tree) c.halt.result.effects) _ c.requires.may c.in-Ends.ensures.action
+    c.halt.ensures.outcome (ap (effects_in (g.T.Tree.nodes c.halt.new.world.tree)) c.halt.ensures.effects)
     (subst (λ (ps : List ProcessState). (s : ProcessState) → slice_get ps c.args.event.process ≡ Some s →
     AlikeWorlds (halted (world_with (g.T.Tree.nodes c.args.world.now.tree) (open_files c.args.world.now.files) ps) c.args.event.process s)
     (world_of g.T.Tree.nodes c.halt.new.world))
@@ -52,10 +59,10 @@ returns-in-Ends g c =
     c.index_mut.ensures.value (instruction_of c.args.instruction.now) c.requires.may c.in-Ends.ensures.action c.in-Ends.ensures.process)
     c.halt.ensures.world)
 
-pub returns-in_ok-outcome-in-Calls : goal.returns-in_ok-outcome-in-Calls
-returns-in_ok-outcome-in-Calls g c =
-    let v = world_of g.T.Tree.nodes c.call.new.world in
-    let shows = effects_of c.in_ok-outcome-in-Calls.effects.items in
+pub returns-in_ok-called-in-Calls-clause-executes : goal.returns-in_ok-called-in-Calls-clause-executes
+returns-in_ok-called-in-Calls-clause-executes g c =
+    let v = world_of g.T.Tree.nodes c.call.new.self in
+    let shows = effects_in (g.T.Tree.nodes c.call.new.self.tree) c.in_ok-called-in-Calls.called.effects in
     let unchanged = calls_unchanged (world_of g.T.Tree.nodes c.args.world.now) c.args.event.process c.index_mut.result.now c.act.new.process
     c.args.event.input c.index_mut.ensures.value (instruction_of c.args.instruction.now) c.requires.may c.in-Calls.ensures.action
     c.in-Calls.ensures.process in
@@ -64,4 +71,4 @@ returns-in_ok-outcome-in-Calls g c =
     (instruction_of c.args.instruction.now) told shows v) (sym c.result_of_call.ensures)
     (subst (λ (ps : List ProcessState). CallComes
     (world_with (g.T.Tree.nodes c.args.world.now.tree) (open_files c.args.world.now.files) ps) c.args.event.process (event_of c.args.event)
-    (instruction_of c.args.instruction.now) (outcome_of c.in_ok-outcome-in-Calls.outcome) shows v) unchanged c.in_ok-outcome-in-Calls.ensures))
+    (instruction_of c.args.instruction.now) (outcome_of c.in_ok-called-in-Calls.called.outcome) shows v) unchanged c.in_ok-called-in-Calls.ensures.comes))

@@ -5,7 +5,7 @@ use Rattle.process.specs.State.{ProcessState}
 use Rattle.process.specs.Views.{deed_of}
 use Rattle.kernel.specs.World.{World}
 use Rattle.instruction_set.specs.Views.{instruction_of}
-use Rattle.syscalls.specs.Views.{effects_of, event_of, world_of, world_with}
+use Rattle.syscalls.specs.Views.{effects_in, event_of, world_of, world_with}
 use Rattle.task.specs.Plans.{programs_of_plan}
 use Rattle.simulator.specs.Deeds.{finished}
 use Rattle.simulator.specs.Steps.{DoesAs, Executes, MayExecute}
@@ -14,31 +14,34 @@ use Rattle.simulator.proofs.Doing.{does_ended, made_at, put_back}
 use Rattle.simulator.proofs.DeedsDone.{does_deed, made_then, may_do}
 use Rattle.simulator.proofs.steps.step_process.Goals as goal
 
-pub returns-then-not-process : goal.returns-then-not-process
-returns-then-not-process g c =
+pub returns-then-not-process-clause-there : goal.returns-then-not-process-clause-there
+returns-then-not-process-clause-there g c = rw c.without_effects.ensures.effects tt
+
+pub returns-then-not-process-clause-does : goal.returns-then-not-process-clause-does
+returns-then-not-process-clause-does g c =
     let x = c.index_mut-process.result.now in
     let ps = c.args.world.now.processes.items in
     let made = made_at ps c.args.event.process x c.requires.made c.index_mut-process.ensures.value in
     subst (λ (processes : List ProcessState). DoesAs (programs_of_plan c.args.task.now) (world_of g.T.Tree.nodes c.args.world.now) (event_of c.args.event)
-    (result_of c.without_effects.result.outcome) (effects_of c.without_effects.result.effects.items)
+    (result_of c.without_effects.result.outcome) (effects_in (g.T.Tree.nodes c.args.world.now.tree) c.without_effects.result.effects)
     (world_with (g.T.Tree.nodes c.args.world.now.tree) (open_files c.args.world.now.files) processes))
     (sym (put_back ps c.args.event.process x made))
     (does_ended (programs_of_plan c.args.task.now) (world_of g.T.Tree.nodes c.args.world.now) (event_of c.args.event) x
-    (result_of c.without_effects.result.outcome) (effects_of c.without_effects.result.effects.items) c.requires.good
+    (result_of c.without_effects.result.outcome) (effects_in (g.T.Tree.nodes c.args.world.now.tree) c.without_effects.result.effects) c.requires.good
     (sym (ap (λ (t : ProcessState). t.alive) c.process.view_is) ∙ c.if-not-process.true) made
-    c.without_effects.ensures.outcome c.without_effects.ensures.effects)
+    c.without_effects.ensures.outcome (ap (effects_in (g.T.Tree.nodes c.args.world.now.tree)) c.without_effects.ensures.effects))
 
-pub returns-in_default : goal.returns-in_default
-returns-in_default g c =
+pub returns-in_default-clause-does : goal.returns-in_default-clause-does
+returns-in_default-clause-does g c =
     let x = c.index_mut-process.result.now in
     let ps = c.args.world.now.processes.items in
     let made = made_at ps c.args.event.process x c.requires.made c.index_mut-process.ensures.value in
     subst (λ (processes : List ProcessState). IfOk c.follow.result (λ done. DoesAs (programs_of_plan c.args.task.now)
     (world_with (g.T.Tree.nodes c.args.world.now.tree) (open_files c.args.world.now.files) processes) (event_of c.args.event)
-    (result_of done.outcome) (effects_of done.effects.items) (world_of g.T.Tree.nodes c.follow.new.world)))
+    (result_of done.outcome) (effects_in (g.T.Tree.nodes c.follow.new.world.tree) done.effects) (world_of g.T.Tree.nodes c.follow.new.world)))
     (ap (slice_set ps c.args.event.process) (c.take_deed.ensures.left ∙ ap (λ o. record x { kept = o }) c.in_default.ensures.taken)
     ∙ put_back ps c.args.event.process x made)
-    c.follow.ensures
+    c.follow.ensures.does
 
 pub execute-requires : goal.execute-requires
 execute-requires g c =
@@ -54,10 +57,10 @@ execute-requires g c =
 
 pub finish_deed-requires : goal.finish_deed-requires
 finish_deed-requires g c =
-    made_then _ (event_of c.args.event) _ _ _ (world_of g.T.Tree.nodes c.execute.new.world) c.in_ok-done.ensures
+    made_then _ (event_of c.args.event) _ _ _ (world_of g.T.Tree.nodes c.execute.new.world) c.in_ok-done.ensures.executes
 
-pub returns : goal.returns
-returns g c =
+pub returns-clause-does : goal.returns-clause-does
+returns-clause-does g c =
     let x = c.index_mut-process.result.now in
     let ps = c.args.world.now.processes.items in
     let made = made_at ps c.args.event.process x c.requires.made c.index_mut-process.ensures.value in
@@ -69,12 +72,12 @@ returns g c =
           (result_of c.in_ok-done.done.outcome) v.processes;
     })
     in
-    subst (DoesAs (programs_of_plan c.args.task.now) (world_of g.T.Tree.nodes c.args.world.now) (event_of c.args.event)
-    (result_of c.in_ok-done.done.outcome) (effects_of c.in_ok-done.done.effects.items)) (sym is)
+    subst (λ (u : World). DoesAs (programs_of_plan c.args.task.now) (world_of g.T.Tree.nodes c.args.world.now) (event_of c.args.event)
+    (result_of c.in_ok-done.done.outcome) (effects_in u.tree c.in_ok-done.done.effects) u) (sym is)
     (does_deed (programs_of_plan c.args.task.now) (world_of g.T.Tree.nodes c.args.world.now) (event_of c.args.event) x (deed_of c.in-Some.deed)
-    (result_of c.in_ok-done.done.outcome) (effects_of c.in_ok-done.done.effects.items) v c.requires.good made
+    (result_of c.in_ok-done.done.outcome) (effects_in v.tree c.in_ok-done.done.effects) v c.requires.good made
     (sym (ap (λ (t : ProcessState). t.alive) c.process.view_is) ∙ c.if-not-process.false) (sym c.in-Some.ensures.taken)
     (subst (λ (t : ProcessState). Executes (world_with (g.T.Tree.nodes c.args.world.now.tree) (open_files c.args.world.now.files)
     (slice_set ps c.args.event.process t)) (event_of c.args.event) (instruction_of c.in-Some.deed.instruction)
-    (result_of c.in_ok-done.done.outcome) (effects_of c.in_ok-done.done.effects.items) v)
-    (ap (λ (t : ProcessState). record t { point = 0 }) left) c.in_ok-done.ensures))
+    (result_of c.in_ok-done.done.outcome) (effects_in v.tree c.in_ok-done.done.effects) v)
+    (ap (λ (t : ProcessState). record t { point = 0 }) left) c.in_ok-done.ensures.executes))

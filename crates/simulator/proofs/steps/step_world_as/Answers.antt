@@ -1,24 +1,18 @@
-use Rattle.std.proofs.Common.{◌≡◌, ℕ, true, length, sym, subst}
-use Rattle.std.specs.Prelude.{IfOk, OnOk, Ok, Err, Result, Some}
-use Rattle.std.specs.List.{slice_get}
-use Rattle.rights.specs.Limits.{register_count}
+use Rattle.std.proofs.Common.{sym, subst}
+use Rattle.std.specs.Prelude.{IfOk, OnOk, Ok, Err, Result}
 use Rattle.instruction_set.specs.Views.{instruction_of}
-use Rattle.process.specs.State.{Deed}
 use Rattle.kernel.specs.Answers.{Event, IsEvent}
 use Rattle.kernel.specs.Hostile.{Does}
-use Rattle.kernel.specs.Steps.{Programs, handed}
-use Rattle.kernel.specs.Walks.{call_in}
-use Rattle.kernel.specs.WellFormed.{ArePrograms, FitsRegister, HasPaths, IsWellFormed}
+use Rattle.kernel.specs.Steps.{Programs}
+use Rattle.kernel.specs.WellFormed.{ArePrograms, IsWellFormed}
 use Rattle.kernel.specs.World.{World}
 use Rattle.kernel.proofs.Hostile.{about_well_formed}
 use Rattle.syscalls.specs.Views.{event_of, world_of}
 use Rattle.task.specs.Plans.{programs_of_plan}
 use Rattle.task.proofs.FirstWorlds.{first_well_formed}
-use Rattle.simulator.specs.Deeds.{may_stand_at}
 use Rattle.simulator.specs.Lines.{Line}
 use Rattle.simulator.specs.Steps.{StepsMachine}
 use Rattle.simulator.specs.Views.{line_of}
-use Rattle.simulator.proofs.DeedsDone.{is_deed_of}
 use Rattle.simulator.proofs.Tracing.{steps_good}
 use Rattle.simulator.proofs.steps.step_world_as.Goals as goal
 

@@ -9,10 +9,6 @@ returns g c =
     let t = g.T.Tree.nodes c.args.self.now.tree.now in
     let lower = (node t c.args.n).place in
     let upper = c.args.upper in
-    record {
-      only_memory = tt;
-      within =
-          c.place_begins.ensures
-          ∙ ap (λ text. begins (path_components text) lower) (c.deref.ensures.value ∙ c.in_ok-path.ensures.place)
-          ∙ ap (λ p. begins p lower) (components_of_text (node t upper).place (names_of_place t upper (c.requires.tree.limits upper c.requires.upper)));
-    }
+    c.place_begins.ensures
+    ∙ ap (λ text. begins (path_components text) lower) c.requires.place
+    ∙ ap (λ p. begins p lower) (components_of_text (node t upper).place (names_of_place t upper (c.requires.tree.limits upper c.requires.upper)))

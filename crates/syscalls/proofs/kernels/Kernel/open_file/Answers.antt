@@ -6,7 +6,7 @@ use Rattle.kernel.specs.Changes.{tree_after}
 use Rattle.syscalls.specs.Shows.{shown}
 use Rattle.syscalls.specs.AnswerViews.{world_at}
 use Rattle.syscalls.proofs.Finding.{handed_on}
-use Rattle.syscalls.proofs.Keeping.{meets, open_succeeds}
+use Rattle.syscalls.proofs.Keeping.{meets_with, open_succeeds}
 use Rattle.syscalls.proofs.kernels.Kernel.open_file.Goals as goal
 
 pub returns-in_err-number : goal.returns-in_err-number
@@ -23,7 +23,7 @@ returns g c = λ s processes e same.
     let n = c.args.n in
     let number = c.in_ok-number.number in
     let place = (node t n).place in
-    meets c.with_effects.ensures
+    meets_with c.with_effects.ensures c.in_ok-effects.ensures.there
     (open_succeeds w p _ _ _ _ _ (truncated how.flags.trunc n) number n (access_asked how.flags) how.flags.append how.rights.0 how.fcntls.0 (truncates how.flags.trunc place)
     (c.in_ok-number.ensures.passes e.refuse same _)
     (sym (c.in_ok-effects.ensures.effects ∙ ap (λ b. map shown (truncates b place)) c.trunc.ensures))

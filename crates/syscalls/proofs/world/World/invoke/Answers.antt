@@ -7,10 +7,10 @@ use Rattle.instruction_set.specs.Views.{syscall_of}
 use Rattle.kernel.specs.Calls.{answer}
 use Rattle.syscalls.specs.AnswerViews.{Meets}
 use Rattle.syscalls.specs.CallViews.{Comes, Settles, result_of}
-use Rattle.syscalls.specs.Views.{effects_of, event_of, world_with}
+use Rattle.syscalls.specs.Views.{effects_in, event_of, world_with}
 use Rattle.syscalls.proofs.Calling.{made_few, ready, same_process}
 use Rattle.syscalls.proofs.Forking.{unmade}
-use Rattle.syscalls.proofs.Settling.{as_many, fits_rested, if_ok_map, next_rested, rested, settled, stands_rested, stays_there, still_made, whole_again}
+use Rattle.syscalls.proofs.Settling.{as_many, fits_rested, if_ok_map, next_rested, rested, settled, stands_rested, stays_there, still_made, there_told, whole_again}
 use Rattle.syscalls.proofs.world.World.invoke.Goals as goal
 
 pub take_walk-walk-requires : goal.take_walk-walk-requires
@@ -61,8 +61,8 @@ settle-requires-clause-next g c =
     let s = c.requires.process in
     next_rested c.args.self.now.processes.items c.take_walk-walk.new.processes.items c.args.number s c.requires.made (c.take_walk-walk.ensures.left s c.requires.made) c.requires.next
 
-pub returns : goal.returns
-returns g c =
+pub returns-clause-comes : goal.returns-clause-comes
+returns-clause-comes g c =
     let t = g.T.Tree.nodes c.args.self.now.tree in
     let f = open_files c.args.self.now.files in
     let processes = c.args.self.now.processes.items in
@@ -79,10 +79,25 @@ returns g c =
     (c.take_walk-walk.ensures.taken s made) in
     let meets = subst (λ x. Meets (world_with t f processes) p after open_after c.perform-came.result (answer (world_with t f processes) p x e call)) whole
     (c.perform-came.ensures processes e refl (sym (c.len.ensures ∙ c.take_walk-walk.new.processes.ok.0 ∙ as_many processes others p s made left))) in
-    if_ok_map c.settle.result _ _ (λ told settles. λ x there.
-    subst (λ y. Comes (world_with t f processes) p y e call c.args.otherwise (result_of told.0) (effects_of told.1.items)
+    if_ok_map c.settle.result _ _ (λ called settles. λ x there.
+    subst (λ y. Comes (world_with t f processes) p y e call c.args.otherwise (result_of called.outcome) (effects_in after called.effects)
     (world_with after open_after c.settle.new.processes.items)) (same_process processes p s x made there)
     (settled c.requires.programs t f processes c.requires.numbering c.requires.good p s e call c.args.otherwise made c.requires.fits after open_after c.perform-came.result meets
-    (result_of told.0) (effects_of told.1.items) c.settle.new.processes.items
-    (subst (λ xs. Settles xs p (rested s) c.args.otherwise c.perform-came.result (result_of told.0) (effects_of told.1.items) c.settle.new.processes.items) left
+    (result_of called.outcome) called.effects c.settle.new.processes.items
+    (subst (λ xs. Settles xs p (rested s) c.args.otherwise c.perform-came.result (result_of called.outcome) called.effects c.settle.new.processes.items) left
     (settles (rested s) (stays_there processes others p s made left))))) c.settle.ensures
+
+pub returns-clause-there : goal.returns-clause-there
+returns-clause-there g c =
+    let t = g.T.Tree.nodes c.args.self.now.tree in
+    let processes = c.args.self.now.processes.items in
+    let others = c.take_walk-walk.new.processes.items in
+    let p = c.args.number in
+    let s = c.requires.process in
+    let left = c.take_walk-walk.ensures.left s c.requires.made in
+    if_ok_map c.settle.result _ _ (λ called settles.
+    there_told _ p (g.T.Tree.nodes c.perform-came.new.self.0) (open_files c.perform-came.new.self.1.0) _ c.perform-came.result
+    (c.perform-came.ensures processes (event_of c.args.event) refl
+    (sym (c.len.ensures ∙ c.take_walk-walk.new.processes.ok.0 ∙ as_many processes others p s c.requires.made left)))
+    others c.settle.new.processes.items (rested s) c.args.otherwise (result_of called.outcome) called.effects (settles (rested s) (stays_there processes others p s c.requires.made left)))
+    c.settle.ensures
