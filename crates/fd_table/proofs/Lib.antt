@@ -17,3 +17,4 @@ pub mod Beginning
 pub mod Sides
 pub mod Refusals
 pub mod HolderRows
+pub mod Copying

@@ -5,7 +5,7 @@ use Rattle.std.specs.Option.{option_map}
 use Rattle.fd_table.specs.declared.descriptors.Descriptor.{Descriptor as DescriptorCode}
 use Rattle.fd_table.specs.declared.descriptors.Description.{Description as DescriptionCode}
 use Rattle.fd_table.specs.declared.descriptions.Held.{Held as HeldCode}
-use Rattle.fd_table.specs.declared.pairs.Message.{Message as MessageCode}
+use Rattle.fd_table.specs.declared.ends.Message.{Message as MessageCode}
 use Rattle.fd_table.specs.declared.pairs.Half.{Half as HalfCode}
 use Rattle.fd_table.specs.declared.pairs.Pair.{Pair as PairCode}
 use Rattle.fd_table.specs.declared.file_tables.FileTables.{FileTables}

@@ -2,6 +2,7 @@
 
 ghost use Rattle.std.specs.Prelude.{◌≡◌};
 
+use crate::descriptors::Descriptor;
 use rights::Side;
 use std::marker::Model;
 
@@ -49,4 +50,11 @@ pub struct End {
 pub struct Front {
     pub byte: u8,
     pub carries: bool,
+}
+
+/// A byte on its way through a pair, with or without a descriptor. (sendmsg(2))
+#[derive(Clone, Copy, PartialEq, Eq)]
+pub struct Message {
+    pub byte: u8,
+    pub passed: Option<Descriptor>,
 }

@@ -20,10 +20,10 @@ ghost use Rattle.fd_table.specs.declared.faults.SendFault.TheVariants as fault;
 
 use crate::descriptions::{Held, describe, hold_named, opened_end, opened_node, release_one};
 use crate::descriptors::{Class, DescriptionId, Descriptor, Entry};
-use crate::ends::{End, PairId};
+use crate::ends::{End, Message, PairId};
 use crate::entries::{NUMBERS, entry_at, no_entries, set_entry};
 use crate::faults::SendFault;
-use crate::pairs::{Message, Pair, close_ended, make_pair, note_few, send_in, take_in};
+use crate::pairs::{Pair, close_ended, make_pair, note_few, send_in, take_in};
 use file_tree::NodeId;
 use rights::{Fcntls, Memory, OpenFlags, Rights, Side};
 use slab::Slab;

@@ -1,7 +1,7 @@
 //! What all processes have open: a table for each, the descriptions that their entries name, and the queues of socket
 //! pairs.
 
-ghost use Rattle.std.specs.Prelude.{◌≡◌, ◌+◌, ◌-◌, ◌<◌, ℕ, None, IfErr, IfOk, OnErr, OnOk, option_map};
+ghost use Rattle.std.specs.Prelude.{◌≡◌, ◌+◌, ◌-◌, ◌<◌, ℕ, None, IfErr, IfOk, OnErr, OnOk, map, option_map};
 ghost use Rattle.std.specs.Option.{IsSome};
 ghost use Rattle.rights.specs.Sides.{other_side};
 ghost use Rattle.fd_table.specs.Descriptions.{message_of};
@@ -13,9 +13,10 @@ ghost use Rattle.fd_table.specs.Counts.{Counts};
 ghost use Rattle.rights.specs.Views.{side_seen};
 ghost use Rattle.fd_table.specs.Views.{TellsSendFault, access_asked, class_seen, descriptor_seen, entry_seen, front_seen, object_seen, state_seen};
 
+use crate::copies::sent_by;
 use crate::descriptions::{description_of, set_description};
 use crate::descriptors::{Class, Description, DescriptionId, Descriptor, Entry};
-use crate::ends::{End, Front, PairId};
+use crate::ends::{End, Front, Message, PairId};
 use crate::entries::{entry_at, lowest_in};
 use crate::faults::SendFault;
 use crate::file_tables::FileTables;
@@ -48,12 +49,21 @@ impl Model for Files {
 
 impl Files {
     ghost use Rattle.fd_table.specs.Kept.{open_files};
+    ghost use Rattle.fd_table.specs.StoredViews.{message_kept};
 
     /// Nothing is open. Room for all tables is made here, so that an entry takes no memory later.
     pub fn new(alloc: Global) -> Result<Files, Memory>
         ensures { IfOk result (λ files. IsEmpty (open_files files)) }
     {
         let tables = FileTables::new(alloc)?;
+        Ok(Files { tables })
+    }
+
+    /// The same once more, with the same numbers. Want of memory alone keeps it from being made. (own)
+    pub fn copy(&self) -> Result<Files, Memory>
+        ensures { IfOk result (λ files. files ≡ self.now) }
+    {
+        let tables = self.tables.copy()?;
         Ok(Files { tables })
     }
 
@@ -98,6 +108,14 @@ impl Files {
         ensures { option_map front_seen result ≡ front_shown ((open_files self.now).queue end.pair (other_side (side_seen end.side))) }
     {
         front_in(&self.tables.pairs, end.pair.number(), end.side.other())
+    }
+
+    /// What the end has sent that is on its way, the next to be received first. (own)
+    #[tactic(auto, unfolding(crate::specs::Kept::open_files))]
+    pub fn sent(&self, end: End) -> &[Message]
+        ensures { map message_kept result.now ≡ (open_files self.now).queue end.pair (side_seen end.side) }
+    {
+        sent_by(&self.tables.pairs, end)
     }
 
     /// Whether some entry, or a descriptor on its way, is of that end.

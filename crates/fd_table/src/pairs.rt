@@ -14,18 +14,11 @@ ghost use Rattle.fd_table.specs.StoredViews.{description_kept, entry_kept, half_
 ghost use Rattle.fd_table.specs.declared.faults.SendFault.TheVariants as fault;
 
 use crate::descriptors::{Description, Descriptor, Object};
-use crate::ends::{End, Front};
+use crate::ends::{End, Front, Message};
 use crate::faults::SendFault;
 use rights::Side;
 use slab::Slab;
 use std::alloc::Global;
-
-/// A byte on its way, with or without a descriptor.
-#[derive(Clone, Copy)]
-pub(crate) struct Message {
-    pub(crate) byte: u8,
-    pub(crate) passed: Option<Descriptor>,
-}
 
 /// A side of a pair.
 #[derive(Drop)]
@@ -99,7 +92,7 @@ impl Pair {
     }
 
     /// What is of one side.
-    fn half(&self, side: Side) -> &Half
+    pub(crate) fn half(&self, side: Side) -> &Half
         ensures { half_kept result.now ≡ half_in (Some (pair_kept self.now)) (side_seen side) }
     {
         match side {

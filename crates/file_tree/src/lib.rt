@@ -7,12 +7,14 @@
 #![tactic(auto)]
 
 pub mod contents;
+pub mod copies;
 pub mod faults;
 pub mod names;
 pub mod nodes;
 pub mod places;
 pub mod tree;
 
+pub use copies::CopyTree;
 pub use faults::TreeFault;
 pub use names::{is_path_name, is_valid_name, is_valid_target};
 pub use nodes::{Kind, New, NodeId};

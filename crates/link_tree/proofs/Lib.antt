@@ -14,3 +14,4 @@ pub mod LinkedAfter
 pub mod LinkBelow
 pub mod LinkRenames
 pub mod NewLinks
+pub mod Copying

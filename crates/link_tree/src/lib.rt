@@ -3,19 +3,22 @@
 
 mod changes;
 mod climbs;
+mod copies;
 mod creates;
 mod links;
 mod removes;
 mod renames;
 
 use crate::climbs::{append_place_in, begins_in};
+use crate::copies::copy_entries;
 use crate::creates::{create_in, put_in, truncate_in};
 use crate::links::{
     Entry, Stand, child_in, content_in, is_linked_in, kind_in, parent_in, target_in,
 };
 use crate::removes::remove_in;
 use crate::renames::rename_in;
-use file_tree::{Kind, New, NodeId, Tree, TreeFault};
+use file_tree::{CopyTree, Kind, New, NodeId, Tree, TreeFault};
+use rights::Memory;
 use std::alloc::Global;
 use std::collections::BTreeMap;
 use std::marker::Model;
@@ -133,5 +136,15 @@ impl Tree for LinkTree {
 
     fn truncate(&mut self, n: NodeId, len: usize) -> Result<(), TreeFault> {
         truncate_in(&mut self.entries, n.number(), len)
+    }
+}
+
+impl CopyTree for LinkTree {
+    fn copy(&self) -> Result<LinkTree, Memory> {
+        let entries = copy_entries(self.alloc, &self.entries)?;
+        Ok(LinkTree {
+            alloc: self.alloc,
+            entries,
+        })
     }
 }

@@ -1,10 +1,11 @@
 -- Names that lie in one text: what is put before them, passed, and appended to the text.
 use Rattle.std.proofs.Common.{◌≡◌, ℕ, zero, suc, ◌<◌, ◌≤◌, ◌-◌, ◌+◌, List, [], ◌∷◌, ◌++◌, Option, Some, None, Result, Ok, Err, length, map, take, drop, get_or, ap, subst, sym, ◌∙◌, refl, arith}
 use Rattle.std.specs.Prelude.{◌≢◌, OnOk, reverse, slice_get}
-use Rattle.std.specs.Option.{option_to_list}
+use Rattle.std.specs.Option.{option_map, option_to_list}
+use Rattle.std.proofs.lemmas.Option.{slice_get-map, slice_get-get_or, get_or_from_slice_get}
 use Rattle.std.specs.declared.alloc.AllocError.{AllocError}
 use Rattle.std.proofs.Math.Seq.{drop-append_seam}
-use Rattle.std.proofs.lemmas.List.{append_assoc, append-nil, reverse-append, map-append, length-append, length-drop, length-take, take-append-le, drop-append-le, drop_more}
+use Rattle.std.proofs.lemmas.List.{append_assoc, append-nil, reverse-append, map-append, length-append, length-map, length-reverse, get_or-reverse, length-drop, length-take, take-append-le, drop-append-le, drop_more}
 use Rattle.file_tree.specs.Places.{with_name, names_from, path_components}
 use Rattle.lookup.specs.NameViews.{AreSpansOf, IsSpanOf, spanned, all_spanned}
 use Rattle.lookup.specs.declared.names.Span.{Span}
@@ -39,6 +40,24 @@ within_last text [] i span last is all = cc
 within_last text (s ∷ spans) i span last is all =
     let count : length (s ∷ spans) ≡ suc i = omega arith in
     (within_pop text (take i (s ∷ spans)) span (subst (AreSpansOf text) (last_split i (s ∷ spans) span count is) all)).1
+
+-- and so does each of them, which comes as far from the front as it lies from the end
+pub within_at : (text : List ℕ) (spans : List Span) (i : ℕ) (span : Span) → slice_get spans i ≡ Some span → AreSpansOf text spans → IsSpanOf text span
+within_at text [] i span is all = absurd cc
+within_at text (s ∷ spans) zero span is all = let same : s ≡ span = cc in subst (IsSpanOf text) same all.0
+within_at text (s ∷ spans) (suc i) span is all = within_at text spans i span is all.1
+
+pub name_behind : (text : List ℕ) (spans : List Span) (at : ℕ) (span : Span) → at < length spans → slice_get spans (length spans - 1 - at) ≡ Some span →
+    slice_get (all_spanned text spans) at ≡ Some (spanned text span)
+name_behind text spans at span low is =
+    let names : List (List ℕ) = map (spanned text) spans in
+    let count : length names ≡ length spans = length-map spans (spanned text) in
+    let fits : at < length names = rw count low in
+    let turned : at < length (reverse names) = rw (length-reverse names) fits in
+    let there : slice_get names (length names - 1 - at) ≡ Some (spanned text span) =
+    rw count (slice_get-map (spanned text) spans (length spans - 1 - at) ∙ ap (option_map (spanned text)) is) in
+    slice_get-get_or (reverse names) at [] turned
+    ∙ ap Some (get_or-reverse names at [] fits ∙ get_or_from_slice_get names (length names - 1 - at) (spanned text span) [] there)
 
 -- what is appended to the text leaves them as they are
 within_more : (text more : List ℕ) (spans : List Span) → AreSpansOf text spans → AreSpansOf (text ++ more) spans

@@ -5,6 +5,7 @@ use Rattle.lookup.specs.declared.ways.Way.TheVariants as way
 use Rattle.lookup.specs.declared.ways.Last.{Last as LastCode}
 use Rattle.lookup.specs.declared.ways.Last.TheVariants as last
 use Rattle.lookup.specs.declared.ways.Found.{Found}
+use Rattle.lookup.specs.declared.ways.Stand.{Stand as StandCode}
 use Rattle.lookup.specs.declared.ways.Found.TheVariants as found
 use Rattle.lookup.specs.declared.faults.PathFault.{PathFault}
 use Rattle.lookup.specs.declared.faults.PathFault.TheVariants as fault
@@ -75,6 +76,14 @@ stand_of trail = record {
 
 abbrev pub walk_state : Trail → WalkState
 walk_state trail = record { way = way_of trail.way; last = last_of trail.last; stand = stand_of trail }
+
+-- it shows where a walk stands
+pub record IsStand (shown : StandCode) (walk : WalkState) : Type 0 where
+  pub way : way_of shown.way ≡ walk.way
+  pub last : last_of shown.last ≡ walk.last
+  pub current : shown.current ≡ walk.stand.cursor.current
+  pub before : reverse shown.before.now ≡ walk.stand.cursor.before
+  pub followed : shown.followed ≡ walk.stand.followed
 
 abbrev pub rules_of : List Node → Trail → Rules Walked
 rules_of t trail = by_nodes t (way_of trail.way) (last_of trail.last)

@@ -19,4 +19,4 @@ pub use faults::PathFault;
 pub use lookups::find;
 pub use paths::last_name;
 pub use walk::Walk;
-pub use ways::{Found, Last, Progress, Way};
+pub use ways::{Found, Last, Progress, Stand, Way};

@@ -1,6 +1,7 @@
 //! The names that a lookup has left, in one text.
 
-ghost use Rattle.std.specs.Prelude.{◌≡◌, ◌<◌, ◌≤◌, ◌-◌, ◌^◌, ◌++◌, ℕ, List, [], ◌∷◌, drop, take, length, nat_eq, IfOk, MatchOption, OnOk};
+ghost use Rattle.std.specs.Prelude.{◌≡◌, ◌<◌, ◌≤◌, ◌-◌, ◌^◌, ◌++◌, ℕ, List, [], ◌∷◌, drop, take, length, nat_eq, slice_get, IfOk, MatchOption, OnOk};
+ghost use Rattle.std.specs.Option.{option_copied};
 ghost use Rattle.file_tree.specs.Places.{path_components, with_name};
 ghost use Rattle.lookup.specs.NameViews.{AreSpansOf, IsSpanOf, spanned, all_spanned};
 
@@ -84,6 +85,15 @@ impl Names {
         Ok(Names { text, spans })
     }
 
+    /// The same names once more. A refused growth is its only error.
+    pub(crate) fn copy(&self, alloc: Global) -> Result<Names, AllocError>
+        ensures { IfOk result (λ names. names ≡ self.now) }
+    {
+        let text = Vec::from_slice(alloc, &self.text)?;
+        let spans = Vec::from_slice(alloc, &self.spans)?;
+        Ok(Names { text, spans })
+    }
+
     /// How many they are.
     pub(crate) fn len(&self) -> usize
         ensures { result ≡ length self.now }
@@ -104,6 +114,19 @@ impl Names {
         ensures { MatchOption result (self.now ≡ []) (λ name. self.now ≡ name.now ∷ drop 1 self.now) }
     {
         match self.spans.last() {
+            None => None,
+            Some(span) => Some(name_in(&self.text, *span)),
+        }
+    }
+
+    /// The one behind so many others, or nothing where there are no more.
+    pub(crate) fn get(&self, at: usize) -> Option<&[u8]>
+        ensures { option_copied result ≡ slice_get self.now at }
+    {
+        if at >= self.spans.len() {
+            return None;
+        }
+        match self.spans.get(self.spans.len() - 1 - at) {
             None => None,
             Some(span) => Some(name_in(&self.text, *span)),
         }

@@ -1,6 +1,7 @@
 //! Where a lookup stands, and how it goes on by a name.
 
-ghost use Rattle.std.specs.Prelude.{◌≡◌, ◌<◌, ◌^◌, ℕ, List, ◌∷◌, None, length, nat_eq, IfSome, IfOk, IfErr, OnOk};
+ghost use Rattle.std.specs.Prelude.{◌≡◌, ◌<◌, ◌^◌, ℕ, List, ◌∷◌, None, length, nat_eq, slice_get, IfSome, IfOk, IfErr, OnOk};
+ghost use Rattle.std.specs.Option.{option_copied};
 ghost use Rattle.file_tree.specs.Nodes.{Node, parent_of};
 ghost use Rattle.file_tree.specs.WellFormed.{IsTree};
 ghost use Rattle.lookup.specs.Answers.{Not_found, absent, is_kept};
@@ -8,15 +9,15 @@ ghost use Rattle.lookup.specs.Leads.{next};
 ghost use Rattle.lookup.specs.Steps.{Rules, Moves, Meets, Stops};
 ghost use Rattle.lookup.specs.ByNodes.{Walked, back, from_node, is_holder, no_way_back};
 ghost use Rattle.lookup.specs.Looks.{first_stand, lookup_fault, start_node};
-ghost use Rattle.lookup.specs.Views.{IsMeaningThere, IsSettled, Means, StepsAlong, after_move, after_name, after_node, SameRules, Told, fault_of, last_of, rules_of, stand_of, way_of};
+ghost use Rattle.lookup.specs.Views.{IsMeaningThere, IsSettled, Means, IsStand, StepsAlong, after_move, after_name, after_node, SameRules, Told, fault_of, last_of, rules_of, stand_of, walk_state, way_of};
 
 use crate::faults::PathFault;
 use crate::names::Names;
 use crate::paths::{check_text, is_absolute, is_dot, is_dot_dot};
-use crate::ways::{Found, Last, Progress, Way};
+use crate::ways::{Found, Last, Progress, Stand, Way};
 use file_tree::{Kind, NodeId, Tree};
 use rights::limits::MAX_LINKS;
-use std::alloc::Global;
+use std::alloc::{AllocError, Global};
 
 /// What a name means in a directory.
 #[derive(Clone, Copy)]
@@ -81,6 +82,42 @@ impl Trail {
             left,
             followed: 0,
         })
+    }
+
+    /// The same lookup once more. A refused growth is its only error.
+    pub(crate) fn copy(&self, alloc: Global) -> Result<Trail, AllocError>
+        ensures { IfOk result (λ trail. walk_state trail ≡ walk_state self.now) }
+    {
+        let before = Vec::from_slice(alloc, &self.before)?;
+        let left = self.left.copy(alloc)?;
+        Ok(Trail {
+            way: self.way,
+            last: self.last,
+            current: self.current,
+            before,
+            left,
+            followed: self.followed,
+        })
+    }
+
+    /// Where it stands, and how it goes on.
+    pub(crate) fn stand(&self) -> Stand<'_>
+        ensures { IsStand result (walk_state self.now) }
+    {
+        Stand {
+            way: self.way,
+            last: self.last,
+            current: self.current,
+            before: &self.before,
+            followed: self.followed,
+        }
+    }
+
+    /// The name behind so many others of those left, or nothing where there are no more.
+    pub(crate) fn name_left(&self, at: usize) -> Option<&[u8]>
+        ensures { option_copied result ≡ slice_get (stand_of self.now).left at }
+    {
+        self.left.get(at)
     }
 
     /// The fault where the directory that was walked before doesn't hold the current one any more.

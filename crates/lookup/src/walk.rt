@@ -1,17 +1,18 @@
 //! A lookup under way, which takes an event for each name: the tree may change between two events.
 
-ghost use Rattle.std.specs.Prelude.{◌≡◌, ◌<◌, ◌∷◌, None, length, nat_eq, IfOk, IfErr, OnOk};
+ghost use Rattle.std.specs.Prelude.{◌≡◌, ◌<◌, ◌∷◌, None, length, nat_eq, slice_get, IfOk, IfErr, OnOk};
+ghost use Rattle.std.specs.Option.{option_copied};
 ghost use Rattle.file_tree.specs.WellFormed.{IsTree};
 ghost use Rattle.lookup.specs.Answers.{Beneath};
 ghost use Rattle.lookup.specs.Looks.{lookup_fault};
 ghost use Rattle.lookup.specs.Walks.{IsInTree, begun, handled, work_left};
-ghost use Rattle.lookup.specs.Views.{IsHandled, StaysNear, Told, last_of, way_of};
+ghost use Rattle.lookup.specs.Views.{IsHandled, IsStand, StaysNear, Told, last_of, way_of};
 
 use crate::faults::PathFault;
 use crate::trail::Trail;
-use crate::ways::{Last, Progress, Way};
+use crate::ways::{Last, Progress, Stand, Way};
 use file_tree::{NodeId, Tree};
-use std::alloc::Global;
+use std::alloc::{AllocError, Global};
 use std::marker::Model;
 
 /// A lookup under way. It has the names that it has left, the directories that it walked, and how many links
@@ -52,6 +53,30 @@ impl Walk {
         Ok(Walk {
             trail: Box::new(alloc, trail)?,
         })
+    }
+
+    /// The same lookup once more. A refused growth is its only error.
+    pub fn copy(&self, alloc: Global) -> Result<Walk, AllocError>
+        ensures { IfOk result (λ walk. walk ≡ self.now) }
+    {
+        let trail = self.trail.copy(alloc)?;
+        Ok(Walk {
+            trail: Box::new(alloc, trail)?,
+        })
+    }
+
+    /// Where it stands, and how it goes on, but for the names that it has left.
+    pub fn stand(&self) -> Stand<'_>
+        ensures { IsStand result self.now }
+    {
+        self.trail.stand()
+    }
+
+    /// The name behind so many others of those left, or nothing where there are no more.
+    pub fn name_left(&self, at: usize) -> Option<&[u8]>
+        ensures { option_copied result ≡ slice_get self.now.stand.left at }
+    {
+        self.trail.name_left(at)
     }
 
     /// Whether one name is left, the last one.

@@ -39,3 +39,16 @@ pub enum Progress {
     /// The lookup has ended.
     Done(Found),
 }
+
+/// Where a lookup under way stands, and how it goes on.
+#[derive(Clone, Copy, PartialEq, Eq)]
+pub struct Stand<'w> {
+    pub way: Way,
+    pub last: Last,
+    /// The node.
+    pub current: NodeId,
+    /// The directories that it walked before, the latest last.
+    pub before: &'w [NodeId],
+    /// How many links it followed.
+    pub followed: u8,
+}

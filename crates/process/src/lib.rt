@@ -2,10 +2,11 @@
 //! has under way, and what it is made to do where its program is untrusted.
 #![tactic(auto)]
 
-ghost use Rattle.std.specs.Prelude.{◌≡◌, ◌<◌, ◌+◌, true, None, Some, is_some, slice_set};
+ghost use Rattle.std.specs.Prelude.{◌≡◌, ◌<◌, ◌+◌, true, None, Some, is_some, option_map, slice_set};
 ghost use Rattle.process.specs.State.{forked, ended, is_hostile, left_by, moved_to, new_process};
 ghost use Rattle.process.specs.Views.{deed_in, deed_of, walking_in, walking_of};
 
+mod copies;
 pub mod deeds;
 pub mod walking;
 
@@ -206,6 +207,20 @@ impl Process {
         self.registers = deed.registers;
         self.move_to(deed.point);
         self.kept = None;
+    }
+
+    /// What its call has under way, if anything. (own)
+    pub fn walking(&self) -> Option<&Walking>
+        ensures { option_map (λ w. walking_of w.now) result ≡ self.now.walk }
+    {
+        self.walk.as_ref()
+    }
+
+    /// What it is to do next in the place of the instruction at its point, if anything. (own)
+    pub fn deed(&self) -> Option<&Deed>
+        ensures { option_map (λ d. deed_of d.now) result ≡ self.now.kept }
+    {
+        self.kept.as_ref()
     }
 
     /// A child: a copy of all, the mode too, but for register 0, which is 0. (fork(2), capsicum(4))

@@ -5,6 +5,7 @@
 
 mod actions;
 mod building;
+mod copies;
 mod deeds;
 pub mod lines;
 pub mod machine;

@@ -14,15 +14,16 @@ ghost use Rattle.simulator.specs.Machines.{machine_world};
 ghost use Rattle.simulator.specs.Steps.{StepsMachine, StepsMachineAs};
 ghost use Rattle.simulator.specs.Views.{line_in, line_of};
 
+use crate::copies::copy_world;
 use crate::lines::{Line, Stepped};
 use crate::starting::first_world;
 use crate::steps::{advance, may_stand_at, step_world, step_world_as};
 use fd_table::Files;
-use file_tree::Tree;
+use file_tree::{CopyTree, Tree};
 use instruction_set::Instruction;
 use process::Process;
-use rights::Stop;
 use rights::limits::REGISTERS;
+use rights::{Memory, Stop};
 use std::alloc::Global;
 use std::marker::Model;
 use syscalls::{Event, World};
@@ -190,5 +191,20 @@ impl<'a, T: Tree> Machine<'a, T> {
                 Err(Stop::Memory)
             }
         }
+    }
+}
+
+impl<'a, T: CopyTree> Machine<'a, T> {
+    /// The same machine once more: what it would do, the copy does. Want of memory alone keeps it from being made. (own)
+    pub fn copy(&self) -> Result<Machine<'a, T>, Memory>
+        ensures { IfOk result (λ machine. machine ≡ self.now) }
+    {
+        let world = copy_world(self.alloc, &self.world)?;
+        Ok(Machine {
+            alloc: self.alloc,
+            task: self.task,
+            world,
+            spent: self.spent,
+        })
     }
 }
