@@ -31,8 +31,8 @@ acted_of a = record { program = a.program; point = a.point; outcome = result_of 
 abbrev pub stepped_in : List Node → SteppedCode → ShownStep
 stepped_in t s = record { program = s.program; point = s.point; outcome = result_of s.outcome; effects = effects_in t s.effects }
 
-abbrev pub line_in : List Node → ℕ → Option SteppedCode → Line
-line_in t process stepped = record { process = process; acted = option_map (stepped_in t) stepped }
+abbrev pub stepped_line : List Node → ℕ → Option SteppedCode → Line
+stepped_line t process stepped = record { process = process; acted = option_map (stepped_in t) stepped }
 
 abbrev pub line_of : LineCode → Line
 line_of l = record { process = l.process; acted = option_map acted_of l.acted }

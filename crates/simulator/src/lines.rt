@@ -3,7 +3,7 @@
 ghost use Rattle.std.specs.Prelude.{◌≡◌, IfOk, IfSome};
 ghost use Rattle.syscalls.specs.CallViews as called;
 ghost use Rattle.syscalls.specs.Views.{AreThere};
-ghost use Rattle.simulator.specs.Views.{line_in, line_of, result_of};
+ghost use Rattle.simulator.specs.Views.{stepped_line, line_of, result_of};
 
 use file_tree::Tree;
 use rights::{Cause, Errno, Memory};
@@ -61,7 +61,7 @@ pub(crate) fn line_written<T: Tree>(
     stepped: Option<Stepped>,
 ) -> Result<Line, Memory>
     requires { IfSome stepped (λ s. AreThere (T.nodes tree.now) s.effects) }
-    ensures { IfOk result (λ line. line_of line ≡ line_in (T.nodes tree.now) process stepped) }
+    ensures { IfOk result (λ line. line_of line ≡ stepped_line (T.nodes tree.now) process stepped) }
 {
     let acted = match stepped {
         None => None,

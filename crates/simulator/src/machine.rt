@@ -12,7 +12,7 @@ ghost use Rattle.task.specs.Plans.{programs_of_plan};
 ghost use Rattle.simulator.specs.Deeds.{may_stand_at};
 ghost use Rattle.simulator.specs.Machines.{machine_world};
 ghost use Rattle.simulator.specs.Steps.{StepsMachine, StepsMachineAs};
-ghost use Rattle.simulator.specs.Views.{line_in, line_of};
+ghost use Rattle.simulator.specs.Views.{stepped_line, line_of};
 
 use crate::copies::copy_world;
 use crate::lines::{Line, Stepped};
@@ -119,7 +119,7 @@ impl<'a, T: Tree> Machine<'a, T> {
     /// The same, with what the process did, if it was made, in place of its line.
     pub(crate) fn advance(&mut self, event: Event) -> Result<Option<Stepped>, Stop>
         ensures step { IfOk result (λ stepped. StepsMachine (programs_of_plan self.old.plan) (machine_world self.old) (event_of event)
-            (line_in self.new.tree event.process stepped) (machine_world self.new)) }
+            (stepped_line self.new.tree event.process stepped) (machine_world self.new)) }
         ensures there { IfOk result (λ stepped. IfSome stepped (λ s. AreThere self.new.tree s.effects)) }
         ensures well_formed { OnOk result (IsWellFormed (programs_of_plan self.new.plan) (machine_world self.new)) }
         ensures plan { self.new.plan ≡ self.old.plan }

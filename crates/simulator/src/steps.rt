@@ -12,7 +12,7 @@ ghost use Rattle.task.specs.Plans.{code_in, programs_of_plan};
 ghost use Rattle.task.specs.Views.{programs_of};
 ghost use Rattle.simulator.specs.Deeds.{may_stand_at};
 ghost use Rattle.simulator.specs.Steps.{DoesAs, Executes, MayExecute, StepsMachine};
-ghost use Rattle.simulator.specs.Views.{line_in, line_of, result_of};
+ghost use Rattle.simulator.specs.Views.{stepped_line, line_of, result_of};
 
 use crate::actions::{Action, act};
 use crate::deeds::{finish_deed, hand};
@@ -170,7 +170,7 @@ pub(crate) fn advance<T: Tree>(
 ) -> Result<Option<Stepped>, Memory>
     requires { IsWellFormed (programs_of_plan task.now) (world_of T.nodes world.old) }
     ensures step { IfOk result (λ stepped. StepsMachine (programs_of_plan task.now) (world_of T.nodes world.old) (event_of event)
-        (line_in (T.nodes world.new.tree) event.process stepped) (world_of T.nodes world.new)) }
+        (stepped_line (T.nodes world.new.tree) event.process stepped) (world_of T.nodes world.new)) }
     ensures there { IfOk result (λ stepped. IfSome stepped (λ s. AreThere (T.nodes world.new.tree) s.effects)) }
     ensures byte { event.input < 256 }
 {

@@ -11,7 +11,7 @@ ghost use Rattle.syscalls.specs.Shows.{shown_at};
 ghost use Rattle.syscalls.specs.Views.{AreThere, effects_in};
 ghost use Rattle.task.specs.Views.{programs_of};
 ghost use Rattle.simulator.specs.Traces.{acted_text, effect_text, line_text, result_text};
-ghost use Rattle.simulator.specs.Views.{line_in, result_of, stepped_in};
+ghost use Rattle.simulator.specs.Views.{stepped_line, result_of, stepped_in};
 
 use crate::lines::{LineResult, Stepped};
 use crate::page::Page;
@@ -145,7 +145,7 @@ pub(crate) fn push_line<T: Tree>(
 ) -> Result<(), AllocError>
     requires begun { page.old.line ≡ [] }
     requires there { IfSome stepped.now (λ s. AreThere (T.nodes tree.now) s.effects) }
-    ensures ok { OnOk result (page.new.lines ≡ page.old.lines ++ line_text task.now (line_in (T.nodes tree.now) process stepped.now)) }
+    ensures ok { OnOk result (page.new.lines ≡ page.old.lines ++ line_text task.now (stepped_line (T.nodes tree.now) process stepped.now)) }
     ensures begun { OnOk result (page.new.line ≡ []) }
     ensures err { OnErr result (page.new.lines ≡ page.old.lines) }
 {

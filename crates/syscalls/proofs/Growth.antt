@@ -112,61 +112,21 @@ over_node t n d name e linked held apart other tells =
 
 -- what is left of the faults beside one of these and want of memory
 pub but_full : (e : TreeFault) → (e ≡ fault.Exists) ⊎ ((e ≡ fault.Full) ⊎ ((e ≡ fault.IntoItself) ⊎ (e ≡ fault.Gone))) → (e ≢ fault.NotEmpty) × (e ≢ fault.Memory)
-but_full e (inl is) = ((λ no. clash (sym is ∙ no)), (λ no. clash_memory (sym is ∙ no)))
-  where
-    clash : fault.Exists ≡ fault.NotEmpty → ⊥
-    clash same = absurd cc
-
-    clash_memory : fault.Exists ≡ fault.Memory → ⊥
-    clash_memory same = absurd cc
-but_full e (inr (inl is)) = ((λ no. clash (sym is ∙ no)), (λ no. clash_memory (sym is ∙ no)))
-  where
-    clash : fault.Full ≡ fault.NotEmpty → ⊥
-    clash same = absurd cc
-
-    clash_memory : fault.Full ≡ fault.Memory → ⊥
-    clash_memory same = absurd cc
-but_full e (inr (inr (inl is))) = ((λ no. clash (sym is ∙ no)), (λ no. clash_memory (sym is ∙ no)))
-  where
-    clash : fault.IntoItself ≡ fault.NotEmpty → ⊥
-    clash same = absurd cc
-
-    clash_memory : fault.IntoItself ≡ fault.Memory → ⊥
-    clash_memory same = absurd cc
-but_full e (inr (inr (inr is))) = ((λ no. clash (sym is ∙ no)), (λ no. clash_memory (sym is ∙ no)))
-  where
-    clash : fault.Gone ≡ fault.NotEmpty → ⊥
-    clash same = absurd cc
-
-    clash_memory : fault.Gone ≡ fault.Memory → ⊥
-    clash_memory same = absurd cc
+but_full e (inl is) =
+    ((λ no. let same : fault.Exists ≡ fault.NotEmpty = sym is ∙ no in absurd cc), (λ no. let same : fault.Exists ≡ fault.Memory = sym is ∙ no in absurd cc))
+but_full e (inr (inl is)) =
+    ((λ no. let same : fault.Full ≡ fault.NotEmpty = sym is ∙ no in absurd cc), (λ no. let same : fault.Full ≡ fault.Memory = sym is ∙ no in absurd cc))
+but_full e (inr (inr (inl is))) =
+    ((λ no. let same : fault.IntoItself ≡ fault.NotEmpty = sym is ∙ no in absurd cc), (λ no. let same : fault.IntoItself ≡ fault.Memory = sym is ∙ no in absurd cc))
+but_full e (inr (inr (inr is))) =
+    ((λ no. let same : fault.Gone ≡ fault.NotEmpty = sym is ∙ no in absurd cc), (λ no. let same : fault.Gone ≡ fault.Memory = sym is ∙ no in absurd cc))
 
 pub but_into : (e : TreeFault) → (e ≡ fault.Exists) ⊎ ((e ≡ fault.NotEmpty) ⊎ ((e ≡ fault.Full) ⊎ (e ≡ fault.Gone))) → (e ≢ fault.IntoItself) × (e ≢ fault.Memory)
-but_into e (inl is) = ((λ no. clash (sym is ∙ no)), (λ no. clash_memory (sym is ∙ no)))
-  where
-    clash : fault.Exists ≡ fault.IntoItself → ⊥
-    clash same = absurd cc
-
-    clash_memory : fault.Exists ≡ fault.Memory → ⊥
-    clash_memory same = absurd cc
-but_into e (inr (inl is)) = ((λ no. clash (sym is ∙ no)), (λ no. clash_memory (sym is ∙ no)))
-  where
-    clash : fault.NotEmpty ≡ fault.IntoItself → ⊥
-    clash same = absurd cc
-
-    clash_memory : fault.NotEmpty ≡ fault.Memory → ⊥
-    clash_memory same = absurd cc
-but_into e (inr (inr (inl is))) = ((λ no. clash (sym is ∙ no)), (λ no. clash_memory (sym is ∙ no)))
-  where
-    clash : fault.Full ≡ fault.IntoItself → ⊥
-    clash same = absurd cc
-
-    clash_memory : fault.Full ≡ fault.Memory → ⊥
-    clash_memory same = absurd cc
-but_into e (inr (inr (inr is))) = ((λ no. clash (sym is ∙ no)), (λ no. clash_memory (sym is ∙ no)))
-  where
-    clash : fault.Gone ≡ fault.IntoItself → ⊥
-    clash same = absurd cc
-
-    clash_memory : fault.Gone ≡ fault.Memory → ⊥
-    clash_memory same = absurd cc
+but_into e (inl is) =
+    ((λ no. let same : fault.Exists ≡ fault.IntoItself = sym is ∙ no in absurd cc), (λ no. let same : fault.Exists ≡ fault.Memory = sym is ∙ no in absurd cc))
+but_into e (inr (inl is)) =
+    ((λ no. let same : fault.NotEmpty ≡ fault.IntoItself = sym is ∙ no in absurd cc), (λ no. let same : fault.NotEmpty ≡ fault.Memory = sym is ∙ no in absurd cc))
+but_into e (inr (inr (inl is))) =
+    ((λ no. let same : fault.Full ≡ fault.IntoItself = sym is ∙ no in absurd cc), (λ no. let same : fault.Full ≡ fault.Memory = sym is ∙ no in absurd cc))
+but_into e (inr (inr (inr is))) =
+    ((λ no. let same : fault.Gone ≡ fault.IntoItself = sym is ∙ no in absurd cc), (λ no. let same : fault.Gone ≡ fault.Memory = sym is ∙ no in absurd cc))

@@ -19,7 +19,7 @@ use Rattle.task.specs.Plans.{Plan, programs_of_plan}
 use Rattle.simulator.specs.Machines.{machine_world}
 use Rattle.simulator.specs.Lines.{Line}
 use Rattle.simulator.specs.Steps.{StepsMachine}
-use Rattle.simulator.specs.Views.{line_in}
+use Rattle.simulator.specs.Views.{stepped_line}
 use Rattle.simulator.proofs.Splitting.{map-drop, drop-end}
 use Rattle.simulator.proofs.Tracing.{IsTraced, bytes_more, traced-start, traced-step, traced-moved, traced-end, traced-front}
 use Rattle.simulator.proofs.simulation.simulate.Goals as goal
@@ -82,7 +82,7 @@ returns-in_err-write_piece-clause-err g c =
     let left : List Event = map event_of (drop (c.loop-event.event-index + 1) c.args.events.now) in
     let w = machine_world c.loop-event.machine in
     let next = machine_world c.advance.new.self in
-    let line : Line = line_in next.tree e.process c.in-Ok.stepped in
+    let line : Line = stepped_line next.tree e.process c.in-Ok.stepped in
     let so_far = subst (IsTraced plan events (g.W.Out.taken c.args.out.now) (g.W.Out.taken c.loop-event.out) c.loop-event.page.lines w)
     (map-drop event_of c.args.events.now c.loop-event.event-index none c.loop-event-test.true) inv.traced
     in
@@ -104,7 +104,7 @@ loop-event-preserved g c =
     let left : List Event = map event_of (drop (c.loop-event.event-index + 1) c.args.events.now) in
     let w = machine_world c.loop-event.machine in
     let next = machine_world c.advance.new.self in
-    let line : Line = line_in next.tree e.process c.in-Ok.stepped in
+    let line : Line = stepped_line next.tree e.process c.in-Ok.stepped in
     let so_far = subst (IsTraced plan events (g.W.Out.taken c.args.out.now) (g.W.Out.taken c.loop-event.out) c.loop-event.page.lines w)
     (map-drop event_of c.args.events.now c.loop-event.event-index none c.loop-event-test.true) inv.traced
     in

@@ -27,7 +27,8 @@ returns g c = λ s processes e same.
     let t = g.T.Tree.nodes c.args.self.tree.now in
     let name = last_component c.args.path.now in
     rw c.in-Free.is
-    (meets_with c.with_effects.ensures c.in_ok-n.ensures.there (tree_succeeds (world_at g.T.Tree.nodes c.args.self processes) p _ 0 _ _ (Make (at_name (node t c.in-Free.dir).place name) Dir) _ c.requires.ready.idle
+    (meets_with c.with_effects.ensures c.in_ok-n.ensures.there
+    (tree_succeeds (world_at g.T.Tree.nodes c.args.self processes) p _ 0 _ _ (Make (at_name (node t c.in-Free.dir).place name) Dir) _ c.requires.ready.idle
     (passes _ _ _ _ (below _ 1024 (omega arith)) ∙ passes _ _ _ _ (ap not (same ∙ c.if-self.false)))
     (sym (ap (λ p. shown_at operations.Create p ∷ []) (c.in_ok-n.ensures.place ∙ ap (at_name (node t c.in-Free.dir).place) c.last_name.ensures)))
     (c.in_ok-n.ensures.tree ∙ ap (λ n. tree_after t (Make (at_name (node t c.in-Free.dir).place n) Dir)) c.last_name.ensures)))

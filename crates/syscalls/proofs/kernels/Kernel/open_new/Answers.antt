@@ -24,7 +24,8 @@ returns g c = λ s processes e same.
     let place = at_name (node t c.args.dir).place c.args.name.now in
     let left = open_files c.open_node.new.self in
     let p = c.args.self.caller.number in
-    meets_with c.with_effects.ensures c.in_ok-n.ensures.there (open_succeeds w p _ _ _ _ _ (Make place File) c.in_ok-number.number (length t) (access_asked how.flags) how.flags.append how.rights.0 how.fcntls.0 _
+    meets_with c.with_effects.ensures c.in_ok-n.ensures.there
+    (open_succeeds w p _ _ _ _ _ (Make place File) c.in_ok-number.number (length t) (access_asked how.flags) how.flags.append how.rights.0 how.fcntls.0 _
     (c.in_ok-number.ensures.passes _ ∙ passes _ _ _ _ (below _ 1024 (omega arith)) ∙ passes _ _ _ _ (ap not (same ∙ c.if-self.false)))
     (sym (ap (λ p. shown_at operations.Create p ∷ []) c.in_ok-n.ensures.place)) c.in_ok-n.ensures.tree
     (subst (λ n. Opens (open_files c.args.self.files.now) left p c.in_ok-number.number n

@@ -23,7 +23,8 @@ returns-in-Ok g c = λ s processes e same.
     (meets_with c.with_effects.ensures (rw c.in-Ok.ensures.ok (rw (removed_length t c.in-Node.n) there.there)) (tree_succeeds w p _ 0 _ _ (Remove c.in-Node.n) _ c.requires.ready.idle
     (removes w p s e c.args.directory c.in-Node.n _
     (sym c.is_directory-is_directory.ensures ∙ same_from _ _ c.if-directory-is_directory.false) c.in-Ok.ensures.allowed)
-    (sym (ap (λ after. shown_at operations.Remove (node after c.in-Node.n).place ∷ []) c.in-Ok.ensures.ok ∙ ap (λ m. shown_at operations.Remove m.place ∷ []) (removed_same t c.in-Node.n there.there)))
+    (sym (ap (λ after. shown_at operations.Remove (node after c.in-Node.n).place ∷ []) c.in-Ok.ensures.ok
+    ∙ ap (λ m. shown_at operations.Remove m.place ∷ []) (removed_same t c.in-Node.n there.there)))
     c.in-Ok.ensures.ok))
 
 pub returns-in-NotEmpty : goal.returns-in-NotEmpty
