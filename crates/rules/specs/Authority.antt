@@ -71,7 +71,7 @@ may_start_all plan a program starts =
     list_all (λ (s : Start). not (s.mode && (s.program == program)) || list_all (may_start_with plan a) s.descriptors) starts
 
 -- ## What is asked of an authority
--- What a right lets its holder do to a node or beneath it, in the policy's operations; the other rights do nothing there. (rights(4))
+-- What a right lets its holder do to a node or beneath it, in the policy's operations. The other rights let it do none of these by the calls of the model. (own; after rights(4))
 abbrev pub operations_of_rights : List (RightSet × Operation)
 operations_of_rights =
     (read_right, Read) ∷ (write_right, Write) ∷ (ftruncate_right, Write) ∷ (fstat_right, Look) ∷ (create_right, Create)
