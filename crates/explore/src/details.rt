@@ -162,14 +162,6 @@ fn detail_at(
     Ok(text)
 }
 
-/// Runs a machine over some events.
-fn run_over(runner: &mut Runner<'_>, events: &[Event]) -> Result<(), Memory> {
-    for event in events {
-        runner.step(*event)?;
-    }
-    Ok(())
-}
-
 /// What stands behind the words of what the last of these events breaks: `: FSTAT of descriptor 3` of a missing right, `: open` of a call
 /// in capability mode, and nothing where that can't be told.
 pub(crate) fn detail_of(
@@ -182,6 +174,6 @@ pub(crate) fn detail_of(
         return Ok(Vec::new(alloc));
     };
     let mut runner = Runner::start(alloc, task)?;
-    run_over(&mut runner, before)?;
+    runner.run_again(before)?;
     detail_at(alloc, task, &runner, last.process, breach)
 }

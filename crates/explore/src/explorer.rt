@@ -1,7 +1,10 @@
 //! The search for a run that breaks something, by breadth over the states of a task.
 
+use crate::aims::Aims;
 use crate::digests::Digest;
-use crate::moves::{bytes_to_try, next_moves};
+use crate::distances::Goal;
+use crate::kept::Kept;
+use crate::moves::{Asked, bytes_to_try, next_moves};
 use crate::runners::Runner;
 use crate::states::Met;
 use indexmap::IndexSet;
@@ -14,12 +17,19 @@ use task::Task;
 /// How many steps that are the only ones possible are run on before a state is kept.
 const MAX_FORCED: usize = 256;
 
-/// A state that was met: the state before it, the event that is tried there, and whether the steps behind it were too many to be followed.
+/// Of so many states that are gone on from, one is the next by breadth, where points are looked for.
+const SHARE: usize = 4;
+
+/// A state that was met: the state before it, where the events lie that lead here from there, and whether the steps behind them were too many
+/// to be followed.
 #[derive(Clone, Copy)]
 struct Visit {
     parent: Option<usize>,
-    event: Event,
+    first: usize,
+    count: usize,
     is_long: bool,
+    /// It was gone on from.
+    is_done: bool,
 }
 
 /// What became of a machine that was run on.
@@ -36,12 +46,12 @@ enum Arrival {
 /// What became of the events of a state that were tried so far.
 #[derive(Clone, Copy)]
 struct Tried {
-    /// The machine stands at the state.
-    stands: bool,
     /// The process of the last event that led on, where that left names of a path.
     walking: Option<u8>,
     /// A new state was met.
     any_new: bool,
+    /// The last one breaks something.
+    breaks: bool,
 }
 
 /// What was come to.
@@ -66,16 +76,33 @@ pub(crate) struct Explorer<'a> {
     met: Met,
     seen: IndexSet<Digest>,
     visits: Vec<Visit>,
+    /// The events of all visits, one after another.
+    events: Vec<Event>,
+    kept: Kept<'a>,
+    aims: Aims<'a>,
+    /// Some points are looked for.
+    is_aimed: bool,
+    /// How many states were gone on from.
+    turns: usize,
     next: usize,
     bound: usize,
+    /// The events that were run since the last state.
+    last: Vec<Event>,
     /// The run that breaks something, once there is one.
     found: Vec<Event>,
 }
 
 impl<'a> Explorer<'a> {
-    /// A search that has met nothing yet, of at most so many states.
-    pub(crate) fn new(alloc: Global, task: &'a Task, bound: usize) -> Result<Explorer<'a>, Memory> {
+    /// A search that has met nothing yet, of at most so many states, for a run to some points.
+    pub(crate) fn new(
+        alloc: Global,
+        task: &'a Task,
+        goals: &[Goal],
+        bound: usize,
+    ) -> Result<Explorer<'a>, Memory> {
+        let aims = Aims::new(alloc, task, goals)?;
         let bytes = bytes_to_try(alloc, task)?;
+        let kept = Kept::new(alloc, task.nodes().len())?;
         Ok(Explorer {
             alloc,
             task,
@@ -83,8 +110,14 @@ impl<'a> Explorer<'a> {
             met: Met::new(alloc),
             seen: IndexSet::new(alloc),
             visits: Vec::new(alloc),
+            events: Vec::new(alloc),
+            kept,
+            aims,
+            is_aimed: !goals.is_empty(),
+            turns: 0,
             next: 0,
             bound,
+            last: Vec::new(alloc),
             found: Vec::new(alloc),
         })
     }
@@ -99,37 +132,80 @@ impl<'a> Explorer<'a> {
         mem::replace(&mut self.found, Vec::new(self.alloc))
     }
 
-    /// The events that lead to a state, the last one first.
-    fn choices(&self, place: usize) -> Result<Vec<Event>, Memory> {
-        let mut choices = Vec::new(self.alloc);
+    /// Which events are tried from a state, unless all are.
+    fn asked(&self) -> Asked {
+        if self.is_aimed {
+            return Asked::OwnButInputs;
+        }
+        Asked::OwnFirst
+    }
+
+    /// The events that lead to a state from the one before it.
+    fn events_of(&self, visit: Visit) -> &[Event] {
+        let behind = self.events.get(visit.first..).unwrap_or(&[]);
+        behind.get(..visit.count).unwrap_or(&[])
+    }
+
+    /// The states on the way to one, itself first, up to one whose machine is there, or to the first state.
+    fn way_to(&self, place: usize) -> Result<Vec<usize>, Memory> {
+        let mut way = Vec::new(self.alloc);
         let mut at = place;
         for _ in 0..self.visits.len() {
+            way.push(at)?;
             let Some(visit) = self.visits.get(at) else {
                 break;
             };
             let Some(parent) = visit.parent else {
                 break;
             };
-            choices.push(visit.event)?;
+            if self.kept.get(at).is_some() {
+                break;
+            }
             at = parent;
         }
-        Ok(choices)
+        Ok(way)
+    }
+
+    /// The run to a state, and on by the events that were run since.
+    fn run_by(&self, place: Option<usize>) -> Result<Vec<Event>, Memory> {
+        let mut way = Vec::new(self.alloc);
+        let mut next = place;
+        for _ in 0..self.visits.len() {
+            let Some(at) = next else {
+                break;
+            };
+            way.push(at)?;
+            next = match self.visits.get(at) {
+                Some(visit) => visit.parent,
+                None => None,
+            };
+        }
+        let mut run = Vec::new(self.alloc);
+        for at in way.iter().rev() {
+            if let Some(visit) = self.visits.get(*at) {
+                run.extend_from_slice(self.events_of(*visit))?;
+            }
+        }
+        run.extend_from_slice(&self.last)?;
+        Ok(run)
     }
 
     /// Runs a machine on as long as one event alone can come.
     fn run_on(&mut self, runner: &mut Runner<'a>) -> Result<Arrival, Memory> {
+        let asked = self.asked();
         let mut events = Vec::new(self.alloc);
         for _ in 0..MAX_FORCED {
-            next_moves(self.task, runner, &self.bytes, false, &mut events)?;
+            next_moves(self.task, runner, &self.bytes, asked, &mut events)?;
             let [event] = events.as_slice() else {
                 return Ok(Arrival::At { is_long: false });
             };
             let advance = runner.step(*event)?;
-            if advance.breach.is_some() {
-                return Ok(Arrival::Breaks);
-            }
             if advance.is_waiting {
                 return Ok(Arrival::At { is_long: false });
+            }
+            self.last.push(*event)?;
+            if advance.breach.is_some() {
+                return Ok(Arrival::Breaks);
             }
         }
         Ok(Arrival::At { is_long: true })
@@ -137,141 +213,163 @@ impl<'a> Explorer<'a> {
 
     /// Runs a machine by one event, and on.
     fn advance(&mut self, runner: &mut Runner<'a>, event: Event) -> Result<Arrival, Memory> {
+        self.last.clear();
         let advance = runner.step(event)?;
-        if advance.breach.is_some() {
-            return Ok(Arrival::Breaks);
-        }
         if advance.is_waiting {
             return Ok(Arrival::Stays);
+        }
+        self.last.push(event)?;
+        if advance.breach.is_some() {
+            return Ok(Arrival::Breaks);
         }
         runner.walking = advance.walking;
         self.run_on(runner)
     }
 
-    /// Runs a machine from its start to a state that was met.
-    fn run_to(&mut self, place: usize, runner: &mut Runner<'a>) -> Result<(), Memory> {
-        let mut choices = self.choices(place)?;
-        choices.reverse();
-        // What these steps break was told when they came first.
-        runner.is_watched = false;
-        self.run_on(runner)?;
-        for event in &choices {
-            self.advance(runner, *event)?;
-        }
-        runner.is_watched = true;
-        Ok(())
-    }
-
-    /// A machine at a state that was met.
+    /// A machine at a state that was met, from the nearest one on the way there that is kept.
     fn runner_at(&mut self, place: usize) -> Result<Runner<'a>, Memory> {
-        let mut runner = Runner::start(self.alloc, self.task)?;
-        self.run_to(place, &mut runner)?;
+        if let Some(runner) = self.kept.take(place) {
+            return Ok(runner);
+        }
+        let mut way = self.way_to(place)?;
+        let mut runner = match way.last() {
+            None => Runner::start(self.alloc, self.task)?,
+            Some(at) => match self.kept.get(*at) {
+                Some(kept) => {
+                    let runner = kept.copy()?;
+                    way.pop();
+                    runner
+                }
+                None => Runner::start(self.alloc, self.task)?,
+            },
+        };
+        for at in way.iter().rev() {
+            if let Some(visit) = self.visits.get(*at).copied() {
+                runner.run_again(self.events_of(visit))?;
+                if *at != place {
+                    let passed = runner.copy()?;
+                    self.kept.keep(*at, passed);
+                }
+            }
+        }
         Ok(runner)
     }
 
-    /// Keeps a state, unless it was met before. Whether it is new is told.
-    fn keep(&mut self, runner: &mut Runner<'a>, visit: Visit) -> Result<bool, Memory> {
+    /// Keeps a state, to which the events lead that were run since the one before it, unless it was met before. Whether it is new is told.
+    fn keep(
+        &mut self,
+        mut runner: Runner<'a>,
+        parent: Option<usize>,
+        is_long: bool,
+    ) -> Result<bool, Memory> {
         let digest = runner.digest(&mut self.met)?;
         let (_, is_new) = self.seen.insert_full(digest)?;
         if is_new {
-            self.visits.push(visit)?;
+            let place = self.visits.len();
+            self.visits.push(Visit {
+                parent,
+                first: self.events.len(),
+                count: self.last.len(),
+                is_long,
+                is_done: false,
+            })?;
+            self.aims.add(place, &runner)?;
+            self.events.extend_from_slice(&self.last)?;
+            // By breadth a state's turn comes behind those of all that were met before.
+            if self.is_aimed || place.saturating_sub(self.next) < self.kept.room() {
+                self.kept.keep(place, runner);
+            }
         }
         Ok(is_new)
-    }
-
-    /// Begins with the task's first state, up to which a machine is run.
-    fn begin_with(&mut self, runner: &mut Runner<'a>) -> Result<Progress, Memory> {
-        match self.run_on(runner)? {
-            Arrival::Breaks => {
-                self.found = runner.take_events();
-                Ok(Progress::Found)
-            }
-            Arrival::Stays => Ok(Progress::Goes),
-            Arrival::At { is_long } => {
-                let visit = Visit {
-                    parent: None,
-                    event: Event {
-                        process: 0,
-                        input: 0,
-                        refuse: false,
-                    },
-                    is_long,
-                };
-                self.keep(runner, visit)?;
-                Ok(Progress::Goes)
-            }
-        }
     }
 
     /// Begins with the task's first state.
     fn begin(&mut self) -> Result<Progress, Memory> {
         let mut runner = Runner::start(self.alloc, self.task)?;
-        self.begin_with(&mut runner)
+        self.last.clear();
+        match self.run_on(&mut runner)? {
+            Arrival::Breaks => {
+                self.found = self.run_by(None)?;
+                return Ok(Progress::Found);
+            }
+            Arrival::Stays => {}
+            Arrival::At { is_long } => {
+                self.keep(runner, None, is_long)?;
+            }
+        }
+        Ok(Progress::Goes)
     }
 
-    /// Brings a machine to a state that was met.
-    fn bring(&mut self, place: usize, runner: &mut Runner<'a>) -> Result<(), Memory> {
-        *runner = self.runner_at(place)?;
-        Ok(())
-    }
-
-    /// Tries an event from a state, at which the machine is brought unless it stands there. Whether it breaks something is told.
+    /// Tries an event from a state, at which a machine stands. The machine is given back where it still stands there.
     fn try_event(
         &mut self,
         place: usize,
         event: Event,
-        runner: &mut Runner<'a>,
+        mut runner: Runner<'a>,
         tried: &mut Tried,
-    ) -> Result<bool, Memory> {
-        if !tried.stands {
-            self.bring(place, runner)?;
+    ) -> Result<Option<Runner<'a>>, Memory> {
+        match self.advance(&mut runner, event)? {
+            Arrival::Stays => Ok(Some(runner)),
+            Arrival::Breaks => {
+                self.found = self.run_by(Some(place))?;
+                tried.breaks = true;
+                Ok(None)
+            }
+            Arrival::At { is_long } => {
+                tried.walking = runner.walking;
+                let is_new = self.keep(runner, Some(place), is_long)?;
+                tried.any_new = is_new || tried.any_new;
+                Ok(None)
+            }
         }
-        let arrival = self.advance(runner, event)?;
-        tried.stands = matches!(arrival, Arrival::Stays);
-        if let Arrival::At { is_long } = arrival {
-            let visit = Visit {
-                parent: Some(place),
-                event,
-                is_long,
-            };
-            let is_new = self.keep(runner, visit)?;
-            tried.walking = runner.walking;
-            tried.any_new = is_new || tried.any_new;
-        }
-        Ok(matches!(arrival, Arrival::Breaks))
     }
 
-    /// Tries some events from a state, at which a machine stands. Whether a new state was met is told, if nothing breaks.
+    /// Tries some events from a state, at which a machine stands, up to one that breaks something.
     fn try_events(
         &mut self,
         place: usize,
         events: &[Event],
-        runner: &mut Runner<'a>,
-    ) -> Result<Option<bool>, Memory> {
-        let mut tried = Tried {
-            stands: true,
-            walking: None,
-            any_new: false,
-        };
+        runner: &Runner<'a>,
+        tried: &mut Tried,
+    ) -> Result<(), Memory> {
+        let mut spare = None;
         for event in events {
             // While names of a path are left, the kernel refuses nothing.
-            let is_needless = event.refuse && tried.walking == Some(event.process);
-            if !is_needless && self.try_event(place, *event, runner, &mut tried)? {
-                self.found = runner.take_events();
-                return Ok(None);
+            if event.refuse && tried.walking == Some(event.process) {
+                continue;
+            }
+            let next = match spare.take() {
+                Some(next) => next,
+                None => runner.copy()?,
+            };
+            spare = self.try_event(place, *event, next, tried)?;
+            if tried.breaks {
+                break;
             }
         }
-        Ok(Some(tried.any_new))
+        Ok(())
     }
 
-    /// Goes on from a state, at which a machine stands, by all events that may come.
-    fn expand_all(&mut self, place: usize, runner: &mut Runner<'a>) -> Result<Progress, Memory> {
-        let mut events = Vec::new(self.alloc);
-        next_moves(self.task, runner, &self.bytes, true, &mut events)?;
-        match self.try_events(place, &events, runner)? {
-            None => Ok(Progress::Found),
-            Some(_) => Ok(Progress::Goes),
+    /// The same, where the machine isn't needed afterwards.
+    fn try_last(
+        &mut self,
+        place: usize,
+        events: &[Event],
+        runner: Runner<'a>,
+    ) -> Result<Tried, Memory> {
+        let mut tried = Tried {
+            walking: None,
+            any_new: false,
+            breaks: false,
+        };
+        let Some((last, before)) = events.split_last() else {
+            return Ok(tried);
+        };
+        self.try_events(place, before, &runner, &mut tried)?;
+        if !(tried.breaks || last.refuse && tried.walking == Some(last.process)) {
+            self.try_event(place, *last, runner, &mut tried)?;
         }
+        Ok(tried)
     }
 
     /// Goes on from a state, at which a machine stands, by the events of one process, if that can be, and by all if these lead to nothing new.
@@ -279,27 +377,79 @@ impl<'a> Explorer<'a> {
         &mut self,
         place: usize,
         is_long: bool,
-        runner: &mut Runner<'a>,
+        runner: Runner<'a>,
     ) -> Result<Progress, Memory> {
         let mut events = Vec::new(self.alloc);
-        let is_alone = next_moves(self.task, runner, &self.bytes, is_long, &mut events)?;
-        match self.try_events(place, &events, runner)? {
-            None => Ok(Progress::Found),
-            Some(any_new) if any_new || !is_alone => Ok(Progress::Goes),
-            Some(_) => {
-                self.bring(place, runner)?;
-                self.expand_all(place, runner)
+        let asked = if is_long { Asked::All } else { self.asked() };
+        let is_alone = next_moves(self.task, &runner, &self.bytes, asked, &mut events)?;
+        let mut tried = self.try_last(place, &events, runner)?;
+        if is_alone && !tried.any_new && !tried.breaks {
+            let runner = self.runner_at(place)?;
+            next_moves(self.task, &runner, &self.bytes, Asked::All, &mut events)?;
+            tried = self.try_last(place, &events, runner)?;
+        }
+        if tried.breaks {
+            return Ok(Progress::Found);
+        }
+        Ok(Progress::Goes)
+    }
+
+    /// Notes that a state is gone on from, unless it was.
+    fn begins_with(&mut self, place: usize) -> bool {
+        match self.visits.get_mut(place) {
+            None => false,
+            Some(visit) => {
+                let is_new = !visit.is_done;
+                visit.is_done = true;
+                is_new
             }
         }
     }
 
-    /// Goes on from the next state that was met.
+    /// The next state by breadth.
+    fn next_by_breadth(&mut self) -> Option<usize> {
+        while self.next < self.visits.len() {
+            let place = self.next;
+            self.next = place + 1;
+            if self.begins_with(place) {
+                return Some(place);
+            }
+        }
+        None
+    }
+
+    /// The next state of those that are nearest to a point that is looked for.
+    fn next_by_aim(&mut self) -> Result<Option<usize>, Memory> {
+        for _ in 0..self.visits.len() {
+            let Some(place) = self.aims.next()? else {
+                break;
+            };
+            if self.begins_with(place) {
+                return Ok(Some(place));
+            }
+        }
+        Ok(None)
+    }
+
+    /// The next state to go on from.
+    fn next_place(&mut self) -> Result<Option<usize>, Memory> {
+        self.turns = self.turns.wrapping_add(1);
+        if self.turns % SHARE != 0 {
+            let place = self.next_by_aim()?;
+            if place.is_some() {
+                return Ok(place);
+            }
+        }
+        Ok(self.next_by_breadth())
+    }
+
+    /// Goes on from a state that was met.
     fn expand(&mut self, place: usize) -> Result<Progress, Memory> {
         let Some(visit) = self.visits.get(place).copied() else {
             return Ok(Progress::Ended);
         };
-        let mut runner = self.runner_at(place)?;
-        self.expand_with(place, visit.is_long, &mut runner)
+        let runner = self.runner_at(place)?;
+        self.expand_with(place, visit.is_long, runner)
     }
 
     /// Goes on from so many states.
@@ -314,11 +464,9 @@ impl<'a> Explorer<'a> {
             if self.visits.len() >= self.bound {
                 return Ok(Progress::Bounded);
             }
-            if self.next >= self.visits.len() {
+            let Some(place) = self.next_place()? else {
                 return Ok(Progress::Ended);
-            }
-            let place = self.next;
-            self.next = place + 1;
+            };
             let progress = self.expand(place)?;
             if !matches!(progress, Progress::Goes) {
                 return Ok(progress);

@@ -4,14 +4,16 @@
 //! run was found needs no belief.
 #![tactic(auto)]
 
+mod aims;
 pub mod breaches;
 pub mod breaking;
 mod details;
 mod digests;
+pub mod distances;
 mod explorer;
 mod exploring;
+mod kept;
 pub mod laws;
-mod messages;
 mod moves;
 mod policies;
 mod runners;
@@ -22,5 +24,6 @@ pub mod writing;
 
 pub use breaches::Breach;
 pub use breaking::breaks;
-pub use exploring::{Explored, FoundRun, Watcher, explore};
+pub use distances::Goal;
+pub use exploring::{Explored, FoundRun, Watcher, explore, explore_towards};
 pub use writing::write_breach;

@@ -105,13 +105,35 @@ fn add_events(
     Ok(())
 }
 
-/// Puts the events that are tried from a state in the place of what is there. Where a process stands at a step that touches nothing
-/// shared, it goes first, unless all are asked for; whether one goes first alone, so that those of others can come later, is told.
+/// Which events are tried from a state.
+#[derive(Clone, Copy)]
+pub(crate) enum Asked {
+    /// Where a process stands at a step that touches nothing shared, its own alone.
+    OwnFirst,
+    /// The same, but that one that reads a byte doesn't go first: it needn't be chosen before it is needed.
+    OwnButInputs,
+    /// Those of all processes.
+    All,
+}
+
+impl Asked {
+    /// Whether a process that stands at an instruction goes first, if that touches nothing shared.
+    fn may_go_first(self, instruction: &Instruction) -> bool {
+        match self {
+            Asked::OwnFirst => true,
+            Asked::OwnButInputs => !matches!(instruction, Instruction::In { .. }),
+            Asked::All => false,
+        }
+    }
+}
+
+/// Puts the events that are tried from a state in the place of what is there. Whether one process goes first alone, so that the events of
+/// others can come later, is told.
 pub(crate) fn next_moves(
     task: &Task,
     runner: &Runner<'_>,
     bytes: &[u8],
-    asks_all: bool,
+    asked: Asked,
     events: &mut Vec<Event>,
 ) -> Result<bool, Memory> {
     events.clear();
@@ -121,7 +143,7 @@ pub(crate) fn next_moves(
         }
         let number = number as u8;
         if let Some(instruction) = instruction_of(task, process) {
-            if !asks_all && is_own(runner, number, instruction) {
+            if asked.may_go_first(instruction) && is_own(runner, number, instruction) {
                 events.clear();
                 add_events(events, bytes, number, instruction)?;
                 return Ok(true);

@@ -1,17 +1,23 @@
 //! Digests of a machine's state. Numbers of descriptions and pairs, which nothing shows, count by their first appearance alone.
 
 use crate::digests::Digest;
-use crate::messages::Messages;
 use crate::trees::TreeDigest;
 use bitflags::Flags;
 use fd_table::{
     Access, Class, Description, DescriptionId, Descriptor, End, Files, Object, PairId, Side,
 };
 use file_tree::NodeId;
-use process::Process;
+use lookup::Walk;
+use process::{Process, Walking};
 use rights::Memory;
-use rights::limits::{MAX_DESCRIPTORS, MAX_PROCESSES};
+use rights::limits::{MAX_DESCRIPTORS, MAX_LINKS, MAX_MESSAGES, MAX_PROCESSES};
 use std::alloc::Global;
+
+/// How many pairs are open at most: each has two ends.
+const MAX_MET: usize = 512;
+
+/// How many names a lookup has left at most: those of its path and of each link's target that it followed.
+const MAX_LEFT: usize = 512 * (MAX_LINKS as usize + 1);
 
 /// The descriptions and pairs that were met so far, in the order in which they were.
 #[derive(Drop)]
@@ -98,12 +104,17 @@ fn add_class(digest: &mut Digest, class: Class) {
     }
 }
 
-/// Adds a node that is open.
-fn add_node(digest: &mut Digest, tree: &TreeDigest, node: NodeId, access: &Access) {
-    digest.add(bits_of([false, false, access.readable, access.writable]));
+/// Adds where a node stands.
+fn add_place(digest: &mut Digest, tree: &TreeDigest, node: NodeId) {
     if let Some(place) = tree.nodes.get(node.number()) {
         digest.add_digest(*place);
     }
+}
+
+/// Adds a node that is open.
+fn add_node(digest: &mut Digest, tree: &TreeDigest, node: NodeId, access: &Access) {
+    digest.add(bits_of([false, false, access.readable, access.writable]));
+    add_place(digest, tree, node);
 }
 
 /// Adds an end that is open.
@@ -139,19 +150,46 @@ fn add_descriptor(
     met: &mut Met,
     tree: &TreeDigest,
     descriptor: Descriptor,
-    what: Option<Description>,
+    what: Description,
 ) -> Result<(), Memory> {
     digest.add((u64::from(descriptor.rights.bits()) << 8) | u64::from(descriptor.fcntls.bits()));
     let (place, is_new) = met.description(descriptor.description)?;
     digest.add(place as u64);
-    match what {
-        Some(what) if is_new => add_description(digest, met, tree, &what),
-        _ => Ok(()),
+    if is_new {
+        add_description(digest, met, tree, &what)?;
+    }
+    Ok(())
+}
+
+/// Adds a lookup under way.
+fn add_walk(digest: &mut Digest, tree: &TreeDigest, walk: &Walk) {
+    let stand = walk.stand();
+    digest.add((stand.before.len() as u64) << 8 | u64::from(stand.followed));
+    for node in stand.before {
+        add_place(digest, tree, *node);
+    }
+    add_place(digest, tree, stand.current);
+    for at in 0..MAX_LEFT {
+        let Some(name) = walk.name_left(at) else {
+            break;
+        };
+        digest.add_text(name);
+    }
+}
+
+/// Adds what the call of a process has under way.
+fn add_walking(digest: &mut Digest, tree: &TreeDigest, walking: &Walking) {
+    match walking {
+        Walking::One(walk) => add_walk(digest, tree, walk),
+        Walking::Two(first, second) => {
+            add_walk(digest, tree, first);
+            add_walk(digest, tree, second);
+        }
     }
 }
 
 /// Adds a process.
-fn add_process(digest: &mut Digest, process: &Process, looked: Digest) {
+fn add_process(digest: &mut Digest, tree: &TreeDigest, process: &Process) {
     let flags = [
         process.mode(),
         process.alive,
@@ -164,8 +202,8 @@ fn add_process(digest: &mut Digest, process: &Process, looked: Digest) {
     for value in process.registers {
         digest.add(u64::from(value));
     }
-    if process.is_walking() {
-        digest.add_digest(looked);
+    if let Some(walking) = process.walking() {
+        add_walking(digest, tree, walking);
     }
 }
 
@@ -180,10 +218,45 @@ fn add_table(
     for number in 0..MAX_DESCRIPTORS as u8 {
         if let Some((descriptor, what)) = open_at(files, process, number) {
             digest.add(u64::from(number));
-            add_descriptor(digest, met, tree, descriptor, Some(what))?;
+            add_descriptor(digest, met, tree, descriptor, what)?;
         }
     }
     Ok(())
+}
+
+/// The byte of a message of an end, if there is one.
+fn byte_in(files: &Files, end: &End, at: usize) -> Option<u8> {
+    match files.sent(*end).get(at) {
+        None => None,
+        Some(message) => Some(message.byte),
+    }
+}
+
+/// The descriptor that a message of an end carries, and what it is of.
+fn passed_in(files: &Files, end: &End, at: usize) -> Option<(Descriptor, Description)> {
+    match files.sent(*end).get(at) {
+        None => None,
+        Some(message) => match message.passed {
+            None => None,
+            Some(descriptor) => {
+                let what = files.what(descriptor.description);
+                Some((descriptor, what))
+            }
+        },
+    }
+}
+
+/// Adds a descriptor that is passed, if one is.
+fn add_passed(
+    digest: &mut Digest,
+    met: &mut Met,
+    tree: &TreeDigest,
+    passed: Option<(Descriptor, Description)>,
+) -> Result<(), Memory> {
+    match passed {
+        None => Ok(()),
+        Some((descriptor, what)) => add_descriptor(digest, met, tree, descriptor, what),
+    }
 }
 
 /// Adds what is on its way from one end.
@@ -191,44 +264,29 @@ fn add_queue(
     digest: &mut Digest,
     met: &mut Met,
     tree: &TreeDigest,
-    messages: &Messages,
-    from: End,
+    files: &Files,
+    end: &End,
 ) -> Result<(), Memory> {
     digest.add(u64::MAX);
-    for message in &messages.sent {
-        if message.from == from {
-            digest.add(u64::from(message.byte));
-            if let Some(passed) = message.passed {
-                add_descriptor(digest, met, tree, passed, message.what)?;
-            }
-        }
+    for at in 0..MAX_MESSAGES {
+        let Some(byte) = byte_in(files, end, at) else {
+            break;
+        };
+        digest.add(u64::from(byte));
+        let passed = passed_in(files, end, at);
+        add_passed(digest, met, tree, passed)?;
     }
     Ok(())
 }
 
-/// The digest of a state, by the parts of the machine and by what it doesn't show: what is on its way, and what each call under way has
-/// looked up.
-pub(crate) fn digest_of_state(
+/// Adds what is on its way through the pairs that were met, and through those that are met there.
+fn add_queues(
+    digest: &mut Digest,
     met: &mut Met,
-    processes: &[Process],
-    files: &Files,
     tree: &TreeDigest,
-    messages: &Messages,
-    looked: &[Digest],
-) -> Result<Digest, Memory> {
-    met.clear();
-    let mut digest = Digest::new();
-    digest.add_digest(tree.whole);
-    for (number, process) in processes.iter().enumerate() {
-        if number >= MAX_PROCESSES {
-            break;
-        }
-        let own = looked.get(number).copied().unwrap_or(Digest::new());
-        add_process(&mut digest, process, own);
-        add_table(&mut digest, met, tree, files, number as u8)?;
-    }
-    // Messages may name pairs that no table does; each has two ends, so there are no more than 512.
-    for place in 0..512 {
+    files: &Files,
+) -> Result<(), Memory> {
+    for place in 0..MAX_MET {
         let Some(pair) = met.pairs.get(place).copied() else {
             break;
         };
@@ -240,8 +298,29 @@ pub(crate) fn digest_of_state(
             pair,
             side: Side::B,
         };
-        add_queue(&mut digest, met, tree, messages, first)?;
-        add_queue(&mut digest, met, tree, messages, second)?;
+        add_queue(digest, met, tree, files, &first)?;
+        add_queue(digest, met, tree, files, &second)?;
     }
+    Ok(())
+}
+
+/// The digest of a state, by the parts of the machine.
+pub(crate) fn digest_of_state(
+    met: &mut Met,
+    processes: &[Process],
+    files: &Files,
+    tree: &TreeDigest,
+) -> Result<Digest, Memory> {
+    met.clear();
+    let mut digest = Digest::new();
+    digest.add_digest(tree.whole);
+    for (number, process) in processes.iter().enumerate() {
+        if number >= MAX_PROCESSES {
+            break;
+        }
+        add_process(&mut digest, tree, process);
+        add_table(&mut digest, met, tree, files, number as u8)?;
+    }
+    add_queues(&mut digest, met, tree, files)?;
     Ok(digest)
 }

@@ -1,0 +1,170 @@
+//! How far the points of programs are from others.
+
+use instruction_set::{Instruction, Syscall};
+use rights::Memory;
+use rights::limits::MAX_INSTRUCTIONS;
+use std::alloc::Global;
+use task::Task;
+
+/// More steps than any point has to another one.
+pub(crate) const FAR: u16 = 1000;
+
+/// A point of a program.
+#[derive(Clone, Copy, PartialEq, Eq)]
+pub struct Goal {
+    /// The program's place in the task.
+    pub program: u8,
+    pub point: u8,
+}
+
+/// How many steps each point of each program has at least to one of some points.
+#[derive(Drop)]
+pub(crate) struct Distances {
+    programs: Vec<Vec<u16>>,
+}
+
+/// The points that an instruction may lead to: the next, and that of its jump or its `else`.
+fn leads_to(instruction: &Instruction, point: usize) -> (Option<usize>, Option<usize>) {
+    let next = Some(point.saturating_add(1));
+    match instruction {
+        Instruction::Jmp { target } => (None, Some(usize::from(*target))),
+        Instruction::Jeq { target, .. } | Instruction::Jlt { target, .. } => {
+            (next, Some(usize::from(*target)))
+        }
+        Instruction::Halt => (None, None),
+        Instruction::Invoke { otherwise, .. } => (next, Some(usize::from(*otherwise))),
+        Instruction::Set { .. }
+        | Instruction::Mov { .. }
+        | Instruction::Add { .. }
+        | Instruction::In { .. } => (next, None),
+    }
+}
+
+/// The steps of a point, if it is there.
+fn steps_at(steps: &[u16], point: Option<usize>) -> u16 {
+    match point {
+        None => FAR,
+        Some(point) => steps.get(point).copied().unwrap_or(FAR),
+    }
+}
+
+/// Notes for a point that it is a step more than the nearest one that it leads to. Whether it is nearer than before is told.
+fn come_nearer(instruction: &Instruction, point: usize, steps: &mut Vec<u16>) -> bool {
+    let (next, target) = leads_to(instruction, point);
+    let behind = steps_at(steps, next).min(steps_at(steps, target));
+    match steps.get_mut(point) {
+        Some(own) if behind.saturating_add(1) < *own => {
+            *own = behind.saturating_add(1);
+            true
+        }
+        _ => false,
+    }
+}
+
+/// The same for all points of a program.
+fn all_come_nearer(code: &[Instruction], steps: &mut Vec<u16>) -> bool {
+    let mut is_nearer = false;
+    for (point, instruction) in code.iter().enumerate() {
+        if come_nearer(instruction, point, steps) {
+            is_nearer = true;
+        }
+    }
+    is_nearer
+}
+
+/// How many steps the points of a program have to those that have 0.
+fn spread(code: &[Instruction], steps: &mut Vec<u16>) {
+    for _ in 0..MAX_INSTRUCTIONS {
+        if !all_come_nearer(code, steps) {
+            break;
+        }
+    }
+}
+
+/// Whether an instruction may send something.
+fn is_sending(instruction: &Instruction) -> bool {
+    match instruction {
+        Instruction::Invoke { call, .. } => {
+            matches!(call, Syscall::Write { .. } | Syscall::Sendfd { .. })
+        }
+        _ => false,
+    }
+}
+
+/// A program's points, all of them too far.
+fn all_far(alloc: Global, code: &[Instruction]) -> Result<Vec<u16>, Memory> {
+    let mut steps = Vec::with_capacity(alloc, code.len())?;
+    for _ in code {
+        steps.push(FAR)?;
+    }
+    Ok(steps)
+}
+
+/// Notes that a point is one of those that are looked for.
+fn set_there(steps: &mut Vec<u16>, point: usize) {
+    if let Some(own) = steps.get_mut(point) {
+        *own = 0;
+    }
+}
+
+/// How far the points of the program of this number are from those of some goals.
+fn steps_to_goals(
+    alloc: Global,
+    code: &[Instruction],
+    number: usize,
+    goals: &[Goal],
+) -> Result<Vec<u16>, Memory> {
+    let mut steps = all_far(alloc, code)?;
+    for goal in goals {
+        if usize::from(goal.program) == number {
+            set_there(&mut steps, usize::from(goal.point));
+        }
+    }
+    spread(code, &mut steps);
+    Ok(steps)
+}
+
+/// How far the points of a program are from those that may send something.
+fn steps_to_sends(alloc: Global, code: &[Instruction]) -> Result<Vec<u16>, Memory> {
+    let mut steps = all_far(alloc, code)?;
+    for (point, instruction) in code.iter().enumerate() {
+        if is_sending(instruction) {
+            set_there(&mut steps, point);
+        }
+    }
+    spread(code, &mut steps);
+    Ok(steps)
+}
+
+impl Distances {
+    /// How far all points are from some.
+    pub(crate) fn to_goals(
+        alloc: Global,
+        task: &Task,
+        goals: &[Goal],
+    ) -> Result<Distances, Memory> {
+        let mut programs = Vec::new(alloc);
+        for (number, named) in task.programs().iter().enumerate() {
+            let steps = steps_to_goals(alloc, named.program.code(), number, goals)?;
+            programs.push(steps)?;
+        }
+        Ok(Distances { programs })
+    }
+
+    /// How far all points are from one that may send something to another process.
+    pub(crate) fn to_sends(alloc: Global, task: &Task) -> Result<Distances, Memory> {
+        let mut programs = Vec::new(alloc);
+        for named in task.programs() {
+            programs.push(steps_to_sends(alloc, named.program.code())?)?;
+        }
+        Ok(Distances { programs })
+    }
+
+    /// How many steps a point of a program has at least, or `FAR`.
+    pub(crate) fn from(&self, program: u8, point: u8) -> u16 {
+        match self.programs.get(usize::from(program)) {
+            None => FAR,
+            Some(steps) => steps.get(usize::from(point)).copied().unwrap_or(FAR),
+        }
+    }
+}
