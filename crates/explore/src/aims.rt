@@ -209,7 +209,10 @@ impl<'a> Aims<'a> {
 
     /// Puts those that were met since among the others, the first of them to be taken first.
     fn sort_in(&mut self) -> Result<(), Memory> {
-        while let Some((place, cost)) = self.fresh.pop() {
+        for _ in 0..self.fresh.len() {
+            let Some((place, cost)) = self.fresh.pop() else {
+                break;
+            };
             if let Some(places) = self.waiting.get_mut(cost) {
                 places.push(place)?;
                 if cost < self.lowest {

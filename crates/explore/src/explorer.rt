@@ -408,8 +408,7 @@ impl<'a> Explorer<'a> {
 
     /// The next state by breadth.
     fn next_by_breadth(&mut self) -> Option<usize> {
-        while self.next < self.visits.len() {
-            let place = self.next;
+        for place in self.next..self.visits.len() {
             self.next = place + 1;
             if self.begins_with(place) {
                 return Some(place);
