@@ -5,7 +5,8 @@ use Rattle.std.specs.Option.{option_map, option_to_list}
 use Rattle.std.proofs.lemmas.Option.{slice_get-map, slice_get-get_or, get_or_from_slice_get}
 use Rattle.std.specs.declared.alloc.AllocError.{AllocError}
 use Rattle.std.proofs.Math.Seq.{drop-append_seam}
-use Rattle.std.proofs.lemmas.List.{append_assoc, append-nil, reverse-append, map-append, length-append, length-map, length-reverse, get_or-reverse, length-drop, length-take, take-append-le, drop-append-le, drop_more}
+use Rattle.std.proofs.lemmas.List.{append_assoc, append-nil, reverse-append, map-append, length-append, length-map, length-reverse, get_or-reverse}
+use Rattle.std.proofs.lemmas.List.{length-drop, length-take, take-append-le, drop-append-le, drop_more}
 use Rattle.file_tree.specs.Places.{with_name, names_from, path_components}
 use Rattle.lookup.specs.NameViews.{AreSpansOf, IsSpanOf, spanned, all_spanned}
 use Rattle.lookup.specs.declared.names.Span.{Span}

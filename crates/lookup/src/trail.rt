@@ -9,7 +9,8 @@ ghost use Rattle.lookup.specs.Leads.{next};
 ghost use Rattle.lookup.specs.Steps.{Rules, Moves, Meets, Stops};
 ghost use Rattle.lookup.specs.ByNodes.{Walked, back, from_node, is_holder, no_way_back};
 ghost use Rattle.lookup.specs.Looks.{first_stand, lookup_fault, start_node};
-ghost use Rattle.lookup.specs.Views.{IsMeaningThere, IsSettled, Means, IsStand, StepsAlong, after_move, after_name, after_node, SameRules, Told, fault_of, last_of, rules_of, stand_of, walk_state, way_of};
+ghost use Rattle.lookup.specs.Views.{IsMeaningThere, IsSettled, Means, IsStand, StepsAlong, after_move, after_name, after_node, SameRules, Told};
+ghost use Rattle.lookup.specs.Views.{fault_of, last_of, rules_of, stand_of, walk_state, way_of};
 
 use crate::faults::PathFault;
 use crate::names::Names;
