@@ -109,7 +109,7 @@ impl<'w, 't> Words<'w, 't> {
         ensures { TakesWord result self.old self.new }
     {
         match self.rest {
-            [] => Err(Mistake::Operand),
+            [] => Err(Mistake::Wrong),
             [word, rest @ ..] => {
                 self.rest = rest;
                 Ok(word.text)
@@ -124,7 +124,7 @@ impl<'w, 't> Words<'w, 't> {
         if self.rest.is_empty() {
             Ok(read)
         } else {
-            Err(Mistake::Operand)
+            Err(Mistake::Wrong)
         }
     }
 
@@ -133,7 +133,7 @@ impl<'w, 't> Words<'w, 't> {
     fn register(&mut self) -> Result<Register, Mistake>
         ensures { TakesField (λ register. register) result self.new (register_at self.old) }
     {
-        fields::register(self.word()?).ok_or(Mistake::Operand)
+        fields::register(self.word()?).ok_or(Mistake::Wrong)
     }
 
     /// A number.
@@ -141,7 +141,7 @@ impl<'w, 't> Words<'w, 't> {
     fn number(&mut self) -> Result<u32, Mistake>
         ensures { TakesField (λ number. number) result self.new (number_at self.old) }
     {
-        fields::number(self.word()?).ok_or(Mistake::Operand)
+        fields::number(self.word()?).ok_or(Mistake::Wrong)
     }
 
     /// A register or a number.
@@ -149,7 +149,7 @@ impl<'w, 't> Words<'w, 't> {
     fn operand(&mut self) -> Result<Operand, Mistake>
         ensures { TakesField operand_of result self.new (operand_at self.old) }
     {
-        fields::operand(self.word()?).ok_or(Mistake::Operand)
+        fields::operand(self.word()?).ok_or(Mistake::Wrong)
     }
 
     /// A path in double quotes.
@@ -166,7 +166,7 @@ impl<'w, 't> Words<'w, 't> {
     fn flags(&mut self) -> Result<OpenFlags, Mistake>
         ensures { TakesField (λ flags. flags) result self.new (flags_at self.old) }
     {
-        lists::flags(self.word()?).ok_or(Mistake::Operand)
+        lists::flags(self.word()?).ok_or(Mistake::Wrong)
     }
 
     /// A list of rights.
@@ -174,7 +174,7 @@ impl<'w, 't> Words<'w, 't> {
     fn rights(&mut self) -> Result<Rights, Mistake>
         ensures { TakesField (λ rights. rights.0) result self.new (rights_at self.old) }
     {
-        lists::rights(self.word()?).ok_or(Mistake::Operand)
+        lists::rights(self.word()?).ok_or(Mistake::Wrong)
     }
 
     /// A list of fcntl commands.
@@ -182,7 +182,7 @@ impl<'w, 't> Words<'w, 't> {
     fn commands(&mut self) -> Result<Fcntls, Mistake>
         ensures { TakesField (λ commands. commands.0) result self.new (commands_at self.old) }
     {
-        lists::commands(self.word()?).ok_or(Mistake::Operand)
+        lists::commands(self.word()?).ok_or(Mistake::Wrong)
     }
 
     /// The name of a label.
@@ -194,7 +194,7 @@ impl<'w, 't> Words<'w, 't> {
         if is_name(word) {
             Ok(word)
         } else {
-            Err(Mistake::Operand)
+            Err(Mistake::Wrong)
         }
     }
 
@@ -220,7 +220,7 @@ impl<'w, 't> Words<'w, 't> {
         if self.word()? == b"else".as_slice() {
             self.label()
         } else {
-            Err(Mistake::Operand)
+            Err(Mistake::Wrong)
         }
     }
 
@@ -249,7 +249,7 @@ impl<'w, 't> Words<'w, 't> {
                 target: self.operand()?,
                 new_path: self.path()?,
             },
-            _ => return Err(Mistake::Operand),
+            _ => return Err(Mistake::Wrong),
         })
     }
 
@@ -286,7 +286,7 @@ impl<'w, 't> Words<'w, 't> {
                 descriptor,
                 flags: operand,
             },
-            _ => return Err(Mistake::Operand),
+            _ => return Err(Mistake::Wrong),
         })
     }
 
@@ -338,7 +338,7 @@ impl<'w, 't> Words<'w, 't> {
                 path,
                 directory: self.directory(),
             },
-            _ => return Err(Mistake::Operand),
+            _ => return Err(Mistake::Wrong),
         })
     }
 
@@ -386,7 +386,7 @@ impl<'w, 't> Words<'w, 't> {
         let jump = match mnemonic {
             Mnemonic::Jeq => Jump::IfEqual { register, value },
             Mnemonic::Jlt => Jump::IfLess { register, value },
-            _ => return Err(Mistake::Operand),
+            _ => return Err(Mistake::Wrong),
         };
         Ok(Written::Leading { jump, label })
     }

@@ -1,7 +1,7 @@
 use Rattle.std.proofs.Common.{◌≡◌, ◌-◌, length, get_or, ap, sym, ◌∙◌}
 use Rattle.prog_asm.specs.DraftViews.{step_from}
 use Rattle.prog_asm.proofs.Lasts.{last_line-last}
-use Rattle.prog_asm.proofs.assembler.last_line.Goals as goal
+use Rattle.prog_asm.proofs.judging.last_line.Goals as goal
 
 pub returns-in-Some : goal.returns-in-Some
 returns-in-Some c =
