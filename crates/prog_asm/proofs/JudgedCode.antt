@@ -8,7 +8,7 @@ use Rattle.prog_asm.specs.declared.drafts.Draft.{Draft}
 use Rattle.instruction_set.specs.Lines.{text_lines}
 use Rattle.instruction_set.specs.Assembly.{Line, NoLabel, Step, TooMany, TwiceLabel, is_label, is_one_too_many, is_twice, line_with, lines_behind, point_named, steps_of, steps_on}
 use Rattle.instruction_set.specs.Forms.{Alone, Leading, Written}
-use Rattle.prog_asm.specs.DraftViews.{Drafts, JudgesLine, LabelAdded, OwnAdded, ReadsAll, StepAdded, new_label_of, points_of, step_from}
+use Rattle.prog_asm.specs.DraftViews.{Drafts, JudgesLine, LabelAdded, OwnAdded, ReadsAll, StepAdded, new_label_of, draft_point, step_from}
 use Rattle.prog_asm.specs.FaultPlaceViews.{faults_seen}
 use Rattle.prog_asm.specs.LineFaults as model
 use Rattle.prog_asm.specs.LineFaults.{LineFault, Wrong, counted, faults_behind, faults_of, faults_on, faults_together, instruction_place, is_beyond}
@@ -122,11 +122,11 @@ missing-same lines f g same (step ∷ steps) =
         ap (λ point. cond (is_none point) (model.placed_fault NoLabel step.line (model.last_place (words_on (model.line_numbered lines step.line))) ∷ []) []) (same name)
 
 pub missing-drafts : (lines : List (List ℕ)) (read : List Line) (draft : Draft) → Drafts read draft →
-    flat_map (missing_label lines (points_of draft)) (map step_from draft.steps.items)
+    flat_map (missing_label lines (draft_point draft)) (map step_from draft.steps.items)
     ≡ flat_map (missing_label lines (point_named read)) (steps_of read)
 missing-drafts lines read draft drafts =
-    ap (flat_map (missing_label lines (points_of draft))) drafts.steps
-    ∙ missing-same lines (points_of draft) (point_named read) (points-drafts read draft drafts) (steps_of read)
+    ap (flat_map (missing_label lines (draft_point draft))) drafts.steps
+    ∙ missing-same lines (draft_point draft) (point_named read) (points-drafts read draft drafts) (steps_of read)
 
 -- So many lines are judged, and these are left. If nothing is wrong so far, they are read.
 pub record JudgedSoFar (text : List ℕ) (lines : List (List ℕ)) (at : ℕ) (draft : Draft) : Type 0 where

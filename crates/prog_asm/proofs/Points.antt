@@ -7,7 +7,7 @@ use Rattle.instruction_set.specs.Forms.{Written, Alone, Leading, led}
 use Rattle.instruction_set.specs.Assembly.{Line, Step, code_from, complete, is_label, next_point, placed, placed_at, point_from, point_named}
 use Rattle.instruction_set.specs.Assembly.{program_read, steps_of, steps_on, ◌>>=◌}
 use Rattle.prog_asm.specs.LineViews.{point_in}
-use Rattle.prog_asm.specs.DraftViews.{Drafts, below, labelled_from, points_of, step_from}
+use Rattle.prog_asm.specs.DraftViews.{Drafts, below, labelled_from, draft_point, step_from}
 use Rattle.prog_asm.proofs.DraftLaws.{length-drafts, length-steps_of}
 
 -- an instruction follows where the point is one of all
@@ -47,13 +47,13 @@ code_from-same f g same (step ∷ steps) =
     ∙ ap (λ rest. placed_at step.line (placed g step.written) >>= λ i. rest >>= λ code. Ok (i ∷ code)) (code_from-same f g same steps)
 
 -- the points of a draft are those that its lines name
-pub points-drafts : (lines : List Line) (draft : Draft) → Drafts lines draft → (name : List ℕ) → points_of draft name ≡ point_named lines name
+pub points-drafts : (lines : List Line) (draft : Draft) → Drafts lines draft → (name : List ℕ) → draft_point draft name ≡ point_named lines name
 points-drafts lines draft drafts name =
     ap (λ n. below n (point_in draft.labels name)) (length-drafts lines draft drafts) ∙ ap (below (length (steps_of lines))) (drafts.labels name) ∙ sym (point_of-labelled lines name)
 
 -- What becomes of a draft is what its lines are read as.
 pub completed-drafts : (lines : List Line) (draft : Draft) → Drafts lines draft →
-    (code_from (points_of draft) (map step_from draft.steps.items) >>= complete (map step_from draft.steps.items)) ≡ program_read lines
+    (code_from (draft_point draft) (map step_from draft.steps.items) >>= complete (map step_from draft.steps.items)) ≡ program_read lines
 completed-drafts lines draft drafts =
-    ap (λ steps. code_from (points_of draft) steps >>= complete steps) drafts.steps
-    ∙ ap (λ read. read >>= complete (steps_of lines)) (code_from-same (points_of draft) (point_named lines) (points-drafts lines draft drafts) (steps_of lines))
+    ap (λ steps. code_from (draft_point draft) steps >>= complete steps) drafts.steps
+    ∙ ap (λ read. read >>= complete (steps_of lines)) (code_from-same (draft_point draft) (point_named lines) (points-drafts lines draft drafts) (steps_of lines))

@@ -69,5 +69,5 @@ abbrev pub below : ℕ → Option ℕ → Option ℕ
 below points None = None
 below points (Some point) = if nat_lt point points then Some point else None
 
-abbrev pub points_of : Draft → List ℕ → Option ℕ
-points_of draft name = below (length draft.steps.items) (point_in draft.labels name)
+abbrev pub draft_point : Draft → List ℕ → Option ℕ
+draft_point draft name = below (length draft.steps.items) (point_in draft.labels name)

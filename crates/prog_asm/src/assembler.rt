@@ -4,7 +4,7 @@ ghost use Rattle.std.specs.Prelude.{◌≡◌, ◌≤◌, IfOk, length, map, opt
 ghost use Rattle.std.specs.List.{filter_map};
 ghost use Rattle.instruction_set.specs.Assembly.{assembly_of, placed};
 ghost use Rattle.instruction_set.specs.Views.{code_of, instruction_of};
-ghost use Rattle.prog_asm.specs.DraftViews.{below, points_of, step_from};
+ghost use Rattle.prog_asm.specs.DraftViews.{below, draft_point, step_from};
 ghost use Rattle.prog_asm.specs.FaultViews.{Gives};
 ghost use Rattle.prog_asm.specs.FormViews.{written_from};
 ghost use Rattle.prog_asm.specs.LineViews.{point_in};
@@ -45,7 +45,7 @@ fn place(
 fn place_all(alloc: Global, draft: Draft<'_>) -> Result<Vec<Instruction>, AllocError>
     requires { length draft.steps.items ≤ 256 }
     ensures { IfOk result (λ code. code_of code.items
-        ≡ filter_map (λ step. placed (points_of draft.entry) step.written) (map step_from draft.entry.steps.items)) }
+        ≡ filter_map (λ step. placed (draft_point draft.entry) step.written) (map step_from draft.entry.steps.items)) }
 {
     let Draft {
         labels,

@@ -2,7 +2,7 @@
 
 ghost use Rattle.std.specs.Prelude.{◌≡◌, ◌+◌, ◌<◌, [], IfOk, IfSome, List, OnOk, length, option_map};
 ghost use Rattle.instruction_set.specs.Assembly.{Line as LineRead};
-ghost use Rattle.prog_asm.specs.DraftViews.{Drafts, JudgesLine, LabelAdded, OwnAdded, StepAdded, below, points_of};
+ghost use Rattle.prog_asm.specs.DraftViews.{Drafts, JudgesLine, LabelAdded, OwnAdded, StepAdded, below, draft_point};
 ghost use Rattle.prog_asm.specs.FaultPlaceViews.{fault_seen, mistake_of, wrong_seen};
 ghost use Rattle.prog_asm.specs.FormViews.{written_from};
 ghost use Rattle.prog_asm.specs.LineFaults as model;
@@ -145,7 +145,7 @@ impl<'t> Draft<'t> {
 
     /// The point that a label leads to, if an instruction follows it.
     pub(crate) fn point_of(&self, name: &[u8]) -> Option<usize>
-        ensures { result ≡ points_of self.now name.now }
+        ensures { result ≡ draft_point self.now name.now }
     {
         point_of(&self.labels, self.steps.len(), name)
     }

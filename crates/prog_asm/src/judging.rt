@@ -1,13 +1,12 @@
 //! All that is wrong with a text, and where.
 
-ghost use Rattle.std.specs.Prelude.{◌≡◌, ◌++◌, IfOk, List, OnOk, map, option_map};
-ghost use Rattle.std.specs.List.{flat_map};
-ghost use Rattle.instruction_set.specs.Assembly.{Line as LineRead, assembly_of, last_line_number, point_named, steps_of};
-ghost use Rattle.prog_asm.specs.DraftViews.{Drafts, ReadsAll, points_of, step_from};
+ghost use Rattle.std.specs.Prelude.{◌≡◌, IfOk, List, map, option_map};
+ghost use Rattle.instruction_set.specs.Assembly.{Line as LineRead, assembly_of};
+ghost use Rattle.prog_asm.specs.DraftViews.{Drafts, ReadsAll, draft_point, step_from};
 ghost use Rattle.prog_asm.specs.FaultPlaceViews.{fault_seen, faults_seen, list_of};
 ghost use Rattle.prog_asm.specs.FormViews.{written_from};
 ghost use Rattle.prog_asm.specs.LineFaults as model;
-ghost use Rattle.prog_asm.specs.LineFaults.{falls_off, fault_in, faults_of, faults_together, first_fault, is_ending, missing_label, steps_end};
+ghost use Rattle.prog_asm.specs.LineFaults.{falls_off, fault_in, faults_of, faults_together, first_fault, is_ending, missing_label};
 ghost use Rattle.prog_asm.specs.LineViews.{span_seen};
 ghost use Rattle.prog_asm.specs.WordPlaces.{words_on};
 ghost use Rattle.texts.specs.Lines.{lines_of};
@@ -17,7 +16,7 @@ use crate::faults::{LineFault, LineMistake};
 use crate::forms::{Jump, Written};
 use crate::lines::{Span, before_comment, words};
 use crate::statements::behind_label;
-use crate::wrongs::{NO_PLACE, first_place, last_word};
+use crate::wrongs::{NO_PLACE, first_place};
 use std::alloc::{AllocError, Global};
 use std::collections::VecDeque;
 use texts::Lines;
@@ -29,7 +28,7 @@ fn last_place(alloc: Global, line: &[u8]) -> Result<Span, AllocError>
     let words = words(alloc, before_comment(line))?;
     Ok(match words.as_slice() {
         [] => NO_PLACE,
-        [word, rest @ ..] => last_word(word, rest).span,
+        [.., last] => last.span,
     })
 }
 
@@ -73,7 +72,7 @@ fn missing_label(
     lines: &[&[u8]],
 ) -> Result<Option<LineFault>, AllocError>
     ensures { IfOk result (λ fault. list_of (option_map fault_seen fault)
-        ≡ missing_label (map (λ line. line.now) lines.now) (points_of draft.now) (step_from step.now)) }
+        ≡ missing_label (map (λ line. line.now) lines.now) (draft_point draft.now) (step_from step.now)) }
 {
     let Written::Leading { label, .. } = &step.written else {
         return Ok(None);
@@ -85,75 +84,43 @@ fn missing_label(
     Ok(Some(placed_fault(LineMistake::NoLabel, step.line, span)))
 }
 
-/// Whether nothing goes on past the last of these instructions.
-fn steps_end(steps: &VecDeque<Step<'_>>) -> bool
-    ensures { result ≡ steps_end (map step_from steps.now.items) }
-{
-    match steps.back() {
-        None => false,
-        Some(step) => is_ending(&step.written),
-    }
-}
-
-/// The line of the last instruction, or 1.
-fn last_line(steps: &VecDeque<Step<'_>>) -> usize
-    ensures { result ≡ last_line_number (map step_from steps.now.items) }
-{
-    match steps.back() {
-        None => 1,
-        Some(step) => step.line,
-    }
-}
-
 /// That something goes on past the last instruction, or that there is none.
 fn falls_off(
     alloc: Global,
-    draft: &Draft<'_>,
+    steps: &VecDeque<Step<'_>>,
     lines: &[&[u8]],
 ) -> Result<Option<LineFault>, AllocError>
-    ensures { IfOk result (λ fault. list_of (option_map fault_seen fault) ≡ falls_off (map (λ line. line.now) lines.now) (map step_from draft.now.steps.items)) }
+    ensures { IfOk result (λ fault. list_of (option_map fault_seen fault)
+        ≡ falls_off (map (λ line. line.now) lines.now) (map step_from steps.now.items)) }
 {
-    if steps_end(&draft.steps) {
-        return Ok(None);
-    }
-    let number = last_line(&draft.steps);
+    let number = match steps.back() {
+        None => 1,
+        Some(step) if is_ending(&step.written) => return Ok(None),
+        Some(step) => step.line,
+    };
     let span = instruction_place(alloc, line_numbered(lines, number))?;
     Ok(Some(placed_fault(LineMistake::FallsOff, number, span)))
 }
 
-/// Notes the labels that no line has.
-fn add_missing(
+/// What is wrong with all lines together: the labels that no line has, and that something goes on past the end.
+fn faults_together(
     alloc: Global,
     draft: &Draft<'_>,
     lines: &[&[u8]],
-    faults: &mut Vec<LineFault>,
-) -> Result<(), AllocError>
-    ensures { (read : List LineRead) → Drafts read draft.now → OnOk result (faults_seen faults.new.items
-        ≡ faults_seen faults.old.items ++ flat_map (missing_label (map (λ line. line.now) lines.now) (point_named read)) (steps_of read)) }
+) -> Result<Vec<LineFault>, AllocError>
+    ensures { (read : List LineRead) → Drafts read draft.now
+        → IfOk result (λ faults. faults_seen faults.items ≡ faults_together (map (λ line. line.now) lines.now) read) }
 {
+    let mut faults = Vec::new(alloc);
     for step in &draft.steps {
         if let Some(fault) = missing_label(alloc, draft, step, lines)? {
             faults.push(fault)?;
         }
     }
-    Ok(())
-}
-
-/// Notes what is wrong with all lines together: the labels that no line has, and that something goes on past the end.
-fn add_together(
-    alloc: Global,
-    draft: &Draft<'_>,
-    lines: &[&[u8]],
-    faults: &mut Vec<LineFault>,
-) -> Result<(), AllocError>
-    ensures { (read : List LineRead) → Drafts read draft.now → OnOk result (faults_seen faults.new.items
-        ≡ faults_seen faults.old.items ++ faults_together (map (λ line. line.now) lines.now) read) }
-{
-    add_missing(alloc, draft, lines, faults)?;
-    if let Some(fault) = falls_off(alloc, draft, lines)? {
+    if let Some(fault) = falls_off(alloc, &draft.steps, lines)? {
         faults.push(fault)?;
     }
-    Ok(())
+    Ok(faults)
 }
 
 /// The lines of a text.
@@ -179,9 +146,8 @@ pub(crate) fn judge<'t>(alloc: Global, text: &'t [u8]) -> Result<Draft<'t>, Allo
             return Ok(draft);
         }
     }
-    let mut faults = Vec::new(alloc);
-    add_together(alloc, &draft, &lines, &mut faults)?;
-    draft.faults.append(&mut faults)?;
+    let mut together = faults_together(alloc, &draft, &lines)?;
+    draft.faults.append(&mut together)?;
     Ok(draft)
 }
 

@@ -6,7 +6,7 @@ ghost use Rattle.instruction_set.specs.Forms.{Alone};
 ghost use Rattle.instruction_set.specs.Programs as programs;
 ghost use Rattle.prog_asm.specs.FaultPlaceViews.{wrong_seen};
 ghost use Rattle.prog_asm.specs.LineFaults as model;
-ghost use Rattle.prog_asm.specs.LineFaults.{counted, last_word, wrong_instruction};
+ghost use Rattle.prog_asm.specs.LineFaults.{counted, wrong_instruction};
 ghost use Rattle.prog_asm.specs.LineViews.{line_from, span_seen, word_of};
 ghost use Rattle.prog_asm.specs.WordPlaces.{words_on};
 
@@ -41,16 +41,6 @@ impl Wrong {
 }
 
 pub(crate) const NO_PLACE: Span = Span { start: 0, end: 0 };
-
-/// The last of these words.
-pub(crate) fn last_word<'t>(word: &Word<'t>, operands: &[Word<'t>]) -> Word<'t>
-    ensures { word_of result ≡ last_word (word_of word.now) (map word_of operands.now) }
-{
-    match operands {
-        [] => *word,
-        [.., last] => *last,
-    }
-}
 
 /// Where the operand of this number stands; behind the last word, where it is missing.
 fn operand_place(word: &Word<'_>, operands: &[Word<'_>], number: usize) -> Span

@@ -44,13 +44,13 @@ returns-clause-faults c =
     let so_far = c.loop-at.invariant in
     all-judged c.args.text.now _ c.loop-at.at c.loop-at.draft (faults_seen c.append.new.self.items) so_far
     (omega (arith, c.loop-at-test.false, length-map c.deref-line-items.result.now (λ line. line.now)))
-    (ap faults_seen c.in_ok-append.ensures.items ∙ map-append fault_seen c.loop-at.draft.faults.items c.add_together.new.faults.items
+    (ap faults_seen c.in_ok-append.ensures.items ∙ map-append fault_seen c.loop-at.draft.faults.items c.in_ok-together.together.items
     ∙ ap (λ more. faults_seen c.loop-at.draft.faults.items ++ more)
-    (c.in_ok-add_together.ensures so_far.read so_far.drafts ∙ ap (λ none. faults_seen none ++ faults_together (map (λ line. line.now) c.deref.result.now) so_far.read) c.new-faults.ensures.items
+    (c.in_ok-together.ensures so_far.read so_far.drafts
     ∙ ap (λ lines. faults_together (map (λ line. line.now) lines) so_far.read) (c.deref.ensures.value ∙ sym c.deref-line-items.ensures.value)))
 
 pub returns-clause-read : goal.returns-clause-read
 returns-clause-read c =
-    all-read c.args.text.now _ c.loop-at.at c.loop-at.draft _ (faults_seen c.add_together.new.faults.items) c.loop-at.invariant
+    all-read c.args.text.now _ c.loop-at.at c.loop-at.draft _ (faults_seen c.in_ok-together.together.items) c.loop-at.invariant
     (omega (arith, c.loop-at-test.false, length-map c.deref-line-items.result.now (λ line. line.now))) refl refl
-    (ap faults_seen c.in_ok-append.ensures.items ∙ map-append fault_seen c.loop-at.draft.faults.items c.add_together.new.faults.items)
+    (ap faults_seen c.in_ok-append.ensures.items ∙ map-append fault_seen c.loop-at.draft.faults.items c.in_ok-together.together.items)
