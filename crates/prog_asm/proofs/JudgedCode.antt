@@ -49,15 +49,15 @@ label-added before after number name point span absent is added steps faults = r
 }
 
 -- A line that is judged, as it is seen.
-pub record IsSeen (text : List ℕ) (read : Line) (own : Option Wrong) (at_label at_instruction : Span) : Type 0 where
+pub record IsSeen (text : List ℕ) (number : ℕ) (read : Line) (own_faults : List LineFault) (at_label at_instruction : Span) : Type 0 where
   pub line : read ≡ counted text
-  pub wrong : own ≡ wrong_on text
+  pub own : own_faults ≡ own_fault number (wrong_on text)
   pub label : at_label ≡ label_place (label_in (words_on text))
   pub instruction : at_instruction ≡ instruction_place text
 
 -- What a line adds is its own faults, its label's, and its instruction.
-pub line-judged : (before : List Line) (text : List ℕ) (old own labelled new : Draft) (number : ℕ) (line : Line) (wrong : Option Wrong) (at_label at_instruction : Span) (more : Bool) →
-    Drafts before old → number ≡ length before + 1 → IsSeen text line wrong at_label at_instruction → OwnAdded old own number wrong →
+pub line-judged : (before : List Line) (text : List ℕ) (old own labelled new : Draft) (number : ℕ) (line : Line) (wrong : List LineFault) (at_label at_instruction : Span) (more : Bool) →
+    Drafts before old → number ≡ length before + 1 → IsSeen text number line wrong at_label at_instruction → OwnAdded old own wrong →
     LabelAdded own labelled number line.label at_label → StepAdded labelled new number line.instruction at_instruction more → JudgesLine before text old new more
 line-judged before text old own labelled new number line wrong at_label at_instruction more drafts is seen owned named stepped = go more stepped
   where
@@ -76,10 +76,10 @@ line-judged before text old own labelled new number line wrong at_label at_instr
     told : faults_seen labelled.faults.items ≡ faults_seen old.faults.items ++ faults_on before text
     told =
         named.faults ∙ ap (λ faults. faults ++ second (has_point own.labels line.label) number at_label) owned.faults
-        ∙ append_assoc (faults_seen old.faults.items) (own_fault number wrong) (second (has_point own.labels line.label) number at_label)
+        ∙ append_assoc (faults_seen old.faults.items) wrong (second (has_point own.labels line.label) number at_label)
         ∙ ap (λ more. faults_seen old.faults.items ++ more)
-        (ap (λ is. own_fault number wrong ++ second is number at_label) (twice ∙ ap (λ line. is_twice before line.label) seen.line)
-        ∙ rw (is, seen.wrong, seen.label) refl)
+        (ap (λ is. wrong ++ second is number at_label) (twice ∙ ap (λ line. is_twice before line.label) seen.line)
+        ∙ rw (seen.own, is, seen.label) refl)
 
     count : is_one_too_many (length labelled.steps.items) line.instruction ≡ is_beyond before text
     count = ap (λ steps. is_one_too_many (length steps.items) line.instruction) named.steps

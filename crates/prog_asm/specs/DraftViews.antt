@@ -7,7 +7,7 @@ use Rattle.instruction_set.specs.Forms.{Written}
 use Rattle.instruction_set.specs.Lines.{text_lines}
 use Rattle.prog_asm.specs.FaultPlaceViews.{faults_seen}
 use Rattle.prog_asm.specs.FormViews.{written_from}
-use Rattle.prog_asm.specs.LineFaults.{Wrong, counted, faults_on, instruction_place, is_beyond, own_fault, placed_fault, with_new_label}
+use Rattle.prog_asm.specs.LineFaults.{LineFault, counted, faults_on, instruction_place, is_beyond, placed_fault, with_new_label}
 use Rattle.prog_asm.specs.LineViews.{has_point, point_in}
 use Rattle.prog_asm.specs.WordPlaces.{Span}
 
@@ -31,8 +31,8 @@ abbrev pub ReadsAll : List ℕ → Draft → Type 0
 ReadsAll text draft = faults_seen draft.faults.items ≡ [] → (lines : List Line) × (lines_behind [] (text_lines text) ≡ Ok lines) × Drafts lines draft
 
 -- What is wrong with a line by itself is noted, and nothing else changes.
-pub record OwnAdded (before after : Draft) (number : ℕ) (wrong : Option Wrong) : Type 0 where
-  pub faults : faults_seen after.faults.items ≡ faults_seen before.faults.items ++ own_fault number wrong
+pub record OwnAdded (before after : Draft) (own : List LineFault) : Type 0 where
+  pub faults : faults_seen after.faults.items ≡ faults_seen before.faults.items ++ own
   pub labels : after.labels ≡ before.labels
   pub steps : after.steps ≡ before.steps
 

@@ -3,11 +3,10 @@ use Rattle.std.specs.Prelude.{List, [], ◌∷◌, Option, None, Some, map, opti
 use Rattle.prog_asm.specs.declared.faults.LineFault.{LineFault as LineFaultCode}
 use Rattle.prog_asm.specs.declared.faults.LineMistake.{LineMistake}
 use Rattle.prog_asm.specs.declared.faults.LineMistake.TheVariants as mistake
-use Rattle.prog_asm.specs.declared.wrongs.Wrong.{Wrong as WrongCode}
 use Rattle.instruction_set.specs.Assembly.{Mistake}
 use Rattle.instruction_set.specs.Assembly as assembly
 use Rattle.prog_asm.specs.FormViews.{form_of}
-use Rattle.prog_asm.specs.LineFaults.{LineFault, Wrong}
+use Rattle.prog_asm.specs.LineFaults.{LineFault}
 use Rattle.prog_asm.specs.LineViews.{span_seen}
 
 abbrev pub mistake_of : LineMistake → Mistake
@@ -17,9 +16,6 @@ mistake_of mistake.NoLabel = assembly.NoLabel
 mistake_of mistake.TwiceLabel = assembly.TwiceLabel
 mistake_of mistake.TooMany = assembly.TooMany
 mistake_of mistake.FallsOff = assembly.FallsOff
-
-abbrev pub wrong_seen : WrongCode → Wrong
-wrong_seen wrong = record { mistake = mistake_of wrong.mistake; span = span_seen wrong.span; wants = option_map form_of wrong.wants }
 
 abbrev pub fault_seen : LineFaultCode → LineFault
 fault_seen fault = record { mistake = mistake_of fault.mistake; line = fault.line; span = span_seen fault.span; wants = option_map form_of fault.wants }

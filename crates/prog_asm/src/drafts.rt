@@ -3,15 +3,14 @@
 ghost use Rattle.std.specs.Prelude.{◌≡◌, ◌+◌, ◌<◌, [], IfOk, IfSome, List, OnOk, length, option_map};
 ghost use Rattle.instruction_set.specs.Assembly.{Line as LineRead};
 ghost use Rattle.prog_asm.specs.DraftViews.{Drafts, JudgesLine, LabelAdded, OwnAdded, StepAdded, below, draft_point};
-ghost use Rattle.prog_asm.specs.FaultPlaceViews.{fault_seen, mistake_of, wrong_seen};
+ghost use Rattle.prog_asm.specs.FaultPlaceViews.{fault_seen, list_of};
 ghost use Rattle.prog_asm.specs.FormViews.{written_from};
-ghost use Rattle.prog_asm.specs.LineFaults as model;
 ghost use Rattle.prog_asm.specs.LineViews.{point_in, span_seen};
 
 use crate::faults::{LineFault, LineMistake};
 use crate::forms::Written;
 use crate::lines::Span;
-use crate::wrongs::{Wrong, look};
+use crate::wrongs::look;
 use indexmap::IndexMap;
 use rights::limits::MAX_INSTRUCTIONS;
 use std::alloc::{AllocError, Global};
@@ -43,18 +42,6 @@ pub(crate) fn point_of(labels: &IndexMap<&[u8], usize>, points: usize, name: &[u
     }
 }
 
-/// A fault at a line of which no form is wanted.
-pub(crate) fn placed_fault(mistake: LineMistake, line: usize, span: Span) -> LineFault
-    ensures { fault_seen result ≡ model.placed_fault (mistake_of mistake) line (span_seen span) }
-{
-    LineFault {
-        mistake,
-        line,
-        span,
-        wants: None,
-    }
-}
-
 impl<'t> Draft<'t> {
     /// The draft of no line.
     pub(crate) fn new(alloc: Global) -> Draft<'t>
@@ -69,22 +56,17 @@ impl<'t> Draft<'t> {
     }
 
     /// Notes what is wrong with a line by itself.
-    pub(crate) fn add_own(&mut self, number: usize, wrong: Option<Wrong>) -> Result<(), AllocError>
-        ensures { OnOk result (OwnAdded self.old self.new number (option_map wrong_seen wrong)) }
+    fn add_own(&mut self, wrong: Option<LineFault>) -> Result<(), AllocError>
+        ensures { OnOk result (OwnAdded self.old self.new (list_of (option_map fault_seen wrong))) }
     {
         if let Some(wrong) = wrong {
-            self.faults.push(LineFault {
-                mistake: wrong.mistake,
-                line: number,
-                span: wrong.span,
-                wants: wrong.wants,
-            })?;
+            self.faults.push(wrong)?;
         }
         Ok(())
     }
 
     /// Notes where a line's label stands, or that a line before has it.
-    pub(crate) fn add_label(
+    fn add_label(
         &mut self,
         number: usize,
         label: Option<&'t [u8]>,
@@ -95,7 +77,7 @@ impl<'t> Draft<'t> {
         let Some(name) = label else { return Ok(()) };
         if self.labels.contains_key(&name) {
             self.faults
-                .push(placed_fault(LineMistake::TwiceLabel, number, span))?;
+                .push(LineFault::at(LineMistake::TwiceLabel, number, span))?;
             return Ok(());
         }
         let point = self.steps.len();
@@ -104,7 +86,7 @@ impl<'t> Draft<'t> {
     }
 
     /// Adds a line's instruction, or notes that it is one too many. Whether lines behind it are looked at.
-    pub(crate) fn add_step(
+    fn add_step(
         &mut self,
         number: usize,
         instruction: Option<Written<'t>>,
@@ -117,7 +99,7 @@ impl<'t> Draft<'t> {
         };
         if self.steps.len() >= MAX_INSTRUCTIONS {
             self.faults
-                .push(placed_fault(LineMistake::TooMany, number, span))?;
+                .push(LineFault::at(LineMistake::TooMany, number, span))?;
             return Ok(false);
         }
         self.steps.push_back(Step {
@@ -137,8 +119,8 @@ impl<'t> Draft<'t> {
         ensures { (before : List LineRead) → Drafts before self.old → number ≡ length before + 1
             → IfOk result (JudgesLine before text.entry.now self.old self.new) }
     {
-        let seen = look(alloc, text)?;
-        self.add_own(number, seen.wrong)?;
+        let seen = look(alloc, number, text)?;
+        self.add_own(seen.wrong)?;
         self.add_label(number, seen.line.label, seen.label)?;
         self.add_step(number, seen.line.instruction, seen.instruction)
     }

@@ -1,7 +1,10 @@
 //! Why a text is no program: its first fault, and all that is wrong with it.
 
 ghost use Rattle.std.specs.Prelude.{◌≡◌};
+ghost use Rattle.prog_asm.specs.FaultPlaceViews.{fault_seen, mistake_of};
 ghost use Rattle.prog_asm.specs.FaultViews.{fault_at, fault_line, fault_name, fault_number};
+ghost use Rattle.prog_asm.specs.LineFaults.{placed_fault};
+ghost use Rattle.prog_asm.specs.LineViews.{span_seen};
 ghost use Rattle.prog_asm.specs.declared.faults.AsmFault.TheVariants as asm;
 
 use crate::lines::Span;
@@ -129,6 +132,18 @@ pub struct LineFault {
 }
 
 impl LineFault {
+    /// A fault at a line of which no form is wanted.
+    pub(crate) fn at(mistake: LineMistake, line: usize, span: Span) -> LineFault
+        ensures { fault_seen result ≡ placed_fault (mistake_of mistake) line (span_seen span) }
+    {
+        LineFault {
+            mistake,
+            line,
+            span,
+            wants: None,
+        }
+    }
+
     /// The fault of a text of which this is the first.
     pub(crate) fn first(self) -> AsmFault
         ensures { result ≡ fault_at self.mistake self.line }

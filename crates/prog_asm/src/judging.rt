@@ -11,7 +11,7 @@ ghost use Rattle.prog_asm.specs.LineViews.{span_seen};
 ghost use Rattle.prog_asm.specs.WordPlaces.{words_on};
 ghost use Rattle.texts.specs.Lines.{lines_of};
 
-use crate::drafts::{Draft, Step, placed_fault};
+use crate::drafts::{Draft, Step};
 use crate::faults::{LineFault, LineMistake};
 use crate::forms::{Jump, Written};
 use crate::lines::{Span, before_comment, words};
@@ -81,7 +81,7 @@ fn missing_label(
         return Ok(None);
     }
     let span = last_place(alloc, line_numbered(lines, step.line))?;
-    Ok(Some(placed_fault(LineMistake::NoLabel, step.line, span)))
+    Ok(Some(LineFault::at(LineMistake::NoLabel, step.line, span)))
 }
 
 /// That something goes on past the last instruction, or that there is none.
@@ -99,7 +99,7 @@ fn falls_off(
         Some(step) => step.line,
     };
     let span = instruction_place(alloc, line_numbered(lines, number))?;
-    Ok(Some(placed_fault(LineMistake::FallsOff, number, span)))
+    Ok(Some(LineFault::at(LineMistake::FallsOff, number, span)))
 }
 
 /// What is wrong with all lines together: the labels that no line has, and that something goes on past the end.

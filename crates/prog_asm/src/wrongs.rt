@@ -4,41 +4,21 @@ ghost use Rattle.std.specs.Prelude.{◌≡◌, IfOk, Some, map, option_map};
 ghost use Rattle.instruction_set.specs.Assembly.{line_with};
 ghost use Rattle.instruction_set.specs.Forms.{Alone};
 ghost use Rattle.instruction_set.specs.Programs as programs;
-ghost use Rattle.prog_asm.specs.FaultPlaceViews.{wrong_seen};
+ghost use Rattle.prog_asm.specs.FaultPlaceViews.{fault_seen, list_of};
 ghost use Rattle.prog_asm.specs.LineFaults as model;
-ghost use Rattle.prog_asm.specs.LineFaults.{counted, wrong_instruction};
+ghost use Rattle.prog_asm.specs.LineFaults.{counted, own_fault, wrong_instruction};
 ghost use Rattle.prog_asm.specs.LineViews.{line_from, span_seen, word_of};
 ghost use Rattle.prog_asm.specs.WordPlaces.{words_on};
 
-use crate::faults::LineMistake;
+use crate::faults::{LineFault, LineMistake};
 use crate::forms::Written;
 use crate::lines::{Span, Word, before_comment, stray_in, words};
 use crate::mistakes::Mistake;
 use crate::mnemonics::mnemonic_of;
-use crate::operand_forms::{Form, first_unfit};
+use crate::operand_forms::first_unfit;
 use crate::statements::{Line, behind_label, label_in, read_line};
 use std::alloc::{AllocError, Global};
 use texts::is_name;
-
-/// What is wrong on a line, where, and what is wanted there.
-#[derive(Clone, Copy)]
-pub(crate) struct Wrong {
-    pub mistake: LineMistake,
-    pub span: Span,
-    pub wants: Option<Form>,
-}
-
-impl Wrong {
-    fn word(span: Span) -> Wrong
-        ensures { wrong_seen result ≡ model.wrong_word (span_seen span) }
-    {
-        Wrong {
-            mistake: LineMistake::Word,
-            span,
-            wants: None,
-        }
-    }
-}
 
 pub(crate) const NO_PLACE: Span = Span { start: 0, end: 0 };
 
@@ -61,37 +41,42 @@ fn operand_place(word: &Word<'_>, operands: &[Word<'_>], number: usize) -> Span
     }
 }
 
-/// What is wrong with the instruction that words are.
-fn wrong_instruction(words: &[Word<'_>]) -> Option<Wrong>
-    ensures { option_map wrong_seen result ≡ wrong_instruction (map word_of words.now) }
+/// What is wrong with the instruction that words of this line are.
+fn wrong_instruction(line: usize, words: &[Word<'_>]) -> Option<LineFault>
+    ensures { list_of (option_map fault_seen result) ≡ own_fault line (wrong_instruction (map word_of words.now)) }
 {
     let [word, operands @ ..] = words else {
         return None;
     };
     let Some(mnemonic) = mnemonic_of(word.text) else {
-        return Some(Wrong::word(word.span));
+        return Some(LineFault::at(LineMistake::Word, line, word.span));
     };
     let found = first_unfit(mnemonic.forms(), operands)?;
-    let span = operand_place(word, operands, found.fit);
-    Some(Wrong {
+    Some(LineFault {
         mistake: LineMistake::Operand,
-        span,
+        line,
+        span: operand_place(word, operands, found.fit),
         wants: found.wants,
     })
 }
 
 /// What is wrong with a line by itself, with a byte that no word has, if there is one, a label and the words behind it.
-fn wrong_in(stray: Option<Span>, label: Option<Word<'_>>, words: &[Word<'_>]) -> Option<Wrong>
-    ensures { option_map wrong_seen result ≡ model.wrong_in (model.bad_label (option_map word_of label.entry))
-        (option_map span_seen stray) (map word_of words.now) }
+fn wrong_in(
+    line: usize,
+    stray: Option<Span>,
+    label: Option<Word<'_>>,
+    words: &[Word<'_>],
+) -> Option<LineFault>
+    ensures { list_of (option_map fault_seen result) ≡ own_fault line (model.wrong_in (model.bad_label (option_map word_of label.entry))
+        (option_map span_seen stray) (map word_of words.now)) }
 {
-    match label {
-        Some(label) if !is_name(label.text) => return Some(Wrong::word(label.span)),
-        _ => {}
-    }
-    match stray {
-        Some(stray) => Some(Wrong::word(stray)),
-        None => wrong_instruction(words),
+    let bad_label = match label {
+        Some(label) if !is_name(label.text) => Some(label.span),
+        _ => None,
+    };
+    match bad_label.or(stray) {
+        Some(span) => Some(LineFault::at(LineMistake::Word, line, span)),
+        None => wrong_instruction(line, words),
     }
 }
 
@@ -137,15 +122,15 @@ fn label_place(label: Option<Word<'_>>) -> Span
 #[derive(Drop)]
 pub(crate) struct Seen<'t> {
     pub line: Line<'t>,
-    pub wrong: Option<Wrong>,
+    pub wrong: Option<LineFault>,
     pub label: Span,
     pub instruction: Span,
 }
 
-/// Looks at a line by itself. What is wrong is sought where the line isn't read.
-pub(crate) fn look<'t>(alloc: Global, text: &'t [u8]) -> Result<Seen<'t>, AllocError>
+/// Looks at the line of this number by itself. What is wrong is sought where the line isn't read.
+pub(crate) fn look<'t>(alloc: Global, number: usize, text: &'t [u8]) -> Result<Seen<'t>, AllocError>
     ensures line { IfOk result (λ seen. line_from seen.line ≡ counted text.entry.now) }
-    ensures wrong { IfOk result (λ seen. option_map wrong_seen seen.wrong ≡ model.wrong_on text.entry.now) }
+    ensures wrong { IfOk result (λ seen. list_of (option_map fault_seen seen.wrong) ≡ own_fault number (model.wrong_on text.entry.now)) }
     ensures label { IfOk result (λ seen. span_seen seen.label ≡ model.label_place (model.label_in (words_on text.entry.now))) }
     ensures instruction { IfOk result (λ seen. span_seen seen.instruction ≡ model.instruction_place text.entry.now) }
 {
@@ -156,7 +141,7 @@ pub(crate) fn look<'t>(alloc: Global, text: &'t [u8]) -> Result<Seen<'t>, AllocE
     let behind = behind_label(&words);
     let (line, wrong) = match read_line(alloc, stray, label, behind) {
         Ok(line) => (line, None),
-        Err(Mistake::Wrong) => (halt_behind(label), wrong_in(stray, label, behind)),
+        Err(Mistake::Wrong) => (halt_behind(label), wrong_in(number, stray, label, behind)),
         Err(Mistake::Memory) => return Err(AllocError),
     };
     Ok(Seen {

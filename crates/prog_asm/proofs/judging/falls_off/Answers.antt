@@ -29,4 +29,4 @@ returns c =
           (last.0 ∙ sym w.is_ending.ensures ∙ w.if-is_ending.false, w.number-is ∙ sym last.1)
     ] in
     falls (map (λ line. line.now) c.args.lines.now) (map step_from steps.items) c.match-back.number _ ends
-    (c.placed_fault.ensures ∙ ap (placed_fault FallsOff c.match-back.number) (c.in_ok-span.ensures ∙ ap instruction_place c.line_numbered.ensures))
+    (c.at.ensures ∙ ap (placed_fault FallsOff c.match-back.number) (c.in_ok-span.ensures ∙ ap instruction_place c.line_numbered.ensures))

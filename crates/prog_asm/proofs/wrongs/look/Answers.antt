@@ -3,8 +3,8 @@ use Rattle.std.specs.Prelude.{Some, option_map}
 use Rattle.instruction_set.specs.Assembly.{line_with}
 use Rattle.instruction_set.specs.Forms.{Alone}
 use Rattle.instruction_set.specs.Programs.{Halt}
-use Rattle.prog_asm.specs.FaultPlaceViews.{wrong_seen}
-use Rattle.prog_asm.specs.LineFaults.{behind_label, label_in, name_if_good, stray_in}
+use Rattle.prog_asm.specs.FaultPlaceViews.{fault_seen, list_of}
+use Rattle.prog_asm.specs.LineFaults.{behind_label, label_in, name_if_good, own_fault, stray_in}
 use Rattle.prog_asm.specs.LineViews.{line_from, word_of}
 use Rattle.prog_asm.specs.declared.mistakes.Mistake.TheVariants as mistake
 use Rattle.prog_asm.specs.WordPlaces.{placed_words}
@@ -40,6 +40,6 @@ returns-clause-wrong c =
     let behind = c.behind_label-behind.ensures ∙ ap (λ words. behind_label (map word_of words)) c.deref-2.ensures.value ∙ ap behind_label words in
     let read = parts-seen text _ _ c.behind_label-behind.result.now stray label behind in
     elim c.match-read_line.branch [
-      | in-Ok w ↦ ap (λ seen. option_map wrong_seen seen.1) w.line-is ∙ sym (read-counted text (line_from w.in-Ok.line) (sym read ∙ w.in-Ok.ensures)).1
-      | in-Err-Wrong w ↦ ap (λ seen. option_map wrong_seen seen.1) w.line-is ∙ w.wrong_in.ensures ∙ rw (stray, label, behind) refl
+      | in-Ok w ↦ ap (λ seen. list_of (option_map fault_seen seen.1)) w.line-is ∙ sym (ap (own_fault c.args.number) (read-counted text (line_from w.in-Ok.line) (sym read ∙ w.in-Ok.ensures)).1)
+      | in-Err-Wrong w ↦ ap (λ seen. list_of (option_map fault_seen seen.1)) w.line-is ∙ w.wrong_in.ensures ∙ rw (stray, label, behind) refl
     ]
