@@ -14,6 +14,7 @@ pub mod lines;
 pub mod order;
 pub mod points;
 mod program_names;
+mod saying;
 
 pub use authorities::{Authority, Ceiling, End};
 pub use blocks::{push_authorities, push_block, push_channels};

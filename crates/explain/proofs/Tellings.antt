@@ -9,8 +9,8 @@ use Rattle.checker.specs.Findings.{BrokenRule}
 use Rattle.checker.specs.FindingViews.{broken_rule_of}
 use Rattle.checker.specs.declared.findings.BrokenRule.{BrokenRule as BrokenRuleCode}
 use Rattle.task.specs.Plans.{Plan}
-use Rattle.task_text.specs.PageViews.{Adds}
-use Rattle.task_text.specs.declared.pages.Page.{Page}
+use Rattle.texts.specs.PageViews.{Adds}
+use Rattle.texts.specs.declared.pages.Page.{Page}
 use Rattle.explain.specs.Telling.{HasHead, Tells, TellsAll, TellsEach, none_yet, one_more, finding_text, is_same_point, no_rule_broken}
 
 pub adds_none : (p : Page) → Adds p p []

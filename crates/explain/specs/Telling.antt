@@ -7,11 +7,11 @@ use Rattle.task.specs.Plans.{Plan, program_name}
 
 -- a point with the line where it stands in the file: `main:2 (line 31)`
 abbrev pub point_with_line : List ℕ → ℕ → ℕ → List ℕ
-point_with_line program point line = concat (program ∷ codes ":" ∷ decimal point ∷ codes " (line " ∷ decimal line ∷ codes ")" ∷ [])
+point_with_line program point line = program ++ codes ":" ++ decimal point ++ codes " (line " ++ decimal line ++ codes ")"
 
 -- The findings of a point stand under one line, which has the point and its instruction as it is written.
 abbrev pub head_text : List ℕ → ℕ → ℕ → List ℕ → List ℕ
-head_text program point line written = point_with_line program point line ++ concat (codes ": " ∷ written ∷ codes "\n" ∷ [])
+head_text program point line written = point_with_line program point line ++ codes ": " ++ written ++ codes "\n"
 
 -- whether a finding is of the same point as the one before it, if there is one
 abbrev pub is_same_point : Option BrokenRule → BrokenRule → Bool
@@ -24,7 +24,7 @@ HasHead plan f false text = (line : ℕ) × (written : List ℕ) × (text ≡ he
 
 -- A finding has a line with its rule's number, what the rule asks and what it compares there.
 abbrev pub finding_text : BrokenRule → List ℕ → List ℕ
-finding_text f sentence = concat (codes "  K" ∷ decimal f.rule ∷ codes " " ∷ sentence ∷ codes "\n" ∷ [])
+finding_text f sentence = codes "  K" ++ decimal f.rule ++ codes " " ++ sentence ++ codes "\n"
 
 -- Each of these is told, in their order: to those before, of which this is the last, one more is added behind.
 pub data TellsEach (plan : Plan) : Option BrokenRule → List BrokenRule → List ℕ → Type 0 where

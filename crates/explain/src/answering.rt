@@ -30,8 +30,9 @@ use searcher::propose;
 use std::alloc::{AllocError, Global};
 use task::Task;
 use task_reader::read_task;
-use task_text::{Page, texts_of_file};
+use task_text::texts_of_file;
 use text_checker::{check_texts, read_texts};
+use texts::{Page, say};
 
 /// The name by which the program tells its faults.
 pub const NAME: &str = "capwhy";
@@ -90,7 +91,7 @@ fn told(
 {
     let mut page = Page::new(alloc);
     if found.is_empty() {
-        page.text("no rule is broken: the certificate is accepted\n");
+        say!(&mut page; "no rule is broken: the certificate is accepted\n");
         return page.into_bytes();
     }
     add_older(&mut page, scene.task, cert);
@@ -184,7 +185,7 @@ fn reply<'a, S: Source, W: Out, P: Watcher>(
     ensures done { IfOk result (λ status. is_done_status status ≡ true) }
 {
     match question {
-        Question::Usage => written(done(alloc, |page| page.text(USAGE))?, out),
+        Question::Usage => written(done(alloc, |page| say!(page; USAGE))?, out),
         Question::Listing { task, cert: None } => {
             written(listing_alone(alloc, &files.fetch(task)?)?, out)
         }

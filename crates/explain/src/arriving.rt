@@ -6,7 +6,7 @@ use crate::breaking::{error_fits, registers_beyond, slots_beyond, successes_fit}
 use crate::scenes::BoundedPoint;
 use certificate::{Bound, Domain};
 use std::alloc::{AllocError, Global};
-use task_text::Page;
+use texts::{Page, say};
 use transfer::{Outcome, OutcomeVisitor, failure, successes_pass};
 
 /// An outcome of an instruction: the point that it goes to, and the bound that it has there.

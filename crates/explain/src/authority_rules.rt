@@ -8,8 +8,7 @@ use crate::starting::Object;
 use certificate::{Bound, Channel, Class, Side, Target};
 use checker::{Allowance, AuthorityRule, allowance_at, ceiling_at};
 use task::{Grant, Start};
-use task_text::Page;
-use texts::Name;
+use texts::{Name, Page, say};
 use transfer::{channel_at, enters_mode};
 
 /// Adds the ceiling of a descriptor's grant, or that it is an end that isn't listed, or that nothing can be said of it.

@@ -12,7 +12,7 @@ use explore::{Explored, Watcher, explore, write_breach};
 use rights::{Out, write_all};
 use std::alloc::Global;
 use task_reader::read_task;
-use task_text::Page;
+use texts::{Page, say};
 
 /// How many states are met at most, where the words don't say.
 const MOST_STATES: u32 = 200_000;

@@ -9,7 +9,7 @@ use checker::uses::{IsWithin, SameGrant, target_lists};
 use checker::{CallRule, KeepsRule, SlotRule};
 use instruction_set::{Operand, Syscall};
 use std::alloc::{AllocError, Global};
-use task_text::Page;
+use texts::{Page, say};
 use transfer::{
     Need, OpenSlot, Passed, SlotTest, Through, channel_at, demanded, failing_slots, is_single,
     needed, operand_interval,

@@ -17,7 +17,8 @@ use rights::Memory;
 use searcher::{reached, search};
 use std::alloc::Global;
 use task::{FirstObject, Task, node_begins};
-use task_text::{Page, ProgramText};
+use task_text::ProgramText;
+use texts::{Page, say};
 
 /// Adds that the grant of a path would be needed that an instruction opens by itself and that is no grant's.
 fn add_open(page: &mut Page, scene: &Scene<'_>, instruction: &Instruction, place: Place<'_>) {

@@ -3,13 +3,6 @@
 //! needed to believe a yes of `capcheck`.
 #![tactic(auto)]
 
-/// Adds what stands behind a page to it, one after another.
-macro_rules! say {
-    ($page:expr; $($part:expr),+ $(,)?) => {{
-        $( crate::naming::Say::say($part, $page); )+
-    }};
-}
-
 pub mod answering;
 mod arriving;
 mod authority_rules;
@@ -19,7 +12,6 @@ mod call_rules;
 mod failing;
 pub mod laws;
 mod listing;
-mod naming;
 mod older;
 pub mod questions;
 mod reaching;

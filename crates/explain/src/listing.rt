@@ -3,7 +3,7 @@
 use crate::remarks::add_remarks;
 use crate::scenes::Scene;
 use certificate::{Bound, Held, Slot, slots_within};
-use task_text::Page;
+use texts::{Page, say};
 
 /// Adds a number that may be open: what it is of, and its greatest rights.
 fn add_open(page: &mut Page, number: usize, held: &Held, state: &str) {

@@ -5,7 +5,7 @@ use checker::is_named;
 use instruction_set::Instruction;
 use std::alloc::{AllocError, Global};
 use task::Task;
-use task_text::Page;
+use texts::{Page, say};
 
 /// How far points may have moved.
 const FURTHEST: usize = 16;

@@ -5,13 +5,12 @@ ghost use Rattle.checker.specs.FindingViews.{broken_rule_of};
 ghost use Rattle.explain.specs.Telling.{HasHead, TellsEach, finding_text, head_text, is_same_point};
 ghost use Rattle.checker.specs.Findings.{BrokenRule as BrokenRuleSeen};
 ghost use Rattle.task.specs.Plans.{program_name};
-ghost use Rattle.task_text.specs.PageViews.{Adds};
+ghost use Rattle.texts.specs.PageViews.{Adds};
 
 use crate::scenes::Scene;
 use crate::sentences::sentence;
 use checker::BrokenRule;
-use task_text::Page;
-use task_text::Piece::{Bytes, Number, Text};
+use texts::{Page, say};
 
 /// Adds the line of a point: its instruction as it is written.
 fn add_head(page: &mut Page, scene: &Scene<'_>, found: BrokenRule)
@@ -19,8 +18,8 @@ fn add_head(page: &mut Page, scene: &Scene<'_>, found: BrokenRule)
         × Adds page.old page.new (head_text (program_name scene.now.task.now found.program) found.point line written) }
 {
     let written = scene.written(found.program, found.point);
-    scene.place(found.program, found.point).add_to(page);
-    page.pieces(&[Text(": "), Bytes(written.text), Text("\n")])
+    let place = scene.place(found.program, found.point);
+    say!(page; place, ": ", written.text, "\n")
 }
 
 /// Whether a finding is of the same point as the one before it.
@@ -49,16 +48,7 @@ fn add_rule(page: &mut Page, scene: &Scene<'_>, found: BrokenRule)
     ensures { (sentence : List ℕ) × Adds page.old page.new (finding_text (broken_rule_of found) sentence) }
 {
     let sentence = sentence(page.alloc(), scene, found);
-    page.pieces(&[
-        Text("  K"),
-        Number(u32::from(found.rule.number())),
-        Text(" "),
-        Bytes(sentence.as_bytes()),
-        Text("\n"),
-    ]);
-    if sentence.finish().is_err() {
-        page.fail();
-    }
+    say!(page; "  K", found.rule.number(), " ", &sentence, "\n")
 }
 
 /// Adds a finding behind others.

@@ -8,7 +8,7 @@ use rights::Rights;
 use rights::limits::MAX_DESCRIPTORS;
 use std::alloc::{AllocError, Global};
 use task::NamedProgram;
-use task_text::Page;
+use texts::{Page, say};
 use transfer::{Through, enters_mode, may_be_on, needed};
 
 /// A program, and the bounds of its points.

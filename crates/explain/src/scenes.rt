@@ -1,18 +1,16 @@
 //! What is explained: a task with its file, and a certificate in which all bounds are written.
 
-ghost use Rattle.std.specs.Prelude.{◌≡◌, ◌≤◌, length, true};
+ghost use Rattle.std.specs.Prelude.{◌≡◌, ◌≤◌, Some, length, true};
 ghost use Rattle.explain.specs.Telling.{point_with_line};
 ghost use Rattle.instruction_set.specs.Views.{instruction_of};
 ghost use Rattle.task.specs.Plans.{program_name};
-ghost use Rattle.task_text.specs.PageViews.{Adds};
 ghost use Rattle.transfer.specs.Limits.{leaves_known};
 
-use crate::naming::Say;
 use certificate::{Bound, Cert};
 use instruction_set::Instruction;
 use task::Task;
-use task_text::Piece::{Bytes, Number, Text};
-use task_text::{Page, ProgramText, Written};
+use task_text::{ProgramText, Written};
+use texts::{Page, Say, say};
 use transfer::Site;
 
 /// A task with its file, and a certificate in which all bounds are written.
@@ -42,25 +40,12 @@ pub(crate) struct Place<'a> {
     line: u32,
 }
 
-impl<'a> Place<'a> {
-    /// Adds it: `main:2 (line 31)`.
-    pub(crate) fn add_to(&self, page: &mut Page)
-        ensures { Adds page.old page.new (point_with_line self.now.program.now self.now.point self.now.line) }
-    {
-        page.pieces(&[
-            Bytes(self.program),
-            Text(":"),
-            Number(self.point),
-            Text(" (line "),
-            Number(self.line),
-            Text(")"),
-        ])
-    }
-}
-
+/// It is told as `main:2 (line 31)`.
 impl<'a> Say for Place<'a> {
+    ghost said = { λ place. Some (point_with_line place.program.now place.point place.line) };
+
     fn say(self, page: &mut Page) {
-        self.add_to(page)
+        say!(page; self.program, ":", self.point, " (line ", self.line, ")")
     }
 }
 

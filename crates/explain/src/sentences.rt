@@ -11,8 +11,7 @@ use checker::{AuthorityRule, BrokenRule, CallRule, Rule, SlotRule, instruction_a
 use instruction_set::Instruction;
 use std::alloc::Global;
 use task::is_marked;
-use task_text::Page;
-use texts::Name;
+use texts::{Name, Page, say};
 use transfer::Site;
 
 /// How many arrivals of one rule are told.
@@ -173,7 +172,7 @@ pub(crate) fn sentence(alloc: Global, scene: &Scene<'_>, found: BrokenRule) -> P
     let mut detail = Page::new(alloc);
     add_detail(&mut detail, scene, found);
     let mut sentence = Page::new(alloc);
-    sentence.text(general(found.rule));
+    say!(&mut sentence; general(found.rule));
     if let Some(compared) = detail.as_bytes().strip_prefix(b"; ".as_slice()) {
         say!(&mut sentence; ": ", compared);
     }

@@ -1,12 +1,13 @@
 //! In which part the bound of point 0 is too narrow for the first state of a process.
 
+ghost use Rattle.std.specs.Prelude.{None};
+
 use crate::breaking::{registers_not_begun, slots_not_begun};
-use crate::naming::Say;
 use crate::scenes::Scene;
 use certificate::{Bound, Slot};
 use checker::starts::{mode_describes, with_number};
 use task::{FirstDescriptor, FirstObject, Start, node_text};
-use task_text::Page;
+use texts::{Page, Say, say};
 
 /// What a first descriptor of a task is of.
 #[derive(Clone, Copy)]
@@ -17,6 +18,8 @@ pub(crate) struct Object<'a> {
 
 /// Where it stands in the tree, or which side of which pair it is.
 impl<'a> Say for Object<'a> {
+    ghost said = { λ object. None };
+
     fn say(self, page: &mut Page) {
         match self.of {
             FirstObject::Node { node, .. } => {

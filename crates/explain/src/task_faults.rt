@@ -6,7 +6,8 @@ ghost use Rattle.explain.specs.Answered.{IsTaskText};
 use console::{Fault, words_of};
 use std::alloc::Global;
 use task_reader::{TaskFault, read_task};
-use task_text::{Page, add_faults};
+use task_text::add_faults;
+use texts::{Page, say};
 
 /// Adds the faults of a text that is no task's, and by which it is refused.
 fn add_refusal(
@@ -17,9 +18,8 @@ fn add_refusal(
 ) -> Result<(), TaskFault> {
     let is_toml = !matches!(fault, TaskFault::NotToml);
     add_faults(alloc, page, file, is_toml)?;
-    page.text("the task is refused: ");
-    page.text(words_of(alloc, &Fault::Task(fault))?.as_str());
-    page.text("\n");
+    let words = words_of(alloc, &Fault::Task(fault))?;
+    say!(page; "the task is refused: ", words.as_str(), "\n");
     Ok(())
 }
 
@@ -35,7 +35,7 @@ pub(crate) fn add_task_faults(
 {
     match read_task(alloc, file) {
         Ok(_) => {
-            page.text("the text is a task's\n");
+            say!(page; "the text is a task's\n");
             Ok(true)
         }
         Err(TaskFault::Memory) => Err(TaskFault::Memory),

@@ -5,7 +5,7 @@ use Rattle.std.specs.Fmt.{decimal}
 use Rattle.std.specs.List.{flat_map}
 use Rattle.task_text.specs.FaultLines.{more_line, placed_line}
 use Rattle.task_text.specs.FaultViews.{AddsFaultLines}
-use Rattle.task_text.specs.declared.pages.Page.{Page}
+use Rattle.texts.specs.declared.pages.Page.{Page}
 use Rattle.task_text.specs.Instructions.{line_there, span_of, text_there}
 use Rattle.task_text.specs.Places.{part, place_at}
 

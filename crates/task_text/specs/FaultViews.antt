@@ -2,9 +2,9 @@
 use Rattle.std.specs.Prelude.{ℕ, ◌≡◌, ◌≤◌, ◌++◌, List, length}
 use Rattle.std.specs.List.{flat_map}
 use Rattle.task_text.specs.FaultLines.{more_line, most_told, placed_line}
-use Rattle.task_text.specs.PageViews.{Adds}
+use Rattle.texts.specs.PageViews.{Adds}
 use Rattle.task_text.specs.declared.field_faults.Line.{Line}
-use Rattle.task_text.specs.declared.pages.Page.{Page}
+use Rattle.texts.specs.declared.pages.Page.{Page}
 
 -- the offset of a line, and what is told there
 abbrev pub fault_of : Line → ℕ × List ℕ

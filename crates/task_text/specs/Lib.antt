@@ -1,4 +1,3 @@
-pub mod PageViews
 pub mod Places
 pub mod PlaceViews
 pub mod Instructions

@@ -3,15 +3,13 @@
 use crate::code_forms::{add_meant, has_known_words, wanted, words_of};
 use crate::field_faults::Faults;
 use crate::near::meant;
-use crate::pages::Page;
-use crate::pages::Piece::{Bytes, Text};
 use crate::places::part;
 use crate::program_texts::{ProgramText, is_blank};
 use indexmap::IndexSet;
 use prog_asm::{Form, LineFault, LineMistake, MNEMONICS, Span, line_faults};
 use rights::limits::MAX_INSTRUCTIONS;
 use std::alloc::{AllocError, Global};
-use texts::Lines;
+use texts::{Lines, Page, say};
 
 /// The words of all instructions.
 fn mnemonics(alloc: Global) -> Result<Vec<&'static str>, AllocError> {
@@ -99,9 +97,7 @@ fn may_stand_in_word(byte: u8) -> bool {
 /// Tells what list is meant by the word at an offset of the file.
 fn add_meant_list(faults: &mut Faults<'_>, offset: usize, word: &[u8], list: &Page) {
     let mut line = Page::new(faults.alloc);
-    line.pieces(&[Text("`"), Bytes(word), Text("`: `")]);
-    line.page(list);
-    line.text("` is meant?");
+    say!(&mut line; "`", word, "`: `", list, "` is meant?");
     faults.add_page(offset, line);
 }
 
@@ -202,7 +198,7 @@ impl<'a> CodeFault<'a> {
             add_meant_list(faults, self.offset(), word, &list);
         } else {
             let mut line = Page::new(faults.alloc);
-            line.pieces(&[Text("`"), Bytes(word), Text("` isn't "), Text(wanted(form))]);
+            say!(&mut line; "`", word, "` isn't ", wanted(form));
             faults.add_page(self.offset(), line);
         }
     }
@@ -214,7 +210,7 @@ impl<'a> CodeFault<'a> {
             Some(form) if self.word().is_empty() => {
                 let mut line = Page::new(faults.alloc);
                 let word = instruction_of(self.line);
-                line.pieces(&[Text("`"), Bytes(word), Text("` lacks "), Text(wanted(form))]);
+                say!(&mut line; "`", word, "` lacks ", wanted(form));
                 faults.add_page(self.offset(), line);
             }
             Some(form) => self.add_form(faults, form),
@@ -239,14 +235,11 @@ impl<'a> CodeFault<'a> {
             LineMistake::NoLabel => self.add_label(faults, labels),
             LineMistake::TwiceLabel => self.add(faults, "is a label for the second time"),
             LineMistake::TooMany => {
-                faults.add(
-                    self.offset(),
-                    &[Text("a program has at most 256 instructions")],
-                );
+                faults.add(self.offset(), "a program has at most 256 instructions");
             }
             LineMistake::FallsOff => faults.add(
                 self.offset(),
-                &[Text("the last instruction goes on: a program ends with jmp or halt")],
+                "the last instruction goes on: a program ends with jmp or halt",
             ),
         }
         Ok(())
@@ -267,7 +260,7 @@ fn add_returns(faults: &mut Faults<'_>, text: &ProgramText, code: &mut Vec<u8>) 
     if let Some(at) = first {
         faults.add(
             text.code.offset(at),
-            &[Text("lines end with a carriage return: in a program a line feed ends them alone")],
+            "lines end with a carriage return: in a program a line feed ends them alone",
         );
     }
 }

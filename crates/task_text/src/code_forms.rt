@@ -2,10 +2,9 @@
 
 use crate::known_words::{COMMANDS, FLAGS, RIGHTS};
 use crate::near::{is_known, meant};
-use crate::pages::Page;
-use crate::pages::Piece::Text;
 use crate::places::part;
 use prog_asm::Form;
+use texts::{Page, say};
 
 /// What is wanted at a place of this form.
 pub(crate) fn wanted(form: Form) -> &'static str {
@@ -54,7 +53,7 @@ pub(crate) fn add_meant(page: &mut Page, list: &[u8], known: &[&str]) -> bool {
             let Some(one) = meant(word, known) else {
                 return false;
             };
-            page.pieces(&[Text(separator), Text(one)]);
+            say!(page; separator, one);
             separator = ",";
         }
     }

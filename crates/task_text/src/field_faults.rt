@@ -4,18 +4,16 @@ ghost use Rattle.std.specs.Prelude.{OnOk, map};
 ghost use Rattle.std.specs.List.{flat_map};
 ghost use Rattle.task_text.specs.FaultLines.{more_line, placed_line};
 ghost use Rattle.task_text.specs.FaultViews.{AddsFaultLines, fault_of};
-ghost use Rattle.task_text.specs.PageViews.{Adds};
+ghost use Rattle.texts.specs.PageViews.{Adds};
 
 use crate::decoded::decode;
 use crate::fields::{Entry, Fields, Table, TableKind};
 use crate::known_words::{Value, keys_of, kind_name, needed_keys, value_of};
 use crate::near::{is_known, meant};
-use crate::pages::Page;
-use crate::pages::Piece::{self, Bytes, Number, Text};
 use crate::places::{Cursor, part};
 use crate::tokens::{Token, TokenKind};
 use std::alloc::{AllocError, Global};
-use texts::is_name;
+use texts::{Page, Say, is_name, parts_of, say};
 
 /// What is told at an offset of a text.
 #[derive(Drop)]
@@ -43,15 +41,7 @@ fn add_lines(page: &mut Page, file: &[u8], lines: &[Line])
     let mut cursor = Cursor::FIRST;
     for line in lines {
         let place = cursor.go_to(file, line.offset);
-        page.pieces(&[
-            Text("line "),
-            Number(place.line),
-            Text(", column "),
-            Number(place.column),
-            Text(": "),
-        ]);
-        page.page(&line.text);
-        page.text("\n");
+        say!(page; "line ", place.line, ", column ", place.column, ": ", &line.text, "\n");
     }
 }
 
@@ -60,8 +50,7 @@ fn add_more(page: &mut Page, more: usize)
     ensures { Adds page.old page.new (more_line more) }
 {
     if more > 0 {
-        let more = more.min(u32::MAX as usize) as u32;
-        page.pieces(&[Text("faults that are left out: "), Number(more), Text("\n")]);
+        say!(page; "faults that are left out: ", more, "\n");
     }
 }
 
@@ -77,9 +66,9 @@ impl<'a> Faults<'a> {
     }
 
     /// Adds the fault at an offset.
-    pub(crate) fn add(&mut self, offset: usize, pieces: &[Piece<'_>]) {
+    pub(crate) fn add<S: Say>(&mut self, offset: usize, said: S) {
         let mut text = Page::new(self.alloc);
-        text.pieces(pieces);
+        said.say(&mut text);
         self.add_page(offset, text);
     }
 
@@ -100,10 +89,7 @@ impl<'a> Faults<'a> {
     /// Adds what is told at an offset: a word, and what is said of it.
     pub(crate) fn add_of(&mut self, offset: usize, word: &[u8], text: &str) {
         let mut line = Page::new(self.alloc);
-        line.text("`");
-        line.bytes(word);
-        line.text("` ");
-        line.text(text);
+        say!(&mut line; "`", word, "` ", text);
         self.add_page(offset, line);
     }
 
@@ -117,18 +103,12 @@ impl<'a> Faults<'a> {
     /// Adds the line of a word that isn't one of these, with what was meant.
     pub(crate) fn add_word(&mut self, offset: usize, what: &str, word: &[u8], known: &[&str]) {
         let mut line = Page::new(self.alloc);
-        line.text(what);
-        line.text(" `");
-        line.bytes(word);
+        say!(&mut line; what, " `", word);
         match meant(word, known) {
-            Some(one) => {
-                line.text("`: `");
-                line.text(one);
-                line.text("` is meant?");
-            }
-            None if known.is_empty() => line.text("` isn't there: there is none"),
+            Some(one) => say!(&mut line; "`: `", one, "` is meant?"),
+            None if known.is_empty() => say!(&mut line; "` isn't there: there is none"),
             None => {
-                line.text("` is none of ");
+                say!(&mut line; "` is none of ");
                 add_list(&mut line, known);
             }
         }
@@ -140,8 +120,7 @@ impl<'a> Faults<'a> {
 fn add_list(page: &mut Page, words: &[&str]) {
     let mut separator = "";
     for word in words {
-        page.text(separator);
-        page.text(word);
+        say!(page; separator, *word);
         separator = ", ";
     }
 }
@@ -235,10 +214,7 @@ fn add_value(
         add_wrong_word(faults, key, value, expected, &word);
     } else {
         let name = entry.key.written(faults.file);
-        faults.add(
-            value.start,
-            &[Text("`"), Bytes(name), Text("` is "), Text(wanted)],
-        );
+        faults.add(value.start, parts_of!("`", name, "` is ", wanted));
     }
     Ok(())
 }
@@ -256,10 +232,7 @@ fn add_entry(faults: &mut Faults<'_>, fields: &Fields, entry: &Entry) -> Result<
     match entry.value {
         Some(value) => add_value(faults, fields, entry, key, value),
         None => {
-            faults.add(
-                entry.key.start,
-                &[Text("`"), Text(key), Text("` has no value")],
-            );
+            faults.add(entry.key.start, parts_of!("`", key, "` has no value"));
             Ok(())
         }
     }
@@ -366,15 +339,8 @@ fn add_missing(faults: &mut Faults<'_>, fields: &Fields, number: usize) {
 
 /// Tells of a key that a table lacks.
 fn add_lack(faults: &mut Faults<'_>, table: &Table, key: &'static str) {
-    faults.add(
-        table.start,
-        &[
-            Text(kind_name(table.kind)),
-            Text(" without `"),
-            Text(key),
-            Text("`"),
-        ],
-    );
+    let kind = kind_name(table.kind);
+    faults.add(table.start, parts_of!(kind, " without `", key, "`"));
 }
 
 /// The name of a header, up to its bracket.

@@ -10,12 +10,10 @@ mod field_faults;
 mod fields;
 mod known_words;
 mod near;
-mod pages;
 mod path_faults;
 mod places;
 mod program_texts;
 mod tokens;
 
 pub use faults::add_faults;
-pub use pages::{Page, Piece};
 pub use program_texts::{ProgramText, Written, texts_of_file};

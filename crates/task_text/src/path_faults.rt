@@ -4,14 +4,12 @@ use crate::decoded::decode;
 use crate::field_faults::Faults;
 use crate::fields::{Fields, Table, TableKind};
 use crate::near::meant;
-use crate::pages::Page;
-use crate::pages::Piece::{Bytes, Text};
 use crate::places::part;
 use crate::tokens::{Token, TokenKind};
 use indexmap::IndexMap;
 use rights::limits::{MAX_DESCRIPTORS, MAX_GRANTS, MAX_NAME, MAX_PROGRAMS};
 use std::alloc::{AllocError, Global};
-use texts::{is_number, number_up_to};
+use texts::{Page, is_number, number_up_to, parts_of, say};
 
 /// What a key stands for, and where that stands.
 #[derive(Drop)]
@@ -341,11 +339,7 @@ fn add_grant(faults: &mut Faults<'_>, known: &Known<'_>, number: usize, item: &I
     }
     if let Some(before) = known.nested_before(number, path) {
         let mut line = Page::new(faults.alloc);
-        line.text("`");
-        line.bytes(path);
-        line.text("` and the grant of `");
-        line.bytes(before);
-        line.text("` lie in one another");
+        say!(&mut line; "`", path, "` and the grant of `", before, "` lie in one another");
         faults.add_page(item.path.place, line);
     }
 }
@@ -386,7 +380,7 @@ fn add_descriptor(faults: &mut Faults<'_>, known: &Known<'_>, number: usize, ite
     if !digits.is_empty() && known.is_twice(number, item) {
         faults.add(
             item.number.place,
-            &[Text("descriptor "), Bytes(digits), Text(" is given before")],
+            parts_of!("descriptor ", digits, " is given before"),
         );
     }
     if item.has_path {

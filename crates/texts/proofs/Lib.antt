@@ -7,3 +7,4 @@ pub mod DecimalSteps
 pub mod NumberTexts
 pub mod HexTexts
 pub mod TextRows
+pub mod PageLaws

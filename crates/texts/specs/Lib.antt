@@ -7,3 +7,4 @@ pub mod LineViews
 pub mod Words
 pub mod Hex
 pub mod Views
+pub mod PageViews

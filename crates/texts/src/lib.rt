@@ -1,4 +1,4 @@
-//! Texts: their parts and lines, and the numbers and names in them.
+//! Texts: their parts and lines, the numbers and names in them, and texts that grow.
 #![tactic(auto)]
 
 pub mod digits;
@@ -6,6 +6,7 @@ pub mod hex;
 pub mod lines;
 pub mod names;
 pub mod numbers;
+pub mod pages;
 pub mod parts;
 pub mod words;
 
@@ -14,5 +15,6 @@ pub use hex::{four_digits, one_digit, read_hex};
 pub use lines::{Line, Lines};
 pub use names::{Name, is_name};
 pub use numbers::{NumberFault, begins_well, compare_numbers, is_number, number_up_to};
+pub use pages::{Page, Say};
 pub use parts::first_part;
 pub use words::Words;

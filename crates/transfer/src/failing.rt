@@ -1,6 +1,7 @@
 //! The slots that fail a test, gathered.
 
-ghost use Rattle.std.specs.Prelude.{◌≡◌, ◌+◌, ◌++◌, ◌≤◌, IfOk, OnOk, length, map, option_map};
+ghost use Rattle.std.specs.Prelude.{◌≡◌, ◌+◌, ◌++◌, ◌≤◌, IfOk, OnOk, Some, codes, length, map, option_map};
+ghost use Rattle.std.specs.Fmt.{decimal};
 ghost use Rattle.certificate.specs.Views.{bound_of, interval_of, slot_of};
 ghost use Rattle.instruction_set.specs.Views.{operand_of};
 ghost use Rattle.rules.specs.Slots.{slots_from, slots_in};
@@ -14,6 +15,7 @@ use crate::uses::Through;
 use certificate::{Bound, Held, Interval, Slot};
 use instruction_set::Operand;
 use std::alloc::{AllocError, Global};
+use texts::{Page, Say, say};
 
 /// A slot that may be open, with what it holds then.
 #[derive(Clone, Copy)]
@@ -106,5 +108,14 @@ pub fn failing_through<T: UseTest>(
             };
             failing_slots(alloc, bound, through.operand, &asked)
         }
+    }
+}
+
+/// The number of a slot.
+impl Say for OpenSlot {
+    ghost said = { λ slot. Some (codes "descriptor " ++ decimal slot.number) };
+
+    fn say(self, page: &mut Page) {
+        say!(page; "descriptor ", self.number)
     }
 }

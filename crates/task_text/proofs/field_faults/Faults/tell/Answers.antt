@@ -2,7 +2,7 @@ use Rattle.std.proofs.Common.{ℕ, ◌≡◌, ◌≤◌, ◌-◌, ◌∙◌, len
 use Rattle.std.proofs.Math.ListN.{length-map}
 use Rattle.std.proofs.lemmas.List.{length-take-le}
 use Rattle.task_text.specs.FaultViews.{fault_of}
-use Rattle.task_text.proofs.PageLaws.{adds_both}
+use Rattle.texts.proofs.PageLaws.{adds_both}
 use Rattle.task_text.proofs.field_faults.Faults.tell.Goals as goal
 
 pub returns : goal.returns

@@ -1,7 +1,7 @@
 -- What is added to a page, one after another.
 use Rattle.std.proofs.Common.{ℕ, List, ◌++◌, append_assoc, ap, ◌∙◌}
-use Rattle.task_text.specs.PageViews.{Adds}
-use Rattle.task_text.specs.declared.pages.Page.{Page}
+use Rattle.texts.specs.PageViews.{Adds}
+use Rattle.texts.specs.declared.pages.Page.{Page}
 
 pub adds_both : (before between after : Page) (first second : List ℕ) → Adds before between first → Adds between after second → Adds before after (first ++ second)
 adds_both before between after first second one two = record {
