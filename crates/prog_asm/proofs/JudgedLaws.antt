@@ -214,3 +214,12 @@ unread-counted text is = go (line_read text) is
     go : (read : Result Line Mistake) → is_ok read ≡ false → read_or_halt text read ≡ line_with (name_if_good (label_in (words_on text))) (Some (Alone Halt))
     go (Ok read) is = absurd cc
     go (Err mistake) is = refl
+
+-- A line with which nothing is wrong by itself is read as it counts.
+pub good-read : (text : List ℕ) (number : ℕ) → [] ≡ own_fault number (wrong_on text) → line_read text ≡ Ok (counted text)
+good-read text number good = go (line_read text) (wrong_on text) (line-mistake text) good
+  where
+    go : (read : Result Line Mistake) (wrong : Option Wrong) → option_map (λ wrong. wrong.mistake) wrong ≡ error_in read → [] ≡ own_fault number wrong → read ≡ Ok (read_or_halt text read)
+    go (Ok read) wrong same good = refl
+    go (Err mistake) None same good = absurd cc
+    go (Err mistake) (Some wrong) same good = absurd cc

@@ -10,3 +10,4 @@ pub mod FormLaws
 pub mod JudgedLaws
 pub mod JudgedCode
 pub mod Assembled
+pub mod SameInstructions

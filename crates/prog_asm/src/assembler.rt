@@ -28,17 +28,11 @@ fn place(
     ensures { option_map instruction_of result
         ≡ placed (λ name. below points (point_in labels.now name)) (written_from written.entry) }
 {
-    match written {
-        Written::Set { register, value } => Some(Instruction::Set { register, value }),
-        Written::Mov { register, source } => Some(Instruction::Mov { register, source }),
-        Written::Add { register, addend } => Some(Instruction::Add { register, addend }),
-        Written::In { register } => Some(Instruction::In { register }),
-        Written::Halt => Some(Instruction::Halt),
-        Written::Leading { jump, label } => {
-            let target = point_of(labels, points, label)?;
-            Some(jump.led(target as u8))
-        }
-    }
+    let target = match &written {
+        Written::Leading { label, .. } => point_of(labels, points, label)?,
+        _ => 0,
+    };
+    Some(written.led(target as u8))
 }
 
 /// The instructions of a draft with points in the place of labels, those left out that name a missing one.

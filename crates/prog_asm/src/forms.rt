@@ -5,6 +5,7 @@ ghost use Rattle.std.specs.Prelude.{◌≡◌, Some};
 ghost use Rattle.rights.specs.Views.{call_of};
 ghost use Rattle.prog_asm.specs.FormParts.{at_call_at, comparison_at, descriptor_call_at, operand_call_at, path_call_at, register_form_at};
 ghost use Rattle.prog_asm.specs.FormViews.{TakesField, TakesWord, jump_from, mnemonic_from, written_from};
+ghost use Rattle.instruction_set.specs.Assembly.{placed};
 ghost use Rattle.instruction_set.specs.Forms.{Make, commands_at, directory_at, else_at, flags_at, label_at, led, number_at};
 ghost use Rattle.instruction_set.specs.Forms.{operand_at, path_at, register_at, rights_at, syscall_at, whole, written_at, written_of};
 ghost use Rattle.prog_asm.specs.LineViews.{texts_of};
@@ -78,6 +79,23 @@ pub(crate) enum Written<'t> {
         jump: Jump,
         label: &'t [u8],
     },
+}
+
+impl<'t> Written<'t> {
+    /// The instruction, with this point in the place of its label, if it has one.
+    #[tactic(auto, unfolding(crate::specs::FormViews::written_from))]
+    pub(crate) fn led(self, target: u8) -> Instruction
+        ensures { placed (λ name. Some target) (written_from self.entry) ≡ Some (instruction_of result) }
+    {
+        match self {
+            Written::Set { register, value } => Instruction::Set { register, value },
+            Written::Mov { register, source } => Instruction::Mov { register, source },
+            Written::Add { register, addend } => Instruction::Add { register, addend },
+            Written::In { register } => Instruction::In { register },
+            Written::Halt => Instruction::Halt,
+            Written::Leading { jump, .. } => jump.led(target),
+        }
+    }
 }
 
 /// The words of a line from some place on, which are read field by field. A clause sees the words.

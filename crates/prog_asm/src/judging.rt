@@ -16,20 +16,17 @@ use crate::faults::{LineFault, LineMistake};
 use crate::forms::{Jump, Written};
 use crate::lines::{Span, before_comment, words};
 use crate::statements::behind_label;
-use crate::wrongs::{NO_PLACE, first_place};
+use crate::wrongs::{first_place, last_place};
 use std::alloc::{AllocError, Global};
 use std::collections::VecDeque;
 use texts::Lines;
 
 /// The place of the last of a line's words.
-fn last_place(alloc: Global, line: &[u8]) -> Result<Span, AllocError>
+fn last_word(alloc: Global, line: &[u8]) -> Result<Span, AllocError>
     ensures { IfOk result (λ span. span_seen span ≡ model.last_place (words_on line.now)) }
 {
     let words = words(alloc, before_comment(line))?;
-    Ok(match words.as_slice() {
-        [] => NO_PLACE,
-        [.., last] => last.span,
-    })
+    Ok(last_place(&words))
 }
 
 /// The place of the word of a line's instruction.
@@ -80,7 +77,7 @@ fn missing_label(
     if draft.point_of(label).is_some() {
         return Ok(None);
     }
-    let span = last_place(alloc, line_numbered(lines, step.line))?;
+    let span = last_word(alloc, line_numbered(lines, step.line))?;
     Ok(Some(LineFault::at(LineMistake::NoLabel, step.line, span)))
 }
 

@@ -20,7 +20,7 @@ use crate::statements::{Line, behind_label, label_in, read_line};
 use std::alloc::{AllocError, Global};
 use texts::is_name;
 
-pub(crate) const NO_PLACE: Span = Span { start: 0, end: 0 };
+const NO_PLACE: Span = Span { start: 0, end: 0 };
 
 /// Where the operand of this number stands; behind the last word, where it is missing.
 fn operand_place(word: &Word<'_>, operands: &[Word<'_>], number: usize) -> Span
@@ -105,6 +105,16 @@ pub(crate) fn first_place(words: &[Word<'_>]) -> Span
     match words.first() {
         Some(word) => word.span,
         None => NO_PLACE,
+    }
+}
+
+/// Where the last of these words stands.
+pub(crate) fn last_place(words: &[Word<'_>]) -> Span
+    ensures { span_seen result ≡ model.last_place (map word_of words.now) }
+{
+    match words {
+        [] => NO_PLACE,
+        [.., last] => last.span,
     }
 }
 
