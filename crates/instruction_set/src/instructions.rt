@@ -9,7 +9,7 @@ use crate::operands::{Operand, Path, Register};
 use rights::{Call, Fcntls, OpenFlags, Rights};
 
 /// A system call with its operands.
-#[derive(Drop)]
+#[derive(Drop, PartialEq, Eq)]
 pub enum Syscall {
     /// Opens the path from the root. (open(2))
     Open {
@@ -170,7 +170,7 @@ impl Syscall {
 }
 
 /// An instruction. A target is a point of its program. (own)
-#[derive(Drop)]
+#[derive(Drop, PartialEq, Eq)]
 pub enum Instruction {
     /// Sets the register to the value.
     Set {

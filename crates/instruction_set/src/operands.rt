@@ -1,6 +1,8 @@
 //! What instructions work on: registers, numbers and paths.
 
 ghost use Rattle.std.specs.Prelude.{◌≡◌, ◌<◌, ◌↔◌, true, IsSome, IfSome, IsTrue, nat_lt};
+ghost use Rattle.std.proofs.Common.{rules};
+ghost use Rattle.std.specs.Cmp.Rules.{comparing};
 ghost use Rattle.std.specs.List.{list_all};
 ghost use Rattle.instruction_set.specs.Programs.{is_path, is_path_byte};
 
@@ -89,6 +91,22 @@ impl Model for Path {
     ghost view = { λ p. p.bytes.items };
 
     ghost invariant = { λ p. is_path p.bytes.items ≡ true };
+}
+
+impl PartialEq for Path {
+    ghost use Rattle.std.specs.Prelude.{bytes_eq};
+
+    ghost eq = { bytes_eq };
+
+    ghost laws = { Prim.search (comparing, rules) };
+
+    fn eq(&self, other: &Path) -> bool {
+        self.bytes() == other.bytes()
+    }
+}
+
+impl Eq for Path {
+    ghost laws = { Prim.search (comparing, rules) };
 }
 
 impl Path {

@@ -3,9 +3,7 @@ use Rattle.std.proofs.Common.{◌≡◌, ◌+◌, ◌<◌, ◌≤◌, ℕ, Bool,
 use Rattle.std.specs.Prelude.{◌&&◌, Option, Some, None, Result, Ok, Err, cond, nat_lt, option_map}
 use Rattle.std.specs.List.{list_all}
 use Rattle.std.proofs.lemmas.Bool.{le-leb, leb-false}
-use Rattle.std.proofs.lemmas.List.{length-map}
 use Rattle.prog_asm.specs.declared.drafts.Draft.{Draft}
-use Rattle.prog_asm.specs.declared.faults.AsmFault.{AsmFault}
 use Rattle.instruction_set.specs.Programs.{Instruction, ends_well, is_instruction, is_program}
 use Rattle.instruction_set.specs.Lines.{has_stray, text_lines, uncommented, quoted_words}
 use Rattle.texts.specs.Names.{is_name}
@@ -14,11 +12,10 @@ use Rattle.instruction_set.specs.Forms.{Mnemonic, Written, Alone, Leading, led, 
 use Rattle.instruction_set.specs.Assembly.{Fault, FallsOff, Line, Mistake, Step, TooMany, TwiceLabel, Word, assembly_of, code_from, complete, fault, instruction_in, is_one_too_many}
 use Rattle.instruction_set.specs.Assembly.{is_twice, labelled, last_line_number, line_behind, line_read, line_of_code, line_read_of, line_with, lines_behind, told_at, operands_read}
 use Rattle.instruction_set.specs.Assembly.{placed, placed_at, point_named, program_read, read_as, steps_of, steps_on, with_label, ◌>>=◌}
-use Rattle.prog_asm.specs.DraftViews.{Drafts, below, labelled_from, step_from}
-use Rattle.prog_asm.specs.FaultViews.{FaultIs}
-use Rattle.prog_asm.proofs.DraftLaws.{steps_of-append}
+use Rattle.prog_asm.specs.DraftViews.{Drafts, below, labelled_from}
+use Rattle.prog_asm.proofs.DraftLaws.{length-drafts, steps_of-append}
 use Rattle.prog_asm.proofs.GoodForms.{GoodWritten, written-good}
-use Rattle.prog_asm.proofs.Points.{fault-passes, point_of-labelled}
+use Rattle.prog_asm.proofs.Points.{point_of-labelled}
 
 bound : {A B : Type 0} (r : Result A Fault) (f : A → Result B Fault) (b : B) → (r >>= f) ≡ Ok b → (a : A) × (r ≡ Ok a) × (f a ≡ Ok b)
 bound (Ok a) f b h = (a, refl, h)
@@ -202,13 +199,9 @@ assembly-good text code h =
 -- a draft of a text's lines has at most 256 instructions
 pub draft-few : (text : List ℕ) (lines : List Line) (draft : Draft) → lines_behind [] (text_lines text) ≡ Ok lines → Drafts lines draft → length draft.steps.items ≤ 256
 draft-few text lines draft is drafts =
-    omega (arith, (lines-good [] (text_lines text) lines nothing-good is).few, sym (length-map draft.steps.items step_from), ap length drafts.steps)
+    omega (arith, (lines-good [] (text_lines text) lines nothing-good is).few, length-drafts lines draft drafts)
 
 -- what a text stands for, by its lines
 pub assembly-lines : (text : List ℕ) (lines : List Line) → lines_behind [] (text_lines text) ≡ Ok lines → assembly_of text ≡ program_read lines
 unfolding assembly_of
 assembly-lines text lines is = ap (λ read. read >>= program_read) is
-
-pub assembly-fault : (text : List ℕ) (error : AsmFault) → FaultIs error (lines_behind [] (text_lines text)) → FaultIs error (assembly_of text)
-unfolding assembly_of
-assembly-fault text error is = fault-passes error (lines_behind [] (text_lines text)) program_read is

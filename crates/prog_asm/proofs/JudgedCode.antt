@@ -1,48 +1,23 @@
--- What the code's draft and faults say of the lines that were judged.
+-- What the code's draft says of the lines that were judged.
 use Rattle.std.proofs.Common.{◌≡◌, ◌+◌, ℕ, Bool, true, false, List, [], ◌∷◌, ◌++◌, length, map, drop, get_or, refl}
-use Rattle.std.proofs.Common.{ap, sym, ◌∙◌, subst, append_assoc, append-nil, length-append, suc, zero, arith, ◌⊎◌, inl, inr, ◌<◌, ◌≤◌, Bor}
-use Rattle.std.specs.Prelude.{Option, Some, None, is_none, cond, Ok, Err, if◌then◌else◌}
+use Rattle.std.proofs.Common.{ap, sym, ◌∙◌, subst, append_assoc, append-nil, length-append, suc, zero, arith, ◌<◌, ◌≤◌, Bor}
+use Rattle.std.specs.Prelude.{Option, Some, None, is_none, cond}
 use Rattle.std.specs.List.{flat_map}
-use Rattle.std.proofs.lemmas.List.{drop_all, length-map}
+use Rattle.std.proofs.lemmas.List.{drop_all}
 use Rattle.prog_asm.specs.declared.drafts.Draft.{Draft}
-use Rattle.prog_asm.specs.declared.judging.LineFault.{LineFault as LineFaultCode}
 use Rattle.instruction_set.specs.Lines.{text_lines}
-use Rattle.prog_asm.specs.declared.mistakes.Mistake.{Mistake as MistakeCode}
-use Rattle.prog_asm.specs.declared.mistakes.Mistake.TheVariants as mistake
-use Rattle.prog_asm.specs.declared.statements.Line.{Line as LineCode}
-use Rattle.instruction_set.specs.Assembly.{Line, Mistake, NoLabel, Step, TooMany, is_one_too_many, is_twice, line_behind, line_read, line_with, point_named, steps_of}
-use Rattle.instruction_set.specs.Assembly as assembly
+use Rattle.instruction_set.specs.Assembly.{Line, NoLabel, Step, TooMany, TwiceLabel, is_label, is_one_too_many, is_twice, line_with, lines_behind, point_named, steps_of, steps_on}
 use Rattle.instruction_set.specs.Forms.{Alone, Leading, Written}
-use Rattle.instruction_set.specs.Programs.{Halt}
-use Rattle.prog_asm.specs.DraftViews.{AddsLine, Drafts, below, step_from}
-use Rattle.prog_asm.specs.FaultPlaceViews.{JudgesLine, faults_seen, new_label_of, second_label_of}
+use Rattle.prog_asm.specs.DraftViews.{Drafts, JudgesLine, LabelAdded, OwnAdded, ReadsAll, StepAdded, new_label_of, draft_point, step_from}
+use Rattle.prog_asm.specs.FaultPlaceViews.{faults_seen}
 use Rattle.prog_asm.specs.LineFaults as model
-use Rattle.prog_asm.specs.LineFaults.{LineFault, Wrong, counted, faults_behind, faults_of, faults_on, faults_together, is_beyond}
-use Rattle.prog_asm.specs.LineFaults.{label_in, label_place, name_if_good, own_fault, wrong_on, missing_label, read_or_halt, with_new_label}
-use Rattle.prog_asm.specs.LineViews.{line_from, point_in}
-use Rattle.prog_asm.specs.ReadingViews.{FailsReading, ReadsAssembly}
+use Rattle.prog_asm.specs.LineFaults.{LineFault, Wrong, counted, faults_behind, faults_of, faults_on, faults_together, instruction_place, is_beyond}
+use Rattle.prog_asm.specs.LineFaults.{label_in, label_place, missing_label, own_fault, placed_fault, with_new_label, wrong_on}
+use Rattle.prog_asm.specs.LineViews.{has_point, point_in}
 use Rattle.prog_asm.specs.WordPlaces.{Span, words_on}
-use Rattle.prog_asm.proofs.DraftLaws.{line_behind-once}
-use Rattle.prog_asm.proofs.Points.{point_of-labelled}
-
--- A line that is read, and one that isn't.
-pub counted-read : (text : List ℕ) (line : LineCode) → ReadsAssembly line_from (Ok line) (line_read text) → line_from line ≡ counted text
-counted-read text line read = sym (ap (read_or_halt text) read)
-
-counted-wrong : (text : List ℕ) (own : Mistake) → line_read text ≡ Err own → counted text ≡ line_with (name_if_good (label_in (words_on text))) (Some (Alone Halt))
-counted-wrong text own read = ap (read_or_halt text) read
-
-pub fails-counted : (text : List ℕ) (wrong : MistakeCode) →
-    (wrong ≡ mistake.Word) ⊎ ((wrong ≡ mistake.Operand) ⊎ ((wrong ≡ mistake.TwiceLabel) ⊎ (wrong ≡ mistake.TooMany))) → FailsReading wrong (line_read text) →
-    counted text ≡ line_with (name_if_good (label_in (words_on text))) (Some (Alone Halt))
-fails-counted text mistake.Word is fails = counted-wrong text assembly.Word fails
-fails-counted text mistake.Operand is fails = counted-wrong text assembly.Operand fails
-fails-counted text mistake.TwiceLabel is fails = counted-wrong text assembly.TwiceLabel fails
-fails-counted text mistake.TooMany is fails = counted-wrong text assembly.TooMany fails
-fails-counted text mistake.Memory (inl is) fails = absurd cc
-fails-counted text mistake.Memory (inr (inl is)) fails = absurd cc
-fails-counted text mistake.Memory (inr (inr (inl is))) fails = absurd cc
-fails-counted text mistake.Memory (inr (inr (inr is))) fails = absurd cc
+use Rattle.prog_asm.proofs.DraftLaws.{is_twice-drafts, labels-after, length-drafts, steps-after}
+use Rattle.prog_asm.proofs.JudgedLaws.{line-good}
+use Rattle.prog_asm.proofs.Points.{points-drafts}
 
 -- A line with its label, if that is new.
 new-line : (before : List Line) (line : Line) → line_with (new_label_of (is_twice before line.label) line.label) line.instruction ≡ with_new_label before line
@@ -52,54 +27,87 @@ new-line before line = go (is_twice before line.label)
     go true = refl
     go false = refl
 
-new-once : (before : List Line) (label : Option (List ℕ)) → is_twice before (new_label_of (is_twice before label) label) ≡ false
-new-once before label = go (is_twice before label) refl
+new-once : (before : List Line) (draft : Draft) (label : Option (List ℕ)) → Drafts before draft → has_point draft.labels (new_label_of (is_twice before label) label) ≡ false
+new-once before draft label drafts = go (is_twice before label) refl
   where
-    go : (twice : Bool) → is_twice before label ≡ twice → is_twice before (cond twice None label) ≡ false
+    go : (twice : Bool) → is_twice before label ≡ twice → has_point draft.labels (cond twice None label) ≡ false
     go true is = refl
-    go false is = is
+    go false is = sym (is_twice-drafts before draft label drafts) ∙ is
 
--- What is added behind others, with a new label: one too many, or itself.
-added-behind : (before : List Line) (line : Line) →
-    line_behind before (Ok (line_with (new_label_of (is_twice before line.label) line.label) line.instruction))
-    ≡ (if is_one_too_many (length (steps_of before)) line.instruction then Err TooMany else Ok (line_with (new_label_of (is_twice before line.label) line.label) line.instruction))
-added-behind before line = line_behind-once before (line_with (new_label_of (is_twice before line.label) line.label) line.instruction)
-    (is_one_too_many (length (steps_of before)) line.instruction) (new-once before line.label) refl
+-- A label that no line before has.
+pub label-added : (before after : Draft) (number : ℕ) (name : List ℕ) (point : ℕ) (span : Span) → has_point before.labels (Some name) ≡ false → point ≡ length before.steps.items →
+    ((other : List ℕ) → point_in after.labels other ≡ cond (is_label other (Some name)) (Some point) (point_in before.labels other)) →
+    after.steps ≡ before.steps → after.faults ≡ before.faults → LabelAdded before after number (Some name) span
+label-added before after number name point span absent is added steps faults = record {
+  faults =
+      ap (λ faults. faults_seen faults.items) faults ∙ sym (append-nil (faults_seen before.faults.items))
+      ∙ ap (λ is. faults_seen before.faults.items ++ cond is (placed_fault TwiceLabel number span ∷ []) []) (sym absent);
+  labels = λ other.
+      added other ∙ ap (λ point. cond (is_label other (Some name)) (Some point) (point_in before.labels other)) is
+      ∙ ap (λ is. cond (is_label other (new_label_of is (Some name))) (Some (length before.steps.items)) (point_in before.labels other)) (sym absent);
+  steps = steps;
+}
 
--- the line that is judged, by its parts
-pub record IsAdded (before : List Line) (text : List ℕ) (line : Line) : Type 0 where
-  pub label : line.label ≡ new_label_of (is_twice before (counted text).label) (counted text).label
-  pub instruction : line.instruction ≡ (counted text).instruction
+-- A line that is judged, as it is seen.
+pub record IsSeen (text : List ℕ) (number : ℕ) (read : Line) (own_faults : List LineFault) (at_label at_instruction : Span) : Type 0 where
+  pub line : read ≡ counted text
+  pub own : own_faults ≡ own_fault number (wrong_on text)
+  pub label : at_label ≡ label_place (label_in (words_on text))
+  pub instruction : at_instruction ≡ instruction_place text
 
-line-added : (before : List Line) (text : List ℕ) (line : Line) → IsAdded before text line →
-    line ≡ line_with (new_label_of (is_twice before (counted text).label) (counted text).label) (counted text).instruction
-line-added before text line is = ap (λ label. line_with label line.instruction) is.label
-    ∙ ap (λ instruction. line_with (new_label_of (is_twice before (counted text).label) (counted text).label) instruction) is.instruction
-
-pub line-fits : (before : List Line) (text : List ℕ) (line : Line) (after : Draft) → IsAdded before text line → AddsLine (Ok tt) before (Ok line) after →
-    (is_beyond before text ≡ false) × Drafts (before ++ with_new_label before (counted text) ∷ []) after
-line-fits before text line after is adds =
-    let own = line_with (new_label_of (is_twice before (counted text).label) (counted text).label) (counted text).instruction in
-    let read = ap (λ line. line_behind before (Ok line)) (sym (line-added before text line is)) ∙ adds.1 in
-    go (is_beyond before text) own refl (sym (added-behind before (counted text)) ∙ read) (new-line before (counted text))
+-- What a line adds is its own faults, its label's, and its instruction.
+pub line-judged : (before : List Line) (text : List ℕ) (old own labelled new : Draft) (number : ℕ) (line : Line) (wrong : List LineFault) (at_label at_instruction : Span) (more : Bool) →
+    Drafts before old → number ≡ length before + 1 → IsSeen text number line wrong at_label at_instruction → OwnAdded old own wrong →
+    LabelAdded own labelled number line.label at_label → StepAdded labelled new number line.instruction at_instruction more → JudgesLine before text old new more
+line-judged before text old own labelled new number line wrong at_label at_instruction more drafts is seen owned named stepped = go more stepped
   where
-    go : (many : Bool) (own : Line) → is_beyond before text ≡ many → cond many (Err TooMany) (Ok own) ≡ Ok adds.0 → own ≡ with_new_label before (counted text) →
-        (is_beyond before text ≡ false) × Drafts (before ++ with_new_label before (counted text) ∷ []) after
-    go true own is same new = absurd cc
-    go false own is same new =
-        let here : own ≡ adds.0 = cc in
-        (is, subst (λ line. Drafts (before ++ line ∷ []) after) (sym here ∙ new) adds.2)
+    drafts_own : Drafts before own
+    drafts_own = record {
+      steps = ap (λ steps. map step_from steps.items) owned.steps ∙ drafts.steps;
+      labels = λ name. ap (λ labels. point_in labels name) owned.labels ∙ drafts.labels name;
+    }
 
-pub line-beyond : (before : List Line) (text : List ℕ) (line : Line) (after : Draft) → IsAdded before text line → AddsLine (Err mistake.TooMany) before (Ok line) after →
-    is_beyond before text ≡ true
-line-beyond before text line after is fails =
-    let own = line_with (new_label_of (is_twice before (counted text).label) (counted text).label) (counted text).instruction in
-    let read = ap (λ line. line_behind before (Ok line)) (sym (line-added before text line is)) ∙ fails in
-    go (is_beyond before text) own (sym (added-behind before (counted text)) ∙ read)
-  where
-    go : (many : Bool) (own : Line) → cond many (Err TooMany) (Ok own) ≡ Err TooMany → many ≡ true
-    go true own same = refl
-    go false own same = absurd cc
+    twice : has_point own.labels line.label ≡ is_twice before line.label
+    twice = sym (is_twice-drafts before own line.label drafts_own)
+
+    second : Bool → ℕ → Span → List LineFault
+    second is n span = cond is (placed_fault TwiceLabel n span ∷ []) []
+
+    told : faults_seen labelled.faults.items ≡ faults_seen old.faults.items ++ faults_on before text
+    told =
+        named.faults ∙ ap (λ faults. faults ++ second (has_point own.labels line.label) number at_label) owned.faults
+        ∙ append_assoc (faults_seen old.faults.items) wrong (second (has_point own.labels line.label) number at_label)
+        ∙ ap (λ more. faults_seen old.faults.items ++ more)
+        (ap (λ is. wrong ++ second is number at_label) (twice ∙ ap (λ line. is_twice before line.label) seen.line)
+        ∙ rw (seen.own, is, seen.label) refl)
+
+    count : is_one_too_many (length labelled.steps.items) line.instruction ≡ is_beyond before text
+    count = ap (λ steps. is_one_too_many (length steps.items) line.instruction) named.steps
+        ∙ ap (λ n. is_one_too_many n line.instruction) (length-drafts before own drafts_own) ∙ ap (λ line. is_one_too_many (length (steps_of before)) line.instruction) seen.line
+
+    added : Line
+    added = line_with (new_label_of (is_twice before line.label) line.label) line.instruction
+
+    there : added ≡ with_new_label before (counted text)
+    there = new-line before line ∙ ap (with_new_label before) seen.line
+
+    named_there : (name : List ℕ) → point_in labelled.labels name ≡ cond (is_label name added.label) (Some (length own.steps.items)) (point_in own.labels name)
+    named_there name = named.labels name ∙ ap (λ twice. cond (is_label name (new_label_of twice line.label)) (Some (length own.steps.items)) (point_in own.labels name)) twice
+
+    go : (more : Bool) → StepAdded labelled new number line.instruction at_instruction more → JudgesLine before text old new more
+    go true s = (
+      sym count ∙ s.0,
+      subst (λ line. Drafts (before ++ line ∷ []) new) there (record {
+        steps = steps-after before added own new number is drafts_own (s.1 ∙ ap (λ steps. map step_from steps.items ++ steps_on number line.instruction) named.steps);
+        labels = labels-after before added own new drafts_own (new-once before own line.label drafts_own) (λ name. ap (λ labels. point_in labels name) s.2 ∙ named_there name);
+      }),
+      ap (λ faults. faults_seen faults.items) s.3 ∙ told,
+    )
+    go false s = (
+      sym count ∙ s.0,
+      s.1 ∙ ap (λ faults. faults ++ placed_fault TooMany number at_instruction ∷ []) told ∙ ap (λ n. faults_seen old.faults.items ++ faults_on before text ++ placed_fault TooMany n at_instruction ∷ []) is
+          ∙ ap (λ span. faults_seen old.faults.items ++ faults_on before text ++ placed_fault TooMany (length before + 1) span ∷ []) seen.instruction,
+    )
 
 -- Labels are missing by the draft where they are by its lines.
 missing-same : (lines : List (List ℕ)) (f g : List ℕ → Option ℕ) → ((name : List ℕ) → f name ≡ g name) → (steps : List Step) →
@@ -114,73 +122,96 @@ missing-same lines f g same (step ∷ steps) =
         ap (λ point. cond (is_none point) (model.placed_fault NoLabel step.line (model.last_place (words_on (model.line_numbered lines step.line))) ∷ []) []) (same name)
 
 pub missing-drafts : (lines : List (List ℕ)) (read : List Line) (draft : Draft) → Drafts read draft →
-    flat_map (missing_label lines (λ name. below (length draft.steps.items) (point_in draft.labels name))) (map step_from draft.steps.items)
+    flat_map (missing_label lines (draft_point draft)) (map step_from draft.steps.items)
     ≡ flat_map (missing_label lines (point_named read)) (steps_of read)
 missing-drafts lines read draft drafts =
-    let count : length draft.steps.items ≡ length (steps_of read) = sym (length-map draft.steps.items step_from) ∙ ap length drafts.steps in
-    ap (flat_map (missing_label lines (λ name. below (length draft.steps.items) (point_in draft.labels name)))) drafts.steps
-    ∙ missing-same lines (λ name. below (length draft.steps.items) (point_in draft.labels name)) (point_named read)
-    (λ name. ap (λ n. below n (point_in draft.labels name)) count ∙ ap (below (length (steps_of read))) (drafts.labels name) ∙ sym (point_of-labelled read name)) (steps_of read)
+    ap (flat_map (missing_label lines (draft_point draft))) drafts.steps
+    ∙ missing-same lines (draft_point draft) (point_named read) (points-drafts read draft drafts) (steps_of read)
 
--- What is told of a line behind others, by its parts.
-pub faults-on : (before : List Line) (text : List ℕ) (number : ℕ) (wrong : Option Wrong) (twice : Bool) (span : Span) → number ≡ length before + 1 → wrong ≡ wrong_on text →
-    twice ≡ is_twice before (counted text).label → span ≡ label_place (label_in (words_on text)) →
-    own_fault number wrong ++ second_label_of twice number span ≡ faults_on before text
-faults-on before text number wrong twice span n w t s = rw (n, w, t, s) refl
-
--- So many lines are judged, and these are left.
-pub record JudgedSoFar (text : List ℕ) (lines : List (List ℕ)) (at : ℕ) (draft : Draft) (faults : List LineFaultCode) : Type 0 where
+-- So many lines are judged, and these are left. If nothing is wrong so far, they are read.
+pub record JudgedSoFar (text : List ℕ) (lines : List (List ℕ)) (at : ℕ) (draft : Draft) : Type 0 where
   pub all : lines ≡ text_lines text
   pub read : List Line
   pub counts : at ≡ length read
   pub drafts : Drafts read draft
-  pub same : faults_seen faults ++ faults_behind lines read (drop at lines) ≡ faults_of text
+  pub same : faults_seen draft.faults.items ++ faults_behind lines read (drop at lines) ≡ faults_of text
+  pub good : faults_seen draft.faults.items ≡ [] → lines_behind [] lines ≡ lines_behind read (drop at lines)
+
+nothing-on : (faults more : List LineFault) → faults ++ more ≡ [] → (faults ≡ []) × (more ≡ [])
+nothing-on [] more is = (refl, is)
+nothing-on (fault ∷ faults) more is = absurd cc
 
 -- one line more, and one instruction too many
-pub one-judged : (text : List ℕ) (lines : List (List ℕ)) (line : List ℕ) (at : ℕ) (draft after : Draft) (faults told : List LineFaultCode) →
-    (so_far : JudgedSoFar text lines at draft faults) → drop at lines ≡ line ∷ drop (at + 1) lines → JudgesLine so_far.read line faults true after told →
-    JudgedSoFar text lines (at + 1) after told
-one-judged text lines line at draft after faults told so_far here judged =
+pub one-judged : (text : List ℕ) (lines : List (List ℕ)) (line : List ℕ) (at : ℕ) (draft after : Draft) →
+    (so_far : JudgedSoFar text lines at draft) → drop at lines ≡ line ∷ drop (at + 1) lines → JudgesLine so_far.read line draft after true →
+    JudgedSoFar text lines (at + 1) after
+one-judged text lines line at draft after so_far here judged =
     let read = so_far.read in
     let next = read ++ with_new_label read (counted line) ∷ [] in
     let rest = faults_behind lines next (drop (at + 1) lines) in
+    let faults = faults_seen draft.faults.items in
     record {
       all = so_far.all;
       read = next;
       counts = ap (λ n. n + 1) so_far.counts ∙ sym (length-append read (with_new_label read (counted line) ∷ []));
       drafts = judged.1;
       same =
-          ap (λ told. told ++ rest) judged.2 ∙ append_assoc (faults_seen faults) (faults_on read line) rest
-          ∙ sym (ap (λ left. faults_seen faults ++ faults_behind lines read left) here
-          ∙ ap (λ many. faults_seen faults ++ (faults_on read line ++ cond many (model.placed_fault TooMany (length read + 1) (model.instruction_place line) ∷ []) rest)) judged.0)
+          ap (λ told. told ++ rest) judged.2 ∙ append_assoc faults (faults_on read line) rest
+          ∙ sym (ap (λ left. faults ++ faults_behind lines read left) here
+          ∙ ap (λ many. faults ++ (faults_on read line ++ cond many (placed_fault TooMany (length read + 1) (instruction_place line) ∷ []) rest)) judged.0)
           ∙ so_far.same;
+      good = λ none.
+          let nothing = nothing-on faults (faults_on read line) (sym judged.2 ∙ none) in
+          so_far.good nothing.0 ∙ ap (lines_behind read) here ∙ line-good read line (drop (at + 1) lines) nothing.1 judged.0;
     }
 
-pub one-beyond : (text : List ℕ) (lines : List (List ℕ)) (line : List ℕ) (at : ℕ) (draft after : Draft) (faults told : List LineFaultCode) →
-    (so_far : JudgedSoFar text lines at draft faults) → drop at lines ≡ line ∷ drop (at + 1) lines → JudgesLine so_far.read line faults false after told →
-    faults_seen told ≡ faults_of text
-one-beyond text lines line at draft after faults told so_far here judged =
+pub one-beyond : (text : List ℕ) (lines : List (List ℕ)) (line : List ℕ) (at : ℕ) (draft after : Draft) →
+    (so_far : JudgedSoFar text lines at draft) → drop at lines ≡ line ∷ drop (at + 1) lines → JudgesLine so_far.read line draft after false →
+    faults_seen after.faults.items ≡ faults_of text
+one-beyond text lines line at draft after so_far here judged =
     let read = so_far.read in
     let next = read ++ with_new_label read (counted line) ∷ [] in
     let rest = faults_behind lines next (drop (at + 1) lines) in
-    let many = model.placed_fault TooMany (length read + 1) (model.instruction_place line) ∷ [] in
-    judged.1 ∙ append_assoc (faults_seen faults) (faults_on read line) many
-    ∙ sym (ap (λ left. faults_seen faults ++ faults_behind lines read left) here
-    ∙ ap (λ is. faults_seen faults ++ (faults_on read line ++ cond is many rest)) judged.0)
+    let faults = faults_seen draft.faults.items in
+    let many = placed_fault TooMany (length read + 1) (instruction_place line) ∷ [] in
+    judged.1 ∙ append_assoc faults (faults_on read line) many
+    ∙ sym (ap (λ left. faults ++ faults_behind lines read left) here
+    ∙ ap (λ is. faults ++ (faults_on read line ++ cond is many rest)) judged.0)
     ∙ so_far.same
 
-pub all-judged : (text : List ℕ) (lines : List (List ℕ)) (at : ℕ) (draft : Draft) (faults : List LineFaultCode) (told : List LineFault) →
-    (so_far : JudgedSoFar text lines at draft faults) → length lines ≤ at → told ≡ faults_seen faults ++ faults_together lines so_far.read → told ≡ faults_of text
-all-judged text lines at draft faults told so_far over is =
-    is ∙ sym (ap (λ left. faults_seen faults ++ faults_behind lines so_far.read left) (drop_all at lines over)) ∙ so_far.same
+-- with an instruction too many something is wrong
+pub beyond-reads : (text line : List ℕ) (read : List Line) (draft after : Draft) → JudgesLine read line draft after false → ReadsAll text after
+beyond-reads text line read draft after judged none =
+    absurd (something (faults_seen draft.faults.items ++ faults_on read line) _ [] (sym judged.1 ∙ none))
+  where
+    something : (faults : List LineFault) (fault : LineFault) (more : List LineFault) → faults ++ fault ∷ more ≡ [] → ⊥
+    something [] fault more is = absurd cc
+    something (first ∷ faults) fault more is = absurd cc
 
-pub none-judged : (text : List ℕ) (lines : List (List ℕ)) (draft : Draft) → lines ≡ text_lines text → Drafts [] draft → JudgedSoFar text lines 0 draft []
-none-judged text lines draft all drafts = record {
+pub all-judged : (text : List ℕ) (lines : List (List ℕ)) (at : ℕ) (draft : Draft) (told : List LineFault) →
+    (so_far : JudgedSoFar text lines at draft) → length lines ≤ at → told ≡ faults_seen draft.faults.items ++ faults_together lines so_far.read → told ≡ faults_of text
+all-judged text lines at draft told so_far over is =
+    is ∙ sym (ap (λ left. faults_seen draft.faults.items ++ faults_behind lines so_far.read left) (drop_all at lines over)) ∙ so_far.same
+
+pub all-read : (text : List ℕ) (lines : List (List ℕ)) (at : ℕ) (draft after : Draft) (more : List LineFault) (so_far : JudgedSoFar text lines at draft) → length lines ≤ at →
+    after.labels ≡ draft.labels → after.steps ≡ draft.steps → faults_seen after.faults.items ≡ faults_seen draft.faults.items ++ more → ReadsAll text after
+all-read text lines at draft after more so_far over labels steps told none = (
+  so_far.read,
+  ap (lines_behind []) (sym so_far.all) ∙ so_far.good (nothing-on (faults_seen draft.faults.items) more (sym told ∙ none)).0 ∙ ap (lines_behind so_far.read) (drop_all at lines over),
+  record {
+    steps = ap (λ steps. map step_from steps.items) steps ∙ so_far.drafts.steps;
+    labels = λ name. ap (λ labels. point_in labels name) labels ∙ so_far.drafts.labels name;
+  },
+)
+
+pub none-judged : (text : List ℕ) (lines : List (List ℕ)) (draft : Draft) → lines ≡ text_lines text → Drafts [] draft → draft.faults.items ≡ [] → JudgedSoFar text lines 0 draft
+none-judged text lines draft all drafts none = record {
   all = all;
   read = [];
   counts = refl;
   drafts = drafts;
-  same = ap (λ lines. faults_behind lines [] lines) all;
+  same = ap (λ faults. faults_seen faults ++ faults_behind lines [] lines) none ∙ ap (λ lines. faults_behind lines [] lines) all;
+  good = λ none. refl;
 }
 
 -- a line of some, as the code reads it

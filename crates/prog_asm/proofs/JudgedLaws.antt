@@ -1,25 +1,25 @@
 -- What is wrong with lines is what they are not read for, and the first of all faults is that of the text.
-use Rattle.std.proofs.Common.{◌≡◌, ◌+◌, ◌-◌, ℕ, Bool, true, false, List, [], ◌∷◌, ◌++◌, length, map, refl, ap, ◌∙◌}
-use Rattle.std.specs.Prelude.{Option, Some, None, is_none, is_some, option_map, cond, Result, Ok, Err}
+use Rattle.std.proofs.Common.{◌≡◌, ◌+◌, ℕ, Bool, true, false, List, [], ◌∷◌, ◌++◌, length, refl, ap, sym, ◌∙◌}
+use Rattle.std.specs.Prelude.{Option, Some, None, is_none, is_ok, is_some, option_map, cond, Result, Ok, Err}
 use Rattle.std.specs.List.{flat_map}
 use Rattle.texts.specs.Names.{is_name}
 use Rattle.instruction_set.specs.Assembly.{FallsOff, Fault, Line, Mistake, NoLabel, Step, TooMany, TwiceLabel, Word, code_from, complete, fault, instruction_in, is_one_too_many, is_twice}
-use Rattle.instruction_set.specs.Assembly.{labelled, last_line_number, line_behind, line_read, line_read_of, line_with, lines_behind, operands_read}
+use Rattle.instruction_set.specs.Assembly.{last_line_number, line_behind, line_read, line_with, lines_behind, operands_read}
 use Rattle.instruction_set.specs.Assembly.{placed, placed_at, point_named, program_read, read_as, steps_of, told_at, with_label}
 use Rattle.instruction_set.specs.Assembly.{assembly_of, ◌>>=◌}
-use Rattle.instruction_set.specs.Fields.{before_last}
 use Rattle.instruction_set.specs.Forms.{Alone, Jump, Leading, Mnemonic, Written, led, mnemonic_of, written_of, Always, If_equal, If_less, After_error}
-use Rattle.instruction_set.specs.Lines.{has_stray, text_lines, uncommented}
-use Rattle.instruction_set.specs.Programs.{Instruction, ends_well, is_last}
+use Rattle.instruction_set.specs.Lines.{text_lines, uncommented}
+use Rattle.instruction_set.specs.Programs.{Halt, Instruction, ends_well, is_last}
 use Rattle.prog_asm.specs.OperandForms.{Unfit, first_unfit, forms_of}
 use Rattle.prog_asm.specs.LineFaults as model
-use Rattle.prog_asm.specs.LineFaults.{LineFault, Wrong, bad_label, behind_label, placed_fault, fault_in, falls_off, faults_behind}
-use Rattle.prog_asm.specs.LineFaults.{faults_of, faults_together, first_fault, instruction_place, is_ending, label_in, label_place, missing_label}
+use Rattle.prog_asm.specs.LineFaults.{LineFault, Wrong, bad_label, behind_label, counted, placed_fault, fault_in, falls_off, faults_behind, faults_on, is_beyond}
+use Rattle.prog_asm.specs.LineFaults.{faults_of, faults_together, first_fault, instruction_place, is_ending, label_in, label_place, missing_label, name_if_good}
 use Rattle.prog_asm.specs.LineFaults.{own_fault, read_or_halt, steps_end, stray_in, unfit_operand, with_new_label, wrong_in, wrong_instruction, wrong_on, wrong_operand}
-use Rattle.prog_asm.specs.WordPlaces.{Span, placed_words, words_on}
+use Rattle.prog_asm.specs.ReadingViews.{line_of_parts}
+use Rattle.prog_asm.specs.WordPlaces.{Span, words_on}
 use Rattle.prog_asm.specs.WordPlaces as places
 use Rattle.prog_asm.proofs.FormLaws.{unfit-written}
-use Rattle.prog_asm.proofs.WordsRead.{strays_found, texts-placed}
+use Rattle.prog_asm.proofs.LinesRead.{parts-read, said}
 
 -- A LINE BY ITSELF
 abbrev error_in : {A : Type 0} → Result A Mistake → Option Mistake
@@ -28,9 +28,6 @@ error_in (Err mistake) = Some mistake
 
 abbrev mistake_in : Option Wrong → Option Mistake
 mistake_in wrong = option_map (λ wrong. wrong.mistake) wrong
-
-abbrev said : List places.Word → List (List ℕ)
-said words = map (λ word. word.text) words
 
 operand-mistake : (word : places.Word) (operands : List places.Word) (found : Option Unfit) (written : Option Written) → is_none found ≡ is_some written →
     mistake_in (option_map (unfit_operand word operands) found) ≡ error_in (operands_read written)
@@ -51,35 +48,25 @@ label-keeps : (label : Option (List ℕ)) (read : Result (Option Written) Mistak
 label-keeps label (Ok read) = refl
 label-keeps label (Err mistake) = refl
 
-words-mistake : (stray : Option Span) (words : List places.Word) →
-    mistake_in (wrong_in (bad_label (label_in words)) stray (behind_label words)) ≡ error_in (cond (is_some stray) (Err Word) (line_read_of (said words)))
-words-mistake None [] = refl
-words-mistake (Some at) [] = refl
-words-mistake stray (word ∷ words) = go (before_last 58 word.text) stray
+parts-mistake : (stray : Option Span) (label : Option places.Word) (words : List places.Word) →
+    mistake_in (wrong_in (bad_label label) stray words) ≡ error_in (line_of_parts stray label (said words))
+parts-mistake None None words = instruction-mistake words ∙ label-keeps None (instruction_in (said words))
+parts-mistake (Some at) None words = refl
+parts-mistake None (Some label) words = go (is_name label.text)
   where
-    good : (name : List ℕ) (span : Span) (is : Bool) (stray : Option Span) → mistake_in (wrong_in (cond is None (Some span)) stray words)
-        ≡ error_in (cond (is_some stray) (Err Word) (cond is (with_label (Some name) (instruction_in (said words))) (Err Word)))
-    good name span true None = instruction-mistake words ∙ label-keeps (Some name) (instruction_in (said words))
-    good name span true (Some at) = refl
-    good name span false None = refl
-    good name span false (Some at) = refl
-
-    go : (label : Option (List ℕ)) (stray : Option Span) →
-        mistake_in (wrong_in (bad_label (option_map (λ name. record { text = name; span = record { start = word.span.start; end = word.span.end - 1 } }) label)) stray
-        (cond (is_some label) words (word ∷ words)))
-        ≡ error_in (cond (is_some stray) (Err Word) (labelled label word.text (said words)))
-    go None None = instruction-mistake (word ∷ words) ∙ label-keeps None (instruction_in (said (word ∷ words)))
-    go None (Some at) = refl
-    go (Some name) stray = good name (record { start = word.span.start; end = word.span.end - 1 }) (is_name name) stray
+    go : (is : Bool) → mistake_in (wrong_in (cond is None (Some label.span)) None words)
+        ≡ error_in (cond is (with_label (Some label.text) (instruction_in (said words))) (Err Word))
+    go true = instruction-mistake words ∙ label-keeps (Some label.text) (instruction_in (said words))
+    go false = refl
+parts-mistake (Some at) (Some label) words = go (is_name label.text)
+  where
+    go : (is : Bool) → mistake_in (wrong_in (cond is None (Some label.span)) (Some at) words) ≡ Some Word
+    go true = refl
+    go false = refl
 
 -- What is wrong with a line by itself is why it isn't read.
 pub line-mistake : (line : List ℕ) → option_map (λ wrong. wrong.mistake) (wrong_on line) ≡ error_in (line_read line)
-unfolding line_read
-line-mistake line =
-    let code = uncommented line in
-    words-mistake (stray_in code) (placed_words code)
-    ∙ ap (λ is. error_in (cond is (Err Word) (line_read_of (said (placed_words code))))) (strays_found code)
-    ∙ ap (λ words. error_in (cond (has_stray code) (Err Word) (line_read_of words))) (texts-placed code)
+line-mistake line = parts-mistake (stray_in (uncommented line)) (label_in (words_on line)) (behind_label (words_on line)) ∙ ap error_in (sym (parts-read line))
 
 -- ALL LINES TOGETHER
 -- instructions that go on where the steps do
@@ -186,3 +173,53 @@ lines-first all before (line ∷ lines) = go (line_read line) (wrong_on line) (l
 pub faults-first : (text : List ℕ) → first_fault (faults_of text) ≡ fault_in (assembly_of text)
 unfolding assembly_of
 faults-first text = lines-first (text_lines text) [] (text_lines text)
+
+-- LINES WITH WHICH NOTHING IS WRONG
+-- Such a line is read, and counts as what it is read as.
+pub line-good : (before : List Line) (line : List ℕ) (lines : List (List ℕ)) → faults_on before line ≡ [] → is_beyond before line ≡ false →
+    lines_behind before (line ∷ lines) ≡ lines_behind (before ++ with_new_label before (counted line) ∷ []) lines
+line-good before line lines none fits = go (line_read line) (wrong_on line) (line-mistake line) none fits
+  where
+    told : Bool → List LineFault
+    told twice = cond twice (placed_fault TwiceLabel (length before + 1) (label_place (label_in (words_on line))) ∷ []) []
+
+    fine : (read : Line) (twice many : Bool) → told twice ≡ [] → many ≡ false →
+        (told_at before (cond twice (Err TwiceLabel) (cond many (Err TooMany) (Ok read))) >>= (λ one. lines_behind (before ++ one ∷ []) lines))
+        ≡ lines_behind (before ++ cond twice (line_with None read.instruction) read ∷ []) lines
+    fine read true many none fits = absurd cc
+    fine read false true none fits = absurd cc
+    fine read false false none fits = refl
+
+    go : (read : Result Line Mistake) (wrong : Option Wrong) → option_map (λ wrong. wrong.mistake) wrong ≡ error_in read →
+        own_fault (length before + 1) wrong ++ told (is_twice before (read_or_halt line read).label) ≡ [] →
+        is_one_too_many (length (steps_of before)) (read_or_halt line read).instruction ≡ false →
+        (told_at before (line_behind before read) >>= (λ one. lines_behind (before ++ one ∷ []) lines))
+        ≡ lines_behind (before ++ with_new_label before (read_or_halt line read) ∷ []) lines
+    go (Ok read) None same none fits = fine read (is_twice before read.label) (is_one_too_many (length (steps_of before)) read.instruction) none fits
+    go (Ok read) (Some wrong) same none fits = absurd cc
+    go (Err mistake) None same none fits = absurd cc
+    go (Err mistake) (Some wrong) same none fits = absurd cc
+
+-- A line that is read has nothing wrong, and counts as what it is read as.
+pub read-counted : (text : List ℕ) (line : Line) → line_read text ≡ Ok line → (line ≡ counted text) × (wrong_on text ≡ None)
+read-counted text line is = (sym (ap (read_or_halt text) is), none (wrong_on text) (line-mistake text ∙ ap error_in is))
+  where
+    none : (wrong : Option Wrong) → option_map (λ wrong. wrong.mistake) wrong ≡ None → wrong ≡ None
+    none None same = refl
+    none (Some wrong) same = absurd cc
+
+pub unread-counted : (text : List ℕ) → is_ok (line_read text) ≡ false → counted text ≡ line_with (name_if_good (label_in (words_on text))) (Some (Alone Halt))
+unread-counted text is = go (line_read text) is
+  where
+    go : (read : Result Line Mistake) → is_ok read ≡ false → read_or_halt text read ≡ line_with (name_if_good (label_in (words_on text))) (Some (Alone Halt))
+    go (Ok read) is = absurd cc
+    go (Err mistake) is = refl
+
+-- A line with which nothing is wrong by itself is read as it counts.
+pub good-read : (text : List ℕ) (number : ℕ) → [] ≡ own_fault number (wrong_on text) → line_read text ≡ Ok (counted text)
+good-read text number good = go (line_read text) (wrong_on text) (line-mistake text) good
+  where
+    go : (read : Result Line Mistake) (wrong : Option Wrong) → option_map (λ wrong. wrong.mistake) wrong ≡ error_in read → [] ≡ own_fault number wrong → read ≡ Ok (read_or_halt text read)
+    go (Ok read) wrong same good = refl
+    go (Err mistake) None same good = absurd cc
+    go (Err mistake) (Some wrong) same good = absurd cc

@@ -1,33 +1,36 @@
--- The last of a list, and the lines of instructions.
-use Rattle.std.proofs.Common.{◌≡◌, ◌-◌, ◌<◌, suc, List, [], ◌∷◌, length, get_or, map, refl, ap, sym, ◌∙◌, arith}
-use Rattle.instruction_set.specs.Programs.{Instruction, ends_well, is_last}
-use Rattle.instruction_set.specs.Assembly.{Step, last_line_number}
+-- What is said of the last of a list.
+use Rattle.std.proofs.Common.{◌≡◌, ◌-◌, ◌<◌, ℕ, suc, false, List, [], ◌∷◌, length, get_or, map, refl, ap, sym, ◌∙◌, arith}
+use Rattle.std.specs.Prelude.{cond}
+use Rattle.instruction_set.specs.Assembly.{FallsOff, Step, last_line_number}
+use Rattle.prog_asm.specs.declared.drafts.Step.{Step as StepCode}
 use Rattle.prog_asm.specs.declared.lines.Word.{Word as WordCode}
-use Rattle.prog_asm.specs.LineFaults.{is_ending, last_word, steps_end}
-use Rattle.prog_asm.specs.LineViews.{word_of}
+use Rattle.prog_asm.specs.DraftViews.{step_from}
+use Rattle.prog_asm.specs.LineFaults.{LineFault, falls_off, instruction_place, is_ending, last_place, line_numbered, placed_fault, steps_end}
+use Rattle.prog_asm.specs.LineViews.{span_seen, word_of}
 
-at_next : {A : Type 0} (x y : A) (xs : List A) (d : A) → get_or (x ∷ y ∷ xs) (length (x ∷ y ∷ xs) - 1) d ≡ get_or (y ∷ xs) (length (y ∷ xs) - 1) d
-at_next x y xs d = let next : length (x ∷ y ∷ xs) - 1 ≡ suc (length (y ∷ xs) - 1) = omega arith in ap (λ n. get_or (x ∷ y ∷ xs) n d) next
+last-is : {A B : Type 0} (f : List A → B) (g : A → B) → ((x : A) → f (x ∷ []) ≡ g x) → ((x y : A) (xs : List A) → f (x ∷ y ∷ xs) ≡ f (y ∷ xs)) →
+    (xs : List A) (d : A) → 0 < length xs → f xs ≡ g (get_or xs (length xs - 1) d)
+last-is f g one more [] d some = absurd (omega arith)
+last-is f g one more (x ∷ []) d some = one x
+last-is f g one more (x ∷ y ∷ xs) d some =
+    let next : length (x ∷ y ∷ xs) - 1 ≡ suc (length (y ∷ xs) - 1) = omega arith in
+    more x y xs ∙ last-is f g one more (y ∷ xs) d (omega arith) ∙ sym (ap (λ n. g (get_or (x ∷ y ∷ xs) n d)) next)
 
-pub ends_well-last : {A : Type 0} (view : A → Instruction) (code : List A) (d : A) → 0 < length code → ends_well (map view code) ≡ is_last (view (get_or code (length code - 1) d))
-ends_well-last view [] d some = absurd (omega arith)
-ends_well-last view (i ∷ []) d some = refl
-ends_well-last view (i ∷ next ∷ code) d some =
-    ends_well-last view (next ∷ code) d (omega arith) ∙ ap (λ last. is_last (view last)) (sym (at_next i next code d))
+pub last_place-last : (words : List WordCode) (d : WordCode) → 0 < length words → last_place (map word_of words) ≡ span_seen (get_or words (length words - 1) d).span
+last_place-last words d some = last-is (λ words. last_place (map word_of words)) (λ word. span_seen word.span) (λ word. refl) (λ word next words. refl) words d some
 
-pub last_line-last : {A : Type 0} (view : A → Step) (steps : List A) (d : A) → 0 < length steps → last_line_number (map view steps) ≡ (view (get_or steps (length steps - 1) d)).line
-last_line-last view [] d some = absurd (omega arith)
-last_line-last view (s ∷ []) d some = refl
-last_line-last view (s ∷ next ∷ steps) d some =
-    last_line-last view (next ∷ steps) d (omega arith) ∙ ap (λ last. (view last).line) (sym (at_next s next steps d))
+-- the last instruction, as the code finds it
+pub last-step : (steps : List StepCode) (step : StepCode) → 0 < length steps → step ≡ get_or steps (length steps - 1) step →
+    (steps_end (map step_from steps) ≡ is_ending (step_from step).written) × (last_line_number (map step_from steps) ≡ step.line)
+last-step steps step some is = (
+  last-is (λ steps. steps_end (map step_from steps)) (λ step. is_ending (step_from step).written) (λ step. refl) (λ step next steps. refl) steps step some
+      ∙ sym (ap (λ step. is_ending (step_from step).written) is),
+  last-is (λ steps. last_line_number (map step_from steps)) (λ step. step.line) (λ step. refl) (λ step next steps. refl) steps step some ∙ sym (ap (λ step. step.line) is),
+)
 
-pub last_word-last : (word : WordCode) (words : List WordCode) (d : WordCode) → 0 < length words → last_word (word_of word) (map word_of words) ≡ word_of (get_or words (length words - 1) d)
-last_word-last word [] d some = absurd (omega arith)
-last_word-last word (next ∷ []) d some = refl
-last_word-last word (next ∷ after ∷ words) d some = last_word-last next (after ∷ words) d (omega arith) ∙ ap word_of (sym (at_next next after words d))
-
-pub steps_end-last : {A : Type 0} (view : A → Step) (steps : List A) (d : A) → 0 < length steps → steps_end (map view steps) ≡ is_ending (view (get_or steps (length steps - 1) d)).written
-steps_end-last view [] d some = absurd (omega arith)
-steps_end-last view (s ∷ []) d some = refl
-steps_end-last view (s ∷ next ∷ steps) d some =
-    steps_end-last view (next ∷ steps) d (omega arith) ∙ ap (λ last. is_ending (view last).written) (sym (at_next s next steps d))
+-- Something goes on past the end.
+pub falls : (lines : List (List ℕ)) (steps : List Step) (number : ℕ) (fault : LineFault) → (steps_end steps ≡ false) × (number ≡ last_line_number steps) →
+    fault ≡ placed_fault FallsOff number (instruction_place (line_numbered lines number)) → fault ∷ [] ≡ falls_off lines steps
+falls lines steps number fault ends is =
+    ap (λ fault. fault ∷ []) (is ∙ ap (λ n. placed_fault FallsOff n (instruction_place (line_numbered lines n))) ends.1)
+    ∙ sym (ap (λ ends. cond ends [] (placed_fault FallsOff (last_line_number steps) (instruction_place (line_numbered lines (last_line_number steps))) ∷ [])) ends.0)

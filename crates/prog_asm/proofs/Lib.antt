@@ -3,10 +3,11 @@ pub mod Ends
 pub mod DraftLaws
 pub mod LinesRead
 pub mod Lasts
-pub mod CodePlaced
 pub mod Points
 pub mod GoodForms
 pub mod GoodPrograms
 pub mod FormLaws
 pub mod JudgedLaws
 pub mod JudgedCode
+pub mod Assembled
+pub mod SameInstructions

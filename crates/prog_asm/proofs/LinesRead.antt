@@ -1,39 +1,53 @@
--- The lines of a text, one after another.
-use Rattle.std.proofs.Common.{◌≡◌, ℕ, ◌+◌, List, [], ◌∷◌, ◌++◌, length, map, ap, sym, ◌∙◌, length-append}
-use Rattle.std.specs.Prelude.{Result, Ok}
-use Rattle.texts.specs.Lines.{Line as TextLine, lines_of as all_lines}
-use Rattle.texts.proofs.LineLaws.{texts-of}
-use Rattle.prog_asm.specs.declared.drafts.Draft.{Draft}
-use Rattle.instruction_set.specs.Lines.{text_lines}
-use Rattle.instruction_set.specs.Assembly.{Line, Mistake, line_read, lines_behind, told_at, ◌>>=◌}
-use Rattle.prog_asm.specs.DraftViews.{AddsLine, Drafts}
+-- What a line is read as, by its label and the words behind it.
+use Rattle.std.proofs.Common.{◌≡◌, ◌-◌, ℕ, List, [], ◌∷◌, map, refl, ap, sym, ◌∙◌}
+use Rattle.std.specs.Prelude.{Option, Some, None, false, is_ok, is_some, option_map, cond, Result, Ok, Err}
+use Rattle.instruction_set.specs.Assembly.{Line, Mistake, Word, labelled, line_read, line_read_of, with_label}
+use Rattle.instruction_set.specs.Fields.{before_last}
+use Rattle.instruction_set.specs.Forms.{Written}
+use Rattle.instruction_set.specs.Lines.{quoted_words, uncommented}
+use Rattle.prog_asm.specs.LineFaults.{behind_label, label_in, stray_in}
+use Rattle.prog_asm.specs.declared.mistakes.Mistake.{Mistake as MistakeCode}
+use Rattle.prog_asm.specs.declared.mistakes.Mistake.TheVariants as mistake
+use Rattle.prog_asm.specs.declared.lines.Word.{Word as WordCode}
+use Rattle.prog_asm.specs.LineViews.{texts_of, word_of}
+use Rattle.prog_asm.specs.ReadingViews.{FailsReading, line_of_parts}
+use Rattle.prog_asm.specs.WordPlaces.{Span, placed_words, words_on}
+use Rattle.prog_asm.specs.WordPlaces as places
+use Rattle.prog_asm.proofs.WordsRead.{strays_found, texts-placed, texts-seen}
 
--- So many lines are read, the draft is theirs, and these are left.
-pub record LinesSoFar (text : List ℕ) (left : List TextLine) (count : ℕ) (draft : Draft) : Type 0 where
-  pub lines : List Line
-  pub counted : count ≡ length lines
-  pub drafts : Drafts lines draft
-  pub same : lines_behind [] (text_lines text) ≡ lines_behind lines (map (λ line. line.text) left)
+-- a label doesn't keep an instruction from being read
+pub labels_keep : (label : Option (List ℕ)) (read : Result (Option Written) Mistake) → is_ok (with_label label read) ≡ is_ok read
+labels_keep label (Ok read) = refl
+labels_keep label (Err mistake) = refl
 
-pub none-read : (text : List ℕ) (left : List TextLine) (count : ℕ) (draft : Draft) → left ≡ all_lines text → count ≡ 0 → Drafts [] draft → LinesSoFar text left count draft
-none-read text left count draft all none drafts = record {
-  lines = [];
-  counted = none;
-  drafts = drafts;
-  same = ap (lines_behind []) (sym (ap (map (λ line. line.text)) all ∙ texts-of text));
-}
+abbrev pub said : List places.Word → List (List ℕ)
+said words = map (λ word. word.text) words
 
-pub one-read : (text : List ℕ) (line : TextLine) (left : List TextLine) (count : ℕ) (before after : Draft) →
-    (so_far : LinesSoFar text (line ∷ left) count before) → AddsLine (Ok tt) so_far.lines (line_read line.text) after →
-    LinesSoFar text left (count + 1) after
-one-read text line left count before after so_far added =
-    let lines = so_far.lines in
-    let rest = map (λ line. line.text) left in
-    record {
-      lines = lines ++ added.0 ∷ [];
-      counted = ap (λ n. n + 1) so_far.counted ∙ sym (length-append lines (added.0 ∷ []));
-      drafts = added.2;
-      same =
-          so_far.same
-          ∙ ap (λ (r : Result Line Mistake). told_at lines r >>= (λ more. lines_behind (lines ++ more ∷ []) rest)) added.1;
-    }
+words-parts : (stray : Option Span) (words : List places.Word) →
+    cond (is_some stray) (Err Word) (line_read_of (said words)) ≡ line_of_parts stray (label_in words) (said (behind_label words))
+words-parts (Some at) words = refl
+words-parts None [] = refl
+words-parts None (word ∷ words) = go (before_last 58 word.text)
+  where
+    go : (label : Option (List ℕ)) → labelled label word.text (said words) ≡ line_of_parts None
+        (option_map (λ name. record { text = name; span = record { start = word.span.start; end = word.span.end - 1 } }) label)
+        (said (cond (is_some label) words (word ∷ words)))
+    go None = refl
+    go (Some name) = refl
+
+pub parts-read : (text : List ℕ) → line_read text ≡ line_of_parts (stray_in (uncommented text)) (label_in (words_on text)) (said (behind_label (words_on text)))
+unfolding line_read
+parts-read text =
+    let code = uncommented text in
+    ap (λ is. cond is (Err Word) (line_read_of (quoted_words code))) (sym (strays_found code))
+    ∙ ap (λ words. cond (is_some (stray_in code)) (Err Word) (line_read_of words)) (sym (texts-placed code))
+    ∙ words-parts (stray_in code) (placed_words code)
+
+-- A line's parts, as the code has them.
+pub parts-seen : (text : List ℕ) (stray : Option Span) (label : Option places.Word) (words : List WordCode) → stray ≡ stray_in (uncommented text) → label ≡ label_in (words_on text) →
+    map word_of words ≡ behind_label (words_on text) → line_of_parts stray label (texts_of words) ≡ line_read text
+parts-seen text stray label words is named behind = ap (line_of_parts stray label) (texts-seen words ∙ ap said behind) ∙ rw (is, named) (sym (parts-read text))
+
+pub unread-is : (kind : MistakeCode) (read same : Result Line Mistake) → kind ≡ mistake.Wrong → read ≡ same → FailsReading kind read → is_ok same ≡ false
+unread-is mistake.Wrong read same is there fails = ap is_ok (sym there) ∙ fails
+unread-is mistake.Memory read same is there fails = absurd cc

@@ -1,19 +1,14 @@
 -- The points that labels name, by how many instructions stand before them.
 use Rattle.std.proofs.Common.{◌≡◌, ◌+◌, ◌<◌, ◌≤◌, ℕ, Bool, true, false, List, [], ◌∷◌, length, map, refl, ap, sym, ◌∙◌, arith}
-use Rattle.std.specs.Prelude.{Option, Some, None, Result, Ok, Err, cond, option_map}
+use Rattle.std.specs.Prelude.{Option, Some, None, Ok, cond, option_map}
 use Rattle.std.proofs.lemmas.Bool.{lt-ltb, le-ltb}
-use Rattle.std.proofs.lemmas.List.{length-map}
 use Rattle.prog_asm.specs.declared.drafts.Draft.{Draft}
-use Rattle.prog_asm.specs.declared.faults.AsmFault.{AsmFault}
-use Rattle.prog_asm.specs.declared.faults.AsmFault.TheVariants as asm
-use Rattle.instruction_set.specs.Programs.{Instruction, ends_well}
 use Rattle.instruction_set.specs.Forms.{Written, Alone, Leading, led}
-use Rattle.instruction_set.specs.Assembly.{FallsOff, Fault, Line, Step, code_from, complete, fault, is_label, last_line_number, next_point, placed, placed_at, point_from, point_named}
+use Rattle.instruction_set.specs.Assembly.{Line, Step, code_from, complete, is_label, next_point, placed, placed_at, point_from, point_named}
 use Rattle.instruction_set.specs.Assembly.{program_read, steps_of, steps_on, ◌>>=◌}
 use Rattle.prog_asm.specs.LineViews.{point_in}
-use Rattle.prog_asm.specs.DraftViews.{Drafts, below, completed, labelled_from, step_from}
-use Rattle.prog_asm.specs.FaultViews.{FaultIs}
-use Rattle.prog_asm.proofs.DraftLaws.{length-steps_of}
+use Rattle.prog_asm.specs.DraftViews.{Drafts, below, labelled_from, draft_point, step_from}
+use Rattle.prog_asm.proofs.DraftLaws.{length-drafts, length-steps_of}
 
 -- an instruction follows where the point is one of all
 next_point-below : (point : ℕ) (steps : List Step) → next_point point steps ≡ below (point + length steps) (Some point)
@@ -51,41 +46,14 @@ code_from-same f g same (step ∷ steps) =
     ap (λ read. placed_at step.line read >>= λ i. code_from f steps >>= λ code. Ok (i ∷ code)) (placed-same f g same step.written)
     ∙ ap (λ rest. placed_at step.line (placed g step.written) >>= λ i. rest >>= λ code. Ok (i ∷ code)) (code_from-same f g same steps)
 
--- The code of a draft is that of its lines.
-pub code_from-drafts : (lines : List Line) (draft : Draft) → Drafts lines draft →
-    code_from (λ name. below (length draft.steps.items) (point_in draft.labels name)) (map step_from draft.steps.items) ≡ code_from
-    (point_named lines) (steps_of lines)
-code_from-drafts lines draft drafts =
-    let count : length draft.steps.items ≡ length (steps_of lines) = sym (length-map draft.steps.items step_from) ∙ ap length drafts.steps in
-    ap (code_from (λ name. below (length draft.steps.items) (point_in draft.labels name))) drafts.steps
-    ∙ code_from-same (λ name. below (length draft.steps.items) (point_in draft.labels name)) (point_named lines)
-    (λ name. ap (λ n. below n (point_in draft.labels name)) count ∙ ap (below (length (steps_of lines))) (drafts.labels name) ∙ sym (point_of-labelled lines name))
-    (steps_of lines)
+-- the points of a draft are those that its lines name
+pub points-drafts : (lines : List Line) (draft : Draft) → Drafts lines draft → (name : List ℕ) → draft_point draft name ≡ point_named lines name
+points-drafts lines draft drafts name =
+    ap (λ n. below n (point_in draft.labels name)) (length-drafts lines draft drafts) ∙ ap (below (length (steps_of lines))) (drafts.labels name) ∙ sym (point_of-labelled lines name)
 
 -- What becomes of a draft is what its lines are read as.
 pub completed-drafts : (lines : List Line) (draft : Draft) → Drafts lines draft →
-    completed (λ name. below (length draft.steps.items) (point_in draft.labels name)) (map step_from draft.steps.items) ≡ program_read lines
+    (code_from (draft_point draft) (map step_from draft.steps.items) >>= complete (map step_from draft.steps.items)) ≡ program_read lines
 completed-drafts lines draft drafts =
-    ap (λ read. read >>= complete (map step_from draft.steps.items)) (code_from-drafts lines draft drafts)
-    ∙ ap (λ steps. code_from (point_named lines) (steps_of lines) >>= complete steps) drafts.steps
-
--- what becomes of the code
-pub code-ends : (steps : List Step) (read : Result (List Instruction) Fault) (code : List Instruction) → read ≡ Ok code → ends_well code ≡ true → (read >>= complete steps) ≡ Ok code
-code-ends steps read code is ends = ap (λ r. r >>= complete steps) is ∙ ap (λ b. cond b (Ok code) (Err (fault FallsOff (last_line_number steps)))) ends
-
-pub code-falls : (steps : List Step) (read : Result (List Instruction) Fault) (code : List Instruction) (line : ℕ) → read ≡ Ok code →
-    ends_well code ≡ false → line ≡ last_line_number steps → (read >>= complete steps) ≡ Err (fault FallsOff line)
-code-falls steps read code line is ends last =
-    ap (λ r. r >>= complete steps) is
-    ∙ ap (λ b. cond b (Ok code) (Err (fault FallsOff (last_line_number steps)))) ends
-    ∙ ap (λ n. Err (fault FallsOff n)) (sym last)
-
--- a fault is passed on
-pub fault-passes : {A B : Type 0} (error : AsmFault) (read : Result A Fault) (f : A → Result B Fault) → FaultIs error read → FaultIs error (read >>= f)
-fault-passes (asm.Word line) read f is = ap (λ r. r >>= f) is
-fault-passes (asm.Operand line) read f is = ap (λ r. r >>= f) is
-fault-passes (asm.NoLabel line) read f is = ap (λ r. r >>= f) is
-fault-passes (asm.TwiceLabel line) read f is = ap (λ r. r >>= f) is
-fault-passes (asm.TooMany line) read f is = ap (λ r. r >>= f) is
-fault-passes (asm.FallsOff line) read f is = ap (λ r. r >>= f) is
-fault-passes asm.Memory read f is = tt
+    ap (λ steps. code_from (draft_point draft) steps >>= complete steps) drafts.steps
+    ∙ ap (λ read. read >>= complete (steps_of lines)) (code_from-same (draft_point draft) (point_named lines) (points-drafts lines draft drafts) (steps_of lines))

@@ -1,16 +1,13 @@
 -- The words of a line, byte by byte.
 use Rattle.std.proofs.Common.{◌≡◌, ◌+◌, ◌-◌, ◌<◌, ◌≤◌, ℕ, suc, Bool, true, false, List, [], ◌∷◌, ◌++◌, length, map, get_or, take, drop, refl, ap, sym, ◌∙◌, arith, append_assoc}
 use Rattle.std.proofs.Common.{length-drop, length-take-le, drop-cons}
-use Rattle.std.specs.Prelude.{cond, not, ◌&&◌, ◌||◌, is_some, Option, Some, None, Err, option_map, slice_range}
+use Rattle.std.specs.Prelude.{cond, not, ◌&&◌, ◌||◌, is_some, Some, slice_range}
 use Rattle.std.proofs.Math.Seq.{take-suc}
 use Rattle.std.proofs.lemmas.List.{get_or-drop, map-append}
-use Rattle.instruction_set.specs.Lines.{word_ended, has_stray, has_stray_from, is_blank, is_word_byte, quoted_behind, quoted_words, uncommented, words_from}
+use Rattle.instruction_set.specs.Lines.{word_ended, has_stray, has_stray_from, is_blank, is_word_byte, quoted_behind, quoted_words, words_from}
 use Rattle.prog_asm.specs.LineFaults.{stray_from, stray_in}
-use Rattle.instruction_set.specs.Assembly.{line_read, line_read_of}
-use Rattle.instruction_set.specs.Assembly as assembly
-use Rattle.prog_asm.specs.declared.lines.Span.{Span as SpanCode}
 use Rattle.prog_asm.specs.declared.lines.Word.{Word as WordCode}
-use Rattle.prog_asm.specs.LineViews.{span_seen, texts_of, word_of}
+use Rattle.prog_asm.specs.LineViews.{texts_of, word_of}
 use Rattle.prog_asm.specs.WordPlaces.{Word, placed_from, placed_word, placed_words}
 
 -- The words so far, the word that has begun, and what is left.
@@ -132,12 +129,9 @@ placed-texts quoted at (b ∷ line) begun =
 pub texts-placed : (line : List ℕ) → map (λ word. word.text) (placed_words line) ≡ quoted_words line
 texts-placed line = placed-texts false 0 line []
 
-texts-seen : (words : List WordCode) → texts_of words ≡ map (λ word. word.text) (map word_of words)
+pub texts-seen : (words : List WordCode) → texts_of words ≡ map (λ word. word.text) (map word_of words)
 texts-seen [] = refl
 texts-seen (word ∷ words) = ap (λ rest. word.text.now ∷ rest) (texts-seen words)
-
-pub texts_read : (line : List ℕ) (words : List WordCode) → map word_of words ≡ placed_words line → texts_of words ≡ quoted_words line
-texts_read line words placed = texts-seen words ∙ ap (map (λ word. word.text)) placed ∙ texts-placed line
 
 -- A byte that no word has is there where one is found.
 stray-is : (quoted : Bool) (at : ℕ) (line : List ℕ) → is_some (stray_from quoted at line) ≡ has_stray_from quoted line
@@ -151,14 +145,3 @@ stray-is quoted at (b ∷ line) = go (not (quoted || is_blank b || is_word_byte 
 
 pub strays_found : (line : List ℕ) → is_some (stray_in line) ≡ has_stray line
 strays_found line = stray-is false 0 line
-
--- Where a byte is found that no word has, the line isn't read, and else its words are.
-pub stray_read : (line : List ℕ) (found : Option SpanCode) (is : Bool) → option_map span_seen found ≡ stray_in (uncommented line) → is_some found ≡ is →
-    line_read line ≡ cond is (Err assembly.Word) (line_read_of (quoted_words (uncommented line)))
-unfolding line_read
-stray_read line found is same there =
-    ap (λ is. cond is (Err assembly.Word) (line_read_of (quoted_words (uncommented line)))) (sym (strays_found (uncommented line)) ∙ ap is_some (sym same) ∙ go found ∙ there)
-  where
-    go : (found : Option SpanCode) → is_some (option_map span_seen found) ≡ is_some found
-    go None = refl
-    go (Some span) = refl

@@ -1,18 +1,15 @@
 -- What a draft, the code's reading of a text so far, stands for.
-use Rattle.std.specs.Prelude.{◌≡◌, ◌+◌, ℕ, true, false, List, [], ◌∷◌, ◌++◌, length, map, nat_le, nat_lt, Option, Some, None, Result, Ok, Err, if◌then◌else◌}
-use Rattle.rights.specs.Limits.{most_instructions}
-use Rattle.prog_asm.specs.declared.mistakes.Mistake.{Mistake as MistakeCode}
-use Rattle.prog_asm.specs.declared.mistakes.Mistake.TheVariants as mistake
-use Rattle.prog_asm.specs.declared.faults.AsmFault.{AsmFault}
+use Rattle.std.specs.Prelude.{◌≡◌, ◌+◌, ℕ, Bool, true, false, List, [], ◌∷◌, ◌++◌, length, map, nat_lt, Option, Some, None, Ok, if◌then◌else◌}
 use Rattle.prog_asm.specs.declared.drafts.Step.{Step as StepCode}
 use Rattle.prog_asm.specs.declared.drafts.Draft.{Draft}
-use Rattle.instruction_set.specs.Assembly.{Mistake, Line, Step, Fault, code_from, complete, is_label, is_one_too_many, line_behind, steps_on, steps_of, ◌>>=◌}
-use Rattle.instruction_set.specs.Programs.{Instruction}
+use Rattle.instruction_set.specs.Assembly.{Line, Step, TooMany, TwiceLabel, is_label, is_one_too_many, lines_behind, steps_on, steps_of}
 use Rattle.instruction_set.specs.Forms.{Written}
-use Rattle.prog_asm.specs.FaultViews.{FaultIs}
+use Rattle.instruction_set.specs.Lines.{text_lines}
+use Rattle.prog_asm.specs.FaultPlaceViews.{faults_seen}
 use Rattle.prog_asm.specs.FormViews.{written_from}
-use Rattle.prog_asm.specs.LineViews.{point_in}
-use Rattle.prog_asm.specs.ReadingViews.{FailsReading}
+use Rattle.prog_asm.specs.LineFaults.{LineFault, counted, faults_on, instruction_place, is_beyond, placed_fault, with_new_label}
+use Rattle.prog_asm.specs.LineViews.{has_point, point_in}
+use Rattle.prog_asm.specs.WordPlaces.{Span}
 
 abbrev pub step_from : StepCode → Step
 step_from step = record { line = step.line; written = written_from step.written }
@@ -29,43 +26,48 @@ pub record Drafts (lines : List Line) (draft : Draft) : Type 0 where
   pub steps : map step_from draft.steps.items ≡ steps_of lines
   pub labels : (name : List ℕ) → point_in draft.labels name ≡ labelled_from 0 name lines
 
--- A line's instruction is added at the end, if it is not one too many.
-pub record AddsStep (before after : List Step) (number : ℕ) (instruction : Option Written) : Type 0 where
-  pub fits : is_one_too_many (length before) instruction ≡ false
-  pub added : after ≡ before ++ steps_on number instruction
+-- A draft in which nothing is wrong is that of all lines of the text.
+abbrev pub ReadsAll : List ℕ → Draft → Type 0
+ReadsAll text draft = faults_seen draft.faults.items ≡ [] → (lines : List Line) × (lines_behind [] (text_lines text) ≡ Ok lines) × Drafts lines draft
 
-abbrev pub StepAdded : Result (Unit {0}) MistakeCode → List Step → List Step → ℕ → Option Written → Type 0
-StepAdded (Ok done) before after number instruction = AddsStep before after number instruction
-StepAdded (Err mistake.Word) before after number instruction = ⊥
-StepAdded (Err mistake.Operand) before after number instruction = ⊥
-StepAdded (Err mistake.TwiceLabel) before after number instruction = ⊥
-StepAdded (Err mistake.TooMany) before after number instruction = is_one_too_many (length before) instruction ≡ true
-StepAdded (Err mistake.Memory) before after number instruction = Unit {0}
+-- What is wrong with a line by itself is noted, and nothing else changes.
+pub record OwnAdded (before after : Draft) (own : List LineFault) : Type 0 where
+  pub faults : faults_seen after.faults.items ≡ faults_seen before.faults.items ++ own
+  pub labels : after.labels ≡ before.labels
+  pub steps : after.steps ≡ before.steps
 
--- One thing is added at the end, unless there are as many as a program may have instructions.
-abbrev pub IsAppended : {X : Type 0} → Result (Unit {0}) MistakeCode → List X → List X → X → Type 0
-IsAppended (Ok done) before after item = (nat_le most_instructions (length before) ≡ false) × (after ≡ before ++ item ∷ [])
-IsAppended (Err mistake.Word) before after item = ⊥
-IsAppended (Err mistake.Operand) before after item = ⊥
-IsAppended (Err mistake.TwiceLabel) before after item = ⊥
-IsAppended (Err mistake.TooMany) before after item = nat_le most_instructions (length before) ≡ true
-IsAppended (Err mistake.Memory) before after item = Unit {0}
+-- a label, if no line before has it
+abbrev pub new_label_of : Bool → Option (List ℕ) → Option (List ℕ)
+new_label_of twice label = if twice then None else label
 
--- The line is added behind these, or has this mistake there.
-abbrev pub AddsLine : Result (Unit {0}) MistakeCode → List Line → Result Line Mistake → Draft → Type 0
-AddsLine (Ok done) before line after = (added : Line) × (line_behind before line ≡ Ok added) × Drafts (before ++ added ∷ []) after
-AddsLine (Err mistake) before line after = FailsReading mistake (line_behind before line)
+-- A line's label gets its point, or it is noted that a line before has it.
+pub record LabelAdded (before after : Draft) (number : ℕ) (label : Option (List ℕ)) (span : Span) : Type 0 where
+  pub faults : faults_seen after.faults.items ≡ faults_seen before.faults.items ++ (if has_point before.labels label then placed_fault TwiceLabel number span ∷ [] else [])
+  pub labels : (name : List ℕ) → point_in after.labels name
+      ≡ (if is_label name (new_label_of (has_point before.labels label) label) then Some (length before.steps.items) else point_in before.labels name)
+  pub steps : after.steps ≡ before.steps
 
--- The draft is that of the lines, or their fault is told.
-abbrev pub DraftsLines : Result Draft AsmFault → Result (List Line) Fault → Type 0
-DraftsLines (Ok draft) read = (lines : List Line) × (read ≡ Ok lines) × Drafts lines draft
-DraftsLines (Err error) read = FaultIs error read
+-- A line's instruction is added at the end, or it is noted that it is one too many.
+abbrev pub StepAdded : Draft → Draft → ℕ → Option Written → Span → Bool → Type 0
+StepAdded before after number instruction span true =
+    (is_one_too_many (length before.steps.items) instruction ≡ false) × (map step_from after.steps.items ≡ map step_from before.steps.items ++ steps_on number instruction)
+    × (after.labels ≡ before.labels) × (after.faults ≡ before.faults)
+StepAdded before after number instruction span false =
+    (is_one_too_many (length before.steps.items) instruction ≡ true) × (faults_seen after.faults.items ≡ faults_seen before.faults.items ++ placed_fault TooMany number span ∷ [])
+
+-- What a line adds: its faults, and itself as it counts, or one instruction too many.
+abbrev pub JudgesLine : List Line → List ℕ → Draft → Draft → Bool → Type 0
+JudgesLine before line old new true =
+    (is_beyond before line ≡ false) × Drafts (before ++ with_new_label before (counted line) ∷ []) new
+    × (faults_seen new.faults.items ≡ faults_seen old.faults.items ++ faults_on before line)
+JudgesLine before line old new false =
+    (is_beyond before line ≡ true)
+    × (faults_seen new.faults.items ≡ faults_seen old.faults.items ++ faults_on before line ++ placed_fault TooMany (length before + 1) (instruction_place line) ∷ [])
 
 -- the point that a name leads to, where an instruction follows its label
 abbrev pub below : ℕ → Option ℕ → Option ℕ
 below points None = None
 below points (Some point) = if nat_lt point points then Some point else None
 
--- the instructions with points in the place of labels, or the first fault
-abbrev pub completed : (List ℕ → Option ℕ) → List Step → Result (List Instruction) Fault
-completed points steps = code_from points steps >>= complete steps
+abbrev pub draft_point : Draft → List ℕ → Option ℕ
+draft_point draft name = below (length draft.steps.items) (point_in draft.labels name)

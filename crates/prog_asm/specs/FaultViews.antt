@@ -2,8 +2,8 @@
 use Rattle.std.specs.Prelude.{◌≡◌, ℕ, List, codes, Option, Some, None, Result, Ok, Err}
 use Rattle.prog_asm.specs.declared.faults.AsmFault.{AsmFault}
 use Rattle.prog_asm.specs.declared.faults.AsmFault.TheVariants as asm
-use Rattle.prog_asm.specs.declared.mistakes.Mistake.{Mistake}
-use Rattle.prog_asm.specs.declared.mistakes.Mistake.TheVariants as mistake
+use Rattle.prog_asm.specs.declared.faults.LineMistake.{LineMistake}
+use Rattle.prog_asm.specs.declared.faults.LineMistake.TheVariants as mistake
 use Rattle.instruction_set.specs.Assembly.{Fault, fault, mistake_number}
 use Rattle.instruction_set.specs.Assembly as assembly
 
@@ -34,13 +34,14 @@ fault_line (asm.TooMany line) = Some line
 fault_line (asm.FallsOff line) = Some line
 fault_line asm.Memory = None
 
--- the fault of a line with the mistake
-abbrev pub fault_at : Mistake → ℕ → AsmFault
+-- the fault of a text whose first is this
+abbrev pub fault_at : LineMistake → ℕ → AsmFault
 fault_at mistake.Word line = asm.Word line
 fault_at mistake.Operand line = asm.Operand line
+fault_at mistake.NoLabel line = asm.NoLabel line
 fault_at mistake.TwiceLabel line = asm.TwiceLabel line
 fault_at mistake.TooMany line = asm.TooMany line
-fault_at mistake.Memory line = asm.Memory
+fault_at mistake.FallsOff line = asm.FallsOff line
 
 -- the fault, want of memory aside
 abbrev pub FaultIs : {X : Type 0} → AsmFault → Result X Fault → Type 0

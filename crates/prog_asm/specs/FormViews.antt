@@ -68,8 +68,5 @@ TakesField view (Err error) after field = FailsField error field
 -- The word is the first one, unless there is none.
 abbrev pub TakesWord : Result (Bor (List ℕ)) MistakeCode → List (List ℕ) → List (List ℕ) → Type 0
 TakesWord (Ok word) before after = before ≡ word.now ∷ after
-TakesWord (Err mistake.Word) before after = ⊥
-TakesWord (Err mistake.Operand) before after = before ≡ []
-TakesWord (Err mistake.TwiceLabel) before after = ⊥
-TakesWord (Err mistake.TooMany) before after = ⊥
+TakesWord (Err mistake.Wrong) before after = before ≡ []
 TakesWord (Err mistake.Memory) before after = ⊥

@@ -8,3 +8,4 @@ pub mod LineViews
 pub mod OperandForms
 pub mod ReadingViews
 pub mod WordPlaces
+pub mod LineParts

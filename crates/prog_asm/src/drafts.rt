@@ -1,24 +1,20 @@
-//! A text that is read line by line, before labels are points.
+//! What lines are read as, before labels are points.
 
-ghost use Rattle.std.specs.Prelude.{◌≡◌, ◌+◌, Ok, ◌≤◌, [], List, length, map, option_map};
-ghost use Rattle.instruction_set.specs.Assembly.{Line as LineRead, line_read, lines_behind, placed};
-ghost use Rattle.prog_asm.specs.DraftViews.{AddsLine, Drafts, DraftsLines, IsAppended, StepAdded, below, step_from};
+ghost use Rattle.std.specs.Prelude.{◌≡◌, ◌+◌, ◌<◌, [], IfOk, IfSome, List, OnOk, length, option_map};
+ghost use Rattle.instruction_set.specs.Assembly.{Line as LineRead};
+ghost use Rattle.prog_asm.specs.DraftViews.{Drafts, JudgesLine, LabelAdded, OwnAdded, StepAdded, below, draft_point};
+ghost use Rattle.prog_asm.specs.FaultPlaceViews.{fault_seen, list_of};
 ghost use Rattle.prog_asm.specs.FormViews.{written_from};
-ghost use Rattle.prog_asm.specs.LineViews.{line_from, point_in};
-ghost use Rattle.instruction_set.specs.Lines.{text_lines};
-ghost use Rattle.instruction_set.specs.Views.{instruction_of};
+ghost use Rattle.prog_asm.specs.LineViews.{point_in, span_seen};
 
-use crate::faults::{AsmFault, fault_at};
+use crate::faults::{LineFault, LineMistake};
 use crate::forms::Written;
-use crate::labels::{add_label, point_of};
-use crate::mistakes::Mistake;
-use crate::statements::{Line, read_line};
+use crate::lines::Span;
+use crate::wrongs::look;
 use indexmap::IndexMap;
-use instruction_set::Instruction;
 use rights::limits::MAX_INSTRUCTIONS;
-use std::alloc::Global;
+use std::alloc::{AllocError, Global};
 use std::collections::VecDeque;
-use texts::Lines;
 
 /// An instruction as it is written, with its line.
 #[derive(Drop)]
@@ -27,114 +23,112 @@ pub(crate) struct Step<'t> {
     pub(crate) written: Written<'t>,
 }
 
-/// The instructions of the lines so far, and for each label how many stand before it.
+/// The instructions of the lines so far, for each label how many stand before it, and what is wrong with the lines.
 #[derive(Drop)]
 pub(crate) struct Draft<'t> {
     pub(crate) labels: IndexMap<&'t [u8], usize>,
     pub(crate) steps: VecDeque<Step<'t>>,
+    pub(crate) faults: Vec<LineFault>,
 }
 
-/// Adds one thing at the end, if there are fewer than a program has instructions.
-fn append<T: Drop>(items: &mut VecDeque<T>, item: T) -> Result<(), Mistake>
-    ensures { IsAppended result items.old.items items.new.items item }
+/// The point that a label leads to, if it is one of this many points.
+pub(crate) fn point_of(labels: &IndexMap<&[u8], usize>, points: usize, name: &[u8]) -> Option<usize>
+    ensures point { result ≡ below points (point_in labels.now name.now) }
+    ensures below { IfSome result (λ point. point < points) }
 {
-    if items.len() >= MAX_INSTRUCTIONS {
-        return Err(Mistake::TooMany);
-    }
-    items.push_back(item)?;
-    Ok(())
-}
-
-/// Adds a line's instruction at the end.
-fn add_step<'t>(
-    steps: &mut VecDeque<Step<'t>>,
-    line: usize,
-    instruction: Option<Written<'t>>,
-) -> Result<(), Mistake>
-    ensures { StepAdded result (map step_from steps.old.items) (map step_from steps.new.items) line
-        (option_map written_from instruction.entry) }
-{
-    match instruction {
-        None => Ok(()),
-        Some(written) => append(steps, Step { line, written }),
+    match labels.get(&name) {
+        Some(point) if *point < points => Some(*point),
+        _ => None,
     }
 }
 
 impl<'t> Draft<'t> {
     /// The draft of no line.
     pub(crate) fn new(alloc: Global) -> Draft<'t>
-        ensures { Drafts [] result }
+        ensures lines { Drafts [] result }
+        ensures faults { result.faults.items ≡ [] }
     {
         Draft {
             labels: IndexMap::new(alloc),
             steps: VecDeque::new(alloc),
+            faults: Vec::new(alloc),
         }
     }
 
-    /// Adds what stands on the line of this number.
-    pub(crate) fn add(&mut self, number: usize, line: Line<'t>) -> Result<(), Mistake>
-        ensures { (before : List LineRead) → Drafts before self.old → number ≡ length before + 1
-            → AddsLine result before (Ok (line_from line.entry)) self.new }
+    /// Notes what is wrong with a line by itself.
+    fn add_own(&mut self, wrong: Option<LineFault>) -> Result<(), AllocError>
+        ensures { OnOk result (OwnAdded self.old self.new (list_of (option_map fault_seen wrong))) }
     {
-        let Line { label, instruction } = line;
-        let added = add_label(&mut self.labels, label, self.steps.len());
-        let instruction = added.and(Ok(instruction))?;
-        add_step(&mut self.steps, number, instruction)
+        if let Some(wrong) = wrong {
+            self.faults.push(wrong)?;
+        }
+        Ok(())
     }
 
-    /// Reads the line of this number.
-    fn read(&mut self, alloc: Global, number: usize, text: &'t [u8]) -> Result<(), Mistake>
-        ensures { (before : List LineRead) → Drafts before self.old → number ≡ length before + 1
-            → AddsLine result before (line_read text.entry.now) self.new }
+    /// Notes where a line's label stands, or that a line before has it.
+    fn add_label(
+        &mut self,
+        number: usize,
+        label: Option<&'t [u8]>,
+        span: Span,
+    ) -> Result<(), AllocError>
+        ensures { OnOk result (LabelAdded self.old self.new number (option_map (λ name. name.now) label.entry) (span_seen span)) }
     {
-        let line = read_line(alloc, text)?;
-        self.add(number, line)
-    }
-}
-
-/// Reads a text's lines.
-pub(crate) fn read_lines<'t>(alloc: Global, text: &'t [u8]) -> Result<Draft<'t>, AsmFault>
-    ensures { DraftsLines result (lines_behind [] (text_lines text.now)) }
-{
-    let mut draft = Draft::new(alloc);
-    for (at, line) in Lines::new(text).enumerate() {
-        if let Err(mistake) = draft.read(alloc, at + 1, line.text) {
-            return Err(fault_at(mistake, at + 1));
+        let Some(name) = label else { return Ok(()) };
+        if self.labels.contains_key(&name) {
+            self.faults
+                .push(LineFault::at(LineMistake::TwiceLabel, number, span))?;
+            return Ok(());
         }
+        let point = self.steps.len();
+        self.labels.insert(name, point)?;
+        Ok(())
     }
-    Ok(draft)
-}
 
-/// The point of a label, if it is one of this many points.
-fn target(labels: &IndexMap<&[u8], usize>, points: usize, label: &[u8]) -> Option<u8>
-    requires { points ≤ 256 }
-    ensures { result ≡ below points (point_in labels.now label.now) }
-{
-    match point_of(labels, label) {
-        Some(point) if point < points => Some(point as u8),
-        _ => None,
-    }
-}
-
-/// The instruction with a point in the place of its label, if that is one of this many points.
-#[tactic(auto, unfolding(crate::specs::FormViews::written_from))]
-pub(crate) fn place(
-    labels: &IndexMap<&[u8], usize>,
-    points: usize,
-    written: Written<'_>,
-) -> Option<Instruction>
-    requires { points ≤ 256 }
-    ensures { option_map instruction_of result
-        ≡ placed (λ name. below points (point_in labels.now name)) (written_from written.entry) }
-{
-    match written {
-        Written::Set { register, value } => Some(Instruction::Set { register, value }),
-        Written::Mov { register, source } => Some(Instruction::Mov { register, source }),
-        Written::Add { register, addend } => Some(Instruction::Add { register, addend }),
-        Written::In { register } => Some(Instruction::In { register }),
-        Written::Halt => Some(Instruction::Halt),
-        Written::Leading { jump, label } => {
-            target(labels, points, label).map(|target| jump.led(target))
+    /// Adds a line's instruction, or notes that it is one too many. Whether lines behind it are looked at.
+    fn add_step(
+        &mut self,
+        number: usize,
+        instruction: Option<Written<'t>>,
+        span: Span,
+    ) -> Result<bool, AllocError>
+        ensures { IfOk result (λ more. StepAdded self.old self.new number (option_map written_from instruction.entry) (span_seen span) more) }
+    {
+        let Some(written) = instruction else {
+            return Ok(true);
+        };
+        if self.steps.len() >= MAX_INSTRUCTIONS {
+            self.faults
+                .push(LineFault::at(LineMistake::TooMany, number, span))?;
+            return Ok(false);
         }
+        self.steps.push_back(Step {
+            line: number,
+            written,
+        })?;
+        Ok(true)
+    }
+
+    /// Adds the line of this number. Whether lines behind it are looked at.
+    pub(crate) fn add_line(
+        &mut self,
+        alloc: Global,
+        number: usize,
+        text: &'t [u8],
+    ) -> Result<bool, AllocError>
+        ensures { (before : List LineRead) → Drafts before self.old → number ≡ length before + 1
+            → IfOk result (JudgesLine before text.entry.now self.old self.new) }
+    {
+        let seen = look(alloc, number, text)?;
+        self.add_own(seen.wrong)?;
+        self.add_label(number, seen.line.label, seen.label)?;
+        self.add_step(number, seen.line.instruction, seen.instruction)
+    }
+
+    /// The point that a label leads to, if an instruction follows it.
+    pub(crate) fn point_of(&self, name: &[u8]) -> Option<usize>
+        ensures { result ≡ draft_point self.now name.now }
+    {
+        point_of(&self.labels, self.steps.len(), name)
     }
 }

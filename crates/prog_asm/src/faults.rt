@@ -1,11 +1,15 @@
-//! Why a text is no program.
+//! Why a text is no program: its first fault, and all that is wrong with it.
 
 ghost use Rattle.std.specs.Prelude.{◌≡◌};
+ghost use Rattle.prog_asm.specs.FaultPlaceViews.{fault_seen, mistake_of};
 ghost use Rattle.prog_asm.specs.FaultViews.{fault_at, fault_line, fault_name, fault_number};
+ghost use Rattle.prog_asm.specs.LineFaults.{placed_fault};
+ghost use Rattle.prog_asm.specs.LineViews.{span_seen};
 ghost use Rattle.prog_asm.specs.declared.faults.AsmFault.TheVariants as asm;
 
-use crate::mistakes::Mistake;
-use std::alloc::{AllocError, AllocFailed};
+use crate::lines::Span;
+use crate::operand_forms::Form;
+use std::alloc::AllocError;
 use std::fmt;
 use thiserror::Error;
 
@@ -98,16 +102,60 @@ impl fmt::Display for AsmFault {
     }
 }
 
-/// The fault of a line with this mistake.
-pub(crate) fn fault_at(mistake: Mistake, line: usize) -> AsmFault
-    ensures { result ≡ fault_at mistake line }
-{
-    match mistake {
-        Mistake::Word => AsmFault::Word(line),
-        Mistake::Operand => AsmFault::Operand(line),
-        Mistake::TwiceLabel => AsmFault::TwiceLabel(line),
-        Mistake::TooMany => AsmFault::TooMany(line),
-        Mistake::Memory => AsmFault::Memory,
+/// What can be wrong with a text at a line, in the order in which it is told of one. (own)
+#[derive(Clone, Copy, PartialEq, Eq)]
+pub enum LineMistake {
+    /// A byte that no word has, a bad name before a colon, or an unknown instruction.
+    Word,
+    /// A wrong operand, a wrong word in a list, or too few or too many operands.
+    Operand,
+    /// A label that no line has, or that no instruction follows.
+    NoLabel,
+    /// A label that a line before has already.
+    TwiceLabel,
+    /// An instruction behind 256.
+    TooMany,
+    /// The last instruction goes on, or there is none (line 1).
+    FallsOff,
+}
+
+/// What is wrong with a text at a line. (own)
+#[derive(Clone, Copy, PartialEq, Eq)]
+pub struct LineFault {
+    pub mistake: LineMistake,
+    /// The line, counted from 1.
+    pub line: usize,
+    /// Where in the line, counted from its first byte.
+    pub span: Span,
+    /// What is wanted there, of a wrong operand; nothing of one too many.
+    pub wants: Option<Form>,
+}
+
+impl LineFault {
+    /// A fault at a line of which no form is wanted.
+    pub(crate) fn at(mistake: LineMistake, line: usize, span: Span) -> LineFault
+        ensures { fault_seen result ≡ placed_fault (mistake_of mistake) line (span_seen span) }
+    {
+        LineFault {
+            mistake,
+            line,
+            span,
+            wants: None,
+        }
+    }
+
+    /// The fault of a text of which this is the first.
+    pub(crate) fn first(self) -> AsmFault
+        ensures { result ≡ fault_at self.mistake self.line }
+    {
+        match self.mistake {
+            LineMistake::Word => AsmFault::Word(self.line),
+            LineMistake::Operand => AsmFault::Operand(self.line),
+            LineMistake::NoLabel => AsmFault::NoLabel(self.line),
+            LineMistake::TwiceLabel => AsmFault::TwiceLabel(self.line),
+            LineMistake::TooMany => AsmFault::TooMany(self.line),
+            LineMistake::FallsOff => AsmFault::FallsOff(self.line),
+        }
     }
 }
 
@@ -115,14 +163,6 @@ impl From<AllocError> for AsmFault {
     ghost from_gives = { λ _ given. given ≡ asm.Memory };
 
     fn from(_error: AllocError) -> AsmFault {
-        AsmFault::Memory
-    }
-}
-
-impl<T: Drop> From<AllocFailed<T>> for AsmFault {
-    ghost from_gives = { λ _ given. given ≡ asm.Memory };
-
-    fn from(_failed: AllocFailed<T>) -> AsmFault {
         AsmFault::Memory
     }
 }

@@ -72,7 +72,7 @@ pub(crate) fn path(alloc: Global, word: &[u8]) -> Result<Path, Mistake>
     ensures { ReadsField (λ path. path) result (read_path word.now) }
 {
     let Some(bytes) = quoted_path(word) else {
-        return Err(Mistake::Operand);
+        return Err(Mistake::Wrong);
     };
     Ok(Path::new(Vec::from_slice(alloc, bytes)?))
 }

@@ -5,6 +5,7 @@ ghost use Rattle.std.specs.Prelude.{◌≡◌, Some};
 ghost use Rattle.rights.specs.Views.{call_of};
 ghost use Rattle.prog_asm.specs.FormParts.{at_call_at, comparison_at, descriptor_call_at, operand_call_at, path_call_at, register_form_at};
 ghost use Rattle.prog_asm.specs.FormViews.{TakesField, TakesWord, jump_from, mnemonic_from, written_from};
+ghost use Rattle.instruction_set.specs.Assembly.{placed};
 ghost use Rattle.instruction_set.specs.Forms.{Make, commands_at, directory_at, else_at, flags_at, label_at, led, number_at};
 ghost use Rattle.instruction_set.specs.Forms.{operand_at, path_at, register_at, rights_at, syscall_at, whole, written_at, written_of};
 ghost use Rattle.prog_asm.specs.LineViews.{texts_of};
@@ -80,6 +81,23 @@ pub(crate) enum Written<'t> {
     },
 }
 
+impl<'t> Written<'t> {
+    /// The instruction, with this point in the place of its label, if it has one.
+    #[tactic(auto, unfolding(crate::specs::FormViews::written_from))]
+    pub(crate) fn led(self, target: u8) -> Instruction
+        ensures { placed (λ name. Some target) (written_from self.entry) ≡ Some (instruction_of result) }
+    {
+        match self {
+            Written::Set { register, value } => Instruction::Set { register, value },
+            Written::Mov { register, source } => Instruction::Mov { register, source },
+            Written::Add { register, addend } => Instruction::Add { register, addend },
+            Written::In { register } => Instruction::In { register },
+            Written::Halt => Instruction::Halt,
+            Written::Leading { jump, .. } => jump.led(target),
+        }
+    }
+}
+
 /// The words of a line from some place on, which are read field by field. A clause sees the words.
 #[derive(Drop)]
 pub(crate) struct Words<'w, 't> {
@@ -109,7 +127,7 @@ impl<'w, 't> Words<'w, 't> {
         ensures { TakesWord result self.old self.new }
     {
         match self.rest {
-            [] => Err(Mistake::Operand),
+            [] => Err(Mistake::Wrong),
             [word, rest @ ..] => {
                 self.rest = rest;
                 Ok(word.text)
@@ -124,7 +142,7 @@ impl<'w, 't> Words<'w, 't> {
         if self.rest.is_empty() {
             Ok(read)
         } else {
-            Err(Mistake::Operand)
+            Err(Mistake::Wrong)
         }
     }
 
@@ -133,7 +151,7 @@ impl<'w, 't> Words<'w, 't> {
     fn register(&mut self) -> Result<Register, Mistake>
         ensures { TakesField (λ register. register) result self.new (register_at self.old) }
     {
-        fields::register(self.word()?).ok_or(Mistake::Operand)
+        fields::register(self.word()?).ok_or(Mistake::Wrong)
     }
 
     /// A number.
@@ -141,7 +159,7 @@ impl<'w, 't> Words<'w, 't> {
     fn number(&mut self) -> Result<u32, Mistake>
         ensures { TakesField (λ number. number) result self.new (number_at self.old) }
     {
-        fields::number(self.word()?).ok_or(Mistake::Operand)
+        fields::number(self.word()?).ok_or(Mistake::Wrong)
     }
 
     /// A register or a number.
@@ -149,7 +167,7 @@ impl<'w, 't> Words<'w, 't> {
     fn operand(&mut self) -> Result<Operand, Mistake>
         ensures { TakesField operand_of result self.new (operand_at self.old) }
     {
-        fields::operand(self.word()?).ok_or(Mistake::Operand)
+        fields::operand(self.word()?).ok_or(Mistake::Wrong)
     }
 
     /// A path in double quotes.
@@ -166,7 +184,7 @@ impl<'w, 't> Words<'w, 't> {
     fn flags(&mut self) -> Result<OpenFlags, Mistake>
         ensures { TakesField (λ flags. flags) result self.new (flags_at self.old) }
     {
-        lists::flags(self.word()?).ok_or(Mistake::Operand)
+        lists::flags(self.word()?).ok_or(Mistake::Wrong)
     }
 
     /// A list of rights.
@@ -174,7 +192,7 @@ impl<'w, 't> Words<'w, 't> {
     fn rights(&mut self) -> Result<Rights, Mistake>
         ensures { TakesField (λ rights. rights.0) result self.new (rights_at self.old) }
     {
-        lists::rights(self.word()?).ok_or(Mistake::Operand)
+        lists::rights(self.word()?).ok_or(Mistake::Wrong)
     }
 
     /// A list of fcntl commands.
@@ -182,7 +200,7 @@ impl<'w, 't> Words<'w, 't> {
     fn commands(&mut self) -> Result<Fcntls, Mistake>
         ensures { TakesField (λ commands. commands.0) result self.new (commands_at self.old) }
     {
-        lists::commands(self.word()?).ok_or(Mistake::Operand)
+        lists::commands(self.word()?).ok_or(Mistake::Wrong)
     }
 
     /// The name of a label.
@@ -194,7 +212,7 @@ impl<'w, 't> Words<'w, 't> {
         if is_name(word) {
             Ok(word)
         } else {
-            Err(Mistake::Operand)
+            Err(Mistake::Wrong)
         }
     }
 
@@ -220,7 +238,7 @@ impl<'w, 't> Words<'w, 't> {
         if self.word()? == b"else".as_slice() {
             self.label()
         } else {
-            Err(Mistake::Operand)
+            Err(Mistake::Wrong)
         }
     }
 
@@ -249,7 +267,7 @@ impl<'w, 't> Words<'w, 't> {
                 target: self.operand()?,
                 new_path: self.path()?,
             },
-            _ => return Err(Mistake::Operand),
+            _ => return Err(Mistake::Wrong),
         })
     }
 
@@ -286,7 +304,7 @@ impl<'w, 't> Words<'w, 't> {
                 descriptor,
                 flags: operand,
             },
-            _ => return Err(Mistake::Operand),
+            _ => return Err(Mistake::Wrong),
         })
     }
 
@@ -338,7 +356,7 @@ impl<'w, 't> Words<'w, 't> {
                 path,
                 directory: self.directory(),
             },
-            _ => return Err(Mistake::Operand),
+            _ => return Err(Mistake::Wrong),
         })
     }
 
@@ -386,7 +404,7 @@ impl<'w, 't> Words<'w, 't> {
         let jump = match mnemonic {
             Mnemonic::Jeq => Jump::IfEqual { register, value },
             Mnemonic::Jlt => Jump::IfLess { register, value },
-            _ => return Err(Mistake::Operand),
+            _ => return Err(Mistake::Wrong),
         };
         Ok(Written::Leading { jump, label })
     }

@@ -1,21 +1,15 @@
-//! What can be wrong with a line.
+//! Why words aren't read.
 
 ghost use Rattle.std.specs.Prelude.{◌≡◌};
 ghost use Rattle.prog_asm.specs.declared.mistakes.Mistake.TheVariants as mistake;
 
 use std::alloc::{AllocError, AllocFailed};
 
-/// Why a line isn't read.
+/// Why words aren't read. What is wrong with them is told by where they stand.
 #[derive(Clone, Copy)]
 pub(crate) enum Mistake {
-    /// A byte that no word has, a bad name before a colon, or an unknown instruction.
-    Word,
-    /// A wrong operand, or too few or too many.
-    Operand,
-    /// A label that a line before has already.
-    TwiceLabel,
-    /// An instruction behind 256.
-    TooMany,
+    /// They stand for nothing.
+    Wrong,
     /// A growth was refused.
     Memory,
 }

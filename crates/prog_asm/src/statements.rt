@@ -1,14 +1,15 @@
 //! A line by itself: a label, an instruction, both or neither.
 
-ghost use Rattle.std.specs.Prelude.{◌≡◌, option_map};
-ghost use Rattle.instruction_set.specs.Assembly.{instruction_in, line_read, line_read_of, with_label};
+ghost use Rattle.std.specs.Prelude.{◌≡◌, map, option_map};
+ghost use Rattle.instruction_set.specs.Assembly.{instruction_in, with_label};
 ghost use Rattle.prog_asm.specs.FormViews.{written_from};
-ghost use Rattle.prog_asm.specs.LineViews.{line_from, texts_of};
-ghost use Rattle.prog_asm.specs.ReadingViews.{ReadsAssembly};
+ghost use Rattle.prog_asm.specs.LineFaults as model;
+ghost use Rattle.prog_asm.specs.LineViews.{line_from, span_seen, texts_of, word_of};
+ghost use Rattle.prog_asm.specs.ReadingViews.{ReadsAssembly, line_of_parts};
 
 use crate::fields::before_last;
 use crate::forms::{Written, read_written};
-use crate::lines::{Word, before_comment, stray_in, words};
+use crate::lines::{Span, Word};
 use crate::mistakes::Mistake;
 use crate::mnemonics::mnemonic_of;
 use std::alloc::Global;
@@ -21,6 +22,29 @@ pub(crate) struct Line<'t> {
     pub(crate) instruction: Option<Written<'t>>,
 }
 
+/// The label, good or not, that words begin with, without its colon.
+pub(crate) fn label_in<'t>(words: &[Word<'t>]) -> Option<Word<'t>>
+    ensures { option_map word_of result ≡ model.label_in (map word_of words.now) }
+{
+    let word = words.first()?;
+    let text = before_last(word.text, b':')?;
+    let span = Span {
+        start: word.span.start,
+        end: word.span.end.saturating_sub(1),
+    };
+    Some(Word { text, span })
+}
+
+/// The words behind the label.
+pub(crate) fn behind_label<'w, 't>(words: &'w [Word<'t>]) -> &'w [Word<'t>]
+    ensures { map word_of result.now ≡ model.behind_label (map word_of words.now) }
+{
+    match words {
+        [word, rest @ ..] if before_last(word.text, b':').is_some() => rest,
+        _ => words,
+    }
+}
+
 /// The instruction that words stand for, if there are any.
 fn instruction_in<'t>(alloc: Global, words: &[Word<'t>]) -> Result<Option<Written<'t>>, Mistake>
     ensures { ReadsAssembly (λ instruction. option_map written_from instruction) result
@@ -30,7 +54,7 @@ fn instruction_in<'t>(alloc: Global, words: &[Word<'t>]) -> Result<Option<Writte
         [] => Ok(None),
         [word, operands @ ..] => {
             let Some(mnemonic) = mnemonic_of(word.text) else {
-                return Err(Mistake::Word);
+                return Err(Mistake::Wrong);
             };
             Ok(Some(read_written(alloc, mnemonic, operands)?))
         }
@@ -38,6 +62,7 @@ fn instruction_in<'t>(alloc: Global, words: &[Word<'t>]) -> Result<Option<Writte
 }
 
 /// The line with this label, and with the instruction that words stand for.
+#[tactic(auto, using(crate::proofs::LinesRead::labels_keep))]
 fn with_label<'t>(
     alloc: Global,
     label: Option<&'t [u8]>,
@@ -50,35 +75,22 @@ fn with_label<'t>(
     Ok(Line { label, instruction })
 }
 
-/// The line that words stand for. A first word that ends with a colon is a label.
-fn line_of_words<'t>(alloc: Global, words: &[Word<'t>]) -> Result<Line<'t>, Mistake>
-    ensures { ReadsAssembly line_from result (line_read_of (texts_of words.now)) }
+/// The line with this label and these words behind it, in which a byte stands that no word has, or none.
+pub(crate) fn read_line<'t>(
+    alloc: Global,
+    stray: Option<Span>,
+    label: Option<Word<'t>>,
+    words: &[Word<'t>],
+) -> Result<Line<'t>, Mistake>
+    ensures { ReadsAssembly line_from result
+        (line_of_parts (option_map span_seen stray) (option_map word_of label.entry) (texts_of words.now)) }
 {
-    match words {
-        [] => Ok(Line {
-            label: None,
-            instruction: None,
-        }),
-        [first, rest @ ..] => match before_last(first.text, b':') {
-            None => with_label(alloc, None, words),
-            Some(name) => {
-                if !is_name(name) {
-                    return Err(Mistake::Word);
-                }
-                with_label(alloc, Some(name), rest)
-            }
-        },
+    if stray.is_some() {
+        return Err(Mistake::Wrong);
     }
-}
-
-/// The line that a text stands for.
-pub(crate) fn read_line<'t>(alloc: Global, text: &'t [u8]) -> Result<Line<'t>, Mistake>
-    ensures { ReadsAssembly line_from result (line_read text.now) }
-{
-    let code = before_comment(text);
-    if stray_in(code).is_some() {
-        return Err(Mistake::Word);
+    match label {
+        None => with_label(alloc, None, words),
+        Some(label) if is_name(label.text) => with_label(alloc, Some(label.text), words),
+        Some(_) => Err(Mistake::Wrong),
     }
-    let words = words(alloc, code)?;
-    line_of_words(alloc, &words)
 }

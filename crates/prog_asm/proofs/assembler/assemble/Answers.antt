@@ -1,39 +1,40 @@
-use Rattle.std.proofs.Common.{◌≡◌, [], ap, sym, ◌∙◌, subst}
+use Rattle.std.proofs.Common.{ap, sym, ◌∙◌, subst}
+use Rattle.std.specs.List.{slice_get}
 use Rattle.std.specs.Prelude.{Ok}
-use Rattle.std.proofs.lemmas.Result.{err_from_is_err_and}
-use Rattle.instruction_set.specs.Lines.{text_lines}
-use Rattle.instruction_set.specs.Assembly.{assembly_of, lines_behind}
-use Rattle.prog_asm.specs.FaultViews.{FaultIs}
+use Rattle.instruction_set.specs.Assembly.{assembly_of}
 use Rattle.instruction_set.specs.Views.{code_of}
-use Rattle.prog_asm.proofs.GoodPrograms.{assembly-fault, assembly-good, assembly-lines, draft-few}
+use Rattle.prog_asm.specs.FaultViews.{FaultIs}
+use Rattle.prog_asm.specs.LineFaults.{fault_in, first_fault}
+use Rattle.prog_asm.proofs.Assembled.{fault-is, first-seen, none-seen, program-is}
+use Rattle.prog_asm.proofs.GoodPrograms.{assembly-good, draft-few}
+use Rattle.prog_asm.proofs.JudgedLaws.{faults-first}
 use Rattle.prog_asm.proofs.assembler.assemble.Goals as goal
 
-pub returns-in_err-draft : goal.returns-in_err-draft
-returns-in_err-draft c =
-    let p = err_from_is_err_and c.from_residual.result c.from_residual.ensures.1 in
-    let error = c.in_err-draft.field-0.0 in
-    let told : FaultIs error (lines_behind [] (text_lines c.args.text.now)) = subst (λ text. FaultIs error (lines_behind [] (text_lines text))) c.as_bytes.ensures.value c.in_err-draft.ensures in
-    rw (p.1, p.2) (assembly-fault c.args.text.now error told)
+pub returns-in-Some : goal.returns-in-Some
+returns-in-Some c =
+    let first = c.in-Some.fault.now in
+    let told = first-seen c.in_ok-draft.draft.faults.items first (c.in-Some.ensures.value ∙ ap (λ faults. slice_get faults 0) c.deref.ensures.value) in
+    subst (λ given. FaultIs given (assembly_of c.args.text.now)) (sym c.first-in-Some.ensures) (fault-is first.mistake first.line (assembly_of c.args.text.now)
+    (sym told ∙ ap first_fault c.in_ok-draft.ensures.faults ∙ faults-first c.as_bytes.result.now ∙ ap (λ text. fault_in (assembly_of text)) c.as_bytes.ensures.value))
 
-pub finish-requires : goal.finish-requires
-finish-requires c =
-    let read = c.in_ok-draft.ensures in
-    draft-few c.as_bytes.result.now read.0 c.in_ok-draft.draft read.1 read.2
-
-pub returns-in_err-code : goal.returns-in_err-code
-returns-in_err-code c =
-    let p = err_from_is_err_and c.from_residual-in_err-code.result c.from_residual-in_err-code.ensures.1 in
-    let error = c.in_err-code.field-0.0 in
-    let read = c.in_ok-draft.ensures in
-    let is : assembly_of c.args.text.now ≡ _ = ap assembly_of (sym c.as_bytes.ensures.value) ∙ assembly-lines c.as_bytes.result.now read.0 read.1 in
-    rw (p.1, p.2) (subst (FaultIs error) (sym is) (c.in_err-code.ensures read.0 read.2))
+pub place_all-requires : goal.place_all-requires
+place_all-requires c =
+    let draft = c.in_ok-draft.draft in
+    let read = c.in_ok-draft.ensures.read (none-seen draft.faults.items (c.in_default.ensures.value ∙ ap (λ faults. slice_get faults 0) c.deref.ensures.value)) in
+    draft-few c.as_bytes.result.now read.0 draft read.1 read.2
 
 pub new-requires : goal.new-requires
 new-requires c =
-    let read = c.in_ok-draft.ensures in
-    assembly-good c.as_bytes.result.now (code_of c.in_ok-code.code.items) (assembly-lines c.as_bytes.result.now read.0 read.1 ∙ c.in_ok-code.ensures read.0 read.2)
+    let draft = c.in_ok-draft.draft in
+    let none = none-seen draft.faults.items (c.in_default.ensures.value ∙ ap (λ faults. slice_get faults 0) c.deref.ensures.value) in
+    let read = c.in_ok-draft.ensures.read none in
+    assembly-good c.as_bytes.result.now (code_of c.in_ok-code.code.items)
+    (program-is c.as_bytes.result.now read.0 draft (sym c.in_ok-draft.ensures.faults ∙ none) read.1 read.2 ∙ ap Ok (sym c.in_ok-code.ensures))
 
 pub returns : goal.returns
 returns c =
-    let read = c.in_ok-draft.ensures in
-    ap assembly_of (sym c.as_bytes.ensures.value) ∙ assembly-lines c.as_bytes.result.now read.0 read.1 ∙ c.in_ok-code.ensures read.0 read.2 ∙ ap Ok (sym c.new.ensures)
+    let draft = c.in_ok-draft.draft in
+    let none = none-seen draft.faults.items (c.in_default.ensures.value ∙ ap (λ faults. slice_get faults 0) c.deref.ensures.value) in
+    let read = c.in_ok-draft.ensures.read none in
+    ap assembly_of (sym c.as_bytes.ensures.value) ∙ program-is c.as_bytes.result.now read.0 draft (sym c.in_ok-draft.ensures.faults ∙ none) read.1 read.2
+    ∙ ap Ok (sym c.in_ok-code.ensures ∙ sym c.new.ensures)

@@ -1,7 +1,0 @@
-use Rattle.std.proofs.Common.{map}
-use Rattle.prog_asm.proofs.JudgedCode.{JudgedSoFar}
-use Rattle.prog_asm.proofs.judging.line_faults.Given as goal
-
--- what is wrong with the lines so far, and what is left
-abbrev pub invariant-loop-at : goal.invariant-loop-at
-invariant-loop-at l = JudgedSoFar l.text (map (λ line. line.now) l.line-items) l.at l.judging.draft l.judging.faults.items

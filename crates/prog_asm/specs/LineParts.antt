@@ -1,0 +1,39 @@
+-- What stands where on a line, and when a text is the line of an instruction. (own)
+use Rattle.std.specs.Prelude.{◌≡◌, ℕ, List, [], ◌∷◌, Option, Some, None, Ok, option_map}
+use Rattle.instruction_set.specs.Assembly.{line_read, line_with, placed}
+use Rattle.instruction_set.specs.Forms.{Written}
+use Rattle.instruction_set.specs.Programs.{Instruction, Set, Mov, Add, In, Jmp, Jeq, Jlt, Halt, Invoke}
+use Rattle.prog_asm.specs.LineFaults.{behind_label, first_place, label_in, last_place}
+use Rattle.prog_asm.specs.WordPlaces.{Span, Word, words_on}
+
+-- where its label stands, without the colon
+abbrev pub label_span : List ℕ → Option Span
+label_span line = option_map (λ label. label.span) (label_in (words_on line))
+
+-- where its instruction does, from its first word to its last
+abbrev pub span_over : List Word → Option Span
+span_over [] = None
+span_over (word ∷ words) = Some (record { start = word.span.start; end = (last_place (word ∷ words)).end })
+
+abbrev pub instruction_span : List ℕ → Option Span
+instruction_span line = span_over (behind_label (words_on line))
+
+-- the point that an instruction leads to; 0 where it leads to none
+abbrev pub target_of : Instruction → ℕ
+target_of (Jmp target) = target
+target_of (Jeq register value target) = target
+target_of (Jlt register value target) = target
+target_of (Invoke call otherwise) = otherwise
+target_of instruction = 0
+
+-- What stands on a line is an instruction, wherever the label leads that it names.
+pub record IsWritten (found : Option Written) (instruction : Instruction) : Type 0 where
+  pub written : Written
+  pub there : found ≡ Some written
+  pub same : placed (λ name. Some (target_of instruction)) written ≡ Some instruction
+
+-- A text by itself is the line of an instruction, without a label.
+pub record IsLineOf (text : List ℕ) (instruction : Instruction) : Type 0 where
+  pub found : Option Written
+  pub read : line_read text ≡ Ok (line_with None found)
+  pub instruction_is : IsWritten found instruction
