@@ -8,13 +8,14 @@ use Rattle.file_tree.specs.Nodes.{Node, File, Link}
 use Rattle.certificate.specs.Bounds.{Bound, ModeBound, Off, On, Either, Held, Target, In_grant, Any_node, Socket, Slot, Open, Closed}
 use Rattle.instruction_set.specs.Programs.{Instruction, Jmp, Jeq, Halt, Invoke, Cap_enter, Read, Close, Number}
 use Rattle.remarks.specs.Remarks.{doubled, idle, skipping, strays, unsettled}
-use Rattle.remarks.specs.TaskRemarks.{alone}
-use Rattle.remarks.specs.Warnings.{calls_ahead, goes_on_closing, has_more, is_absolute, leads_out}
+use Rattle.remarks.specs.TaskRemarks.{lone_sides}
+use Rattle.remarks.specs.Warnings.{calls_ahead, goes_on_closing, has_more, leads_out}
+use Rattle.lookup.specs.Paths.{is_absolute}
 use Rattle.remarks.specs.Ways.{from_which, leads_from, within_steps}
 use Rattle.task.specs.Plans.{On_end, Start}
 
 -- ## Where instructions lead
--- a call leads on and to its `else`, entering the mode on alone, and a halt nowhere
+-- a call leads on and to its `else`, entering the mode on lone_sides, and a halt nowhere
 call_leads : leads_from (Invoke (Read (Number 3)) 7 ∷ []) 0 ≡ 1 ∷ 7 ∷ []
 call_leads = refl
 
@@ -71,7 +72,7 @@ is_skipped = refl
 all_enter : unsettled may_skip (bound Off file Closed ∷ bound Off file Closed ∷ bound On file Closed ∷ bound On file Closed ∷ []) ≡ []
 all_enter = refl
 
--- The mode is entered with both numbers, and the first alone is read from there on.
+-- The mode is entered with both numbers, and the first lone_sides is read from there on.
 abbrev enter_then_read : List Instruction
 enter_then_read = Invoke Cap_enter 2 ∷ Invoke (Read (Number 0)) 2 ∷ Halt ∷ []
 
@@ -110,10 +111,10 @@ starts_with_side pair s = record {
   descriptors = record { number = 0; object = On_end pair s; rights = all_rights; fcntls = all_commands } ∷ [];
 }
 
-is_alone : alone (starts_with_side 3 0 ∷ []) 0 ≡ 3 ∷ []
+is_alone : lone_sides (starts_with_side 3 0 ∷ []) 0 ≡ 3 ∷ []
 is_alone = refl
 
-has_company : alone (starts_with_side 3 0 ∷ starts_with_side 3 1 ∷ []) 0 ≡ []
+has_company : lone_sides (starts_with_side 3 0 ∷ starts_with_side 3 1 ∷ []) 0 ≡ []
 has_company = refl
 
 -- ## What FreeBSD does otherwise
@@ -135,7 +136,7 @@ link_leads_out = refl
 name_stays : leads_out tree (codes "a/in") ≡ false
 name_stays = refl
 
--- The error of closing leads to a call, or to a halt alone.
+-- The error of closing_points leads to a call, or to a halt lone_sides.
 close_goes_on : goes_on_closing (calls_ahead (Invoke (Close (Number 0)) 1 ∷ Invoke (Read (Number 0)) 2 ∷ Halt ∷ [])) (Invoke (Close (Number 0)) 1) ≡ true
 unfolding within_steps
 close_goes_on = refl

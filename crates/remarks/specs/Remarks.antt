@@ -14,8 +14,8 @@ use Rattle.rules.specs.Slots.{may_be_on, operand_interval}
 use Rattle.remarks.specs.Ways.{from_which, is_flagged, leads_from, points}
 
 -- ## A point, its instruction and its bound
-abbrev pub bound_there : List (Option Bound) → ℕ → Option Bound
-bound_there bounds point = slice_index_or bounds point None
+abbrev pub bound_here : List (Option Bound) → ℕ → Option Bound
+bound_here bounds point = slice_index_or bounds point None
 
 abbrev pub holds_there : (Instruction → Bool) → Option Instruction → Bool
 holds_there test None = false
@@ -45,21 +45,21 @@ has_mode test (Some b) = test b.mode
 
 -- a process may be there in the mode; it may be in it or not; it is surely outside
 abbrev pub is_on_at : List (Option Bound) → ℕ → Bool
-is_on_at bounds point = has_mode may_be_on (bound_there bounds point)
+is_on_at bounds point = has_mode may_be_on (bound_here bounds point)
 
 abbrev pub is_either_at : List (Option Bound) → ℕ → Bool
-is_either_at bounds point = has_mode is_either (bound_there bounds point)
+is_either_at bounds point = has_mode is_either (bound_here bounds point)
 
 abbrev pub is_off_at : List (Option Bound) → ℕ → Bool
-is_off_at bounds point = has_mode (λ mode. not (may_be_on mode)) (bound_there bounds point)
+is_off_at bounds point = has_mode (λ mode. not (may_be_on mode)) (bound_here bounds point)
 
 -- what a number may hold there
 abbrev pub held_by : Option Bound → DescriptorNumber → Option Held
 held_by None n = None
 held_by (Some b) n = held_in (slot b.slots n)
 
-abbrev pub held_at : List (Option Bound) → DescriptorNumber → ℕ → Option Held
-held_at bounds n point = held_by (bound_there bounds point) n
+abbrev pub held_here : List (Option Bound) → DescriptorNumber → ℕ → Option Held
+held_here bounds n point = held_by (bound_here bounds point) n
 
 abbrev pub holds_so : (Held → Bool) → Option Held → Bool
 holds_so test None = false
@@ -75,7 +75,7 @@ lies_nowhere Unknown = true
 -- In the mode the number may hold what lies in no grant; a point that only ends doesn't count.
 abbrev pub is_stray : List Instruction → List (Option Bound) → DescriptorNumber → ℕ → Bool
 is_stray code bounds n point =
-    is_on_at bounds point && not (is_there code is_halt point) && holds_so (λ h. lies_nowhere h.target) (held_at bounds n point)
+    is_on_at bounds point && not (is_there code is_halt point) && holds_so (λ h. lies_nowhere h.target) (held_here bounds n point)
 
 abbrev pub strays : List Instruction → List (Option Bound) → DescriptorNumber → List ℕ
 strays code bounds n = filter (is_stray code bounds n) (points code)
@@ -94,21 +94,21 @@ abbrev pub skipping : List Instruction → List (Option Bound) → List ℕ
 skipping code bounds = filter (is_skipping code bounds) (points code)
 
 -- ## What is held and never named
-abbrev pub may_be : Bound → DescriptorNumber → Operand → Bool
-may_be b n x = interval_describes (operand_interval b x) n
+abbrev pub may_be_number : Bound → DescriptorNumber → Operand → Bool
+may_be_number b n x = interval_describes (operand_interval b x) n
 
 abbrev pub may_be_sent : Bound → DescriptorNumber → Passed → Bool
 may_be_sent b n Nothing = false
 may_be_sent b n Received = false
-may_be_sent b n (Sent x) = may_be b n x
+may_be_sent b n (Sent x) = may_be_number b n x
 
 abbrev pub may_go_through : Bound → DescriptorNumber → Option Through → Bool
 may_go_through b n None = false
-may_go_through b n (Some t) = may_be b n t.operand || may_be_sent b n t.need.passed
+may_go_through b n (Some t) = may_be_number b n t.operand || may_be_sent b n t.need.passed
 
-abbrev pub may_name : DescriptorNumber → Option Bound → Instruction → Bool
-may_name n (Some b) (Invoke call otherwise) = may_go_through b n (needs call).first || may_go_through b n (needs call).second
-may_name n _ _ = false
+abbrev pub may_name_number : DescriptorNumber → Option Bound → Instruction → Bool
+may_name_number n (Some b) (Invoke call otherwise) = may_go_through b n (needs call).first || may_go_through b n (needs call).second
+may_name_number n _ _ = false
 
 abbrev pub has_work : Option Through → Bool
 has_work None = false
@@ -121,11 +121,11 @@ is_working _ = false
 
 -- The flags of points: an instruction there may name the number; one works on a descriptor. A way begins where the program starts, where
 -- the mode is entered, and where parent and child part.
-abbrev pub naming : List Instruction → List (Option Bound) → DescriptorNumber → List Bool
-naming code bounds n = map (λ point. is_there code (may_name n (bound_there bounds point)) point) (points code)
+abbrev pub naming_points : List Instruction → List (Option Bound) → DescriptorNumber → List Bool
+naming_points code bounds n = map (λ point. is_there code (may_name_number n (bound_here bounds point)) point) (points code)
 
-abbrev pub working : List Instruction → List Bool
-working code = map (is_there code is_working) (points code)
+abbrev pub working_points : List Instruction → List Bool
+working_points code = map (is_there code is_working) (points code)
 
 -- some point that is so leads to it
 abbrev pub is_led_by : List Instruction → (ℕ → Bool) → ℕ → Bool
@@ -144,14 +144,14 @@ begins_way code point =
     (point == 0) || is_led_by code (is_there code enters_mode) point || is_led_by code (parts_at code) point
 
 -- In the mode a way begins with the number open: no instruction from there on names it, and some work on others.
-abbrev pub is_idle : List Instruction → List (Option Bound) → List Bool → List Bool → DescriptorNumber → ℕ → Bool
-is_idle code bounds named worked n point =
-    is_on_at bounds point && holds_so (λ h. true) (held_at bounds n point) && not (is_flagged named point) && is_flagged worked point
+abbrev pub stays_idle : List Instruction → List (Option Bound) → List Bool → List Bool → DescriptorNumber → ℕ → Bool
+stays_idle code bounds named worked n point =
+    is_on_at bounds point && holds_so (λ h. true) (held_here bounds n point) && not (is_flagged named point) && is_flagged worked point
     && begins_way code point
 
 abbrev pub idle : List Instruction → List (Option Bound) → DescriptorNumber → List ℕ
 idle code bounds n =
-    filter (is_idle code bounds (from_which code (naming code bounds n)) (from_which code (working code)) n) (points code)
+    filter (stays_idle code bounds (from_which code (naming_points code bounds n)) (from_which code (working_points code)) n) (points code)
 
 -- ## Both ends of a pair
 abbrev pub are_sides : Target → Target → Bool
@@ -163,18 +163,18 @@ are_both (Some h) (Some g) = are_sides h.target g.target
 are_both _ _ = false
 
 abbrev pub may_close : DescriptorNumber → Option Bound → Instruction → Bool
-may_close n (Some b) (Invoke (Close x) otherwise) = may_be b n x
+may_close n (Some b) (Invoke (Close x) otherwise) = may_be_number b n x
 may_close n _ _ = false
 
-abbrev pub closing : List Instruction → List (Option Bound) → DescriptorNumber → List Bool
-closing code bounds n = map (λ point. is_there code (may_close n (bound_there bounds point)) point) (points code)
+abbrev pub closing_points : List Instruction → List (Option Bound) → DescriptorNumber → List Bool
+closing_points code bounds n = map (λ point. is_there code (may_close n (bound_here bounds point)) point) (points code)
 
 -- Both numbers may be ends of one pair, and no instruction from there on closes one of them; a point that only ends doesn't count.
 abbrev pub is_doubled : List Instruction → List (Option Bound) → List Bool → List Bool → DescriptorNumber → DescriptorNumber → ℕ → Bool
 is_doubled code bounds closed others n m point =
-    are_both (held_at bounds n point) (held_at bounds m point) && not (is_flagged closed point) && not (is_flagged others point)
+    are_both (held_here bounds n point) (held_here bounds m point) && not (is_flagged closed point) && not (is_flagged others point)
     && not (is_there code is_halt point)
 
 abbrev pub doubled : List Instruction → List (Option Bound) → DescriptorNumber → DescriptorNumber → List ℕ
 doubled code bounds n m =
-    filter (is_doubled code bounds (from_which code (closing code bounds n)) (from_which code (closing code bounds m)) n m) (points code)
+    filter (is_doubled code bounds (from_which code (closing_points code bounds n)) (from_which code (closing_points code bounds m)) n m) (points code)

@@ -6,8 +6,9 @@ use Rattle.std.specs.Str.{bytes_eq}
 use Rattle.rights.specs.Operations.{Look}
 use Rattle.rights.specs.Sets.{all_commands, all_rights, fcntl_right, is_within}
 use Rattle.rights.specs.Values.{DescriptorNumber, Name, PathText}
-use Rattle.file_tree.specs.Nodes.{Kind, File, Dir, Link, Node}
+use Rattle.file_tree.specs.Nodes.{Node, is_link}
 use Rattle.file_tree.specs.Places.{slash}
+use Rattle.lookup.specs.Paths.{is_absolute}
 use Rattle.certificate.specs.Bounds.{Bound, Held, ModeBound, Off, On, Either, Slot, Target, In_grant, Any_node, Socket, Unknown, held_in}
 use Rattle.instruction_set.specs.Programs.{Instruction, Invoke, Operand, Syscall, Openat, Fstatat, Mkdirat, Unlinkat, Renameat, Cap_fcntls_limit, Cap_enter, Close}
 use Rattle.rules.specs.Demands.{demands}
@@ -16,7 +17,7 @@ use Rattle.rules.specs.Slots.{OpenSlot, may_be_on, slots_in}
 use Rattle.task.specs.Plans.{Grant, Plan}
 use Rattle.task.specs.Policies.{grant_lists}
 use Rattle.texts.specs.Parts.{parts}
-use Rattle.remarks.specs.Remarks.{bound_there, held_at, holds_so, is_there}
+use Rattle.remarks.specs.Remarks.{bound_here, held_here, holds_so, is_there}
 use Rattle.remarks.specs.Ways.{from_which, is_flagged, points}
 
 -- ## What is looked up beneath a descriptor
@@ -40,10 +41,6 @@ may_be_off Off = true
 may_be_off On = false
 may_be_off Either = true
 
-abbrev pub is_absolute : PathText → Bool
-is_absolute [] = false
-is_absolute (b ∷ path) = b == slash
-
 -- it has all rights and all commands
 abbrev pub is_unlimited : Held → Bool
 is_unlimited h = (h.greatest == all_rights) && (h.greatest_fcntls == all_commands)
@@ -51,18 +48,13 @@ is_unlimited h = (h.greatest == all_rights) && (h.greatest_fcntls == all_command
 abbrev pub are_limited : Bound → Operand → Bool
 are_limited b x = list_all (λ (s : OpenSlot). not (is_unlimited s.held)) (slots_in b x)
 
-abbrev pub is_link : Kind → Bool
-is_link File = false
-is_link Dir = false
-is_link Link = true
-
-abbrev pub is_name : Name → Option Name → Bool
-is_name name None = false
-is_name name (Some other) = bytes_eq other name
+abbrev pub is_last_name : Name → Option Name → Bool
+is_last_name name None = false
+is_last_name name (Some other) = bytes_eq other name
 
 -- some link has this name
 abbrev pub is_link_of : Name → Node → Bool
-is_link_of name n = is_link n.kind && is_name name (slice_get n.place (length n.place - 1))
+is_link_of name n = is_link n.kind && is_last_name name (slice_get n.place (length n.place - 1))
 
 abbrev pub names_link : List Node → Name → Bool
 names_link nodes name = list_any (is_link_of name) nodes
@@ -111,13 +103,13 @@ looks_unlisted grants b call =
     may_be_on b.mode
     && list_any (λ (q : Lookup). not (list_all (λ (s : OpenSlot). lets_look grants s.held.target) (slots_in b q.descriptor))) (beneath call)
 
--- the error of closing, or of entering the mode, leads on to some call
+-- the error of closing_points, or of entering the mode, leads on to some call
 abbrev pub is_call : Instruction → Bool
 is_call (Invoke call otherwise) = true
 is_call _ = false
 
-abbrev pub calling : List Instruction → List Bool
-calling code = map (is_there code is_call) (points code)
+abbrev pub calling_points : List Instruction → List Bool
+calling_points code = map (is_there code is_call) (points code)
 
 abbrev pub goes_on_closing : List Bool → Instruction → Bool
 goes_on_closing calls (Invoke (Close x) otherwise) = is_flagged calls otherwise
@@ -150,11 +142,11 @@ call_there test _ _ = false
 
 -- whether it is so at a point
 abbrev pub differs_at : Plan → List Instruction → List (Option Bound) → Difference → ℕ → Bool
-differs_at plan code bounds difference point = is_there code (call_there (differs plan difference) (bound_there bounds point)) point
+differs_at plan code bounds difference point = is_there code (call_there (differs plan difference) (bound_here bounds point)) point
 
 -- the points from which a call comes
 abbrev pub calls_ahead : List Instruction → List Bool
-calls_ahead code = from_which code (calling code)
+calls_ahead code = from_which code (calling_points code)
 
 -- ## What an untrusted program has more of
 -- all rights, or FCNTL with both commands: FreeBSD has more of each
@@ -162,4 +154,4 @@ abbrev pub has_more : Held → Bool
 has_more h = (h.greatest == all_rights) || is_within fcntl_right h.greatest && (h.greatest_fcntls == all_commands)
 
 abbrev pub takes_more_at : List Instruction → List (Option Bound) → DescriptorNumber → ℕ → Bool
-takes_more_at code bounds n point = is_there code enters_mode point && holds_so has_more (held_at bounds n point)
+takes_more_at code bounds n point = is_there code enters_mode point && holds_so has_more (held_here bounds n point)

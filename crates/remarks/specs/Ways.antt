@@ -1,4 +1,4 @@
--- Where instructions lead by the text of a program alone, and from where some points come. (own)
+-- Where instructions lead by the text of a program lone_sides, and from where some points come. (own)
 use Rattle.std.specs.Prelude.{◌+◌, ◌||◌, ℕ, zero, suc, Bool, true, false, List, [], ◌∷◌, Option, Some, None, length, map, if◌then◌else◌}
 use Rattle.std.specs.List.{list_any, range_with_len, slice_get, slice_index_or}
 use Rattle.instruction_set.specs.Programs.{Instruction, Set, Mov, Add, In, Jmp, Jeq, Jlt, Halt, Invoke, Syscall, Cap_enter, Cap_getmode}

@@ -4,9 +4,9 @@ ghost use Rattle.std.specs.Prelude.{◌≡◌, ◌&&◌, ◌||◌, ◌==◌, ◌
 ghost use Rattle.std.specs.List.{list_any};
 ghost use Rattle.certificate.specs.Views.{bound_of, held_of, mode_of, target_of};
 ghost use Rattle.remarks.specs.RemarkViews.{bounds_of, ways_of};
-ghost use Rattle.remarks.specs.Remarks.{are_both, are_sides, begins_way, bound_there, closing, doubled, has_mode, has_work, held_at, holds_so, idle, is_choice, is_doubled, is_either, is_fork};
-ghost use Rattle.remarks.specs.Remarks.{is_either_at, is_halt, is_idle, is_led_by, is_off_at, is_on_at, is_skipping, is_stray, is_there, is_working, lies_nowhere, may_be, may_be_sent, parts_at};
-ghost use Rattle.remarks.specs.Remarks.{may_close, may_go_through, may_name, naming, skipping, strays, unsettled, working};
+ghost use Rattle.remarks.specs.Remarks.{are_both, are_sides, begins_way, bound_here, closing_points, doubled, has_mode, has_work, held_here, holds_so, idle, is_choice, is_doubled, is_either, is_fork};
+ghost use Rattle.remarks.specs.Remarks.{is_either_at, is_halt, stays_idle, is_led_by, is_off_at, is_on_at, is_skipping, is_stray, is_there, is_working, lies_nowhere, may_be_number, may_be_sent, parts_at};
+ghost use Rattle.remarks.specs.Remarks.{may_close, may_go_through, may_name_number, naming_points, skipping, strays, unsettled, working_points};
 ghost use Rattle.remarks.specs.Ways.{from_which, is_flagged, leads_from};
 ghost use Rattle.instruction_set.specs.Views.{code_of, instruction_of, operand_of, syscall_of};
 ghost use Rattle.rights.specs.Limits.{most_descriptors};
@@ -42,8 +42,8 @@ fn are_sides(target: &Target, other: &Target) -> bool
 }
 
 /// Whether an operand may be a number.
-fn may_be(bound: &Bound, operand: Operand, number: u32) -> bool
-    ensures { result ≡ may_be (bound_of bound.now) number (operand_of operand) }
+fn may_be_number(bound: &Bound, operand: Operand, number: u32) -> bool
+    ensures { result ≡ may_be_number (bound_of bound.now) number (operand_of operand) }
 {
     let interval = operand_interval(bound, operand);
     interval.low() <= number && number <= interval.high()
@@ -56,9 +56,9 @@ fn may_go_through(bound: &Bound, through: &Option<Through>, number: u32) -> bool
     match through {
         None => false,
         Some(through) => {
-            may_be(bound, through.operand, number)
+            may_be_number(bound, through.operand, number)
                 || match through.need.passed {
-                    Passed::Sent(sent) => may_be(bound, sent, number),
+                    Passed::Sent(sent) => may_be_number(bound, sent, number),
                     Passed::Nothing | Passed::Received => false,
                 }
         }
@@ -66,8 +66,8 @@ fn may_go_through(bound: &Bound, through: &Option<Through>, number: u32) -> bool
 }
 
 /// Whether an instruction may name a number.
-fn may_name(bound: Option<&Bound>, instruction: &Instruction, number: u32) -> bool
-    ensures { result ≡ may_name number (option_map (λ b. bound_of b.now) bound.entry) (instruction_of instruction.now) }
+fn may_name_number(bound: Option<&Bound>, instruction: &Instruction, number: u32) -> bool
+    ensures { result ≡ may_name_number number (option_map (λ b. bound_of b.now) bound.entry) (instruction_of instruction.now) }
 {
     match (bound, instruction) {
         (Some(bound), Instruction::Invoke { call, .. }) => {
@@ -90,7 +90,7 @@ fn may_close(bound: Option<&Bound>, instruction: &Instruction, number: u32) -> b
                 call: Syscall::Close { descriptor },
                 ..
             },
-        ) => may_be(bound, *descriptor, number),
+        ) => may_be_number(bound, *descriptor, number),
         _ => false,
     }
 }
@@ -133,8 +133,8 @@ fn is_fork(instruction: &Instruction) -> bool
 
 impl<'a> Bounded<'a> {
     /// The bound of a point, if it has one.
-    pub(crate) fn bound_there(&self, point: usize) -> Option<&Bound>
-        ensures { option_map (λ b. bound_of b.now) result ≡ bound_there (bounds_of self.now.bounds.items) point }
+    pub(crate) fn bound_here(&self, point: usize) -> Option<&Bound>
+        ensures { option_map (λ b. bound_of b.now) result ≡ bound_here (bounds_of self.now.bounds.items) point }
     {
         match self.bounds.get(point) {
             None | Some(None) => None,
@@ -146,7 +146,7 @@ impl<'a> Bounded<'a> {
     pub(crate) fn is_on_at(&self, point: usize) -> bool
         ensures { result ≡ is_on_at (bounds_of self.now.bounds.items) point }
     {
-        match self.bound_there(point) {
+        match self.bound_here(point) {
             None => false,
             Some(bound) => may_be_on(bound.mode()),
         }
@@ -156,7 +156,7 @@ impl<'a> Bounded<'a> {
     fn is_either_at(&self, point: usize) -> bool
         ensures { result ≡ is_either_at (bounds_of self.now.bounds.items) point }
     {
-        match self.bound_there(point) {
+        match self.bound_here(point) {
             None => false,
             Some(bound) => match bound.mode() {
                 ModeBound::Either => true,
@@ -169,17 +169,17 @@ impl<'a> Bounded<'a> {
     fn is_off_at(&self, point: usize) -> bool
         ensures { result ≡ is_off_at (bounds_of self.now.bounds.items) point }
     {
-        match self.bound_there(point) {
+        match self.bound_here(point) {
             None => false,
             Some(bound) => !may_be_on(bound.mode()),
         }
     }
 
     /// What a number may hold there.
-    pub(crate) fn held_at(&self, number: u32, point: usize) -> Option<Held>
-        ensures { option_map held_of result ≡ held_at (bounds_of self.now.bounds.items) number point }
+    pub(crate) fn held_here(&self, number: u32, point: usize) -> Option<Held>
+        ensures { option_map held_of result ≡ held_here (bounds_of self.now.bounds.items) number point }
     {
-        match self.bound_there(point) {
+        match self.bound_here(point) {
             None => None,
             Some(bound) => bound.slot(number).held(),
         }
@@ -211,7 +211,7 @@ impl<'a> Bounded<'a> {
     {
         self.is_on_at(point)
             && !self.is_halt_at(point)
-            && match self.held_at(number, point) {
+            && match self.held_here(number, point) {
                 None => false,
                 Some(held) => matches!(held.target(), Target::AnyNode | Target::Unknown),
             }
@@ -270,21 +270,21 @@ impl<'a> Bounded<'a> {
 
     /// Whether the instruction there may name a number.
     fn names_at(&self, number: u32, point: usize) -> bool
-        ensures { result ≡ is_there (code_of self.now.code.now) (may_name number (bound_there (bounds_of self.now.bounds.items) point)) point }
+        ensures { result ≡ is_there (code_of self.now.code.now) (may_name_number number (bound_here (bounds_of self.now.bounds.items) point)) point }
     {
         match self.code.get(point) {
             None => false,
-            Some(instruction) => may_name(self.bound_there(point), instruction, number),
+            Some(instruction) => may_name_number(self.bound_here(point), instruction, number),
         }
     }
 
     /// Whether the instruction there may close a number.
     fn closes_at(&self, number: u32, point: usize) -> bool
-        ensures { result ≡ is_there (code_of self.now.code.now) (may_close number (bound_there (bounds_of self.now.bounds.items) point)) point }
+        ensures { result ≡ is_there (code_of self.now.code.now) (may_close number (bound_here (bounds_of self.now.bounds.items) point)) point }
     {
         match self.code.get(point) {
             None => false,
-            Some(instruction) => may_close(self.bound_there(point), instruction, number),
+            Some(instruction) => may_close(self.bound_here(point), instruction, number),
         }
     }
 
@@ -353,7 +353,7 @@ impl<'a> Bounded<'a> {
 impl<'a> Bounded<'a> {
     /// Whether each instruction may name a number.
     fn naming_here(&self, alloc: Global, number: u32) -> Result<Vec<bool>, AllocError>
-        ensures { IfOk result (λ found. found.items ≡ naming (code_of self.now.code.now) (bounds_of self.now.bounds.items) number) }
+        ensures { IfOk result (λ found. found.items ≡ naming_points (code_of self.now.code.now) (bounds_of self.now.bounds.items) number) }
     {
         (0..count(self.code))
             .map(|point| self.names_at(number, point))
@@ -361,9 +361,9 @@ impl<'a> Bounded<'a> {
     }
 
     /// The points from which an instruction comes that may name a number.
-    fn naming(&self, alloc: Global, number: u32) -> Result<Vec<bool>, AllocError>
+    fn naming_points(&self, alloc: Global, number: u32) -> Result<Vec<bool>, AllocError>
         ensures { IfOk result (λ found. found.items
-            ≡ from_which (code_of self.now.code.now) (naming (code_of self.now.code.now) (bounds_of self.now.bounds.items) number)) }
+            ≡ from_which (code_of self.now.code.now) (naming_points (code_of self.now.code.now) (bounds_of self.now.bounds.items) number)) }
     {
         let here = self.naming_here(alloc, number)?;
         from_which(alloc, self.code, here)
@@ -371,7 +371,7 @@ impl<'a> Bounded<'a> {
 
     /// Whether each instruction may close a number.
     fn closing_here(&self, alloc: Global, number: u32) -> Result<Vec<bool>, AllocError>
-        ensures { IfOk result (λ found. found.items ≡ closing (code_of self.now.code.now) (bounds_of self.now.bounds.items) number) }
+        ensures { IfOk result (λ found. found.items ≡ closing_points (code_of self.now.code.now) (bounds_of self.now.bounds.items) number) }
     {
         (0..count(self.code))
             .map(|point| self.closes_at(number, point))
@@ -379,9 +379,9 @@ impl<'a> Bounded<'a> {
     }
 
     /// The points from which an instruction comes that may close a number.
-    fn closing(&self, alloc: Global, number: u32) -> Result<Vec<bool>, AllocError>
+    fn closing_points(&self, alloc: Global, number: u32) -> Result<Vec<bool>, AllocError>
         ensures { IfOk result (λ found. found.items
-            ≡ from_which (code_of self.now.code.now) (closing (code_of self.now.code.now) (bounds_of self.now.bounds.items) number)) }
+            ≡ from_which (code_of self.now.code.now) (closing_points (code_of self.now.code.now) (bounds_of self.now.bounds.items) number)) }
     {
         let here = self.closing_here(alloc, number)?;
         from_which(alloc, self.code, here)
@@ -389,7 +389,7 @@ impl<'a> Bounded<'a> {
 
     /// Whether each instruction works on what a descriptor is of.
     fn working_here(&self, alloc: Global) -> Result<Vec<bool>, AllocError>
-        ensures { IfOk result (λ found. found.items ≡ working (code_of self.now.code.now)) }
+        ensures { IfOk result (λ found. found.items ≡ working_points (code_of self.now.code.now)) }
     {
         (0..count(self.code))
             .map(|point| self.works_at(point))
@@ -397,19 +397,19 @@ impl<'a> Bounded<'a> {
     }
 
     /// The points from which a call comes that works on what a descriptor is of.
-    fn working(&self, alloc: Global) -> Result<Vec<bool>, AllocError>
-        ensures { IfOk result (λ found. found.items ≡ from_which (code_of self.now.code.now) (working (code_of self.now.code.now))) }
+    fn working_points(&self, alloc: Global) -> Result<Vec<bool>, AllocError>
+        ensures { IfOk result (λ found. found.items ≡ from_which (code_of self.now.code.now) (working_points (code_of self.now.code.now))) }
     {
         let here = self.working_here(alloc)?;
         from_which(alloc, self.code, here)
     }
 
     /// Whether, in the mode, a way begins at a point with a number open that no instruction names from there on, where some work on others.
-    fn is_idle(&self, named: &[bool], worked: &[bool], number: u32, point: usize) -> bool
-        ensures { result ≡ is_idle (code_of self.now.code.now) (bounds_of self.now.bounds.items) named.now worked.now number point }
+    fn stays_idle(&self, named: &[bool], worked: &[bool], number: u32, point: usize) -> bool
+        ensures { result ≡ stays_idle (code_of self.now.code.now) (bounds_of self.now.bounds.items) named.now worked.now number point }
     {
         self.is_on_at(point)
-            && self.held_at(number, point).is_some()
+            && self.held_here(number, point).is_some()
             && !is_flagged(named, point)
             && is_flagged(worked, point)
             && self.begins_way(point)
@@ -419,18 +419,18 @@ impl<'a> Bounded<'a> {
     pub(crate) fn idle(&self, alloc: Global, number: u32) -> Result<Vec<usize>, AllocError>
         ensures { IfOk result (λ found. found.items ≡ idle (code_of self.now.code.now) (bounds_of self.now.bounds.items) number) }
     {
-        let named = self.naming(alloc, number)?;
-        let worked = self.working(alloc)?;
+        let named = self.naming_points(alloc, number)?;
+        let worked = self.working_points(alloc)?;
         (0..count(self.code))
-            .filter(|point| self.is_idle(&named, &worked, number, *point))
+            .filter(|point| self.stays_idle(&named, &worked, number, *point))
             .collect(alloc)
     }
 
     /// Whether two numbers may be both ends of a pair there.
     fn has_both_at(&self, number: u32, other: u32, point: usize) -> bool
-        ensures { result ≡ are_both (held_at (bounds_of self.now.bounds.items) number point) (held_at (bounds_of self.now.bounds.items) other point) }
+        ensures { result ≡ are_both (held_here (bounds_of self.now.bounds.items) number point) (held_here (bounds_of self.now.bounds.items) other point) }
     {
-        match (self.held_at(number, point), self.held_at(other, point)) {
+        match (self.held_here(number, point), self.held_here(other, point)) {
             (Some(held), Some(across)) => are_sides(&held.target(), &across.target()),
             _ => false,
         }
@@ -462,8 +462,8 @@ impl<'a> Bounded<'a> {
     ) -> Result<Vec<usize>, AllocError>
         ensures { IfOk result (λ found. found.items ≡ doubled (code_of self.now.code.now) (bounds_of self.now.bounds.items) number other) }
     {
-        let closed = self.closing(alloc, number)?;
-        let others = self.closing(alloc, other)?;
+        let closed = self.closing_points(alloc, number)?;
+        let others = self.closing_points(alloc, other)?;
         (0..count(self.code))
             .filter(|point| self.is_doubled(&closed, &others, number, other, *point))
             .collect(alloc)
@@ -476,20 +476,20 @@ impl<'a> Bounded<'a> {
 
     /// What a number may hold at a point in the mode, unless it is the same in the mode at the point before.
     pub(crate) fn new_in_mode(&self, number: u32, point: usize) -> Option<Held> {
-        let Some(bound) = self.bound_there(point) else {
+        let Some(bound) = self.bound_here(point) else {
             return None;
         };
         if !self.is_on_at(point) {
             return None;
         }
         if let Some(before) = point.checked_sub(1) {
-            if let Some(other) = self.bound_there(before) {
+            if let Some(other) = self.bound_here(before) {
                 let (slot, was) = (bound.slot(number), other.slot(number));
                 if self.is_on_at(before) && slot.within(&was) && was.within(&slot) {
                     return None;
                 }
             }
         }
-        self.held_at(number, point)
+        self.held_here(number, point)
     }
 }

@@ -7,7 +7,7 @@ ghost use Rattle.remarks.specs.Remarks.{holds_there};
 ghost use Rattle.std.specs.Str.{bytes_eq};
 ghost use Rattle.certificate.specs.Views.{authorities_of, authority_of, bound_of, ceiling_of, target_of};
 ghost use Rattle.instruction_set.specs.Views.{instruction_of};
-ghost use Rattle.remarks.specs.TaskRemarks.{alone, call_does, has_ceiling, is_alone, is_side, is_unused, may_be_in, program_does, starts_with, use_does};
+ghost use Rattle.remarks.specs.TaskRemarks.{lone_sides, call_does, has_ceiling, is_alone, is_side, is_unused, may_be_in, program_does, starts_with, use_does};
 ghost use Rattle.rights.specs.OperationLists.{lists, same_operation};
 ghost use Rattle.rights.specs.Operations.{Look};
 ghost use Rattle.rights.specs.Sets.{is_within, lookup_right};
@@ -83,9 +83,9 @@ fn is_alone(starts: &[Start], side: Side, pair: u8) -> bool
     any_starts_with(pair, side, starts) && !any_starts_with(pair, side.other(), starts)
 }
 
-/// The initial pairs of which processes have this side alone.
-fn alone(alloc: Global, starts: &[Start], side: Side) -> Result<Vec<u8>, AllocError>
-    ensures { IfOk result (λ found. found.items ≡ alone (starts_of starts.now) (side_seen side)) }
+/// The initial pairs of which processes have this side lone_sides.
+fn lone_sides(alloc: Global, starts: &[Start], side: Side) -> Result<Vec<u8>, AllocError>
+    ensures { IfOk result (λ found. found.items ≡ lone_sides (starts_of starts.now) (side_seen side)) }
 {
     (0..MAX_PAIRS)
         .filter(|pair| is_alone(starts, side, *pair))
@@ -235,14 +235,14 @@ fn unused(alloc: Global, task: &Task, cert: &Cert, grant: &Grant) -> Result<Vec<
         .collect(alloc)
 }
 
-/// Adds the initial pairs of which processes have this side alone.
+/// Adds the initial pairs of which processes have this side lone_sides.
 fn add_alone(
     alloc: Global,
     list: &mut Vec<TaskRemark<'_>>,
     task: &Task,
     side: Side,
 ) -> Result<(), AllocError> {
-    for pair in &alone(alloc, task.starts(), side)? {
+    for pair in &lone_sides(alloc, task.starts(), side)? {
         list.push(TaskRemark::Alone { pair: *pair, side })?;
     }
     Ok(())

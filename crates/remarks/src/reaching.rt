@@ -1,4 +1,4 @@
-//! What the calls need that come from a point on, by the text of a program alone, and which points come from the first.
+//! What the calls need that come from a point on, by the text of a program lone_sides, and which points come from the first.
 
 use crate::ways::leads_from;
 use certificate::{Bound, Domain, Target};

@@ -5,7 +5,7 @@ ghost use Rattle.certificate.specs.Views.{bound_of, held_of};
 ghost use Rattle.instruction_set.specs.Views.{code_of, instruction_of, syscall_of};
 ghost use Rattle.remarks.specs.RemarkViews.{bounds_of, difference_of};
 ghost use Rattle.remarks.specs.Remarks.{is_there};
-ghost use Rattle.remarks.specs.Warnings.{calling, calls_ahead, differs, differs_at, goes_on_closing, goes_on_entering, has_more, is_call, takes_more_at};
+ghost use Rattle.remarks.specs.Warnings.{calling_points, calls_ahead, differs, differs_at, goes_on_closing, goes_on_entering, has_more, is_call, takes_more_at};
 
 use crate::bounded::Bounded;
 use crate::looks::{
@@ -121,7 +121,7 @@ impl<'a> Bounded<'a> {
     fn differs_at(&self, task: &Task, difference: Difference, point: usize) -> bool
         ensures { result ≡ differs_at task.now (code_of self.now.code.now) (bounds_of self.now.bounds.items) (difference_of difference) point }
     {
-        match (self.bound_there(point), self.code.get(point)) {
+        match (self.bound_here(point), self.code.get(point)) {
             (Some(bound), Some(Instruction::Invoke { call, .. })) => {
                 differs(task, difference, bound, call)
             }
@@ -131,7 +131,7 @@ impl<'a> Bounded<'a> {
 
     /// Whether each instruction is a call.
     fn calls_here(&self, alloc: Global) -> Result<Vec<bool>, AllocError>
-        ensures { IfOk result (λ found. found.items ≡ calling (code_of self.now.code.now)) }
+        ensures { IfOk result (λ found. found.items ≡ calling_points (code_of self.now.code.now)) }
     {
         (0..count(self.code))
             .map(|point| self.calls_at(point))
@@ -161,7 +161,7 @@ impl<'a> Bounded<'a> {
         ensures { result ≡ takes_more_at (code_of self.now.code.now) (bounds_of self.now.bounds.items) number point }
     {
         self.enters_at(point)
-            && match self.held_at(number, point) {
+            && match self.held_here(number, point) {
                 None => false,
                 Some(held) => has_more(&held),
             }

@@ -1,4 +1,4 @@
-//! Where instructions lead by the text of a program alone, and from where some points come.
+//! Where instructions lead by the text of a program lone_sides, and from where some points come.
 
 ghost use Rattle.std.specs.Prelude.{◌≡◌, ◌||◌, ◌==◌, ◌-◌, ◌^◌, ◌<◌, IfOk, length};
 ghost use Rattle.std.specs.List.{list_any};
