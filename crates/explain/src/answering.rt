@@ -26,7 +26,7 @@ use console::statuses::{BROKEN, DONE};
 use console::{Fault, Source, status_of_verdict, tell};
 use explore::Watcher;
 use rights::{Out, write_all};
-use searcher::propose;
+use searcher::{propose, reached};
 use std::alloc::{AllocError, Global};
 use task::Task;
 use task_reader::read_task;
@@ -58,7 +58,7 @@ fn done<'a, F: FnOnce(&mut Page)>(alloc: Global, add: F) -> Result<Answer, Fault
     })
 }
 
-/// The listing of a task, without bounds.
+/// The listing of a task, without bounds; what is warned of goes by those that the search reaches.
 fn listing_alone<'a>(alloc: Global, file: &[u8]) -> Result<Answer, Fault<'a>>
     ensures { IfOk result (λ answer. answer.status ≡ 0) }
 {
@@ -66,7 +66,12 @@ fn listing_alone<'a>(alloc: Global, file: &[u8]) -> Result<Answer, Fault<'a>>
     let texts = texts_of_file(alloc, file, &task)?;
     let cert = Cert::new(alloc, Version::One);
     let scene = Scene::new(file, &texts, &task, &cert);
-    done(alloc, |page| add_listing(page, &scene, false))
+    let Some(reached) = reached(alloc, &task)? else {
+        return done(alloc, |page| add_listing(page, &scene, &scene, false));
+    };
+    let expanded = expand(alloc, &task, &reached)?;
+    let bounds = Scene::new(file, &texts, &task, &expanded);
+    done(alloc, |page| add_listing(page, &scene, &bounds, false))
 }
 
 /// The listing of a task with the bounds of a certificate.
@@ -77,7 +82,7 @@ fn listing_with<'a>(alloc: Global, file: &[u8], cert: &[u8]) -> Result<Answer, F
     let texts = texts_of_file(alloc, file, &claim.task)?;
     let expanded = expand(alloc, &claim.task, &claim.cert)?;
     let scene = Scene::new(file, &texts, &claim.task, &expanded);
-    done(alloc, |page| add_listing(page, &scene, true))
+    done(alloc, |page| add_listing(page, &scene, &scene, true))
 }
 
 /// What is told of the rules that a certificate breaks.

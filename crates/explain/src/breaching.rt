@@ -6,16 +6,34 @@ ghost use Rattle.task.specs.Plans.{Plan};
 ghost use Rattle.task_reader.specs.Reading.{task_of};
 ghost use Rattle.explain.specs.Answered.{SaysRefuted};
 
+use checker::all_findings;
 use console::Fault;
 use console::statuses::{BROKEN, DONE};
-use explore::{Explored, Watcher, explore, write_breach};
-use rights::{Out, write_all};
+use explore::{Explored, Goal, Watcher, explore, write_breach};
+use rights::{Memory, Out, write_all};
+use searcher::reached;
 use std::alloc::Global;
+use task::Task;
 use task_reader::read_task;
 use texts::{Page, say};
 
 /// How many states are met at most, where the words don't say.
 const MOST_STATES: u32 = 200_000;
+
+/// The points of a task at which the bounds that the search for a certificate reached break a rule; none where it reached none.
+fn goals_of(alloc: Global, task: &Task) -> Result<Vec<Goal>, Memory> {
+    let mut goals = Vec::new(alloc);
+    if let Some(cert) = reached(alloc, task)? {
+        let findings = all_findings(alloc, task, &cert)?;
+        for finding in &findings {
+            goals.push(Goal {
+                program: finding.program,
+                point: finding.point,
+            })?;
+        }
+    }
+    Ok(goals)
+}
 
 /// Writes that no run was found, and how far the search came. That claims nothing.
 fn write_unbroken<'a, W: Out>(
@@ -47,7 +65,10 @@ pub(crate) fn answer_breach<'a, W: Out, P: Watcher>(
 {
     let task = read_task(alloc, file)?;
     let bound = states.unwrap_or(MOST_STATES) as usize;
-    let Ok(explored) = explore(alloc, &task, bound, watcher) else {
+    let Ok(goals) = goals_of(alloc, &task) else {
+        return Err(Fault::Memory);
+    };
+    let Ok(explored) = explore(alloc, &task, &goals, bound, watcher) else {
         return Err(Fault::Memory);
     };
     match explored {

@@ -12,7 +12,7 @@ use std::alloc::{AllocError, Global};
 use texts::{Page, say};
 use transfer::{
     Need, OpenSlot, Passed, SlotTest, Through, channel_at, demanded, failing_slots, is_single,
-    needed, operand_interval,
+    may_be_on, needed, operand_interval,
 };
 
 /// A call at a point with a bound.
@@ -139,6 +139,14 @@ fn add_no_channel(page: &mut Page, slot: &OpenSlot, passed: Passed) {
     say!(page; class, " ", side)
 }
 
+/// Adds that a slot may hold what lies in no grant, or what an untrusted program sends.
+fn add_unknown(page: &mut Page, slot: &OpenSlot, target: &Target) {
+    if let Target::Unknown = target {
+        return say!(page; *slot, " may hold anything, as what an untrusted program sends");
+    }
+    say!(page; *slot, " may hold what lies in no grant (", *target, ")")
+}
+
 /// Adds what a rule compares at a slot that breaks it.
 fn add_slot(page: &mut Page, told: &Told<'_>, slot: &OpenSlot, need: &Need, rule: SlotRule) {
     let held = &slot.held;
@@ -157,7 +165,10 @@ fn add_slot(page: &mut Page, told: &Told<'_>, slot: &OpenSlot, need: &Need, rule
             add_grown_limit(page, held, need)
         }
         SlotRule::KnownObject | SlotRule::KnownNames => {
-            say!(page; *slot, " may hold what lies in no grant (", target, ")")
+            add_unknown(page, slot, &target);
+            if rule == SlotRule::KnownNames && !may_be_on(told.bound.mode()) {
+                say!(page; "; if it is meant so outside the mode, give its directory a grant with ops=[]")
+            }
         }
         SlotRule::Policy => {
             say!(page; *slot);

@@ -14,9 +14,9 @@ use crate::starting::Object;
 use checker::{BrokenRule, all_findings, expand};
 use instruction_set::{Instruction, Syscall};
 use rights::Memory;
-use searcher::{reached, search};
+use searcher::{propose, reached, search};
 use std::alloc::Global;
-use task::{FirstObject, Task, node_begins};
+use task::{FirstObject, Task, node_begins, none_marked};
 use task_text::ProgramText;
 use texts::{Page, say};
 
@@ -76,11 +76,12 @@ fn add_first(page: &mut Page, scene: &Scene<'_>) {
 
 /// Whether a rule is broken by what lies in no grant.
 fn wants_grant(found: &[BrokenRule]) -> bool
-    ensures { result ≡ list_any (λ finding. (rule_number finding.rule == 10) || (rule_number finding.rule == 12)) found.now }
+    ensures { result ≡ list_any (λ finding. (rule_number finding.rule == 10) || (rule_number finding.rule == 12)
+        || (rule_number finding.rule == 18)) found.now }
 {
     found
         .iter()
-        .any(|finding| matches!(finding.rule.number(), 10 | 12))
+        .any(|finding| matches!(finding.rule.number(), 10 | 12 | 18))
 }
 
 /// Adds what the search came to. Whether it finds a certificate.
@@ -98,9 +99,14 @@ pub(crate) fn add_unfound(
         say!(page; "a certificate is found: `capcheck search` prints it\n");
         return Ok(true);
     }
+    if !none_marked(task.programs()) {
+        if let Some(_found) = propose(alloc, task)? {
+            say!(page; "a certificate is found: `capwhy propose` prints it\n");
+            return Ok(true);
+        }
+    }
     let Some(cert) = reached(alloc, task)? else {
-        say!(page; "the search gave up: the task has an untrusted program");
-        say!(page; ", or its bounds don't settle or are too many\n");
+        say!(page; "the search gave up: the bounds don't settle, or are too many\n");
         return Ok(false);
     };
     let expanded = expand(alloc, task, &cert)?;
@@ -112,6 +118,6 @@ pub(crate) fn add_unfound(
         add_first(page, &scene);
     }
     say!(page; "\nThe bounds that the search reached:\n");
-    add_listing(page, &scene, true);
+    add_listing(page, &scene, &scene, true);
     Ok(false)
 }

@@ -14,14 +14,14 @@ pub mod laws;
 mod listing;
 mod older;
 pub mod questions;
-mod reaching;
 mod refusing;
-mod remarks;
+mod remarking;
 mod scenes;
 mod sentences;
 mod starting;
 mod task_faults;
 mod usage;
+mod warning;
 
 pub use answering::{NAME, serve};
 pub use questions::{Question, read_question};

@@ -1,14 +1,22 @@
 //! The listing of a task's programs: each point with its line, its instruction and its bound.
 
-use crate::remarks::add_remarks;
+use crate::remarking::{add_remarks, add_task_remarks};
 use crate::scenes::Scene;
+use crate::warning::add_warnings;
+use bitflags::Flags;
 use certificate::{Bound, Held, Slot, slots_within};
-use texts::{Page, say};
+use checker::allowance_at;
+use rights::Fcntls;
+use texts::{Name, Page, say};
 
 /// Adds a number that may be open: what it is of, and its greatest rights.
 fn add_open(page: &mut Page, number: usize, held: &Held, state: &str) {
-    let greatest = held.rights().greatest();
-    say!(page; "    ", number, state, held.target(), " ", greatest, "\n")
+    let (greatest, commands) = (held.rights().greatest(), held.fcntls().greatest());
+    say!(page; "    ", number, state, held.target(), " ", greatest);
+    if !Flags::is_empty(&commands) && commands != Fcntls::all() {
+        say!(page; ", commands ", commands)
+    }
+    say!(page; "\n")
 }
 
 /// Whether the numbers of a bound may be the same as those of the one before, if there is one.
@@ -33,6 +41,17 @@ fn add_slots(page: &mut Page, bound: &Bound) {
     }
 }
 
+/// Adds what an untrusted program may hold in the mode: its authority.
+fn add_authority(page: &mut Page, scene: &Scene<'_>, name: &Name) {
+    let allowed = allowance_at(scene.cert, name);
+    for ceiling in allowed.ceilings {
+        say!(page; "  in the mode: grant ", ceiling.grant().as_bytes(), " ", ceiling.rights(), "\n")
+    }
+    for end in allowed.ends {
+        say!(page; "  in the mode: sock ", end.class(), " ", end.side(), "\n")
+    }
+}
+
 /// What is told of a point without a bound.
 fn without_bound(untrusted: bool, has_cert: bool) -> &'static str {
     match (has_cert, untrusted) {
@@ -43,11 +62,14 @@ fn without_bound(untrusted: bool, has_cert: bool) -> &'static str {
 }
 
 /// Adds each program with its remarks; the bounds are those of the certificate, if there is one. The numbers of a table are told
-/// where they aren't those of the point before.
-pub(crate) fn add_listing(page: &mut Page, scene: &Scene<'_>, has_cert: bool) {
+/// where they aren't those of the point before. Warnings go by the bounds of another scene of the task.
+pub(crate) fn add_listing(page: &mut Page, scene: &Scene<'_>, bounds: &Scene<'_>, has_cert: bool) {
     for (number, program) in scene.task.programs().iter().enumerate() {
         let name = program.name.as_bytes();
         say!(page; name, "\n");
+        if program.untrusted && has_cert {
+            add_authority(page, scene, &program.name)
+        }
         let mut before: Option<Bound> = None;
         for (point, _instruction) in program.program.code().iter().enumerate() {
             let written = scene.written(number as u8, point as u8);
@@ -66,5 +88,7 @@ pub(crate) fn add_listing(page: &mut Page, scene: &Scene<'_>, has_cert: bool) {
             }
         }
         add_remarks(page, scene, number, has_cert);
+        add_warnings(page, bounds, number);
     }
+    add_task_remarks(page, scene, has_cert);
 }

@@ -53,8 +53,9 @@ fn general_of_slot(rule: SlotRule) -> &'static str {
         SlotRule::Limit => "a limit keeps what is surely held",
         SlotRule::KnownObject => "in the mode a call works on what is in a grant or a socket",
         SlotRule::Policy => "in the mode a call does what the grant lists",
-        SlotRule::KnownNames => "names are made, removed and moved beneath grants alone",
-        SlotRule::Moves => "nothing is moved from one grant into another",
+        SlotRule::KnownNames =>
+            "in either mode names are made, removed and moved beneath grants alone",
+        SlotRule::Moves => "in either mode nothing is moved from one grant into another",
         SlotRule::Sent => "what is sent lies within its channel's line",
         SlotRule::Channel => "a channel that is used has a line",
     }

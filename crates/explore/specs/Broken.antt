@@ -1,6 +1,6 @@
 -- Runs whose last step breaks something. (own)
-use Rattle.std.specs.Prelude.{◌≡◌, true, List, [], ◌∷◌, Option, Some, None}
-use Rattle.std.specs.List.{slice_get}
+use Rattle.std.specs.Prelude.{◌≡◌, ◌<◌, ℕ, true, List, [], ◌∷◌, length, Option, Some, None}
+use Rattle.std.specs.List.{remove, slice_get}
 use Rattle.std.specs.Option.{option_map}
 use Rattle.kernel.specs.World.{World, Choice, IsFresh}
 use Rattle.kernel.specs.Answers.{Event, AreEvents}
@@ -29,6 +29,14 @@ EndsWith programs grants w before (e ∷ events) last =
 -- so of the task's runs; without events nothing is broken
 abbrev pub Breaks : Plan → List Event → Option Breach → Type 0
 Breaks plan events last = EndsWith (programs_of_plan plan) plan.grants (first_world plan) None events last
+
+-- The last step breaks something.
+abbrev pub BreaksSomething : Plan → List Event → Type 0
+BreaksSomething plan events = (breach : Breach) × Breaks plan events (Some breach)
+
+-- No event can be left out: without any one of them, the last step breaks nothing.
+abbrev pub IsTight : Plan → List Event → Type 0
+IsTight plan events = (i : ℕ) → i < length events → Breaks plan (remove events i) None
 
 -- the task is neither sandboxed nor confined
 pub record IsRefuted (plan : Plan) : Type 0 where

@@ -14,6 +14,7 @@ ghost use Rattle.explore.specs.Broken.{Breaks, IsRefuted};
 ghost use Rattle.explore.specs.BreachViews.{breach_of, standing_of};
 
 use crate::breaches::{Breach, Standing, broken};
+use file_tree::Tree;
 use link_tree::LinkTree;
 use rights::Stop;
 use simulator::{Line, Machine};
@@ -29,7 +30,7 @@ pub(crate) struct Watched {
 }
 
 /// What counts of the process of this number, if it was made.
-fn standing(machine: &Machine<'_, LinkTree>, process: u8) -> Option<Standing>
+fn standing<T: Tree>(machine: &Machine<'_, T>, process: u8) -> Option<Standing>
     ensures { result ≡ option_map standing_of (slice_get machine.now.processes process) }
 {
     match machine.processes().get(process as usize) {
@@ -42,10 +43,10 @@ fn standing(machine: &Machine<'_, LinkTree>, process: u8) -> Option<Standing>
 }
 
 /// One step of the task's machine, with what it breaks.
-pub(crate) fn watched_step(
+pub(crate) fn watched_step<T: Tree>(
     alloc: Global,
     task: &Task,
-    machine: &mut Machine<'_, LinkTree>,
+    machine: &mut Machine<'_, T>,
     event: Event,
 ) -> Result<Watched, Stop>
     ensures step { IfOk result (λ watched. StepsMachine (programs_of_plan machine.old.plan) (machine_world machine.old) (event_of event)

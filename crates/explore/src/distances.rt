@@ -2,7 +2,7 @@
 
 use instruction_set::{Instruction, Syscall};
 use rights::Memory;
-use rights::limits::MAX_INSTRUCTIONS;
+use rights::limits::{MAX_INSTRUCTIONS, MAX_PROGRAMS};
 use std::alloc::Global;
 use task::Task;
 
@@ -72,13 +72,47 @@ fn all_come_nearer(code: &[Instruction], steps: &mut Vec<u16>) -> bool {
     is_nearer
 }
 
-/// How many steps the points of a program have to those that have 0.
-fn spread(code: &[Instruction], steps: &mut Vec<u16>) {
-    for _ in 0..MAX_INSTRUCTIONS {
-        if !all_come_nearer(code, steps) {
-            break;
+/// A program's points, those that are looked for there, and all others too far.
+fn only_goals(
+    alloc: Global,
+    code: &[Instruction],
+    number: usize,
+    goals: &[Goal],
+) -> Result<Vec<u16>, Memory> {
+    let mut steps = Vec::with_capacity(alloc, code.len())?;
+    for _ in code {
+        steps.push(FAR)?;
+    }
+    for goal in goals {
+        if usize::from(goal.program) == number {
+            if let Some(own) = steps.get_mut(usize::from(goal.point)) {
+                *own = 0;
+            }
         }
     }
+    Ok(steps)
+}
+
+/// The points of a task's programs at which something may be sent to another process.
+pub(crate) fn sending_points(alloc: Global, task: &Task) -> Result<Vec<Goal>, Memory> {
+    let mut points = Vec::new(alloc);
+    for (program, named) in task.programs().iter().enumerate() {
+        if program >= MAX_PROGRAMS {
+            break;
+        }
+        for (point, instruction) in named.program.code().iter().enumerate() {
+            if point >= MAX_INSTRUCTIONS {
+                break;
+            }
+            if is_sending(instruction) {
+                points.push(Goal {
+                    program: program as u8,
+                    point: point as u8,
+                })?;
+            }
+        }
+    }
+    Ok(points)
 }
 
 /// Whether an instruction may send something.
@@ -91,71 +125,19 @@ fn is_sending(instruction: &Instruction) -> bool {
     }
 }
 
-/// A program's points, all of them too far.
-fn all_far(alloc: Global, code: &[Instruction]) -> Result<Vec<u16>, Memory> {
-    let mut steps = Vec::with_capacity(alloc, code.len())?;
-    for _ in code {
-        steps.push(FAR)?;
-    }
-    Ok(steps)
-}
-
-/// Notes that a point is one of those that are looked for.
-fn set_there(steps: &mut Vec<u16>, point: usize) {
-    if let Some(own) = steps.get_mut(point) {
-        *own = 0;
-    }
-}
-
-/// How far the points of the program of this number are from those of some goals.
-fn steps_to_goals(
-    alloc: Global,
-    code: &[Instruction],
-    number: usize,
-    goals: &[Goal],
-) -> Result<Vec<u16>, Memory> {
-    let mut steps = all_far(alloc, code)?;
-    for goal in goals {
-        if usize::from(goal.program) == number {
-            set_there(&mut steps, usize::from(goal.point));
-        }
-    }
-    spread(code, &mut steps);
-    Ok(steps)
-}
-
-/// How far the points of a program are from those that may send something.
-fn steps_to_sends(alloc: Global, code: &[Instruction]) -> Result<Vec<u16>, Memory> {
-    let mut steps = all_far(alloc, code)?;
-    for (point, instruction) in code.iter().enumerate() {
-        if is_sending(instruction) {
-            set_there(&mut steps, point);
-        }
-    }
-    spread(code, &mut steps);
-    Ok(steps)
-}
-
 impl Distances {
-    /// How far all points are from some.
-    pub(crate) fn to_goals(
-        alloc: Global,
-        task: &Task,
-        goals: &[Goal],
-    ) -> Result<Distances, Memory> {
+    /// How far all points of a task's programs are from these.
+    pub(crate) fn new(alloc: Global, task: &Task, goals: &[Goal]) -> Result<Distances, Memory> {
         let mut programs = Vec::new(alloc);
         for (number, named) in task.programs().iter().enumerate() {
-            let steps = steps_to_goals(alloc, named.program.code(), number, goals)?;
+            let code = named.program.code();
+            let mut steps = only_goals(alloc, code, number, goals)?;
+            for _ in 0..MAX_INSTRUCTIONS {
+                if !all_come_nearer(code, &mut steps) {
+                    break;
+                }
+            }
             programs.push(steps)?;
-        }
-        Ok(Distances { programs })
-    }
-
-    /// How far all points are from one that may send something to another process.
-    pub(crate) fn to_sends(alloc: Global, task: &Task) -> Result<Distances, Memory> {
-        let mut programs = Vec::new(alloc);
-        for named in task.programs() {
-            programs.push(steps_to_sends(alloc, named.program.code())?)?;
         }
         Ok(Distances { programs })
     }

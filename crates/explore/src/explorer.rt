@@ -1,12 +1,13 @@
-//! The search for a run that breaks something, by breadth over the states of a task.
+//! The search for a run that breaks something, over the states of a task.
 
-use crate::aims::Aims;
+use crate::aims::{Aims, is_waiting};
 use crate::digests::Digest;
 use crate::distances::Goal;
 use crate::kept::Kept;
 use crate::moves::{Asked, bytes_to_try, next_moves};
 use crate::runners::Runner;
 use crate::states::Met;
+use crate::trails::Trails;
 use indexmap::IndexSet;
 use rights::Memory;
 use std::alloc::Global;
@@ -20,17 +21,10 @@ const MAX_FORCED: usize = 256;
 /// Of so many states that are gone on from, one is the next by breadth, where points are looked for.
 const SHARE: usize = 4;
 
-/// A state that was met: the state before it, where the events lie that lead here from there, and whether the steps behind them were too many
-/// to be followed.
-#[derive(Clone, Copy)]
-struct Visit {
-    parent: Option<usize>,
-    first: usize,
-    count: usize,
-    is_long: bool,
-    /// It was gone on from.
-    is_done: bool,
-}
+/// What it costs that the kernel refuses a call, and that a process is left that might go on.
+const REFUSAL: u16 = 8;
+
+const SWITCH: u16 = 4;
 
 /// What became of a machine that was run on.
 #[derive(Clone, Copy)]
@@ -52,6 +46,8 @@ struct Tried {
     any_new: bool,
     /// The last one breaks something.
     breaks: bool,
+    /// The machine still stands at the state.
+    stays: bool,
 }
 
 /// What was come to.
@@ -67,7 +63,7 @@ pub(crate) enum Progress {
     Bounded,
 }
 
-/// The search: the states that were met, in the order in which they were, and how many of them were gone on from.
+/// The search: the states that were met, and the machine that is run on.
 #[derive(Drop)]
 pub(crate) struct Explorer<'a> {
     alloc: Global,
@@ -75,19 +71,22 @@ pub(crate) struct Explorer<'a> {
     bytes: Vec<u8>,
     met: Met,
     seen: IndexSet<Digest>,
-    visits: Vec<Visit>,
-    /// The events of all visits, one after another.
-    events: Vec<Event>,
+    trails: Trails,
     kept: Kept<'a>,
     aims: Aims<'a>,
     /// Some points are looked for.
     is_aimed: bool,
-    /// How many states were gone on from.
+    /// How many states were gone on from, and those up to which place by breadth.
     turns: usize,
     next: usize,
     bound: usize,
-    /// The events that were run since the last state.
+    runner: Runner<'a>,
+    /// The events that were run since the last state, those that come next there, and those that may be tried from it.
     last: Vec<Event>,
+    forced: Vec<Event>,
+    moves: Vec<Event>,
+    /// The process of the event that led to the state, if it can go on.
+    holder: Option<u8>,
     /// The run that breaks something, once there is one.
     found: Vec<Event>,
 }
@@ -103,28 +102,32 @@ impl<'a> Explorer<'a> {
         let aims = Aims::new(alloc, task, goals)?;
         let bytes = bytes_to_try(alloc, task)?;
         let kept = Kept::new(alloc, task.nodes().len())?;
+        let runner = Runner::start(alloc, task)?;
         Ok(Explorer {
             alloc,
             task,
             bytes,
             met: Met::new(alloc),
             seen: IndexSet::new(alloc),
-            visits: Vec::new(alloc),
-            events: Vec::new(alloc),
+            trails: Trails::new(alloc),
             kept,
             aims,
             is_aimed: !goals.is_empty(),
             turns: 0,
             next: 0,
             bound,
+            runner,
             last: Vec::new(alloc),
+            forced: Vec::new(alloc),
+            moves: Vec::new(alloc),
+            holder: None,
             found: Vec::new(alloc),
         })
     }
 
     /// How many states were met.
     pub(crate) fn count(&self) -> usize {
-        self.visits.len()
+        self.trails.len()
     }
 
     /// The run that breaks something, taken away; no events where there is none.
@@ -140,144 +143,109 @@ impl<'a> Explorer<'a> {
         Asked::OwnFirst
     }
 
-    /// The events that lead to a state from the one before it.
-    fn events_of(&self, visit: Visit) -> &[Event] {
-        let behind = self.events.get(visit.first..).unwrap_or(&[]);
-        behind.get(..visit.count).unwrap_or(&[])
-    }
-
-    /// The states on the way to one, itself first, up to one whose machine is there, or to the first state.
-    fn way_to(&self, place: usize) -> Result<Vec<usize>, Memory> {
-        let mut way = Vec::new(self.alloc);
-        let mut at = place;
-        for _ in 0..self.visits.len() {
-            way.push(at)?;
-            let Some(visit) = self.visits.get(at) else {
-                break;
-            };
-            let Some(parent) = visit.parent else {
-                break;
-            };
-            if self.kept.get(at).is_some() {
-                break;
-            }
-            at = parent;
-        }
-        Ok(way)
-    }
-
-    /// The run to a state, and on by the events that were run since.
-    fn run_by(&self, place: Option<usize>) -> Result<Vec<Event>, Memory> {
-        let mut way = Vec::new(self.alloc);
-        let mut next = place;
-        for _ in 0..self.visits.len() {
-            let Some(at) = next else {
-                break;
-            };
-            way.push(at)?;
-            next = match self.visits.get(at) {
-                Some(visit) => visit.parent,
-                None => None,
-            };
-        }
-        let mut run = Vec::new(self.alloc);
-        for at in way.iter().rev() {
-            if let Some(visit) = self.visits.get(*at) {
-                run.extend_from_slice(self.events_of(*visit))?;
-            }
-        }
-        run.extend_from_slice(&self.last)?;
-        Ok(run)
-    }
-
-    /// Runs a machine on as long as one event alone can come.
-    fn run_on(&mut self, runner: &mut Runner<'a>) -> Result<Arrival, Memory> {
+    /// Runs the machine on as long as one event alone can come.
+    fn run_on(&mut self) -> Result<Arrival, Memory> {
         let asked = self.asked();
-        let mut events = Vec::new(self.alloc);
         for _ in 0..MAX_FORCED {
-            next_moves(self.task, runner, &self.bytes, asked, &mut events)?;
-            let [event] = events.as_slice() else {
+            next_moves(
+                self.task,
+                &self.runner,
+                &self.bytes,
+                asked,
+                &mut self.forced,
+            )?;
+            let [event] = self.forced.as_slice() else {
                 return Ok(Arrival::At { is_long: false });
             };
-            let advance = runner.step(*event)?;
+            let event = *event;
+            let advance = self.runner.step(event)?;
             if advance.is_waiting {
                 return Ok(Arrival::At { is_long: false });
             }
-            self.last.push(*event)?;
-            if advance.breach.is_some() {
+            self.last.push(event)?;
+            if advance.breaks {
                 return Ok(Arrival::Breaks);
             }
         }
         Ok(Arrival::At { is_long: true })
     }
 
-    /// Runs a machine by one event, and on.
-    fn advance(&mut self, runner: &mut Runner<'a>, event: Event) -> Result<Arrival, Memory> {
+    /// Runs the machine by one event, and on.
+    fn advance(&mut self, event: Event) -> Result<Arrival, Memory> {
         self.last.clear();
-        let advance = runner.step(event)?;
+        let advance = self.runner.step(event)?;
         if advance.is_waiting {
             return Ok(Arrival::Stays);
         }
         self.last.push(event)?;
-        if advance.breach.is_some() {
+        if advance.breaks {
             return Ok(Arrival::Breaks);
         }
-        runner.walking = advance.walking;
-        self.run_on(runner)
+        self.runner.walking = advance.walking;
+        self.run_on()
     }
 
-    /// A machine at a state that was met, from the nearest one on the way there that is kept.
-    fn runner_at(&mut self, place: usize) -> Result<Runner<'a>, Memory> {
-        if let Some(runner) = self.kept.take(place) {
-            return Ok(runner);
-        }
-        let mut way = self.way_to(place)?;
-        let mut runner = match way.last() {
-            None => Runner::start(self.alloc, self.task)?,
-            Some(at) => match self.kept.get(*at) {
-                Some(kept) => {
-                    let runner = kept.copy()?;
-                    way.pop();
-                    runner
-                }
-                None => Runner::start(self.alloc, self.task)?,
-            },
-        };
-        for at in way.iter().rev() {
-            if let Some(visit) = self.visits.get(*at).copied() {
-                runner.run_again(self.events_of(visit))?;
-                if *at != place {
-                    let passed = runner.copy()?;
-                    self.kept.keep(*at, passed);
-                }
+    /// Runs the machine by the events to the state of a place from the one before it, at which it stands.
+    fn run_to(&mut self, place: usize) -> Result<(), Memory> {
+        if let Some(visit) = self.trails.get(place) {
+            if visit.parent == place {
+                self.runner = Runner::start(self.alloc, self.task)?;
             }
         }
-        Ok(runner)
+        self.runner.run_again(self.trails.events_to(place))
     }
 
-    /// Keeps a state, to which the events lead that were run since the one before it, unless it was met before. Whether it is new is told.
-    fn keep(
-        &mut self,
-        mut runner: Runner<'a>,
-        parent: Option<usize>,
-        is_long: bool,
-    ) -> Result<bool, Memory> {
-        let digest = runner.digest(&mut self.met)?;
+    /// Sees to it that the machine at the state of a place is kept, and those on the way there from the nearest one that is.
+    fn come_to(&mut self, place: usize) -> Result<(), Memory> {
+        if self.kept.has(place) {
+            return Ok(());
+        }
+        let way = self.trails.way_to(place, &self.kept)?;
+        for at in way.iter().rev() {
+            if self.kept.has(*at) {
+                self.kept.load(*at, &mut self.runner)?;
+            } else {
+                self.run_to(*at)?;
+                self.kept.keep(*at, &mut self.runner)?;
+                self.kept.load(*at, &mut self.runner)?;
+            }
+        }
+        Ok(())
+    }
+
+    /// What the way to a state costs that is come to from another one.
+    fn spent(&self, parent: Option<usize>) -> u16 {
+        let Some(place) = parent else {
+            return 0;
+        };
+        let Some(visit) = self.trails.get(place) else {
+            return 0;
+        };
+        let Some(event) = self.last.first() else {
+            return visit.spent;
+        };
+        let refusal = if event.refuse { REFUSAL } else { 0 };
+        let switch = match self.holder {
+            Some(holder) if holder != event.process => SWITCH,
+            _ => 0,
+        };
+        visit.spent.saturating_add(refusal).saturating_add(switch)
+    }
+
+    /// Keeps the state at which the machine stands, to which the events lead that were run since the one before it, unless it was met
+    /// before. Whether it is new is told.
+    fn keep(&mut self, parent: Option<usize>, is_long: bool) -> Result<bool, Memory> {
+        let digest = self.runner.digest(&mut self.met)?;
         let (_, is_new) = self.seen.insert_full(digest)?;
         if is_new {
-            let place = self.visits.len();
-            self.visits.push(Visit {
-                parent,
-                first: self.events.len(),
-                count: self.last.len(),
-                is_long,
-                is_done: false,
-            })?;
-            self.aims.add(place, &runner)?;
-            self.events.extend_from_slice(&self.last)?;
+            let spent = self.spent(parent);
+            let place = self.trails.add(parent, &self.last, spent, is_long)?;
+            if self.is_aimed {
+                self.aims.add(place, &self.runner, spent)?;
+            }
             // By breadth a state's turn comes behind those of all that were met before.
             if self.is_aimed || place.saturating_sub(self.next) < self.kept.room() {
-                self.kept.keep(place, runner);
+                self.kept.keep(place, &mut self.runner)?;
             }
         }
         Ok(is_new)
@@ -285,108 +253,102 @@ impl<'a> Explorer<'a> {
 
     /// Begins with the task's first state.
     fn begin(&mut self) -> Result<Progress, Memory> {
-        let mut runner = Runner::start(self.alloc, self.task)?;
-        self.last.clear();
-        match self.run_on(&mut runner)? {
+        match self.run_on()? {
             Arrival::Breaks => {
-                self.found = self.run_by(None)?;
+                self.found.extend_from_slice(&self.last)?;
                 return Ok(Progress::Found);
             }
             Arrival::Stays => {}
             Arrival::At { is_long } => {
-                self.keep(runner, None, is_long)?;
+                self.keep(None, is_long)?;
             }
         }
         Ok(Progress::Goes)
     }
 
-    /// Tries an event from a state, at which a machine stands. The machine is given back where it still stands there.
+    /// Tries an event from the state of a place, whose machine is kept and, where this is the last event, taken away.
     fn try_event(
         &mut self,
         place: usize,
         event: Event,
-        mut runner: Runner<'a>,
-        tried: &mut Tried,
-    ) -> Result<Option<Runner<'a>>, Memory> {
-        match self.advance(&mut runner, event)? {
-            Arrival::Stays => Ok(Some(runner)),
-            Arrival::Breaks => {
-                self.found = self.run_by(Some(place))?;
-                tried.breaks = true;
-                Ok(None)
-            }
-            Arrival::At { is_long } => {
-                tried.walking = runner.walking;
-                let is_new = self.keep(runner, Some(place), is_long)?;
-                tried.any_new = is_new || tried.any_new;
-                Ok(None)
-            }
-        }
-    }
-
-    /// Tries some events from a state, at which a machine stands, up to one that breaks something.
-    fn try_events(
-        &mut self,
-        place: usize,
-        events: &[Event],
-        runner: &Runner<'a>,
+        is_last: bool,
         tried: &mut Tried,
     ) -> Result<(), Memory> {
-        let mut spare = None;
-        for event in events {
-            // While names of a path are left, the kernel refuses nothing.
-            if event.refuse && tried.walking == Some(event.process) {
-                continue;
+        if !tried.stays {
+            self.come_to(place)?;
+            if is_last {
+                self.kept.take(place, &mut self.runner);
+            } else {
+                self.kept.load(place, &mut self.runner)?;
             }
-            let next = match spare.take() {
-                Some(next) => next,
-                None => runner.copy()?,
-            };
-            spare = self.try_event(place, *event, next, tried)?;
-            if tried.breaks {
-                break;
+        }
+        tried.stays = false;
+        match self.advance(event)? {
+            Arrival::Stays => tried.stays = true,
+            Arrival::Breaks => {
+                self.found = self.trails.run_by(place, &self.last)?;
+                tried.breaks = true;
+            }
+            Arrival::At { is_long } => {
+                tried.walking = self.runner.walking;
+                let is_new = self.keep(Some(place), is_long)?;
+                tried.any_new = is_new || tried.any_new;
             }
         }
         Ok(())
     }
 
-    /// The same, where the machine isn't needed afterwards.
-    fn try_last(
-        &mut self,
-        place: usize,
-        events: &[Event],
-        runner: Runner<'a>,
-    ) -> Result<Tried, Memory> {
+    /// Tries the events that may be, from the state of a place, up to one that breaks something.
+    fn try_moves(&mut self, place: usize) -> Result<Tried, Memory> {
         let mut tried = Tried {
             walking: None,
             any_new: false,
             breaks: false,
+            stays: false,
         };
-        let Some((last, before)) = events.split_last() else {
-            return Ok(tried);
-        };
-        self.try_events(place, before, &runner, &mut tried)?;
-        if !(tried.breaks || last.refuse && tried.walking == Some(last.process)) {
-            self.try_event(place, *last, runner, &mut tried)?;
+        let count = self.moves.len();
+        for at in 0..count {
+            let Some(event) = self.moves.get(at).copied() else {
+                break;
+            };
+            // While names of a path are left, the kernel refuses nothing.
+            if event.refuse && tried.walking == Some(event.process) {
+                continue;
+            }
+            self.try_event(place, event, at + 1 == count, &mut tried)?;
+            if tried.breaks {
+                break;
+            }
         }
         Ok(tried)
     }
 
-    /// Goes on from a state, at which a machine stands, by the events of one process, if that can be, and by all if these lead to nothing new.
-    fn expand_with(
-        &mut self,
-        place: usize,
-        is_long: bool,
-        runner: Runner<'a>,
-    ) -> Result<Progress, Memory> {
-        let mut events = Vec::new(self.alloc);
+    /// Notes the events that may be tried from the state of a place. Whether those of one process are all that was asked for is told.
+    fn ask(&mut self, place: usize, asked: Asked) -> Result<bool, Memory> {
+        self.come_to(place)?;
+        let Some(runner) = self.kept.get(place) else {
+            self.moves.clear();
+            return Ok(false);
+        };
+        self.holder = None;
+        if let Some(event) = self.trails.events_to(place).last() {
+            if let Some(process) = runner.machine.processes().get(event.process as usize) {
+                if process.alive && !is_waiting(self.task, runner, event.process, process) {
+                    self.holder = Some(event.process);
+                }
+            }
+        }
+        next_moves(self.task, runner, &self.bytes, asked, &mut self.moves)
+    }
+
+    /// Goes on from the state of a place, by the events of one process, if that can be, and by all if these lead to nothing new.
+    fn expand(&mut self, place: usize, is_long: bool) -> Result<Progress, Memory> {
         let asked = if is_long { Asked::All } else { self.asked() };
-        let is_alone = next_moves(self.task, &runner, &self.bytes, asked, &mut events)?;
-        let mut tried = self.try_last(place, &events, runner)?;
+        let is_alone = self.ask(place, asked)?;
+        let mut tried = self.try_moves(place)?;
         if is_alone && !tried.any_new && !tried.breaks {
-            let runner = self.runner_at(place)?;
-            next_moves(self.task, &runner, &self.bytes, Asked::All, &mut events)?;
-            tried = self.try_last(place, &events, runner)?;
+            self.ask(place, Asked::All)?;
+            tried = self.try_moves(place)?;
         }
         if tried.breaks {
             return Ok(Progress::Found);
@@ -394,79 +356,60 @@ impl<'a> Explorer<'a> {
         Ok(Progress::Goes)
     }
 
-    /// Notes that a state is gone on from, unless it was.
-    fn begins_with(&mut self, place: usize) -> bool {
-        match self.visits.get_mut(place) {
-            None => false,
-            Some(visit) => {
-                let is_new = !visit.is_done;
-                visit.is_done = true;
-                is_new
-            }
-        }
-    }
-
     /// The next state by breadth.
     fn next_by_breadth(&mut self) -> Option<usize> {
-        for place in self.next..self.visits.len() {
+        for place in self.next..self.trails.len() {
             self.next = place + 1;
-            if self.begins_with(place) {
+            if self.trails.begin(place) {
                 return Some(place);
             }
         }
         None
     }
 
-    /// The next state of those that are nearest to a point that is looked for.
-    fn next_by_aim(&mut self) -> Result<Option<usize>, Memory> {
-        for _ in 0..self.visits.len() {
-            let Some(place) = self.aims.next()? else {
-                break;
-            };
-            if self.begins_with(place) {
-                return Ok(Some(place));
+    /// The next of those that are nearest to a point that is looked for.
+    fn next_by_aim(&mut self) -> Option<usize> {
+        for _ in 0..self.trails.len() {
+            let place = self.aims.next()?;
+            if self.trails.begin(place) {
+                return Some(place);
             }
         }
-        Ok(None)
+        None
     }
 
     /// The next state to go on from.
-    fn next_place(&mut self) -> Result<Option<usize>, Memory> {
+    fn next_place(&mut self) -> Option<usize> {
         self.turns = self.turns.wrapping_add(1);
-        if self.turns % SHARE != 0 {
-            let place = self.next_by_aim()?;
+        if self.is_aimed && self.turns % SHARE != 0 {
+            let place = self.next_by_aim();
             if place.is_some() {
-                return Ok(place);
+                return place;
             }
         }
-        Ok(self.next_by_breadth())
-    }
-
-    /// Goes on from a state that was met.
-    fn expand(&mut self, place: usize) -> Result<Progress, Memory> {
-        let Some(visit) = self.visits.get(place).copied() else {
-            return Ok(Progress::Ended);
-        };
-        let runner = self.runner_at(place)?;
-        self.expand_with(place, visit.is_long, runner)
+        self.next_by_breadth()
     }
 
     /// Goes on from so many states.
     pub(crate) fn go_on(&mut self, states: usize) -> Result<Progress, Memory> {
-        if self.visits.is_empty() {
+        if self.trails.len() == 0 {
             let progress = self.begin()?;
             if matches!(progress, Progress::Found) {
                 return Ok(progress);
             }
         }
         for _ in 0..states {
-            if self.visits.len() >= self.bound {
+            if self.trails.len() >= self.bound {
                 return Ok(Progress::Bounded);
             }
-            let Some(place) = self.next_place()? else {
+            let Some(place) = self.next_place() else {
                 return Ok(Progress::Ended);
             };
-            let progress = self.expand(place)?;
+            let is_long = match self.trails.get(place) {
+                None => false,
+                Some(visit) => visit.is_long,
+            };
+            let progress = self.expand(place, is_long)?;
             if !matches!(progress, Progress::Goes) {
                 return Ok(progress);
             }

@@ -84,10 +84,29 @@ fn go_through<W: Watcher>(
     Ok(Progress::Bounded)
 }
 
+/// What a search comes to, over at most so many states.
+fn searched<W: Watcher>(
+    alloc: Global,
+    task: &Task,
+    explorer: &mut Explorer<'_>,
+    bound: usize,
+    watcher: &mut W,
+) -> Result<Explored, Memory>
+    ensures { IfOk result (IsExplored task.now) }
+{
+    let progress = go_through(explorer, bound, watcher)?;
+    let states = explorer.count();
+    match progress {
+        Progress::Found => check_found(alloc, task, explorer.take_found(), states),
+        Progress::Ended => Ok(Explored::Ended(states)),
+        Progress::Goes | Progress::Bounded => Ok(Explored::Bounded(states)),
+    }
+}
+
 /// Searches a run that breaks something, over at most so many states, and tells the watcher now and then how many were met. It goes first
 /// from states whose processes have few steps to some points, and now and then by breadth; by breadth alone where there are none. What is
-/// found is checked by `breaks` before it is given, and no event of it can be left out. Where nothing is found, nothing is claimed.
-pub fn explore_towards<W: Watcher>(
+/// found is checked by `breaks`, and no event of it can be left out.
+pub fn explore<W: Watcher>(
     alloc: Global,
     task: &Task,
     goals: &[Goal],
@@ -97,23 +116,5 @@ pub fn explore_towards<W: Watcher>(
     ensures { IfOk result (IsExplored task.now) }
 {
     let mut explorer = Explorer::new(alloc, task, goals, bound)?;
-    let progress = go_through(&mut explorer, bound, watcher)?;
-    let states = explorer.count();
-    match progress {
-        Progress::Found => check_found(alloc, task, explorer.take_found(), states),
-        Progress::Ended => Ok(Explored::Ended(states)),
-        Progress::Goes | Progress::Bounded => Ok(Explored::Bounded(states)),
-    }
-}
-
-/// The same by breadth alone.
-pub fn explore<W: Watcher>(
-    alloc: Global,
-    task: &Task,
-    bound: usize,
-    watcher: &mut W,
-) -> Result<Explored, Memory>
-    ensures { IfOk result (IsExplored task.now) }
-{
-    explore_towards(alloc, task, &[], bound, watcher)
+    searched(alloc, task, &mut explorer, bound, watcher)
 }

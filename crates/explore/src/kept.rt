@@ -4,19 +4,20 @@ use crate::runners::Runner;
 use rights::Memory;
 use rights::limits::MAX_NODES;
 use std::alloc::Global;
+use std::mem;
 
 /// How many bytes the machines take that are kept, by a guess.
-const MOST_BYTES: usize = 8_000_000;
+const MOST_BYTES: usize = 24_000_000;
 
 /// What a machine takes by a guess, but for its nodes, and what a node takes.
 const BYTES: usize = 12_000;
 
 const NODE_BYTES: usize = 300;
 
-/// A machine at the state of a place.
+/// A machine, at the state of a place, unless it was taken away.
 #[derive(Drop)]
 struct At<'a> {
-    place: usize,
+    place: Option<usize>,
     runner: Runner<'a>,
 }
 
@@ -27,6 +28,13 @@ pub(crate) struct Kept<'a> {
 }
 
 impl<'a> Kept<'a> {
+    /// No machine, and no room for one.
+    pub(crate) fn none(alloc: Global) -> Kept<'a> {
+        Kept {
+            slots: Vec::new(alloc),
+        }
+    }
+
     /// Room for machines with trees of so many nodes.
     pub(crate) fn new(alloc: Global, nodes: usize) -> Result<Kept<'a>, Memory> {
         let nodes = if nodes < MAX_NODES { nodes } else { MAX_NODES };
@@ -43,14 +51,13 @@ impl<'a> Kept<'a> {
         self.slots.len()
     }
 
-    /// Keeps the machine at the state of a place, in the place of another one.
-    pub(crate) fn keep(&mut self, place: usize, runner: Runner<'a>) {
+    /// Where the machine of a place is, or would be.
+    fn slot(&mut self, place: usize) -> Option<&mut Option<At<'a>>> {
         let count = self.slots.len();
-        if count > 0 {
-            if let Some(slot) = self.slots.get_mut(place % count) {
-                *slot = Some(At { place, runner });
-            }
+        if count == 0 {
+            return None;
         }
+        self.slots.get_mut(place % count)
     }
 
     /// The machine at the state of a place, if it is there.
@@ -60,20 +67,48 @@ impl<'a> Kept<'a> {
             return None;
         }
         match self.slots.get(place % count) {
-            Some(Some(at)) if at.place == place => Some(&at.runner),
+            Some(Some(at)) if at.place == Some(place) => Some(&at.runner),
             _ => None,
         }
     }
 
-    /// Takes the machine at the state of a place away, if it is there.
-    pub(crate) fn take(&mut self, place: usize) -> Option<Runner<'a>> {
-        let count = self.slots.len();
-        if count == 0 || self.get(place).is_none() {
-            return None;
+    /// Whether the machine at the state of a place is there.
+    pub(crate) fn has(&self, place: usize) -> bool {
+        self.get(place).is_some()
+    }
+
+    /// Keeps the machine at the state of a place, in the place of another one. What is given then is any machine.
+    pub(crate) fn keep(&mut self, place: usize, runner: &mut Runner<'a>) -> Result<(), Memory> {
+        match self.slot(place) {
+            Some(Some(at)) => {
+                mem::swap(&mut at.runner, runner);
+                at.place = Some(place);
+            }
+            Some(slot) => {
+                let runner = runner.copy()?;
+                *slot = Some(At {
+                    place: Some(place),
+                    runner,
+                });
+            }
+            None => {}
         }
-        match self.slots.get_mut(place % count)?.take() {
-            None => None,
-            Some(at) => Some(at.runner),
+        Ok(())
+    }
+
+    /// Puts a copy of the machine at the state of a place in the place of another one, if it is there.
+    pub(crate) fn load(&self, place: usize, runner: &mut Runner<'a>) -> Result<(), Memory> {
+        if let Some(kept) = self.get(place) {
+            *runner = kept.copy()?;
+        }
+        Ok(())
+    }
+
+    /// Takes the machine at the state of a place away, if it is there.
+    pub(crate) fn take(&mut self, place: usize, runner: &mut Runner<'a>) {
+        if let Some(Some(at)) = self.slot(place) {
+            mem::swap(&mut at.runner, runner);
+            at.place = None;
         }
     }
 }

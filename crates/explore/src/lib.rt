@@ -17,13 +17,15 @@ pub mod laws;
 mod moves;
 mod policies;
 mod runners;
+mod shared_trees;
 mod shrinking;
 mod states;
+mod trails;
 mod trees;
 pub mod writing;
 
 pub use breaches::Breach;
 pub use breaking::breaks;
 pub use distances::Goal;
-pub use exploring::{Explored, FoundRun, Watcher, explore, explore_towards};
+pub use exploring::{Explored, FoundRun, Watcher, explore};
 pub use writing::write_breach;

@@ -1,17 +1,17 @@
 //! A machine on its way.
 
-use crate::breaches::Breach;
-use crate::breaking::{Watched, watched_step};
+use crate::breaking::watched_step;
 use crate::digests::Digest;
+use crate::shared_trees::SharedTree;
 use crate::states::{Met, digest_of_state, open_at};
 use crate::trees::{TreeDigest, digest_of_tree};
 use fd_table::{Description, Descriptor};
 use instruction_set::{Instruction, Operand, Syscall};
-use link_tree::LinkTree;
 use process::Process;
 use rights::{Memory, Op, Stop};
 use simulator::{LineResult, Machine};
 use std::alloc::Global;
+use std::rc::Rc;
 use syscalls::{Effect, Event};
 use task::Task;
 
@@ -20,19 +20,20 @@ use task::Task;
 pub(crate) struct Runner<'a> {
     alloc: Global,
     task: &'a Task,
-    pub machine: Machine<'a, LinkTree>,
+    pub machine: Machine<'a, SharedTree>,
     /// The process of the last choice, where that left names of a path.
     pub walking: Option<u8>,
     /// The digest of the tree, made only where it is asked for.
-    tree: TreeDigest,
+    tree: Rc<TreeDigest>,
     /// The tree was changed since.
     is_changed: bool,
 }
 
 /// What a step came to, for the exploration.
-#[derive(Drop)]
+#[derive(Clone, Copy)]
 pub(crate) struct Advance {
-    pub breach: Option<Breach>,
+    /// The step breaks something.
+    pub breaks: bool,
     /// The call couldn't go on, and nothing changed.
     pub is_waiting: bool,
     /// The process whose call has names of its path left.
@@ -72,16 +73,17 @@ pub(crate) fn call_of<'t>(task: &'t Task, process: &Process) -> Option<&'t Sysca
 impl<'a> Runner<'a> {
     /// The machine at the start of the task.
     pub(crate) fn start(alloc: Global, task: &'a Task) -> Result<Runner<'a>, Memory> {
-        let started: Result<Machine<'a, LinkTree>, Stop> = Machine::start(alloc, task);
+        let started: Result<Machine<'a, SharedTree>, Stop> = Machine::start(alloc, task);
         let Ok(machine) = started else {
             return Err(Memory);
         };
+        let tree = Rc::new(alloc, TreeDigest::none(alloc))?;
         Ok(Runner {
             alloc,
             task,
             machine,
             walking: None,
-            tree: TreeDigest::none(alloc),
+            tree,
             is_changed: true,
         })
     }
@@ -89,7 +91,7 @@ impl<'a> Runner<'a> {
     /// The same once more.
     pub(crate) fn copy(&self) -> Result<Runner<'a>, Memory> {
         let machine = self.machine.copy()?;
-        let tree = self.tree.copy(self.alloc)?;
+        let tree = self.tree.clone()?;
         Ok(Runner {
             alloc: self.alloc,
             task: self.task,
@@ -116,10 +118,10 @@ impl<'a> Runner<'a> {
         let Ok(watched) = watched_step(self.alloc, self.task, &mut self.machine, event) else {
             return Err(Memory);
         };
-        let Watched { line, breach } = watched;
-        let Some(acted) = line.acted else {
+        let breaks = watched.breach.is_some();
+        let Some(acted) = &watched.line.acted else {
             return Ok(Advance {
-                breach,
+                breaks,
                 is_waiting: true,
                 walking: None,
             });
@@ -132,7 +134,7 @@ impl<'a> Runner<'a> {
             _ => None,
         };
         Ok(Advance {
-            breach,
+            breaks,
             is_waiting: matches!(acted.outcome, LineResult::Waiting | LineResult::Ended),
             walking,
         })
@@ -158,7 +160,8 @@ impl<'a> Runner<'a> {
     /// The digest of the state.
     pub(crate) fn digest(&mut self, met: &mut Met) -> Result<Digest, Memory> {
         if self.is_changed {
-            self.tree = digest_of_tree(self.alloc, self.machine.tree())?;
+            let tree = digest_of_tree(self.alloc, self.machine.tree())?;
+            self.tree = Rc::new(self.alloc, tree)?;
             self.is_changed = false;
         }
         digest_of_state(

@@ -23,15 +23,6 @@ impl TreeDigest {
             nodes: Vec::new(alloc),
         }
     }
-
-    /// The same once more.
-    pub(crate) fn copy(&self, alloc: Global) -> Result<TreeDigest, Memory> {
-        let nodes = Vec::from_slice(alloc, &self.nodes)?;
-        Ok(TreeDigest {
-            whole: self.whole,
-            nodes,
-        })
-    }
 }
 
 /// The number of a kind.

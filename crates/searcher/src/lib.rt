@@ -11,5 +11,5 @@ mod rounds;
 mod searching;
 mod shortening;
 
-pub use proposing::propose;
-pub use searching::{reached, search};
+pub use proposing::{propose, reached};
+pub use searching::search;

@@ -12,7 +12,7 @@ use crate::channels::Channels;
 use crate::drawing::push_found;
 use crate::point_states::ProgramPoints;
 use crate::rounds::{all_program_points, settle, wake_receivers};
-use crate::searching::{is_accepted, search};
+use crate::searching::{by_points, is_accepted, search};
 use crate::shortening::push_named;
 use certificate::{Cert, Refusal, Version, push_authorities, push_channels};
 use rights::Memory;
@@ -150,6 +150,19 @@ fn found(alloc: Global, task: &Task) -> Result<Option<Cert>, Memory>
         return Ok(Some(short));
     }
     Ok(accepted(task, Some(cert)))
+}
+
+/// What the search comes to, whether or not the checker accepts it: bounds of each point that it reaches, in version 2; of a task with a
+/// marked program in version 3, with the authorities that its programs seem to need. Nothing where it gives up: the bounds don't settle, or are
+/// more than a certificate has. `Memory` may come in place of any other answer. (own)
+pub fn reached(alloc: Global, task: &Task) -> Result<Option<Cert>, Memory>
+    ensures marked { none_marked task.now ≡ false → IfOk result (λ found. IfSome found (λ cert. cert.version ≡ Three)) }
+    ensures unmarked { none_marked task.now ≡ true → IfOk result (λ found. IfSome found (λ cert. cert.version ≡ Two)) }
+{
+    if none_marked(task.programs()) {
+        return by_points(alloc, task);
+    }
+    proposed(alloc, task)
 }
 
 /// A certificate of a task that the checker accepts, if one is found. For a task with an untrusted program it is of version 3: what

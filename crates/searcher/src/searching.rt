@@ -63,7 +63,7 @@ fn settled(
 }
 
 /// The certificate that the search point by point proposes, if it comes to one.
-fn proposed(alloc: Global, task: &Task) -> Result<Option<Cert>, Memory>
+pub(crate) fn by_points(alloc: Global, task: &Task) -> Result<Option<Cert>, Memory>
     ensures { IfOk result (λ found. IfSome found (λ cert. cert.version ≡ Two)) }
 {
     let all_points = all_program_points(alloc, task)?;
@@ -114,7 +114,7 @@ fn proposed_preferred(alloc: Global, task: &Task) -> Result<Option<Cert>, Memory
     ensures short { IfOk result (λ found. IfSome found (λ cert.
         IsAccepted task.now (short_form task.now cert) → cert ≡ short_form task.now cert)) }
 {
-    match proposed(alloc, task)? {
+    match by_points(alloc, task)? {
         Some(cert) => preferred(alloc, task, cert),
         None => Ok(None),
     }
@@ -132,19 +132,6 @@ fn searched(alloc: Global, task: &Task) -> Result<Option<Cert>, Memory>
         Some(cert) => Ok(Some(cert)),
         None => flat_preferred(alloc, task),
     }
-}
-
-/// What the search point by point comes to, whether or not the checker accepts it: the bounds of version 2 of each point that it
-/// reaches. Nothing of a task with a marked program, and where it gives up: its bounds don't settle, or are more than a certificate has.
-/// `Memory` may come in place of any other answer. (own)
-pub fn reached(alloc: Global, task: &Task) -> Result<Option<Cert>, Memory>
-    ensures version { IfOk result (λ found. IfSome found (λ cert. cert.version ≡ Two)) }
-    ensures marked { none_marked task.now ≡ false → result ≡ Ok None }
-{
-    if !none_marked(task.programs()) {
-        return Ok(None);
-    }
-    proposed(alloc, task)
 }
 
 /// A certificate of a task, of version 2, that the checker accepts, if the search finds one: that of what it finds point by

@@ -1,0 +1,137 @@
+//! Trees that machines share until one changes its own.
+
+ghost use Rattle.std.specs.Prelude.{◌≡◌, IfErr, IfOk};
+ghost use Rattle.file_tree.specs.declared.faults.TreeFault.TheVariants as fault;
+
+use file_tree::{CopyTree, Kind, New, NodeId, Tree, TreeFault};
+use link_tree::LinkTree;
+use rights::Memory;
+use std::alloc::Global;
+use std::rc::Rc;
+
+/// A tree that others may have too. A change makes a tree of its own.
+#[derive(Drop)]
+pub(crate) struct SharedTree {
+    alloc: Global,
+    tree: Rc<LinkTree>,
+}
+
+/// A tree of its own for one that was changed.
+fn shared(alloc: Global, tree: LinkTree) -> Result<Rc<LinkTree>, TreeFault>
+    ensures ok { IfOk result (λ shared. shared.value ≡ tree) }
+    ensures only_memory { IfErr result (λ e. e ≡ fault.Memory) }
+{
+    match Rc::new(alloc, tree) {
+        Ok(shared) => Ok(shared),
+        Err(_) => Err(TreeFault::Memory),
+    }
+}
+
+/// The same tree once more, to be changed.
+fn own(tree: &LinkTree) -> Result<LinkTree, TreeFault>
+    ensures ok { IfOk result (λ own. own ≡ tree.now) }
+    ensures only_memory { IfErr result (λ e. e ≡ fault.Memory) }
+{
+    match tree.copy() {
+        Ok(own) => Ok(own),
+        Err(_) => Err(TreeFault::Memory),
+    }
+}
+
+impl Tree for SharedTree {
+    ghost nodes = { λ shared. shared.tree.value };
+
+    fn new(alloc: Global) -> Result<SharedTree, TreeFault> {
+        let tree = shared(alloc, LinkTree::new(alloc)?)?;
+        Ok(SharedTree { alloc, tree })
+    }
+
+    fn root(&self) -> NodeId {
+        self.tree.root()
+    }
+
+    fn made(&self) -> usize {
+        self.tree.made()
+    }
+
+    fn parent(&self, n: NodeId) -> Option<NodeId> {
+        self.tree.parent(n)
+    }
+
+    fn child(&self, dir: NodeId, name: &[u8]) -> Option<NodeId> {
+        self.tree.child(dir, name)
+    }
+
+    fn kind(&self, n: NodeId) -> Kind {
+        self.tree.kind(n)
+    }
+
+    fn is_linked(&self, n: NodeId) -> bool {
+        self.tree.is_linked(n)
+    }
+
+    fn target(&self, n: NodeId) -> Option<&[u8]> {
+        self.tree.target(n)
+    }
+
+    fn place_begins(&self, n: NodeId, path: &[u8]) -> bool {
+        self.tree.place_begins(n, path)
+    }
+
+    fn place_text(&self, n: NodeId, out: &mut Vec<u8>) -> Result<(), TreeFault> {
+        self.tree.place_text(n, out)
+    }
+
+    fn create(&mut self, dir: NodeId, name: &[u8], what: New<'_>) -> Result<NodeId, TreeFault> {
+        let mut tree = own(&self.tree)?;
+        let node = tree.create(dir, name, what)?;
+        self.tree = shared(self.alloc, tree)?;
+        Ok(node)
+    }
+
+    fn remove(&mut self, n: NodeId) -> Result<(), TreeFault> {
+        let mut tree = own(&self.tree)?;
+        tree.remove(n)?;
+        self.tree = shared(self.alloc, tree)?;
+        Ok(())
+    }
+
+    fn rename(&mut self, n: NodeId, dir: NodeId, name: &[u8]) -> Result<(), TreeFault> {
+        let mut tree = own(&self.tree)?;
+        tree.rename(n, dir, name)?;
+        self.tree = shared(self.alloc, tree)?;
+        Ok(())
+    }
+
+    fn len(&self, n: NodeId) -> usize {
+        self.tree.len(n)
+    }
+
+    fn byte_at(&self, n: NodeId, at: usize) -> Option<u8> {
+        self.tree.byte_at(n, at)
+    }
+
+    fn put_byte(&mut self, n: NodeId, at: usize, b: u8) -> Result<(), TreeFault> {
+        let mut tree = own(&self.tree)?;
+        tree.put_byte(n, at, b)?;
+        self.tree = shared(self.alloc, tree)?;
+        Ok(())
+    }
+
+    fn truncate(&mut self, n: NodeId, len: usize) -> Result<(), TreeFault> {
+        let mut tree = own(&self.tree)?;
+        tree.truncate(n, len)?;
+        self.tree = shared(self.alloc, tree)?;
+        Ok(())
+    }
+}
+
+impl CopyTree for SharedTree {
+    fn copy(&self) -> Result<SharedTree, Memory> {
+        let tree = self.tree.clone()?;
+        Ok(SharedTree {
+            alloc: self.alloc,
+            tree,
+        })
+    }
+}

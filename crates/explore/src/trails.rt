@@ -1,0 +1,125 @@
+//! The states that were met, and the events that lead to them.
+
+use crate::kept::Kept;
+use rights::Memory;
+use std::alloc::Global;
+use syscalls::Event;
+
+/// A state that was met.
+#[derive(Clone, Copy)]
+pub(crate) struct Visit {
+    /// The state before it; its own place where it is the first.
+    pub parent: usize,
+    /// Where the events lie that lead here from there.
+    first: usize,
+    count: usize,
+    /// What its way costs: refusals of the kernel, and switches from processes that might have gone on.
+    pub spent: u16,
+    /// The steps behind it were too many to be followed.
+    pub is_long: bool,
+    /// It was gone on from.
+    is_done: bool,
+}
+
+/// The states that were met, in the order in which they were.
+#[derive(Drop)]
+pub(crate) struct Trails {
+    alloc: Global,
+    visits: Vec<Visit>,
+    /// The events of all of them, one after another.
+    events: Vec<Event>,
+}
+
+impl Trails {
+    /// No state yet.
+    pub(crate) fn new(alloc: Global) -> Trails {
+        Trails {
+            alloc,
+            visits: Vec::new(alloc),
+            events: Vec::new(alloc),
+        }
+    }
+
+    /// How many states were met.
+    pub(crate) fn len(&self) -> usize {
+        self.visits.len()
+    }
+
+    /// Adds a state to which these events lead from the one before it, and gives its place.
+    pub(crate) fn add(
+        &mut self,
+        parent: Option<usize>,
+        events: &[Event],
+        spent: u16,
+        is_long: bool,
+    ) -> Result<usize, Memory> {
+        let place = self.visits.len();
+        self.visits.push(Visit {
+            parent: parent.unwrap_or(place),
+            first: self.events.len(),
+            count: events.len(),
+            spent,
+            is_long,
+            is_done: false,
+        })?;
+        self.events.extend_from_slice(events)?;
+        Ok(place)
+    }
+
+    /// The state of a place.
+    pub(crate) fn get(&self, place: usize) -> Option<Visit> {
+        self.visits.get(place).copied()
+    }
+
+    /// Notes that the state of a place is gone on from. Whether it wasn't before is told.
+    pub(crate) fn begin(&mut self, place: usize) -> bool {
+        match self.visits.get_mut(place) {
+            None => false,
+            Some(visit) => {
+                let is_new = !visit.is_done;
+                visit.is_done = true;
+                is_new
+            }
+        }
+    }
+
+    /// The events that lead to the state of a place from the one before it.
+    pub(crate) fn events_to(&self, place: usize) -> &[Event] {
+        match self.visits.get(place) {
+            None => &[],
+            Some(visit) => {
+                let behind = self.events.get(visit.first..).unwrap_or(&[]);
+                behind.get(..visit.count).unwrap_or(&[])
+            }
+        }
+    }
+
+    /// The states on the way to one, itself first, up to one whose machine is kept, or to the first state.
+    pub(crate) fn way_to(&self, place: usize, kept: &Kept<'_>) -> Result<Vec<usize>, Memory> {
+        let mut way = Vec::new(self.alloc);
+        let mut at = place;
+        for _ in 0..self.visits.len() {
+            way.push(at)?;
+            let parent = match self.visits.get(at) {
+                None => at,
+                Some(visit) => visit.parent,
+            };
+            if parent == at || kept.has(at) {
+                break;
+            }
+            at = parent;
+        }
+        Ok(way)
+    }
+
+    /// The run to the state of a place from the first one on, and on by further events.
+    pub(crate) fn run_by(&self, place: usize, last: &[Event]) -> Result<Vec<Event>, Memory> {
+        let way = self.way_to(place, &Kept::none(self.alloc))?;
+        let mut run = Vec::new(self.alloc);
+        for at in way.iter().rev() {
+            run.extend_from_slice(self.events_to(*at))?;
+        }
+        run.extend_from_slice(last)?;
+        Ok(run)
+    }
+}

@@ -1,0 +1,151 @@
+-- Rows of where instructions lead, of what is remarked and of what is warned, each with one of which it doesn't hold.
+use Rattle.std.proofs.Common.{◌≡◌, ℕ, true, false, List, [], ◌∷◌, refl}
+use Rattle.std.specs.Prelude.{codes, Option, Some}
+use Rattle.rights.specs.Classes.{Initial}
+use Rattle.rights.specs.Sets.{all_commands, all_rights, read_right}
+use Rattle.rights.specs.Values.{CommandSet, RightSet}
+use Rattle.file_tree.specs.Nodes.{Node, File, Link}
+use Rattle.certificate.specs.Bounds.{Bound, ModeBound, Off, On, Either, Held, Target, In_grant, Any_node, Socket, Slot, Open, Closed}
+use Rattle.instruction_set.specs.Programs.{Instruction, Jmp, Jeq, Halt, Invoke, Cap_enter, Read, Close, Number}
+use Rattle.remarks.specs.Remarks.{doubled, idle, skipping, strays, unsettled}
+use Rattle.remarks.specs.TaskRemarks.{alone}
+use Rattle.remarks.specs.Warnings.{calls_ahead, goes_on_closing, has_more, is_absolute, leads_out}
+use Rattle.remarks.specs.Ways.{from_which, leads_from, within_steps}
+use Rattle.task.specs.Plans.{On_end, Start}
+
+-- ## Where instructions lead
+-- a call leads on and to its `else`, entering the mode on alone, and a halt nowhere
+call_leads : leads_from (Invoke (Read (Number 3)) 7 ∷ []) 0 ≡ 1 ∷ 7 ∷ []
+call_leads = refl
+
+entering_leads : leads_from (Invoke Cap_enter 7 ∷ []) 0 ≡ 1 ∷ []
+entering_leads = refl
+
+halt_leads : leads_from (Halt ∷ []) 0 ≡ []
+halt_leads = refl
+
+-- the last point comes from the first through the third, and not from the second, which ends
+comes_from : from_which (Jmp 2 ∷ Halt ∷ Jmp 3 ∷ Halt ∷ []) (false ∷ false ∷ false ∷ true ∷ []) ≡ true ∷ false ∷ true ∷ true ∷ []
+unfolding within_steps
+comes_from = refl
+
+-- ## Bounds with two slots
+abbrev held : Target → RightSet → CommandSet → Held
+held target rights commands = record { target = target; least = rights; greatest = rights; least_fcntls = commands; greatest_fcntls = commands }
+
+abbrev bound : ModeBound → Slot → Slot → Option Bound
+bound mode first second = Some (record { mode = mode; registers = []; slots = first ∷ second ∷ [] })
+
+abbrev file : Slot
+file = Open (held (In_grant (codes "work")) read_right 0)
+
+abbrev stranger : Slot
+stranger = Open (held Any_node read_right 0)
+
+-- In the mode the second number lies in no grant; where the point only ends, or outside the mode, nothing is remarked.
+abbrev read_then_halt : List Instruction
+read_then_halt = Invoke (Read (Number 0)) 1 ∷ Halt ∷ []
+
+a_stray : strays read_then_halt (bound On file stranger ∷ bound On file stranger ∷ []) 1 ≡ 0 ∷ []
+a_stray = refl
+
+no_stray : strays read_then_halt (bound On file stranger ∷ bound On file stranger ∷ []) 0 ≡ []
+no_stray = refl
+
+outside_no_stray : strays read_then_halt (bound Off file stranger ∷ bound Off file stranger ∷ []) 1 ≡ []
+outside_no_stray = refl
+
+-- A choice skips the entering at point 1, so that point 2 is in the mode or outside it.
+abbrev may_skip : List Instruction
+may_skip = Jeq 0 7 2 ∷ Invoke Cap_enter 3 ∷ Invoke (Read (Number 0)) 3 ∷ Halt ∷ []
+
+abbrev skipped : List (Option Bound)
+skipped = bound Off file Closed ∷ bound Off file Closed ∷ bound Either file Closed ∷ bound Either file Closed ∷ []
+
+is_unsettled : unsettled may_skip skipped ≡ 2 ∷ []
+is_unsettled = refl
+
+is_skipped : skipping may_skip skipped ≡ 0 ∷ []
+is_skipped = refl
+
+all_enter : unsettled may_skip (bound Off file Closed ∷ bound Off file Closed ∷ bound On file Closed ∷ bound On file Closed ∷ []) ≡ []
+all_enter = refl
+
+-- The mode is entered with both numbers, and the first alone is read from there on.
+abbrev enter_then_read : List Instruction
+enter_then_read = Invoke Cap_enter 2 ∷ Invoke (Read (Number 0)) 2 ∷ Halt ∷ []
+
+abbrev both_open : List (Option Bound)
+both_open = bound Off file file ∷ bound On file file ∷ bound On file file ∷ []
+
+second_is_idle : idle enter_then_read both_open 1 ≡ 1 ∷ []
+unfolding within_steps
+second_is_idle = refl
+
+first_is_not : idle enter_then_read both_open 0 ≡ []
+unfolding within_steps
+first_is_not = refl
+
+-- Both ends of a pair are kept, or one is closed.
+abbrev side : ℕ → Slot
+side s = Open (held (Socket (Initial 0) s) read_right 0)
+
+kept : doubled read_then_halt (bound On (side 0) (side 1) ∷ bound On (side 0) (side 1) ∷ []) 0 1 ≡ 0 ∷ []
+unfolding within_steps
+kept = refl
+
+one_closed : doubled (Invoke (Close (Number 1)) 1 ∷ Halt ∷ []) (bound On (side 0) (side 1) ∷ bound On (side 0) Closed ∷ []) 0 1 ≡ []
+unfolding within_steps
+one_closed = refl
+
+one_side_twice : doubled read_then_halt (bound On (side 0) (side 0) ∷ bound On (side 0) (side 0) ∷ []) 0 1 ≡ []
+unfolding within_steps
+one_side_twice = refl
+
+-- ## First processes
+abbrev starts_with_side : ℕ → ℕ → Start
+starts_with_side pair s = record {
+  program = 0;
+  mode = true;
+  descriptors = record { number = 0; object = On_end pair s; rights = all_rights; fcntls = all_commands } ∷ [];
+}
+
+is_alone : alone (starts_with_side 3 0 ∷ []) 0 ≡ 3 ∷ []
+is_alone = refl
+
+has_company : alone (starts_with_side 3 0 ∷ starts_with_side 3 1 ∷ []) 0 ≡ []
+has_company = refl
+
+-- ## What FreeBSD does otherwise
+absolute : is_absolute (codes "/etc") ≡ true
+absolute = refl
+
+relative : is_absolute (codes "etc/") ≡ false
+relative = refl
+
+abbrev tree : List Node
+tree = record { kind = File; place = codes "in" ∷ []; linked = true; content = [] } ∷ record { kind = Link; place = codes "a" ∷ codes "away" ∷ []; linked = true; content = [] } ∷ []
+
+up_leads_out : leads_out tree (codes "a/../in") ≡ true
+up_leads_out = refl
+
+link_leads_out : leads_out tree (codes "away") ≡ true
+link_leads_out = refl
+
+name_stays : leads_out tree (codes "a/in") ≡ false
+name_stays = refl
+
+-- The error of closing leads to a call, or to a halt alone.
+close_goes_on : goes_on_closing (calls_ahead (Invoke (Close (Number 0)) 1 ∷ Invoke (Read (Number 0)) 2 ∷ Halt ∷ [])) (Invoke (Close (Number 0)) 1) ≡ true
+unfolding within_steps
+close_goes_on = refl
+
+close_ends : goes_on_closing (calls_ahead (Invoke (Close (Number 0)) 2 ∷ Invoke (Read (Number 0)) 2 ∷ Halt ∷ [])) (Invoke (Close (Number 0)) 2) ≡ false
+unfolding within_steps
+close_ends = refl
+
+all_is_more : has_more (held Any_node all_rights 0) ≡ true
+all_is_more = refl
+
+some_is_not : has_more (held Any_node read_right all_commands) ≡ false
+some_is_not = refl

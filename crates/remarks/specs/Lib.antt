@@ -1,0 +1,5 @@
+pub mod Ways
+pub mod Remarks
+pub mod RemarkViews
+pub mod TaskRemarks
+pub mod Warnings

@@ -1,0 +1,38 @@
+-- What the code's remarks stand for.
+use Rattle.std.specs.Prelude.{ℕ, List, [], ◌∷◌, ◌++◌, Option, Some, None, map, option_map}
+use Rattle.certificate.specs.Bounds.{Bound}
+use Rattle.certificate.specs.Views.{bound_of}
+use Rattle.certificate.specs.declared.bounds.Bound.{Bound as BoundCode}
+use Rattle.instruction_set.specs.Views.{operand_of}
+use Rattle.remarks.specs.Warnings.{Lookup, one_beneath, Difference, Absolute_path, Way_out, Last_link, Commands_gone, No_number_left, Unlisted_look}
+use Rattle.remarks.specs.declared.warnings.Difference.{Difference as DifferenceCode}
+use Rattle.remarks.specs.declared.warnings.Difference.TheVariants as code
+use Rattle.remarks.specs.declared.looks.Looks.{Looks}
+use Rattle.remarks.specs.declared.looks.Look.{Look as LookCode}
+use Rattle.remarks.specs.declared.ways.Ways.{Ways}
+
+abbrev pub listed : Option ℕ → List ℕ
+listed None = []
+listed (Some point) = point ∷ []
+
+abbrev pub ways_of : Ways → List ℕ
+ways_of ways = listed ways.next ++ listed ways.other
+
+abbrev pub bounds_of : List (Option BoundCode) → List (Option Bound)
+bounds_of bounds = map (option_map bound_of) bounds
+
+-- a path beneath a descriptor, if there is one, and those of a call
+abbrev pub look_of : Option LookCode → List Lookup
+look_of None = []
+look_of (Some look) = one_beneath (operand_of look.descriptor) look.path.now
+
+abbrev pub beneath_of : Looks → List Lookup
+beneath_of looks = look_of looks.first ++ look_of looks.second
+
+abbrev pub difference_of : DifferenceCode → Difference
+difference_of code.AbsolutePath = Absolute_path
+difference_of code.WayOut = Way_out
+difference_of code.LastLink = Last_link
+difference_of code.CommandsGone = Commands_gone
+difference_of code.NoNumberLeft = No_number_left
+difference_of code.UnlistedLook = Unlisted_look

@@ -1,0 +1,495 @@
+//! A program whose points have bounds, and at which of them something holds.
+
+ghost use Rattle.std.specs.Prelude.{◌≡◌, ◌&&◌, ◌||◌, ◌==◌, ◌<◌, IfOk, not, option_map, true};
+ghost use Rattle.std.specs.List.{list_any};
+ghost use Rattle.certificate.specs.Views.{bound_of, held_of, mode_of, target_of};
+ghost use Rattle.remarks.specs.RemarkViews.{bounds_of, ways_of};
+ghost use Rattle.remarks.specs.Remarks.{are_both, are_sides, begins_way, bound_there, closing, doubled, has_mode, has_work, held_at, holds_so, idle, is_choice, is_doubled, is_either, is_fork};
+ghost use Rattle.remarks.specs.Remarks.{is_either_at, is_halt, is_idle, is_led_by, is_off_at, is_on_at, is_skipping, is_stray, is_there, is_working, lies_nowhere, may_be, may_be_sent, parts_at};
+ghost use Rattle.remarks.specs.Remarks.{may_close, may_go_through, may_name, naming, skipping, strays, unsettled, working};
+ghost use Rattle.remarks.specs.Ways.{from_which, is_flagged, leads_from};
+ghost use Rattle.instruction_set.specs.Views.{code_of, instruction_of, operand_of, syscall_of};
+ghost use Rattle.rights.specs.Limits.{most_descriptors};
+ghost use Rattle.rules.specs.Outcomes.{enters_mode as enters_mode_seen};
+ghost use Rattle.rules.specs.Slots.{may_be_on};
+ghost use Rattle.transfer.specs.Views.{passed_of, through_of};
+
+use crate::ways::{Ways, count, from_which, is_flagged, leads_from};
+use certificate::{Bound, Domain, Held, ModeBound, Target};
+use instruction_set::{Instruction, Operand, Syscall};
+use std::alloc::{AllocError, Global};
+use transfer::{Passed, Through, enters_mode, may_be_on, needed, operand_interval};
+
+/// A program, and the bounds of its points.
+#[derive(Drop)]
+pub(crate) struct Bounded<'a> {
+    pub name: &'a [u8],
+    pub code: &'a [Instruction],
+    pub untrusted: bool,
+    pub bounds: Vec<Option<Bound>>,
+}
+
+/// Whether it may be an end of each side of the same pair.
+fn are_sides(target: &Target, other: &Target) -> bool
+    ensures { result ≡ are_sides (target_of target.now) (target_of other.now) }
+{
+    match (target, other) {
+        (Target::Socket(class, side), Target::Socket(same, across)) => {
+            class.is(same) && *across == side.other()
+        }
+        _ => false,
+    }
+}
+
+/// Whether an operand may be a number.
+fn may_be(bound: &Bound, operand: Operand, number: u32) -> bool
+    ensures { result ≡ may_be (bound_of bound.now) number (operand_of operand) }
+{
+    let interval = operand_interval(bound, operand);
+    interval.low() <= number && number <= interval.high()
+}
+
+/// Whether a call may go through a number by one of its operands, or send it.
+fn may_go_through(bound: &Bound, through: &Option<Through>, number: u32) -> bool
+    ensures { result ≡ may_go_through (bound_of bound.now) number (option_map through_of through.now) }
+{
+    match through {
+        None => false,
+        Some(through) => {
+            may_be(bound, through.operand, number)
+                || match through.need.passed {
+                    Passed::Sent(sent) => may_be(bound, sent, number),
+                    Passed::Nothing | Passed::Received => false,
+                }
+        }
+    }
+}
+
+/// Whether an instruction may name a number.
+fn may_name(bound: Option<&Bound>, instruction: &Instruction, number: u32) -> bool
+    ensures { result ≡ may_name number (option_map (λ b. bound_of b.now) bound.entry) (instruction_of instruction.now) }
+{
+    match (bound, instruction) {
+        (Some(bound), Instruction::Invoke { call, .. }) => {
+            let needs = needed(call);
+            may_go_through(bound, &needs.first, number)
+                || may_go_through(bound, &needs.second, number)
+        }
+        _ => false,
+    }
+}
+
+/// Whether an instruction may close a number.
+fn may_close(bound: Option<&Bound>, instruction: &Instruction, number: u32) -> bool
+    ensures { result ≡ may_close number (option_map (λ b. bound_of b.now) bound.entry) (instruction_of instruction.now) }
+{
+    match (bound, instruction) {
+        (
+            Some(bound),
+            Instruction::Invoke {
+                call: Syscall::Close { descriptor },
+                ..
+            },
+        ) => may_be(bound, *descriptor, number),
+        _ => false,
+    }
+}
+
+/// Whether an instruction is a call that works on what a descriptor is of.
+fn is_working(instruction: &Instruction) -> bool
+    ensures { result ≡ is_working (instruction_of instruction.now) }
+{
+    match instruction {
+        Instruction::Invoke { call, .. } => match needed(call).first {
+            None => false,
+            Some(through) => through.need.works,
+        },
+        _ => false,
+    }
+}
+
+/// Whether an instruction chooses a way by a register.
+fn is_choice(instruction: &Instruction) -> bool
+    ensures { result ≡ is_choice (instruction_of instruction.now) }
+{
+    matches!(
+        instruction,
+        Instruction::Jeq { .. } | Instruction::Jlt { .. }
+    )
+}
+
+/// Whether an instruction is a fork.
+fn is_fork(instruction: &Instruction) -> bool
+    ensures { result ≡ is_fork (instruction_of instruction.now) }
+{
+    matches!(
+        instruction,
+        Instruction::Invoke {
+            call: Syscall::Fork,
+            ..
+        }
+    )
+}
+
+impl<'a> Bounded<'a> {
+    /// The bound of a point, if it has one.
+    pub(crate) fn bound_there(&self, point: usize) -> Option<&Bound>
+        ensures { option_map (λ b. bound_of b.now) result ≡ bound_there (bounds_of self.now.bounds.items) point }
+    {
+        match self.bounds.get(point) {
+            None | Some(None) => None,
+            Some(Some(bound)) => Some(bound),
+        }
+    }
+
+    /// Whether a process may be there in the mode.
+    pub(crate) fn is_on_at(&self, point: usize) -> bool
+        ensures { result ≡ is_on_at (bounds_of self.now.bounds.items) point }
+    {
+        match self.bound_there(point) {
+            None => false,
+            Some(bound) => may_be_on(bound.mode()),
+        }
+    }
+
+    /// Whether a process may be there in the mode or outside it.
+    fn is_either_at(&self, point: usize) -> bool
+        ensures { result ≡ is_either_at (bounds_of self.now.bounds.items) point }
+    {
+        match self.bound_there(point) {
+            None => false,
+            Some(bound) => match bound.mode() {
+                ModeBound::Either => true,
+                ModeBound::Off | ModeBound::On => false,
+            },
+        }
+    }
+
+    /// Whether a process is there surely outside the mode.
+    fn is_off_at(&self, point: usize) -> bool
+        ensures { result ≡ is_off_at (bounds_of self.now.bounds.items) point }
+    {
+        match self.bound_there(point) {
+            None => false,
+            Some(bound) => !may_be_on(bound.mode()),
+        }
+    }
+
+    /// What a number may hold there.
+    pub(crate) fn held_at(&self, number: u32, point: usize) -> Option<Held>
+        ensures { option_map held_of result ≡ held_at (bounds_of self.now.bounds.items) number point }
+    {
+        match self.bound_there(point) {
+            None => None,
+            Some(bound) => bound.slot(number).held(),
+        }
+    }
+
+    /// Whether the instruction there only ends the process.
+    pub(crate) fn is_halt_at(&self, point: usize) -> bool
+        ensures { result ≡ is_there (code_of self.now.code.now) is_halt point }
+    {
+        match self.code.get(point) {
+            None => false,
+            Some(instruction) => matches!(instruction, Instruction::Halt),
+        }
+    }
+
+    /// Whether the instruction there enters the mode.
+    pub(crate) fn enters_at(&self, point: usize) -> bool
+        ensures { result ≡ is_there (code_of self.now.code.now) enters_mode_seen point }
+    {
+        match self.code.get(point) {
+            None => false,
+            Some(instruction) => enters_mode(instruction),
+        }
+    }
+
+    /// Whether, in the mode, a number may hold there what lies in no grant.
+    fn is_stray(&self, number: u32, point: usize) -> bool
+        ensures { result ≡ is_stray (code_of self.now.code.now) (bounds_of self.now.bounds.items) number point }
+    {
+        self.is_on_at(point)
+            && !self.is_halt_at(point)
+            && match self.held_at(number, point) {
+                None => false,
+                Some(held) => matches!(held.target(), Target::AnyNode | Target::Unknown),
+            }
+    }
+
+    /// The points at which, in the mode, a number may hold what lies in no grant.
+    pub(crate) fn strays(&self, alloc: Global, number: u32) -> Result<Vec<usize>, AllocError>
+        ensures { IfOk result (λ found. found.items ≡ strays (code_of self.now.code.now) (bounds_of self.now.bounds.items) number) }
+    {
+        (0..count(self.code))
+            .filter(|point| self.is_stray(number, *point))
+            .collect(alloc)
+    }
+
+    /// The points that go on, at which a process may be in the mode or outside it.
+    pub(crate) fn unsettled(&self, alloc: Global) -> Result<Vec<usize>, AllocError>
+        ensures { IfOk result (λ found. found.items ≡ unsettled (code_of self.now.code.now) (bounds_of self.now.bounds.items)) }
+    {
+        (0..count(self.code))
+            .filter(|point| self.is_either_at(*point) && !self.is_halt_at(*point))
+            .collect(alloc)
+    }
+
+    /// Whether a way leads to a point where the mode may be either.
+    fn leads_to_either(&self, ways: Ways) -> bool
+        ensures { result ≡ list_any (is_either_at (bounds_of self.now.bounds.items)) (ways_of ways) }
+    {
+        let next = match ways.next {
+            None => false,
+            Some(point) => self.is_either_at(point),
+        };
+        let other = match ways.other {
+            None => false,
+            Some(point) => self.is_either_at(point),
+        };
+        next || other
+    }
+
+    /// Whether a process comes from there to such a point without entering the mode.
+    fn is_skipping(&self, point: usize) -> bool
+        ensures { result ≡ is_skipping (code_of self.now.code.now) (bounds_of self.now.bounds.items) point }
+    {
+        self.is_off_at(point)
+            && !self.enters_at(point)
+            && self.leads_to_either(leads_from(self.code, point))
+    }
+
+    /// The points from which a process comes, without entering the mode, to one where it may be in it or not.
+    pub(crate) fn skipping(&self, alloc: Global) -> Result<Vec<usize>, AllocError>
+        ensures { IfOk result (λ found. found.items ≡ skipping (code_of self.now.code.now) (bounds_of self.now.bounds.items)) }
+    {
+        (0..count(self.code))
+            .filter(|point| self.is_skipping(*point))
+            .collect(alloc)
+    }
+
+    /// Whether the instruction there may name a number.
+    fn names_at(&self, number: u32, point: usize) -> bool
+        ensures { result ≡ is_there (code_of self.now.code.now) (may_name number (bound_there (bounds_of self.now.bounds.items) point)) point }
+    {
+        match self.code.get(point) {
+            None => false,
+            Some(instruction) => may_name(self.bound_there(point), instruction, number),
+        }
+    }
+
+    /// Whether the instruction there may close a number.
+    fn closes_at(&self, number: u32, point: usize) -> bool
+        ensures { result ≡ is_there (code_of self.now.code.now) (may_close number (bound_there (bounds_of self.now.bounds.items) point)) point }
+    {
+        match self.code.get(point) {
+            None => false,
+            Some(instruction) => may_close(self.bound_there(point), instruction, number),
+        }
+    }
+
+    /// Whether the instruction there works on what a descriptor is of.
+    fn works_at(&self, point: usize) -> bool
+        ensures { result ≡ is_there (code_of self.now.code.now) is_working point }
+    {
+        match self.code.get(point) {
+            None => false,
+            Some(instruction) => is_working(instruction),
+        }
+    }
+
+    /// Whether parent and child part there: a choice right behind a fork.
+    fn parts_at(&self, point: usize) -> bool
+        ensures { result ≡ parts_at (code_of self.now.code.now) point }
+    {
+        match self.code.get(point) {
+            None => false,
+            Some(instruction) => is_choice(instruction) && self.is_behind_fork(point),
+        }
+    }
+
+    /// Whether a fork leads to a point.
+    fn is_behind_fork(&self, point: usize) -> bool
+        ensures { result ≡ is_led_by (code_of self.now.code.now) (is_there (code_of self.now.code.now) is_fork) point }
+    {
+        (0..count(self.code)).any(|before| self.forks_at(before)
+            && leads_from(self.code, before).has(point))
+    }
+
+    /// Whether the instruction there is a fork.
+    fn forks_at(&self, point: usize) -> bool
+        ensures { result ≡ is_there (code_of self.now.code.now) is_fork point }
+    {
+        match self.code.get(point) {
+            None => false,
+            Some(instruction) => is_fork(instruction),
+        }
+    }
+
+    /// Whether entering the mode leads to a point.
+    fn is_behind_entering(&self, point: usize) -> bool
+        ensures { result ≡ is_led_by (code_of self.now.code.now) (is_there (code_of self.now.code.now) enters_mode_seen) point }
+    {
+        (0..count(self.code)).any(|before| self.enters_at(before)
+            && leads_from(self.code, before).has(point))
+    }
+
+    /// Whether a choice leads to a point at which parent and child part.
+    fn is_behind_parting(&self, point: usize) -> bool
+        ensures { result ≡ is_led_by (code_of self.now.code.now) (parts_at (code_of self.now.code.now)) point }
+    {
+        (0..count(self.code)).any(|before| self.parts_at(before)
+            && leads_from(self.code, before).has(point))
+    }
+
+    /// Whether a way begins at a point: where the program starts, where the mode is entered, and where parent and child part.
+    fn begins_way(&self, point: usize) -> bool
+        ensures { result ≡ begins_way (code_of self.now.code.now) point }
+    {
+        point == 0 || self.is_behind_entering(point) || self.is_behind_parting(point)
+    }
+}
+
+impl<'a> Bounded<'a> {
+    /// Whether each instruction may name a number.
+    fn naming_here(&self, alloc: Global, number: u32) -> Result<Vec<bool>, AllocError>
+        ensures { IfOk result (λ found. found.items ≡ naming (code_of self.now.code.now) (bounds_of self.now.bounds.items) number) }
+    {
+        (0..count(self.code))
+            .map(|point| self.names_at(number, point))
+            .collect(alloc)
+    }
+
+    /// The points from which an instruction comes that may name a number.
+    fn naming(&self, alloc: Global, number: u32) -> Result<Vec<bool>, AllocError>
+        ensures { IfOk result (λ found. found.items
+            ≡ from_which (code_of self.now.code.now) (naming (code_of self.now.code.now) (bounds_of self.now.bounds.items) number)) }
+    {
+        let here = self.naming_here(alloc, number)?;
+        from_which(alloc, self.code, here)
+    }
+
+    /// Whether each instruction may close a number.
+    fn closing_here(&self, alloc: Global, number: u32) -> Result<Vec<bool>, AllocError>
+        ensures { IfOk result (λ found. found.items ≡ closing (code_of self.now.code.now) (bounds_of self.now.bounds.items) number) }
+    {
+        (0..count(self.code))
+            .map(|point| self.closes_at(number, point))
+            .collect(alloc)
+    }
+
+    /// The points from which an instruction comes that may close a number.
+    fn closing(&self, alloc: Global, number: u32) -> Result<Vec<bool>, AllocError>
+        ensures { IfOk result (λ found. found.items
+            ≡ from_which (code_of self.now.code.now) (closing (code_of self.now.code.now) (bounds_of self.now.bounds.items) number)) }
+    {
+        let here = self.closing_here(alloc, number)?;
+        from_which(alloc, self.code, here)
+    }
+
+    /// Whether each instruction works on what a descriptor is of.
+    fn working_here(&self, alloc: Global) -> Result<Vec<bool>, AllocError>
+        ensures { IfOk result (λ found. found.items ≡ working (code_of self.now.code.now)) }
+    {
+        (0..count(self.code))
+            .map(|point| self.works_at(point))
+            .collect(alloc)
+    }
+
+    /// The points from which a call comes that works on what a descriptor is of.
+    fn working(&self, alloc: Global) -> Result<Vec<bool>, AllocError>
+        ensures { IfOk result (λ found. found.items ≡ from_which (code_of self.now.code.now) (working (code_of self.now.code.now))) }
+    {
+        let here = self.working_here(alloc)?;
+        from_which(alloc, self.code, here)
+    }
+
+    /// Whether, in the mode, a way begins at a point with a number open that no instruction names from there on, where some work on others.
+    fn is_idle(&self, named: &[bool], worked: &[bool], number: u32, point: usize) -> bool
+        ensures { result ≡ is_idle (code_of self.now.code.now) (bounds_of self.now.bounds.items) named.now worked.now number point }
+    {
+        self.is_on_at(point)
+            && self.held_at(number, point).is_some()
+            && !is_flagged(named, point)
+            && is_flagged(worked, point)
+            && self.begins_way(point)
+    }
+
+    /// The points at which, in the mode, a way begins with a number open that no instruction names from there on, where some work on others.
+    pub(crate) fn idle(&self, alloc: Global, number: u32) -> Result<Vec<usize>, AllocError>
+        ensures { IfOk result (λ found. found.items ≡ idle (code_of self.now.code.now) (bounds_of self.now.bounds.items) number) }
+    {
+        let named = self.naming(alloc, number)?;
+        let worked = self.working(alloc)?;
+        (0..count(self.code))
+            .filter(|point| self.is_idle(&named, &worked, number, *point))
+            .collect(alloc)
+    }
+
+    /// Whether two numbers may be both ends of a pair there.
+    fn has_both_at(&self, number: u32, other: u32, point: usize) -> bool
+        ensures { result ≡ are_both (held_at (bounds_of self.now.bounds.items) number point) (held_at (bounds_of self.now.bounds.items) other point) }
+    {
+        match (self.held_at(number, point), self.held_at(other, point)) {
+            (Some(held), Some(across)) => are_sides(&held.target(), &across.target()),
+            _ => false,
+        }
+    }
+
+    /// Whether two numbers may be both ends of a pair there and stay open from there on, at a point that goes on.
+    fn is_doubled(
+        &self,
+        closed: &[bool],
+        others: &[bool],
+        number: u32,
+        other: u32,
+        point: usize,
+    ) -> bool
+        ensures { result ≡ is_doubled (code_of self.now.code.now) (bounds_of self.now.bounds.items) closed.now others.now number other point }
+    {
+        self.has_both_at(number, other, point)
+            && !is_flagged(closed, point)
+            && !is_flagged(others, point)
+            && !self.is_halt_at(point)
+    }
+
+    /// The points at which two numbers may be both ends of a pair and stay open from there on.
+    pub(crate) fn doubled(
+        &self,
+        alloc: Global,
+        number: u32,
+        other: u32,
+    ) -> Result<Vec<usize>, AllocError>
+        ensures { IfOk result (λ found. found.items ≡ doubled (code_of self.now.code.now) (bounds_of self.now.bounds.items) number other) }
+    {
+        let closed = self.closing(alloc, number)?;
+        let others = self.closing(alloc, other)?;
+        (0..count(self.code))
+            .filter(|point| self.is_doubled(&closed, &others, number, other, *point))
+            .collect(alloc)
+    }
+
+    /// Whether two numbers may be both ends of a pair somewhere.
+    pub(crate) fn ever_has_both(&self, number: u32, other: u32) -> bool {
+        (0..count(self.code)).any(|point| self.has_both_at(number, other, point))
+    }
+
+    /// What a number may hold at a point in the mode, unless it is the same in the mode at the point before.
+    pub(crate) fn new_in_mode(&self, number: u32, point: usize) -> Option<Held> {
+        let Some(bound) = self.bound_there(point) else {
+            return None;
+        };
+        if !self.is_on_at(point) {
+            return None;
+        }
+        if let Some(before) = point.checked_sub(1) {
+            if let Some(other) = self.bound_there(before) {
+                let (slot, was) = (bound.slot(number), other.slot(number));
+                if self.is_on_at(before) && slot.within(&was) && was.within(&slot) {
+                    return None;
+                }
+            }
+        }
+        self.held_at(number, point)
+    }
+}

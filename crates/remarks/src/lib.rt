@@ -1,0 +1,15 @@
+//! Remarks on programs whose points have bounds: what a yes doesn't say of them, and what could be narrower, as values. Nothing of it is
+//! needed to believe a yes.
+#![tactic(auto)]
+
+mod bounded;
+mod looks;
+pub mod policies;
+mod reaching;
+pub mod remarks;
+pub mod warnings;
+mod ways;
+
+pub use policies::{TaskRemark, remarks_on_task};
+pub use remarks::{Remark, Remarked, remarks_on};
+pub use warnings::{Difference, Warned, Warning, warnings_on};

@@ -1,0 +1,273 @@
+//! Remarks on a task's first processes and its policy, as values.
+
+ghost use Rattle.std.specs.Prelude.{◌≡◌, ◌&&◌, IfOk, filter, length, map, not, option_map};
+ghost use Rattle.std.specs.List.{list_any, slice_get};
+ghost use Rattle.certificate.specs.Bounds.{bound_at};
+ghost use Rattle.remarks.specs.Remarks.{holds_there};
+ghost use Rattle.std.specs.Str.{bytes_eq};
+ghost use Rattle.certificate.specs.Views.{authorities_of, authority_of, bound_of, ceiling_of, target_of};
+ghost use Rattle.instruction_set.specs.Views.{instruction_of};
+ghost use Rattle.remarks.specs.TaskRemarks.{alone, call_does, has_ceiling, is_alone, is_side, is_unused, may_be_in, program_does, starts_with, use_does};
+ghost use Rattle.rights.specs.OperationLists.{lists, same_operation};
+ghost use Rattle.rights.specs.Operations.{Look};
+ghost use Rattle.rights.specs.Sets.{is_within, lookup_right};
+ghost use Rattle.rights.specs.Views.{operation_of, side_seen};
+ghost use Rattle.task.specs.Views.{first_descriptor_of, first_object_of, grant_of, program_of, programs_of, start_of, starts_of};
+ghost use Rattle.texts.specs.Views.{name_of};
+ghost use Rattle.transfer.specs.Views.{operation_list};
+
+use crate::ways::count;
+use certificate::{Authority, Bound, Ceiling, Cert, Held, Target};
+use instruction_set::Instruction;
+use rights::limits::MAX_PAIRS;
+use rights::{Op, Rights, Side};
+use std::alloc::{AllocError, Global};
+use task::{FirstDescriptor, FirstObject, Grant, NamedProgram, Start, Task};
+use transfer::{Need, UseTest, all_uses_pass, may_be_on};
+
+/// What is remarked of a task.
+#[derive(Clone, Copy)]
+pub enum TaskRemark<'a> {
+    /// Some process has this side of an initial pair, and none the other.
+    Alone { pair: u8, side: Side },
+    /// A grant holds everything.
+    Boundless { grant: &'a Grant },
+    /// A grant lists an operation that nothing does there in the mode.
+    Unused { grant: &'a Grant, operation: Op },
+}
+
+/// Whether a first descriptor is of a side of a pair.
+fn is_side(pair: u8, side: Side, object: FirstObject) -> bool
+    ensures { result ≡ is_side pair (side_seen side) (first_object_of object) }
+{
+    match object {
+        FirstObject::Node { .. } => false,
+        FirstObject::End {
+            pair: other,
+            side: own,
+        } => other == pair && own == side,
+    }
+}
+
+/// Whether a process starts with a side of a pair.
+fn starts_with(pair: u8, side: Side, start: &Start) -> bool
+    ensures { result ≡ starts_with pair (side_seen side) (start_of start.now) }
+{
+    has_side(pair, side, &start.descriptors)
+}
+
+/// Whether one of some first descriptors is of a side of a pair.
+fn has_side(pair: u8, side: Side, descriptors: &[FirstDescriptor]) -> bool
+    ensures { result ≡ list_any (λ d. is_side pair (side_seen side) d.object) (map first_descriptor_of descriptors.now) }
+{
+    match descriptors {
+        [] => false,
+        [first, rest @ ..] => is_side(pair, side, first.object) || has_side(pair, side, rest),
+    }
+}
+
+/// Whether one of some processes starts with a side of a pair.
+fn any_starts_with(pair: u8, side: Side, starts: &[Start]) -> bool
+    ensures { result ≡ list_any (starts_with pair (side_seen side)) (starts_of starts.now) }
+{
+    match starts {
+        [] => false,
+        [start, rest @ ..] => starts_with(pair, side, start) || any_starts_with(pair, side, rest),
+    }
+}
+
+/// Whether some process has a side of a pair, and none the other.
+fn is_alone(starts: &[Start], side: Side, pair: u8) -> bool
+    ensures { result ≡ is_alone (starts_of starts.now) (side_seen side) pair }
+{
+    any_starts_with(pair, side, starts) && !any_starts_with(pair, side.other(), starts)
+}
+
+/// The initial pairs of which processes have this side alone.
+fn alone(alloc: Global, starts: &[Start], side: Side) -> Result<Vec<u8>, AllocError>
+    ensures { IfOk result (λ found. found.items ≡ alone (starts_of starts.now) (side_seen side)) }
+{
+    (0..MAX_PAIRS)
+        .filter(|pair| is_alone(starts, side, *pair))
+        .collect(alloc)
+}
+
+/// The test that a use doesn't do an operation in a grant.
+#[derive(Clone, Copy)]
+struct Leaves<'a> {
+    grant: &'a [u8],
+    operation: Op,
+}
+
+/// Whether what a target is of may lie in a grant.
+fn may_be_in(grant: &[u8], target: &Target) -> bool
+    ensures { result ≡ may_be_in grant.now (target_of target.now) }
+{
+    match target {
+        Target::InGrant(name) => name.as_bytes() == grant,
+        Target::AnyNode | Target::Unknown => true,
+        Target::Socket(..) => false,
+    }
+}
+
+impl<'a> UseTest for Leaves<'a> {
+    ghost passes = { λ t u. not (use_does t.grant.now (operation_of t.operation) u) };
+
+    #[tactic(auto, using(crate::proofs::Lists::lists_both))]
+    fn asks(&self, _bound: &Bound, need: &Need, _number: u8, held: &Held) -> bool {
+        !(may_be_in(self.grant, &held.target())
+            && (is_operation(need.operation, self.operation)
+                || is_operation(need.other_operation, self.operation)
+                || looks_up(self.operation, need)))
+    }
+}
+
+/// Whether the operation is to look, and a call needs to look names up.
+fn looks_up(operation: Op, need: &Need) -> bool
+    ensures { result ≡ same_operation (operation_of operation) Look && is_within lookup_right need.now.rights.0 }
+{
+    matches!(operation, Op::Look) && need.rights.contains(Rights::LOOKUP)
+}
+
+/// Whether this is the operation, if there is one.
+fn is_operation(one: Option<Op>, operation: Op) -> bool
+    ensures { result ≡ lists (operation_list one) (operation_of operation) }
+{
+    match one {
+        None => false,
+        Some(one) => operation.is_listed(&[one]),
+    }
+}
+
+/// Whether a call in the mode may do an operation in a grant.
+fn call_does(grant: &[u8], operation: Op, bound: &Option<Bound>, instruction: &Instruction) -> bool
+    ensures { result ≡ call_does grant.now (operation_of operation) (option_map bound_of bound.now) (instruction_of instruction.now) }
+{
+    match (bound, instruction) {
+        (Some(bound), Instruction::Invoke { call, .. }) => {
+            may_be_on(bound.mode()) && !all_uses_pass(bound, call, &Leaves { grant, operation })
+        }
+        _ => false,
+    }
+}
+
+/// Whether the instruction of a point of a program may.
+fn does_at(cert: &Cert, grant: &[u8], operation: Op, named: &NamedProgram, point: usize) -> bool
+    ensures { result ≡ holds_there (call_does grant.now (operation_of operation) (bound_at cert.now (program_of named.now).name point))
+        (slice_get (program_of named.now).code point) }
+{
+    match named.program.code().get(point) {
+        None => false,
+        Some(instruction) => {
+            let bound = cert.bound_at(named.name.as_bytes(), point);
+            call_does(grant, operation, &bound, instruction)
+        }
+    }
+}
+
+/// Whether some call of a program may.
+fn program_does(cert: &Cert, grant: &[u8], operation: Op, named: &NamedProgram) -> bool
+    ensures { result ≡ program_does cert.now grant.now (operation_of operation) (program_of named.now) }
+{
+    (0..count(named.program.code())).any(|point| does_at(cert, grant, operation, named, point))
+}
+
+/// Whether one of some ceilings is on a grant.
+fn has_ceiling_among(grant: &[u8], ceilings: &[Ceiling]) -> bool
+    ensures { result ≡ list_any (λ c. bytes_eq c.grant grant.now) (map ceiling_of ceilings.now) }
+{
+    match ceilings {
+        [] => false,
+        [first, rest @ ..] => {
+            first.grant().as_bytes() == grant || has_ceiling_among(grant, rest)
+        }
+    }
+}
+
+/// Whether some program does an operation in a grant.
+fn any_program_does(cert: &Cert, grant: &[u8], operation: Op, programs: &[NamedProgram]) -> bool
+    ensures { result ≡ list_any (program_does cert.now grant.now (operation_of operation)) (programs_of programs.now) }
+{
+    match programs {
+        [] => false,
+        [first, rest @ ..] => {
+            program_does(cert, grant, operation, first)
+                || any_program_does(cert, grant, operation, rest)
+        }
+    }
+}
+
+/// Whether some untrusted program may hold what lies in a grant.
+fn any_has_ceiling(grant: &[u8], authorities: &[Authority]) -> bool
+    ensures { result ≡ list_any (has_ceiling grant.now) (authorities_of authorities.now) }
+{
+    match authorities {
+        [] => false,
+        [first, rest @ ..] => has_ceiling(grant, first) || any_has_ceiling(grant, rest),
+    }
+}
+
+/// Whether an untrusted program may hold what lies in a grant.
+fn has_ceiling(grant: &[u8], authority: &Authority) -> bool
+    ensures { result ≡ has_ceiling grant.now (authority_of authority.now) }
+{
+    has_ceiling_among(grant, authority.ceilings())
+}
+
+/// Whether nothing does an operation in a grant.
+fn is_unused(task: &Task, cert: &Cert, grant: &[u8], operation: Op) -> bool
+    ensures { result ≡ is_unused task.now cert.now grant.now (operation_of operation) }
+{
+    !any_program_does(cert, grant, operation, task.programs())
+        && !any_has_ceiling(grant, cert.authorities())
+}
+
+/// The operations that a grant lists and that nothing does there in the mode.
+fn unused(alloc: Global, task: &Task, cert: &Cert, grant: &Grant) -> Result<Vec<Op>, AllocError>
+    ensures { IfOk result (λ found. found.items
+        ≡ filter (λ operation. is_unused task.now cert.now (grant_of grant.now).name (operation_of operation)) grant.now.operations.items) }
+{
+    grant
+        .operations
+        .iter()
+        .copied()
+        .filter(|operation| is_unused(task, cert, grant.name.as_bytes(), *operation))
+        .collect(alloc)
+}
+
+/// Adds the initial pairs of which processes have this side alone.
+fn add_alone(
+    alloc: Global,
+    list: &mut Vec<TaskRemark<'_>>,
+    task: &Task,
+    side: Side,
+) -> Result<(), AllocError> {
+    for pair in &alone(alloc, task.starts(), side)? {
+        list.push(TaskRemark::Alone { pair: *pair, side })?;
+    }
+    Ok(())
+}
+
+/// The remarks on a task: with the bounds of a certificate in which all are written, if there is one.
+pub fn remarks_on_task<'a>(
+    alloc: Global,
+    task: &'a Task,
+    cert: &Cert,
+    has_cert: bool,
+) -> Result<Vec<TaskRemark<'a>>, AllocError> {
+    let mut list = Vec::new(alloc);
+    add_alone(alloc, &mut list, task, Side::A)?;
+    add_alone(alloc, &mut list, task, Side::B)?;
+    for grant in task.grants() {
+        if grant.path.is_root() {
+            list.push(TaskRemark::Boundless { grant })?;
+        }
+        if has_cert {
+            for operation in &unused(alloc, task, cert, grant)? {
+                let operation = *operation;
+                list.push(TaskRemark::Unused { grant, operation })?;
+            }
+        }
+    }
+    Ok(list)
+}
