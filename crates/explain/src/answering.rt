@@ -63,7 +63,7 @@ fn listing_alone<'a>(alloc: Global, file: &[u8]) -> Result<Answer, Fault<'a>>
     ensures { IfOk result (λ answer. answer.status ≡ 0) }
 {
     let task = read_task(alloc, file)?;
-    let texts = texts_of_file(alloc, file)?;
+    let texts = texts_of_file(alloc, file, &task)?;
     let cert = Cert::new(alloc, Version::One);
     let scene = Scene::new(file, &texts, &task, &cert);
     let Some(reached) = reached(alloc, &task)? else {
@@ -79,7 +79,7 @@ fn listing_with<'a>(alloc: Global, file: &[u8], cert: &[u8]) -> Result<Answer, F
     ensures { IfOk result (λ answer. answer.status ≡ 0) }
 {
     let claim = read_texts(alloc, file, cert)?;
-    let texts = texts_of_file(alloc, file)?;
+    let texts = texts_of_file(alloc, file, &claim.task)?;
     let expanded = expand(alloc, &claim.task, &claim.cert)?;
     let scene = Scene::new(file, &texts, &claim.task, &expanded);
     done(alloc, |page| add_listing(page, &scene, &scene, true))
@@ -111,7 +111,7 @@ fn broken<'a>(alloc: Global, file: &[u8], cert: &[u8]) -> Result<Answer, Fault<'
 {
     let checked = check_texts(alloc, file, cert)?;
     let claim = &checked.claim;
-    let texts = texts_of_file(alloc, file)?;
+    let texts = texts_of_file(alloc, file, &claim.task)?;
     let expanded = expand(alloc, &claim.task, &claim.cert)?;
     let scene = Scene::new(file, &texts, &claim.task, &expanded);
     let found = all_findings(alloc, &claim.task, &claim.cert)?;
@@ -125,7 +125,7 @@ fn unfound<'a>(alloc: Global, file: &[u8]) -> Result<Answer, Fault<'a>>
     ensures { IfOk result (λ answer. SaysFound answer.status file.now) }
 {
     let task = read_task(alloc, file)?;
-    let texts = texts_of_file(alloc, file)?;
+    let texts = texts_of_file(alloc, file, &task)?;
     let mut page = Page::new(alloc);
     let is_found = add_unfound(alloc, &mut page, file, &texts, &task)?;
     let status = if is_found { DONE } else { BROKEN };

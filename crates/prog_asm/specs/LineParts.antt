@@ -19,18 +19,18 @@ abbrev pub instruction_span : List ℕ → Option Span
 instruction_span line = span_over (behind_label (words_on line))
 
 -- the point that an instruction leads to; 0 where it leads to none
-abbrev pub target_of : Instruction → ℕ
-target_of (Jmp target) = target
-target_of (Jeq register value target) = target
-target_of (Jlt register value target) = target
-target_of (Invoke call otherwise) = otherwise
-target_of instruction = 0
+abbrev pub led_point : Instruction → ℕ
+led_point (Jmp target) = target
+led_point (Jeq register value target) = target
+led_point (Jlt register value target) = target
+led_point (Invoke call otherwise) = otherwise
+led_point instruction = 0
 
 -- What stands on a line is an instruction, wherever the label leads that it names.
 pub record IsWritten (found : Option Written) (instruction : Instruction) : Type 0 where
   pub written : Written
   pub there : found ≡ Some written
-  pub same : placed (λ name. Some (target_of instruction)) written ≡ Some instruction
+  pub same : placed (λ name. Some (led_point instruction)) written ≡ Some instruction
 
 -- A text by itself is the line of an instruction, without a label.
 pub record IsLineOf (text : List ℕ) (instruction : Instruction) : Type 0 where

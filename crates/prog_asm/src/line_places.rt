@@ -42,8 +42,8 @@ pub fn line_parts(alloc: Global, line: &[u8]) -> Result<LineParts, AllocError>
 }
 
 /// The point that an instruction leads to; 0 where it leads to none.
-fn target_of(instruction: &Instruction) -> u8
-    ensures { result ≡ model.target_of (instruction_of instruction.now) }
+fn led_point(instruction: &Instruction) -> u8
+    ensures { result ≡ model.led_point (instruction_of instruction.now) }
 {
     match instruction {
         Instruction::Jmp { target }
@@ -68,7 +68,7 @@ fn is_written(written: Option<Written<'_>>, instruction: &Instruction) -> bool
     let Some(written) = written else {
         return false;
     };
-    let target = target_of(instruction);
+    let target = led_point(instruction);
     written.led(target) == *instruction
 }
 

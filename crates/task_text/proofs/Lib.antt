@@ -1,2 +1,4 @@
 pub mod PlaceLaws
+pub mod NearLaws
+pub mod TextLaws
 mod Rows

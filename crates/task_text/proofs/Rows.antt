@@ -1,12 +1,12 @@
 -- Rows of what stands where in a text.
 use Rattle.std.proofs.Common.{◌≡◌, ◌<◌, ℕ, ◌-◌, ◌^◌, List, [], ◌∷◌, ◌++◌, Bool, true, false, refl, sym, ap, ◌∙◌, arith}
-use Rattle.std.specs.Prelude.{codes, min, nat_lt, Some, None, if◌then◌else◌}
+use Rattle.std.specs.Prelude.{codes, min, nat_lt, Some, if◌then◌else◌}
 use Rattle.std.specs.Fmt.{decimal}
 use Rattle.std.specs.List.{flat_map}
 use Rattle.task_text.specs.FaultLines.{more_line, placed_line}
 use Rattle.task_text.specs.FaultViews.{AddsFaultLines}
 use Rattle.texts.specs.declared.pages.Page.{Page}
-use Rattle.task_text.specs.Instructions.{line_there, span_of, text_there}
+use Rattle.task_text.specs.Instructions.{line_there, text_there}
 use Rattle.task_text.specs.Places.{part, place_at}
 
 -- a byte of the second line, the line feed before it, and the end
@@ -26,13 +26,7 @@ part_there = refl
 part_out_of_order : part (codes "abcd") 3 1 ≡ []
 part_out_of_order = refl
 
--- the second instruction stands behind a line without one
-second_instruction : span_of ((0, 4) ∷ (5, 5) ∷ (6, 9) ∷ []) 1 ≡ Some (6, 9)
-second_instruction = refl
-
-no_third_instruction : span_of ((0, 4) ∷ (5, 5) ∷ (6, 9) ∷ []) 2 ≡ None
-no_third_instruction = refl
-
+-- the text of an instruction, and its line
 text_of_instruction : text_there (codes "halt\n\nend") (Some (6, 9)) ≡ codes "end"
 text_of_instruction = refl
 

@@ -1,15 +1,17 @@
--- The instructions among the lines of a program's text. (own)
-use Rattle.std.specs.Prelude.{ℕ, ◌-◌, ◌==◌, List, [], ◌∷◌, Option, None, Some, nat_lt, if◌then◌else◌}
+-- The instructions that are shown of a program's text. (own)
+use Rattle.std.specs.Prelude.{ℕ, List, [], ◌∷◌, Option, None, Some}
 use Rattle.std.specs.List.{slice_get}
+use Rattle.instruction_set.specs.Programs.{Instruction}
+use Rattle.prog_asm.specs.LineParts.{IsLineOf}
 use Rattle.task_text.specs.Places.{part, place_at}
 
--- where the instruction of a point begins and ends, among those of lines, which are empty where a line has none
-abbrev pub span_of : List (ℕ × ℕ) → ℕ → Option (ℕ × ℕ)
-span_of [] point = None
-span_of (span ∷ spans) point =
-    if nat_lt span.0 span.1 then (if point == 0 then Some span else span_of spans (point - 1)) else span_of spans point
+-- Texts from point 0 on are each the line of the instruction at its point.
+abbrev pub AreLinesOf : List (List ℕ) → List Instruction → Type 0
+AreLinesOf [] code = Unit {0}
+AreLinesOf (text ∷ texts) [] = ⊥
+AreLinesOf (text ∷ texts) (instruction ∷ code) = IsLineOf text instruction × AreLinesOf texts code
 
--- the text there; nothing where the program hasn't the point
+-- the text that begins and ends there; nothing where none is shown
 abbrev pub text_there : List ℕ → Option (ℕ × ℕ) → List ℕ
 text_there code None = []
 text_there code (Some span) = part code span.0 span.1

@@ -4,3 +4,4 @@ pub mod Instructions
 pub mod ProgramViews
 pub mod FaultLines
 pub mod FaultViews
+pub mod NearWords

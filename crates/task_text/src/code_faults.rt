@@ -1,24 +1,17 @@
 //! Faults in the programs of a task's text.
 
 use crate::code_forms::{add_meant, has_known_words, wanted, words_of};
-use crate::field_faults::Faults;
+use crate::decoded::Decoded;
+use crate::faults::Faults;
+use crate::fields::Fields;
 use crate::near::meant;
 use crate::places::part;
-use crate::program_texts::{ProgramText, is_blank};
+use crate::program_texts::codes_of;
 use indexmap::IndexSet;
-use prog_asm::{Form, LineFault, LineMistake, MNEMONICS, Span, line_faults};
+use prog_asm::{Form, LineFault, LineMistake, MNEMONICS, line_faults, line_parts};
 use rights::limits::MAX_INSTRUCTIONS;
 use std::alloc::{AllocError, Global};
-use texts::{Lines, Page, say};
-
-/// The words of all instructions.
-fn mnemonics(alloc: Global) -> Result<Vec<&'static str>, AllocError> {
-    let mut words = Vec::new(alloc);
-    for mnemonic in &MNEMONICS {
-        words.push(mnemonic.name())?;
-    }
-    Ok(words)
-}
+use texts::{Line, Lines, Page, parts_of};
 
 /// The labels of a program.
 #[derive(Drop)]
@@ -29,64 +22,31 @@ struct Labels<'t> {
 }
 
 impl<'t> Labels<'t> {
-    /// The labels of the program of a text.
-    fn new(alloc: Global, text: &'t ProgramText) -> Result<Labels<'t>, AllocError> {
+    /// The labels of lines.
+    fn new(alloc: Global, lines: &[Line<'t>]) -> Result<Labels<'t>, AllocError> {
         let mut labels = Labels {
             all: IndexSet::new(alloc),
             known: Vec::new(alloc),
         };
-        for line in &text.lines {
-            labels.add(part(&text.code.bytes, line.label.0, line.label.1))?;
+        for line in lines {
+            let Some(span) = line_parts(alloc, line.text)?.label else {
+                continue;
+            };
+            let label = part(line.text, span.start, span.end);
+            labels.all.insert(label)?;
+            if labels.known.len() < MAX_INSTRUCTIONS && !label.is_empty() {
+                if let Ok(label) = str::from_utf8(label) {
+                    labels.known.push(label)?;
+                }
+            }
         }
         Ok(labels)
     }
-
-    /// Adds the label of a line, if it has one.
-    fn add(&mut self, label: &'t [u8]) -> Result<(), AllocError> {
-        if label.is_empty() {
-            return Ok(());
-        }
-        self.all.insert(label)?;
-        if self.known.len() < MAX_INSTRUCTIONS {
-            if let Ok(label) = str::from_utf8(label) {
-                self.known.push(label)?;
-            }
-        }
-        Ok(())
-    }
 }
 
-/// The word of a line around a byte.
-fn word_around(line: &[u8], at: usize) -> Span {
-    let mut span = Span {
-        start: 0,
-        end: line.len(),
-    };
-    for (place, byte) in line.iter().enumerate() {
-        if is_blank(*byte) {
-            if place < at {
-                span.start = place.saturating_add(1);
-            } else if place < span.end {
-                span.end = place;
-            }
-        }
-    }
-    span
-}
-
-/// The first word of a line that is no label.
-fn instruction_of(line: &[u8]) -> &[u8] {
-    let mut start = 0;
-    for (at, byte) in line.iter().enumerate() {
-        if is_blank(*byte) {
-            let word = part(line, start, at);
-            if !word.is_empty() && !word.ends_with(b":") {
-                return word;
-            }
-            start = at.saturating_add(1);
-        }
-    }
-    part(line, start, line.len())
+/// Whether a byte parts words.
+fn is_blank(byte: u8) -> bool {
+    byte == b' ' || byte == b'\t'
 }
 
 /// Whether a byte may stand in a word outside quotes.
@@ -94,17 +54,21 @@ fn may_stand_in_word(byte: u8) -> bool {
     byte.is_ascii_alphanumeric() || b"_:,\"".contains(&byte)
 }
 
-/// Tells what list is meant by the word at an offset of the file.
-fn add_meant_list(faults: &mut Faults<'_>, offset: usize, word: &[u8], list: &Page) {
-    let mut line = Page::new(faults.alloc);
-    say!(&mut line; "`", word, "`: `", list, "` is meant?");
-    faults.add_page(offset, line);
+/// Where the word of a line around a byte begins, and the word.
+fn word_around(line: &[u8], at: usize) -> (usize, &[u8]) {
+    let start = match part(line, 0, at).iter().rposition(|byte| is_blank(*byte)) {
+        Some(blank) => blank.saturating_add(1),
+        None => 0,
+    };
+    let rest = part(line, start, line.len());
+    let end = rest.iter().position(|byte| is_blank(*byte));
+    (start, part(rest, 0, end.unwrap_or(rest.len())))
 }
 
 /// A fault of a program, and the line that it is in.
 #[derive(Clone, Copy)]
 struct CodeFault<'a> {
-    text: &'a ProgramText,
+    code: &'a Decoded,
     line: &'a [u8],
     /// Where the line begins in the program.
     start: usize,
@@ -119,7 +83,7 @@ impl<'a> CodeFault<'a> {
 
     /// The offset in the file of a byte of the line.
     fn offset_of(&self, at: usize) -> usize {
-        self.text.code.offset(self.start.saturating_add(at))
+        self.code.offset(self.start.saturating_add(at))
     }
 
     /// Where in the file the fault begins.
@@ -132,55 +96,47 @@ impl<'a> CodeFault<'a> {
         faults.add_of(self.offset(), self.word(), text);
     }
 
-    /// Tells of a list whose words are joined by something else than commas. Whether it is one.
-    fn add_joined(&self, faults: &mut Faults<'_>) -> bool {
-        let span = word_around(self.line, self.fault.span.start);
-        let word = part(self.line, span.start, span.end);
-        for form in [Form::Flags, Form::Rights, Form::Commands].iter() {
-            let mut list = Page::new(faults.alloc);
-            if add_meant(&mut list, word, words_of(*form)) {
-                add_meant_list(faults, self.offset_of(span.start), word, &list);
-                return true;
-            }
+    /// Tells what list is meant by a word at an offset. Whether one is.
+    fn add_list(&self, faults: &mut Faults<'_>, offset: usize, word: &[u8], form: Form) -> bool {
+        let mut list = Page::new(faults.alloc);
+        let is_meant = add_meant(&mut list, word, words_of(form));
+        if is_meant {
+            faults.add(offset, parts_of!("`", word, "`: `", &list, "` is meant?"));
         }
-        false
+        is_meant
     }
 
     /// Tells of a byte that no word has.
     fn add_stray(&self, faults: &mut Faults<'_>) {
         let byte = self.word();
-        let is_bar = byte == b"|".as_slice();
-        if is_bar && self.add_joined(faults) {
-            return;
+        if byte == b"#".as_slice() {
+            return self.add(faults, "begins no comment: in a program `;` does");
         }
-        let text = if is_bar {
-            "parts no words: a comma does"
-        } else if byte == b"#".as_slice() {
-            "begins no comment: in a program `;` does"
-        } else {
-            "is a byte that no word of a program has"
-        };
-        self.add(faults, text);
+        if byte != b"|".as_slice() {
+            return self.add(faults, "is a byte that no word of a program has");
+        }
+        let (start, word) = word_around(self.line, self.fault.span.start);
+        for form in [Form::Flags, Form::Rights, Form::Commands].iter() {
+            if self.add_list(faults, self.offset_of(start), word, *form) {
+                return;
+            }
+        }
+        self.add(faults, "parts no words: a comma does");
     }
 
     /// Tells of a word that isn't known: a label, a byte, or what an instruction would begin with.
     fn add_word(&self, faults: &mut Faults<'_>) -> Result<(), AllocError> {
         let word = self.word();
-        if let [byte] = word {
-            if !may_stand_in_word(*byte) {
-                self.add_stray(faults);
-                return Ok(());
-            }
+        let mut known = Vec::new(faults.alloc);
+        for mnemonic in &MNEMONICS {
+            known.push(mnemonic.name())?;
         }
-        if self.line.get(self.fault.span.end) == Some(&b':') {
-            self.add(
-                faults,
-                "is no label: a letter a to z, then up to 15 of a to z, 0 to 9 and _",
-            );
-            return Ok(());
-        }
-        let known = mnemonics(faults.alloc)?;
-        if meant(word, &known).is_some() {
+        if matches!(word, [byte] if !may_stand_in_word(*byte)) {
+            self.add_stray(faults);
+        } else if self.line.get(self.fault.span.end) == Some(&b':') {
+            let text = "is no label: a letter a to z, then up to 15 of a to z, 0 to 9 and _";
+            self.add(faults, text);
+        } else if meant(word, &known).is_some() {
             faults.add_word(self.offset(), "instruction", word, &known);
         } else {
             self.add(faults, "is no instruction");
@@ -191,115 +147,95 @@ impl<'a> CodeFault<'a> {
     /// Tells of an operand that isn't of the form that its place wants, with what was meant.
     fn add_form(&self, faults: &mut Faults<'_>, form: Form) {
         let (word, known) = (self.word(), words_of(form));
-        let mut list = Page::new(faults.alloc);
         if !known.is_empty() && has_known_words(word, known) {
             self.add(faults, "has a word twice, or words that don't go together");
-        } else if !known.is_empty() && add_meant(&mut list, word, known) {
-            add_meant_list(faults, self.offset(), word, &list);
-        } else {
-            let mut line = Page::new(faults.alloc);
-            say!(&mut line; "`", word, "` isn't ", wanted(form));
-            faults.add_page(self.offset(), line);
+        } else if known.is_empty() || !self.add_list(faults, self.offset(), word, form) {
+            faults.add_of(self.offset(), word, parts_of!("isn't ", wanted(form)));
         }
     }
 
     /// Tells of a wrong operand, or of too few or too many.
-    fn add_operand(&self, faults: &mut Faults<'_>) {
+    fn add_operand(&self, faults: &mut Faults<'_>) -> Result<(), AllocError> {
         match self.fault.wants {
             None => self.add(faults, "is one operand too many"),
             Some(form) if self.word().is_empty() => {
-                let mut line = Page::new(faults.alloc);
-                let word = instruction_of(self.line);
-                say!(&mut line; "`", word, "` lacks ", wanted(form));
-                faults.add_page(self.offset(), line);
+                let instruction = line_parts(faults.alloc, self.line)?.instruction;
+                let start = instruction.map_or(0, |span| span.start);
+                let (_, word) = word_around(self.line, start);
+                faults.add_of(self.offset(), word, parts_of!("lacks ", wanted(form)));
             }
             Some(form) => self.add_form(faults, form),
         }
-    }
-
-    /// Tells of a label that no instruction has.
-    fn add_label(&self, faults: &mut Faults<'_>, labels: &Labels<'_>) {
-        let word = self.word();
-        if labels.all.contains(&word) {
-            self.add(faults, "is the label of no instruction: none follows it");
-        } else {
-            faults.add_word(self.offset(), "label", word, &labels.known);
-        }
+        Ok(())
     }
 
     /// Tells of the fault.
     fn tell(&self, faults: &mut Faults<'_>, labels: &Labels<'_>) -> Result<(), AllocError> {
+        let word = self.word();
         match self.fault.mistake {
             LineMistake::Word => self.add_word(faults)?,
-            LineMistake::Operand => self.add_operand(faults),
-            LineMistake::NoLabel => self.add_label(faults, labels),
+            LineMistake::Operand => self.add_operand(faults)?,
+            LineMistake::NoLabel if labels.all.contains(&word) => {
+                self.add(faults, "is the label of no instruction: none follows it");
+            }
+            LineMistake::NoLabel => faults.add_word(self.offset(), "label", word, &labels.known),
             LineMistake::TwiceLabel => self.add(faults, "is a label for the second time"),
             LineMistake::TooMany => {
                 faults.add(self.offset(), "a program has at most 256 instructions");
             }
-            LineMistake::FallsOff => faults.add(
-                self.offset(),
-                "the last instruction goes on: a program ends with jmp or halt",
-            ),
+            LineMistake::FallsOff => {
+                let text = "the last instruction goes on: a program ends with jmp or halt";
+                faults.add(self.offset(), text);
+            }
         }
         Ok(())
     }
 }
 
 /// Tells that lines end with carriage returns, and sets these to blanks.
-fn add_returns(faults: &mut Faults<'_>, text: &ProgramText, code: &mut Vec<u8>) {
-    let mut first = None;
-    for (at, byte) in code.iter_mut().enumerate() {
+fn add_returns(faults: &mut Faults<'_>, code: &Decoded, bytes: &mut [u8]) {
+    if let Some(at) = bytes.iter().position(|byte| *byte == b'\r') {
+        let text = "lines end with a carriage return: in a program a line feed ends them alone";
+        faults.add(code.offset(at), text);
+    }
+    for byte in bytes.iter_mut() {
         if *byte == b'\r' {
             *byte = b' ';
-            if first.is_none() {
-                first = Some(at);
-            }
         }
-    }
-    if let Some(at) = first {
-        faults.add(
-            text.code.offset(at),
-            "lines end with a carriage return: in a program a line feed ends them alone",
-        );
     }
 }
 
 /// Tells of the faults of a program.
-fn add_program(faults: &mut Faults<'_>, text: &ProgramText) -> Result<(), AllocError> {
-    if line_faults(faults.alloc, &text.code.bytes)?.is_empty() {
+fn add_program(faults: &mut Faults<'_>, code: &Decoded) -> Result<(), AllocError> {
+    if line_faults(faults.alloc, &code.bytes)?.is_empty() {
         return Ok(());
     }
-    let mut code = Vec::from_slice(faults.alloc, &text.code.bytes)?;
-    add_returns(faults, text, &mut code);
+    let mut bytes = Vec::from_slice(faults.alloc, &code.bytes)?;
+    add_returns(faults, code, &mut bytes);
     let mut lines = Vec::new(faults.alloc);
-    for line in Lines::new(&code) {
+    for line in Lines::new(&bytes) {
         lines.push(line)?;
     }
-    let labels = Labels::new(faults.alloc, text)?;
-    for fault in &line_faults(faults.alloc, &code)? {
+    let labels = Labels::new(faults.alloc, &lines)?;
+    for fault in &line_faults(faults.alloc, &bytes)? {
         if let Some(line) = lines.get(fault.line.saturating_sub(1)) {
-            let (start, fault) = (line.offset, *fault);
-            let line = line.text;
-            CodeFault {
-                text,
+            let (start, line, fault) = (line.offset, line.text, *fault);
+            let fault = CodeFault {
+                code,
                 line,
                 start,
                 fault,
-            }
-            .tell(faults, &labels)?;
+            };
+            fault.tell(faults, &labels)?;
         }
     }
     Ok(())
 }
 
 /// Tells of the faults of programs.
-pub(crate) fn add_code_faults(
-    faults: &mut Faults<'_>,
-    texts: &[ProgramText],
-) -> Result<(), AllocError> {
-    for text in texts {
-        add_program(faults, text)?;
+pub(crate) fn add_code_faults(faults: &mut Faults<'_>, fields: &Fields) -> Result<(), AllocError> {
+    for code in &codes_of(faults.alloc, faults.file, fields)? {
+        add_program(faults, code)?;
     }
     Ok(())
 }

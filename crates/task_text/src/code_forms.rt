@@ -2,7 +2,6 @@
 
 use crate::known_words::{COMMANDS, FLAGS, RIGHTS};
 use crate::near::{is_known, meant};
-use crate::places::part;
 use prog_asm::Form;
 use texts::{Page, say};
 
@@ -28,48 +27,25 @@ pub(crate) fn words_of(form: Form) -> &'static [&'static str] {
         Form::Flags => FLAGS,
         Form::Rights => RIGHTS,
         Form::Commands => COMMANDS,
-        Form::Register
-        | Form::Number
-        | Form::Operand
-        | Form::Path
-        | Form::Label
-        | Form::Directory
-        | Form::Else => &[],
+        _ => &[],
     }
 }
 
 /// Adds a list with its words as they were meant, parted by commas. Whether all its words are known then.
 pub(crate) fn add_meant(page: &mut Page, list: &[u8], known: &[&str]) -> bool {
-    let mut start = 0;
-    let mut separator = "";
-    for at in 0..list.len().saturating_add(1) {
-        let is_end = match list.get(at) {
-            Some(byte) => *byte == b',' || *byte == b'|',
-            None => true,
+    let mut separator = b"".as_slice();
+    for word in list.split(|byte| *byte == b',' || *byte == b'|') {
+        let Some(one) = meant(word, known) else {
+            return false;
         };
-        if is_end {
-            let word = part(list, start, at);
-            start = at.saturating_add(1);
-            let Some(one) = meant(word, known) else {
-                return false;
-            };
-            say!(page; separator, one);
-            separator = ",";
-        }
+        say!(page; separator, one);
+        separator = b",";
     }
     true
 }
 
 /// Whether all words of a list are known.
 pub(crate) fn has_known_words(list: &[u8], known: &[&str]) -> bool {
-    let mut start = 0;
-    for at in 0..list.len().saturating_add(1) {
-        if at == list.len() || list.get(at) == Some(&b',') {
-            if !is_known(part(list, start, at), known) {
-                return false;
-            }
-            start = at.saturating_add(1);
-        }
-    }
-    true
+    list.split(|byte| *byte == b',')
+        .all(|word| is_known(word, known))
 }

@@ -17,13 +17,6 @@ pub(crate) struct Decoded {
 }
 
 impl Decoded {
-    /// Adds a byte that comes from an offset.
-    fn push(&mut self, byte: u8, offset: usize) -> Result<(), AllocError> {
-        self.bytes.push(byte)?;
-        self.offsets.push(offset)?;
-        Ok(())
-    }
-
     /// The offset in the file that a byte comes from; behind the last byte, that behind the text.
     pub(crate) fn offset(&self, at: usize) -> usize
         ensures { result ≡ offset_of self.now.offsets.items self.now.end at }
@@ -35,33 +28,30 @@ impl Decoded {
     }
 }
 
-/// What an escape of one byte stands for.
-fn escape(byte: u8) -> Option<u8> {
+/// What an escape of one byte stands for; `?` where it is none.
+fn escape(byte: u8) -> u8 {
     match byte {
-        b'n' => Some(b'\n'),
-        b't' => Some(b'\t'),
-        b'r' => Some(b'\r'),
-        b'"' => Some(b'"'),
-        b'\\' => Some(b'\\'),
-        _ => None,
+        b'n' => b'\n',
+        b't' => b'\t',
+        b'r' => b'\r',
+        b'"' | b'\\' => byte,
+        _ => b'?',
     }
 }
 
 /// How many bytes a line's end at the beginning has, which a text in three quotes leaves out.
 fn first_end(written: &[u8]) -> usize {
-    if written.starts_with(b"\n") {
-        return 1;
+    match written {
+        [b'\n', ..] => 1,
+        [b'\r', b'\n', ..] => 2,
+        _ => 0,
     }
-    if written.starts_with(b"\r\n") {
-        return 2;
-    }
-    0
 }
 
 /// Where a reader of escapes stands.
 #[derive(Clone, Copy)]
 enum Reading {
-    None,
+    Plain,
     /// Behind a backslash.
     Begun,
     /// Within a code of so many digits more.
@@ -70,44 +60,19 @@ enum Reading {
     Blanks,
 }
 
-/// Takes a byte of a text with escapes, and tells where that leads.
-fn take(
-    text: &mut Decoded,
-    state: Reading,
-    byte: u8,
-    offset: usize,
-) -> Result<Reading, AllocError> {
-    match state {
-        Reading::None => {}
-        Reading::Begun => {
-            return match byte {
-                b'u' => Ok(Reading::Code(4)),
-                b'U' => Ok(Reading::Code(8)),
-                b'\n' | b'\r' | b' ' => Ok(Reading::Blanks),
-                _ => {
-                    text.push(escape(byte).unwrap_or(b'?'), offset)?;
-                    Ok(Reading::None)
-                }
-            };
-        }
-        Reading::Code(left) => {
-            if left > 1 {
-                return Ok(Reading::Code(left - 1));
-            }
-            text.push(b'?', offset)?;
-            return Ok(Reading::None);
-        }
-        Reading::Blanks => {
-            if byte == b'\n' || byte == b'\r' || byte == b' ' || byte == b'\t' {
-                return Ok(Reading::Blanks);
-            }
-        }
+/// What a byte of a text with escapes adds, and where that leads.
+fn read(state: Reading, byte: u8) -> (Option<u8>, Reading) {
+    match (state, byte) {
+        (Reading::Begun, b'u') => (None, Reading::Code(4)),
+        (Reading::Begun, b'U') => (None, Reading::Code(8)),
+        (Reading::Begun, b'\n' | b'\r' | b' ') | (Reading::Blanks, b'\n' | b'\r' | b' ' | b'\t') =>
+            (None, Reading::Blanks),
+        (Reading::Begun, _) => (Some(escape(byte)), Reading::Plain),
+        (Reading::Code(0 | 1), _) => (Some(b'?'), Reading::Plain),
+        (Reading::Code(left), _) => (None, Reading::Code(left - 1)),
+        (_, b'\\') => (None, Reading::Begun),
+        _ => (Some(byte), Reading::Plain),
     }
-    if byte == b'\\' {
-        return Ok(Reading::Begun);
-    }
-    text.push(byte, offset)?;
-    Ok(Reading::None)
 }
 
 /// What a token stands for; a character that is written by its code is `?`.
@@ -118,7 +83,7 @@ pub(crate) fn decode(alloc: Global, file: &[u8], token: Token) -> Result<Decoded
         end: token.end,
     };
     let (is_long, has_escapes) = match token.kind {
-        TokenKind::Text(quoting) => (quoting.is_long(), quoting.has_escapes()),
+        TokenKind::Text(quoting) => (quoting.is_long, quoting.has_escapes()),
         _ => (false, false),
     };
     let left_out = if is_long {
@@ -127,13 +92,17 @@ pub(crate) fn decode(alloc: Global, file: &[u8], token: Token) -> Result<Decoded
         0
     };
     let start = token.start.saturating_add(left_out);
-    let mut state = Reading::None;
+    let mut state = Reading::Plain;
     for (at, byte) in part(file, start, token.end).iter().enumerate() {
-        let offset = start.saturating_add(at);
-        if has_escapes {
-            state = take(&mut text, state, *byte, offset)?;
+        let (added, next) = if has_escapes {
+            read(state, *byte)
         } else {
-            text.push(*byte, offset)?;
+            (Some(*byte), state)
+        };
+        state = next;
+        if let Some(byte) = added {
+            text.bytes.push(byte)?;
+            text.offsets.push(start.saturating_add(at))?;
         }
     }
     Ok(text)

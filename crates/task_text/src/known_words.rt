@@ -67,87 +67,31 @@ pub(crate) fn keys_of(kind: TableKind) -> &'static [&'static str] {
 /// Those of them that have to be there.
 pub(crate) fn needed_keys(kind: TableKind) -> &'static [&'static str] {
     match kind {
-        TableKind::Top => &["node", "grant", "process", "program"],
         TableKind::Node => &["path", "kind"],
-        TableKind::Grant => &["name", "path", "ops"],
         TableKind::Process => &["program", "fd"],
         TableKind::Descriptor => &["number"],
         TableKind::Program => &["name", "code"],
-        TableKind::Other => &[],
+        TableKind::Top | TableKind::Grant | TableKind::Other => keys_of(kind),
     }
-}
-
-/// What the value of a node's key is.
-fn value_of_node(key: &str) -> Value {
-    if key == "kind" {
-        return Value::OneOf(&["file", "dir", "link"]);
-    }
-    Value::Text
-}
-
-/// What the value of a grant's key is.
-fn value_of_grant(key: &str) -> Value {
-    if key == "ops" {
-        return Value::Words(OPERATIONS);
-    }
-    if key == "name" {
-        return Value::Name;
-    }
-    Value::Text
-}
-
-/// What the value of a process's key is.
-fn value_of_process(key: &str) -> Value {
-    if key == "mode" {
-        return Value::OneOf(&["free", "cap"]);
-    }
-    if key == "program" {
-        return Value::Name;
-    }
-    Value::Tables
-}
-
-/// What the value of a descriptor's key is.
-fn value_of_descriptor(key: &str) -> Value {
-    if key == "number" || key == "pair" {
-        return Value::Number;
-    }
-    if key == "flags" {
-        return Value::Words(&["read", "write"]);
-    }
-    if key == "side" {
-        return Value::OneOf(&["a", "b"]);
-    }
-    if key == "rights" {
-        return Value::Words(RIGHTS);
-    }
-    if key == "fcntls" {
-        return Value::Words(COMMANDS);
-    }
-    Value::Text
-}
-
-/// What the value of a program's key is.
-fn value_of_program(key: &str) -> Value {
-    if key == "name" {
-        return Value::Name;
-    }
-    if key == "untrusted" {
-        return Value::Truth;
-    }
-    Value::Text
 }
 
 /// What the value of one of its keys is.
 pub(crate) fn value_of(kind: TableKind, key: &str) -> Value {
-    match kind {
-        TableKind::Top => Value::Tables,
-        TableKind::Node => value_of_node(key),
-        TableKind::Grant => value_of_grant(key),
-        TableKind::Process => value_of_process(key),
-        TableKind::Descriptor => value_of_descriptor(key),
-        TableKind::Program => value_of_program(key),
-        TableKind::Other => Value::Text,
+    match (kind, key) {
+        (TableKind::Top, _) | (TableKind::Process, "fd") => Value::Tables,
+        (TableKind::Node, "kind") => Value::OneOf(&["file", "dir", "link"]),
+        (TableKind::Grant, "ops") => Value::Words(OPERATIONS),
+        (TableKind::Process, "mode") => Value::OneOf(&["free", "cap"]),
+        (TableKind::Process, "program") | (TableKind::Grant | TableKind::Program, "name") => {
+            Value::Name
+        }
+        (TableKind::Descriptor, "number" | "pair") => Value::Number,
+        (TableKind::Descriptor, "flags") => Value::Words(&["read", "write"]),
+        (TableKind::Descriptor, "side") => Value::OneOf(&["a", "b"]),
+        (TableKind::Descriptor, "rights") => Value::Words(RIGHTS),
+        (TableKind::Descriptor, "fcntls") => Value::Words(COMMANDS),
+        (TableKind::Program, "untrusted") => Value::Truth,
+        _ => Value::Text,
     }
 }
 

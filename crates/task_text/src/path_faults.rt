@@ -1,15 +1,16 @@
 //! Faults in the paths, numbers and names of a task's text.
 
 use crate::decoded::decode;
-use crate::field_faults::Faults;
-use crate::fields::{Fields, Table, TableKind};
+use crate::faults::Faults;
+use crate::fields::{Fields, Item as ListWord, Table, TableKind};
 use crate::near::meant;
 use crate::places::part;
-use crate::tokens::{Token, TokenKind};
+use crate::tokens::TokenKind;
 use indexmap::IndexMap;
+use prog_asm::is_valid_path;
 use rights::limits::{MAX_DESCRIPTORS, MAX_GRANTS, MAX_NAME, MAX_PROGRAMS};
 use std::alloc::{AllocError, Global};
-use texts::{Page, is_number, number_up_to, parts_of, say};
+use texts::{is_number, number_up_to, parts_of};
 
 /// What a key stands for, and where that stands.
 #[derive(Drop)]
@@ -23,11 +24,10 @@ struct Told {
 struct Item {
     kind: TableKind,
     parent: usize,
-    has_path: bool,
     /// Its path, or the program that a process names.
-    path: Told,
-    name: Told,
-    number: Told,
+    path: Option<Told>,
+    /// Its name, or the number of a descriptor.
+    name: Option<Told>,
     is_directory: bool,
     is_link: bool,
     writes: bool,
@@ -51,32 +51,22 @@ struct Known<'t> {
     programs: Vec<&'t str>,
 }
 
-/// What the key of a table stands for, and where it stands; where the table hasn't the key, an empty text at the table.
+/// What the key of a table stands for, if the table has it.
 fn told_at(
     faults: &Faults<'_>,
     fields: &Fields,
     table: usize,
-    start: usize,
-    key: &[u8],
-) -> Result<Told, AllocError> {
-    match fields.value_at(faults.file, table, key) {
-        Some(token) => Ok(Told {
-            bytes: text_of(faults.alloc, faults.file, token)?,
-            place: token.start,
-        }),
-        None => Ok(Told {
-            bytes: Vec::new(faults.alloc),
-            place: start,
-        }),
-    }
-}
-
-/// The bytes of a text in quotes, or of a number.
-fn text_of(alloc: Global, file: &[u8], token: Token) -> Result<Vec<u8>, AllocError> {
-    match token.kind {
-        TokenKind::Text(_) | TokenKind::Word => Ok(decode(alloc, file, token)?.bytes),
-        _ => Ok(Vec::new(alloc)),
-    }
+    key: &str,
+) -> Result<Option<Told>, AllocError> {
+    let Some(token) = fields.value_at(faults.file, table, key.as_bytes()) else {
+        return Ok(None);
+    };
+    let bytes = match token.kind {
+        TokenKind::Text(_) | TokenKind::Word => decode(faults.alloc, faults.file, token)?.bytes,
+        _ => Vec::new(faults.alloc),
+    };
+    let place = token.start;
+    Ok(Some(Told { bytes, place }))
 }
 
 /// What a table tells.
@@ -86,40 +76,35 @@ fn read_item(
     number: usize,
     table: &Table,
 ) -> Result<Item, AllocError> {
-    let key = if table.kind == TableKind::Process {
-        b"program".as_slice()
-    } else {
-        b"path".as_slice()
+    let (path, name) = match table.kind {
+        TableKind::Process => ("program", "name"),
+        TableKind::Descriptor => ("path", "number"),
+        _ => ("path", "name"),
     };
-    let kind = told_at(faults, fields, number, table.start, b"kind")?;
-    let is_directory = meant(&kind.bytes, &["dir"]).is_some();
-    let is_link = meant(&kind.bytes, &["link"]).is_some();
+    let kind = told_at(faults, fields, number, "kind")?;
+    let is_kind = |word: &str| match &kind {
+        Some(kind) => meant(&kind.bytes, &[word]).is_some(),
+        None => false,
+    };
     Ok(Item {
         kind: table.kind,
         parent: table.parent,
-        has_path: fields.has(faults.file, number, key),
-        path: told_at(faults, fields, number, table.start, key)?,
-        name: told_at(faults, fields, number, table.start, b"name")?,
-        number: told_at(faults, fields, number, table.start, b"number")?,
-        is_directory,
-        is_link,
+        path: told_at(faults, fields, number, path)?,
+        name: told_at(faults, fields, number, name)?,
+        is_directory: is_kind("dir"),
+        is_link: is_kind("link"),
         writes: false,
     })
 }
 
-/// Notes which tables list the flag `write`.
-fn note_writes(items: &mut [Item], file: &[u8], fields: &Fields) {
-    for word in &fields.items {
-        if word.word.written(file) == b"write".as_slice() {
-            if let Some(entry) = fields.entries.get(word.entry) {
-                if entry.key.written(file) == b"flags".as_slice() {
-                    if let Some(item) = items.get_mut(entry.table) {
-                        item.writes = true;
-                    }
-                }
-            }
-        }
+/// The table that a word of a list is of, if it is the flag `write`.
+fn written_by(file: &[u8], fields: &Fields, word: &ListWord) -> Option<usize> {
+    let entry = fields.entries.get(word.entry)?;
+    let is_flags = entry.key.written(file) == b"flags".as_slice();
+    if is_flags && word.word.written(file) == b"write".as_slice() {
+        return Some(entry.table);
     }
+    None
 }
 
 /// All that tables tell, in the order of the text.
@@ -128,29 +113,28 @@ fn all_items(faults: &Faults<'_>, fields: &Fields) -> Result<Vec<Item>, AllocErr
     for (number, table) in fields.tables.iter().enumerate() {
         items.push(read_item(faults, fields, number, table)?)?;
     }
-    note_writes(&mut items, faults.file, fields);
+    for word in &fields.items {
+        let Some(table) = written_by(faults.file, fields, word) else {
+            continue;
+        };
+        if let Some(item) = items.get_mut(table) {
+            item.writes = true;
+        }
+    }
     Ok(items)
 }
 
-/// A name of a path, as far as it is read: its bytes, and how many of them are dots.
-#[derive(Clone, Copy)]
-struct Name {
-    length: usize,
-    dots: usize,
-}
-
-/// What is wrong with a name.
-fn name_fault(name: Name) -> Option<&'static str> {
-    if name.length == 0 {
-        return Some("has two slashes in a row");
+/// What is wrong with a name of a path.
+fn name_fault(name: &[u8]) -> Option<&'static str> {
+    if !is_valid_path(name) {
+        return Some("has a byte that no name has");
     }
-    if name.length > MAX_NAME {
-        return Some("has a name of more than 255 bytes");
+    match name {
+        [] => Some("has two slashes in a row"),
+        [b'.'] | [b'.', b'.'] => Some("has a `.` or `..`, which no path of a task has"),
+        _ if name.len() > MAX_NAME => Some("has a name of more than 255 bytes"),
+        _ => None,
     }
-    if name.dots == name.length && name.length < 3 {
-        return Some("has a `.` or `..`, which no path of a task has");
-    }
-    None
 }
 
 /// What is wrong in the form of a path: it is `/`, or names after a `/` each.
@@ -164,23 +148,7 @@ fn form_fault(path: &[u8]) -> Option<&'static str> {
     if path.ends_with(b"/") {
         return Some("ends with a slash");
     }
-    let mut name = Name { length: 0, dots: 0 };
-    for byte in names {
-        if *byte == b'/' {
-            if let Some(fault) = name_fault(name) {
-                return Some(fault);
-            }
-            name = Name { length: 0, dots: 0 };
-        } else if *byte < 33 || *byte > 126 || *byte == b'"' || *byte == b'\\' {
-            return Some("has a byte that no name has");
-        } else {
-            name.length = name.length.saturating_add(1);
-            if *byte == b'.' {
-                name.dots = name.dots.saturating_add(1);
-            }
-        }
-    }
-    name_fault(name)
+    names.split(|byte| *byte == b'/').find_map(name_fault)
 }
 
 /// The directory that a path is in: all before its last slash.
@@ -202,20 +170,25 @@ fn without_slash(path: &[u8]) -> &[u8] {
     path.strip_suffix(b"/".as_slice()).unwrap_or(path)
 }
 
+/// What a key stands for; nothing where there is none.
+fn bytes_of(told: &Option<Told>) -> &[u8] {
+    match told {
+        Some(told) => &told.bytes,
+        None => &[],
+    }
+}
+
 impl Item {
     /// What it is found by, if anything.
     fn key(&self) -> Option<Key<'_>> {
-        let (parent, word) = match self.kind {
-            TableKind::Node => (0, without_slash(&self.path.bytes)),
-            TableKind::Grant | TableKind::Program => (0, self.name.bytes.as_slice()),
-            TableKind::Descriptor => (self.parent, self.number.bytes.as_slice()),
+        let kind = self.kind;
+        let (parent, word) = match kind {
+            TableKind::Node => (0, without_slash(bytes_of(&self.path))),
+            TableKind::Grant | TableKind::Program => (0, bytes_of(&self.name)),
+            TableKind::Descriptor => (self.parent, bytes_of(&self.name)),
             TableKind::Top | TableKind::Process | TableKind::Other => return None,
         };
-        Some(Key {
-            kind: self.kind,
-            parent,
-            word,
-        })
+        Some(Key { kind, parent, word })
     }
 }
 
@@ -245,7 +218,7 @@ impl<'t> Known<'t> {
             self.grants.push(number)?;
         }
         if item.kind == TableKind::Program && self.programs.len() < MAX_PROGRAMS {
-            if let Ok(name) = str::from_utf8(&item.name.bytes) {
+            if let Ok(name) = str::from_utf8(bytes_of(&item.name)) {
                 self.programs.push(name)?;
             }
         }
@@ -260,198 +233,149 @@ impl<'t> Known<'t> {
         }
     }
 
-    /// The first node of a path, by its place among all.
-    fn node_at(&self, path: &[u8]) -> Option<usize> {
-        let key = Key {
-            kind: TableKind::Node,
-            parent: 0,
-            word: without_slash(path),
-        };
-        self.firsts.get(&key).copied()
+    /// The first node of a path or program of a name, by its place among all.
+    fn first(&self, kind: TableKind, word: &[u8]) -> Option<usize> {
+        let parent = 0;
+        self.firsts.get(&Key { kind, parent, word }).copied()
     }
 
-    /// Whether a program has this name.
-    fn has_program(&self, name: &[u8]) -> bool {
-        let key = Key {
-            kind: TableKind::Program,
-            parent: 0,
-            word: name,
-        };
-        self.firsts.contains_key(&key)
+    /// The first node of a path.
+    fn node_at(&self, path: &[u8]) -> Option<&Item> {
+        self.items
+            .get(self.first(TableKind::Node, without_slash(path))?)
     }
 
     /// Whether the node of a path is a directory; the root is one.
     fn is_directory(&self, path: &[u8]) -> bool {
-        if without_slash(path).is_empty() {
-            return true;
-        }
-        match self.node_at(path) {
-            Some(number) => self.items.get(number).is_some_and(|item| item.is_directory),
-            None => false,
-        }
+        without_slash(path).is_empty() || self.node_at(path).is_some_and(|item| item.is_directory)
     }
 
     /// The path of a grant before this table that lies in a path, or in which that lies.
     fn nested_before(&self, number: usize, path: &[u8]) -> Option<&[u8]> {
         for grant in &self.grants {
-            if *grant < number {
-                if let Some(before) = self.items.get(*grant) {
-                    if are_nested(path, &before.path.bytes) {
-                        return Some(&before.path.bytes);
-                    }
-                }
+            let before = bytes_of(&self.items.get(*grant)?.path);
+            if *grant < number && (is_beneath(path, before) || is_beneath(before, path)) {
+                return Some(before);
             }
         }
         None
     }
-}
 
-/// What is wrong with the place of a node.
-fn node_fault(known: &Known<'_>, number: usize, path: &[u8]) -> Option<&'static str> {
-    if path == b"/".as_slice() {
-        return Some("is there without being listed");
-    }
-    if known.node_at(path) != Some(number) {
-        return Some("is listed before");
-    }
-    let above = directory_of(path);
-    if above.is_empty() {
-        return None;
-    }
-    let Some(other) = known.node_at(above) else {
-        return Some("stands in a directory that isn't listed");
-    };
-    if other > number {
-        return Some("comes before its directory");
-    }
-    if !known.is_directory(above) {
-        return Some("stands in what is no directory");
-    }
-    None
-}
-
-/// Tells of the faults of a grant.
-fn add_grant(faults: &mut Faults<'_>, known: &Known<'_>, number: usize, item: &Item) {
-    let path = item.path.bytes.as_slice();
-    if !known.is_directory(path) {
-        faults.add_of(item.path.place, path, "is no directory that is listed");
-        return;
-    }
-    if let Some(before) = known.nested_before(number, path) {
-        let mut line = Page::new(faults.alloc);
-        say!(&mut line; "`", path, "` and the grant of `", before, "` lie in one another");
-        faults.add_page(item.path.place, line);
-    }
-}
-
-/// Whether one of two paths is beneath the other.
-fn are_nested(path: &[u8], other: &[u8]) -> bool {
-    is_beneath(path, other) || is_beneath(other, path)
-}
-
-/// What is wrong with the path of a descriptor.
-fn opened_fault(known: &Known<'_>, item: &Item) -> Option<&'static str> {
-    let path = item.path.bytes.as_slice();
-    if known.is_directory(path) {
-        return if item.writes {
-            Some("is a directory, which isn't opened for writing")
-        } else {
+    /// What is wrong with the place of a node.
+    fn node_fault(&self, number: usize, path: &[u8]) -> Option<&'static str> {
+        let above = directory_of(path);
+        if path == b"/".as_slice() {
+            Some("is there without being listed")
+        } else if self.first(TableKind::Node, path) != Some(number) {
+            Some("is listed before")
+        } else if above.is_empty() {
             None
-        };
+        } else {
+            match self.first(TableKind::Node, above) {
+                None => Some("stands in a directory that isn't listed"),
+                Some(other) if other > number => Some("comes before its directory"),
+                _ if !self.is_directory(above) => Some("stands in what is no directory"),
+                _ => None,
+            }
+        }
     }
-    let node = known
-        .node_at(path)
-        .and_then(|number| known.items.get(number));
-    let Some(node) = node else {
-        return Some("is no node that is listed");
-    };
-    if node.is_link {
-        return Some("is a link, and a descriptor is of a file or a directory");
-    }
-    None
-}
 
-/// Tells of the faults of a descriptor.
-fn add_descriptor(faults: &mut Faults<'_>, known: &Known<'_>, number: usize, item: &Item) {
-    let digits = item.number.bytes.as_slice();
-    if is_number(digits) && number_up_to(digits, MAX_DESCRIPTORS as u32 - 1).is_err() {
-        faults.add_of(item.number.place, digits, "is no number from 0 to 15");
-    }
-    if !digits.is_empty() && known.is_twice(number, item) {
-        faults.add(
-            item.number.place,
-            parts_of!("descriptor ", digits, " is given before"),
-        );
-    }
-    if item.has_path {
-        if let Some(fault) = opened_fault(known, item) {
-            faults.add_of(item.path.place, &item.path.bytes, fault);
+    /// What is wrong with the path of a descriptor.
+    fn opened_fault(&self, path: &[u8], writes: bool) -> Option<&'static str> {
+        if self.is_directory(path) {
+            return if writes {
+                Some("is a directory, which isn't opened for writing")
+            } else {
+                None
+            };
+        }
+        match self.node_at(path) {
+            None => Some("is no node that is listed"),
+            Some(node) if node.is_link => {
+                Some("is a link, and a descriptor is of a file or a directory")
+            }
+            _ => None,
         }
     }
 }
 
-/// Tells that the program of a process isn't there.
-fn add_process(faults: &mut Faults<'_>, known: &Known<'_>, item: &Item) {
-    let name = item.path.bytes.as_slice();
-    if item.has_path && !known.has_program(name) {
-        faults.add_word(item.path.place, "program", name, &known.programs);
+/// Tells of the faults of a grant's path.
+fn add_grant(faults: &mut Faults<'_>, known: &Known<'_>, number: usize, path: &Told) {
+    if !known.is_directory(&path.bytes) {
+        faults.add_of(path.place, &path.bytes, "is no directory that is listed");
+    } else if let Some(before) = known.nested_before(number, &path.bytes) {
+        let said = parts_of!("and the grant of `", before, "` lie in one another");
+        faults.add_of(path.place, &path.bytes, said);
     }
 }
 
-/// Tells that a name is given before.
-fn add_name(faults: &mut Faults<'_>, known: &Known<'_>, number: usize, item: &Item) {
-    let name = item.name.bytes.as_slice();
-    if !name.is_empty() && known.is_twice(number, item) {
-        faults.add_of(item.name.place, name, "is given before");
+/// Tells of the faults of a descriptor's number.
+fn add_number(faults: &mut Faults<'_>, is_twice: bool, number: &Told) {
+    let digits = number.bytes.as_slice();
+    if is_number(digits) && number_up_to(digits, MAX_DESCRIPTORS as u32 - 1).is_err() {
+        faults.add_of(number.place, digits, "is no number from 0 to 15");
+    }
+    if is_twice {
+        faults.add(
+            number.place,
+            parts_of!("descriptor ", digits, " is given before"),
+        );
     }
 }
 
-/// What is wrong in the form of a table's path, if it has one.
-fn path_fault(item: &Item) -> Option<&'static str> {
+/// Tells of the fault of a table's path, or of the program that a process names. Whether its form is good.
+fn add_path(
+    faults: &mut Faults<'_>,
+    known: &Known<'_>,
+    number: usize,
+    item: &Item,
+    path: &Told,
+) -> bool {
+    let bytes = path.bytes.as_slice();
     let is_path = matches!(
         item.kind,
         TableKind::Node | TableKind::Grant | TableKind::Descriptor
     );
-    if is_path && item.has_path {
-        return form_fault(&item.path.bytes);
+    let form = if is_path { form_fault(bytes) } else { None };
+    let fault = match item.kind {
+        _ if form.is_some() => form,
+        TableKind::Node => known.node_fault(number, bytes),
+        TableKind::Descriptor => known.opened_fault(bytes, item.writes),
+        _ => None,
+    };
+    if let Some(fault) = fault {
+        faults.add_of(path.place, bytes, fault);
+    } else if item.kind == TableKind::Grant {
+        add_grant(faults, known, number, path);
+    } else if item.kind == TableKind::Process && known.first(TableKind::Program, bytes).is_none() {
+        faults.add_word(path.place, "program", bytes, &known.programs);
     }
-    None
+    form.is_none()
 }
 
-/// Tells of the faults of what a table tells, by its place among all.
-fn add_item(faults: &mut Faults<'_>, known: &Known<'_>, number: usize, item: &Item) {
-    if let Some(fault) = path_fault(item) {
-        faults.add_of(item.path.place, &item.path.bytes, fault);
-        return;
+/// Tells of the faults of a table's name, or of the number of a descriptor.
+fn add_name(faults: &mut Faults<'_>, is_twice: bool, item: &Item, name: &Told) {
+    if item.kind == TableKind::Descriptor {
+        add_number(faults, is_twice, name);
+    } else if is_twice && item.kind != TableKind::Node {
+        faults.add_of(name.place, &name.bytes, "is given before");
     }
-    match item.kind {
-        TableKind::Node if item.has_path => {
-            if let Some(fault) = node_fault(known, number, &item.path.bytes) {
-                faults.add_of(item.path.place, &item.path.bytes, fault);
-            }
-        }
-        TableKind::Grant if item.has_path => {
-            add_grant(faults, known, number, item);
-            add_name(faults, known, number, item);
-        }
-        TableKind::Program => add_name(faults, known, number, item),
-        TableKind::Process => add_process(faults, known, item),
-        TableKind::Descriptor => add_descriptor(faults, known, number, item),
-        TableKind::Node | TableKind::Grant | TableKind::Top | TableKind::Other => {}
-    }
-}
-
-/// Tells of the faults of what all tables tell.
-fn add_items(faults: &mut Faults<'_>, items: &[Item]) -> Result<(), AllocError> {
-    let known = Known::new(faults.alloc, items)?;
-    for (number, item) in items.iter().enumerate() {
-        add_item(faults, &known, number, item);
-    }
-    Ok(())
 }
 
 /// Tells of the faults in paths, numbers and names.
 pub(crate) fn add_path_faults(faults: &mut Faults<'_>, fields: &Fields) -> Result<(), AllocError> {
     let items = all_items(faults, fields)?;
-    add_items(faults, &items)
+    let known = Known::new(faults.alloc, &items)?;
+    for (number, item) in items.iter().enumerate() {
+        let is_good = match &item.path {
+            Some(path) => add_path(faults, &known, number, item, path),
+            None => item.kind != TableKind::Grant,
+        };
+        if let Some(name) = &item.name {
+            if is_good && !name.bytes.is_empty() {
+                add_name(faults, known.is_twice(number, item), item, name);
+            }
+        }
+    }
+    Ok(())
 }

@@ -3,32 +3,29 @@
 use crate::places::part;
 use std::alloc::{AllocError, Global};
 
-/// How a text in quotes is written.
+/// How a text in quotes is written: in which, and whether in three of them. In double ones a backslash escapes.
 #[derive(Clone, Copy)]
-pub(crate) enum Quoting {
-    Basic,
-    Literal,
-    LongBasic,
-    LongLiteral,
+pub(crate) struct Quoting {
+    quote: u8,
+    pub is_long: bool,
 }
 
 impl Quoting {
-    /// The byte that ends it, once or three times.
-    fn quote(self) -> u8 {
-        match self {
-            Quoting::Basic | Quoting::LongBasic => b'"',
-            Quoting::Literal | Quoting::LongLiteral => b'\'',
-        }
-    }
-
     /// Whether a backslash escapes what follows.
     pub(crate) fn has_escapes(self) -> bool {
-        matches!(self, Quoting::Basic | Quoting::LongBasic)
+        self.quote == b'"'
     }
 
-    /// Whether it is in three quotes.
-    pub(crate) fn is_long(self) -> bool {
-        matches!(self, Quoting::LongBasic | Quoting::LongLiteral)
+    /// How many quotes it begins and ends with.
+    fn width(self) -> usize {
+        if self.is_long { 3 } else { 1 }
+    }
+
+    /// Whether a quote at an offset ends the text; of three, the last that may.
+    fn ends_at(self, file: &[u8], offset: usize) -> bool {
+        !self.is_long
+            || has_three(file, offset, self.quote)
+                && !has_three(file, offset.saturating_add(1), self.quote)
     }
 }
 
@@ -62,31 +59,14 @@ impl Token {
     pub(crate) fn written<'a>(&self, file: &'a [u8]) -> &'a [u8] {
         part(file, self.start, self.end)
     }
-}
 
-/// Where a reader of tokens stands.
-#[derive(Clone, Copy)]
-enum Within {
-    Blanks,
-    Comment,
-    Word {
-        start: usize,
-    },
-    Quotes {
-        quoting: Quoting,
-        start: usize,
-        /// The next byte is behind a backslash that begins an escape.
-        is_escaped: bool,
-    },
-}
-
-/// A reader of tokens.
-#[derive(Drop)]
-struct Reader {
-    tokens: Vec<Token>,
-    within: Within,
-    /// The first offset that isn't read yet.
-    next: usize,
+    /// The offset behind it and its quotes.
+    fn behind(&self) -> usize {
+        match self.kind {
+            TokenKind::Text(quoting) => self.end.saturating_add(quoting.width()),
+            _ => self.end,
+        }
+    }
 }
 
 /// Whether a byte may stand in a word.
@@ -96,158 +76,87 @@ fn is_word_byte(byte: u8) -> bool {
 
 /// What a byte between words is a token of by itself.
 fn single(byte: u8) -> Option<TokenKind> {
-    let kinds = [
-        TokenKind::OpenBrace,
-        TokenKind::CloseBrace,
-        TokenKind::OpenBracket,
-        TokenKind::CloseBracket,
-        TokenKind::Comma,
-        TokenKind::Equals,
-        TokenKind::NewLine,
-    ];
-    let place = b"{}[],=\n".iter().position(|one| *one == byte)?;
-    kinds.get(place).copied()
+    match byte {
+        b'{' => Some(TokenKind::OpenBrace),
+        b'}' => Some(TokenKind::CloseBrace),
+        b'[' => Some(TokenKind::OpenBracket),
+        b']' => Some(TokenKind::CloseBracket),
+        b',' => Some(TokenKind::Comma),
+        b'=' => Some(TokenKind::Equals),
+        b'\n' => Some(TokenKind::NewLine),
+        _ => None,
+    }
 }
 
 /// Whether three quotes of this kind stand at an offset.
 fn has_three(file: &[u8], offset: usize, quote: u8) -> bool {
-    let three = part(file, offset, offset.saturating_add(3));
-    three.len() == 3 && three.iter().all(|&byte| byte == quote)
+    part(file, offset, offset.saturating_add(3)) == [quote, quote, quote].as_slice()
 }
 
-impl Reader {
-    /// Adds a token.
-    fn push(&mut self, kind: TokenKind, start: usize, end: usize) -> Result<(), AllocError> {
-        self.within = Within::Blanks;
-        self.tokens.push(Token { kind, start, end })?;
-        Ok(())
+/// The text in quotes that begins at an offset.
+fn text_at(file: &[u8], offset: usize, quote: u8) -> Token {
+    let is_long = has_three(file, offset, quote);
+    let quoting = Quoting { quote, is_long };
+    let start = offset.saturating_add(quoting.width());
+    let mut is_escaped = false;
+    for (at, byte) in part(file, start, file.len()).iter().enumerate() {
+        let end = start.saturating_add(at);
+        if *byte == quote && !is_escaped && quoting.ends_at(file, end) {
+            let kind = TokenKind::Text(quoting);
+            return Token { kind, start, end };
+        }
+        if *byte == b'\n' && !is_long {
+            let kind = TokenKind::Unclosed;
+            return Token { kind, start, end };
+        }
+        is_escaped = quoting.has_escapes() && *byte == b'\\' && !is_escaped;
     }
-
-    /// Begins a text in quotes.
-    fn open_quotes(&mut self, file: &[u8], offset: usize, quote: u8) {
-        let is_long = has_three(file, offset, quote);
-        let quoting = match (quote == b'"', is_long) {
-            (true, false) => Quoting::Basic,
-            (true, true) => Quoting::LongBasic,
-            (false, false) => Quoting::Literal,
-            (false, true) => Quoting::LongLiteral,
-        };
-        let start = offset.saturating_add(if is_long { 3 } else { 1 });
-        self.next = start;
-        self.within = Within::Quotes {
-            quoting,
-            start,
-            is_escaped: false,
-        };
+    Token {
+        kind: TokenKind::Unclosed,
+        start,
+        end: file.len(),
     }
+}
 
-    /// Takes a byte between words.
-    fn between(&mut self, file: &[u8], offset: usize, byte: u8) -> Result<(), AllocError> {
-        if let Some(kind) = single(byte) {
-            return self.push(kind, offset, offset.saturating_add(1));
-        }
-        if byte == b'#' {
-            self.within = Within::Comment;
-        } else if byte == b'"' || byte == b'\'' {
-            self.open_quotes(file, offset, byte);
-        } else if byte != b' ' && byte != b'\t' && byte != b'\r' {
-            self.within = Within::Word { start: offset };
-        }
-        Ok(())
-    }
+/// The offset of the first byte from one on at which a word or a comment ends.
+fn end_of_run(file: &[u8], start: usize, is_comment: bool) -> usize {
+    let rest = part(file, start, file.len());
+    let end = rest.iter().position(|byte| {
+        *byte == b'\n' || !is_comment && !is_word_byte(*byte)
+    });
+    start.saturating_add(end.unwrap_or(rest.len()))
+}
 
-    /// Takes a byte within a text in quotes of one line.
-    fn in_quotes(
-        &mut self,
-        quoting: Quoting,
-        start: usize,
-        is_inner: bool,
-        offset: usize,
-        byte: u8,
-    ) -> Result<(), AllocError> {
-        if byte == b'\n' {
-            self.push(TokenKind::Unclosed, start, offset)?;
-            return self.push(TokenKind::NewLine, offset, offset.saturating_add(1));
-        }
-        if byte == quoting.quote() && !is_inner {
-            return self.push(TokenKind::Text(quoting), start, offset);
-        }
-        Ok(())
-    }
-
-    /// Takes a byte within a text in three quotes.
-    fn in_long_quotes(
-        &mut self,
-        file: &[u8],
-        quoting: Quoting,
-        start: usize,
-        is_inner: bool,
-        offset: usize,
-    ) -> Result<(), AllocError> {
-        let quote = quoting.quote();
-        let is_last = has_three(file, offset, quote)
-            && !has_three(file, offset.saturating_add(1), quote);
-        if is_last && !is_inner {
-            self.next = offset.saturating_add(3);
-            return self.push(TokenKind::Text(quoting), start, offset);
-        }
-        Ok(())
-    }
-
-    /// Takes the byte at an offset.
-    fn take(&mut self, file: &[u8], offset: usize, byte: u8) -> Result<(), AllocError> {
-        if offset < self.next {
-            return Ok(());
-        }
-        match self.within {
-            Within::Blanks => self.between(file, offset, byte),
-            Within::Comment => {
-                if byte == b'\n' {
-                    return self.push(TokenKind::NewLine, offset, offset.saturating_add(1));
-                }
-                Ok(())
-            }
-            Within::Word { start } => {
-                if is_word_byte(byte) {
-                    return Ok(());
-                }
-                self.push(TokenKind::Word, start, offset)?;
-                self.between(file, offset, byte)
-            }
-            Within::Quotes {
-                quoting,
-                start,
-                is_escaped: is_inner,
-            } => {
-                let is_escaped = quoting.has_escapes() && byte == b'\\' && !is_inner;
-                self.within = Within::Quotes {
-                    quoting,
-                    start,
-                    is_escaped,
-                };
-                if quoting.is_long() {
-                    return self.in_long_quotes(file, quoting, start, is_inner, offset);
-                }
-                self.in_quotes(quoting, start, is_inner, offset, byte)
-            }
+/// The token that begins with a byte at an offset, if one does: a word where nothing else does.
+fn token_at(file: &[u8], start: usize, byte: u8) -> Option<Token> {
+    let behind = start.saturating_add(1);
+    match byte {
+        b' ' | b'\t' | b'\r' | b'#' => None,
+        b'"' | b'\'' => Some(text_at(file, start, byte)),
+        _ => {
+            let (kind, end) = match single(byte) {
+                Some(kind) => (kind, behind),
+                None => (TokenKind::Word, end_of_run(file, behind, false)),
+            };
+            Some(Token { kind, start, end })
         }
     }
 }
 
 /// The tokens of a text, without its comments.
 pub(crate) fn tokens_of(alloc: Global, file: &[u8]) -> Result<Vec<Token>, AllocError> {
-    let mut reader = Reader {
-        tokens: Vec::new(alloc),
-        within: Within::Blanks,
-        next: 0,
-    };
+    let mut tokens = Vec::new(alloc);
+    let mut next = 0;
     for (offset, byte) in file.iter().enumerate() {
-        reader.take(file, offset, *byte)?;
+        if offset < next {
+            continue;
+        }
+        if let Some(token) = token_at(file, offset, *byte) {
+            next = token.behind();
+            tokens.push(token)?;
+        } else if *byte == b'#' {
+            next = end_of_run(file, offset, true);
+        }
     }
-    match reader.within {
-        Within::Blanks | Within::Comment => {}
-        Within::Word { start } => reader.push(TokenKind::Word, start, file.len())?,
-        Within::Quotes { start, .. } => reader.push(TokenKind::Unclosed, start, file.len())?,
-    }
-    Ok(reader.tokens)
+    Ok(tokens)
 }

@@ -10,6 +10,6 @@ returns c = λ same. record {
   written = written_from c.in-Some.written;
   there = ap (option_map written_from) c.in-Some.is;
   same =
-      ap (λ target. placed (λ name. Some target) (written_from c.in-Some.written)) (sym c.target_of-target.ensures) ∙ c.led.ensures
+      ap (λ target. placed (λ name. Some target) (written_from c.in-Some.written)) (sym c.led_point-target.ensures) ∙ c.led.ensures
       ∙ ap Some (same-instruction c.led.result c.args.instruction.now (sym c.eq.ensures ∙ same));
 }

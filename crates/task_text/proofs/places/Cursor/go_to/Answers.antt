@@ -1,6 +1,6 @@
-use Rattle.std.proofs.Common.{◌≡◌, ◌≤◌, ◌+◌, ◌<◌, ℕ, suc, length, sym, ap, subst, ◌∙◌, arith}
+use Rattle.std.proofs.Common.{◌≡◌, ◌≤◌, ◌+◌, ◌<◌, suc, length, sym, ap, subst, ◌∙◌, arith}
 use Rattle.std.proofs.lemmas.Bool.{ltb-false, ltb-true}
-use Rattle.task_text.specs.Places.{counted_from, passed, place_at}
+use Rattle.task_text.specs.Places.{passed, place_at}
 use Rattle.task_text.specs.PlaceViews.{place_seen}
 use Rattle.task_text.specs.declared.places.Cursor.{Cursor}
 use Rattle.task_text.proofs.PlaceLaws.{none-before, one_on, past_end}
