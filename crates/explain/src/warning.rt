@@ -1,69 +1,84 @@
 //! How warnings are written: where FreeBSD does otherwise, at a line, and what to write.
 
 use crate::scenes::Scene;
-use remarks::{Difference, Warned, Warning, warnings_on};
-use texts::{Page, say};
+use remarks::{Difference, Warnings, warnings_on, widest_ceilings};
+use texts::{Name, Page, say};
 
 /// What a call is otherwise by, what to write, and where docs/FREEBSD.md says more.
 fn add_difference(page: &mut Page, difference: Difference) {
     match difference {
         Difference::AbsolutePath => {
             say!(page; "outside the mode an absolute path is looked up from the root, with all rights");
-            say!(page; "; write open (FREEBSD.md#absolute-paths)")
+            say!(page; "; write open (FREEBSD.md#absolute-paths)\n")
         }
         Difference::WayOut => {
             say!(page; "outside the mode `..` and links lead out of a directory that isn't limited");
-            say!(page; "; write a limit before it (FREEBSD.md#ways-out-of-a-directory)")
+            say!(page; "; write a limit before it (FREEBSD.md#ways-out-of-a-directory)\n")
         }
         Difference::LastLink => {
             say!(page; "outside the mode a file is made where a last link leads, beneath a directory that isn't limited");
-            say!(page; "; write a limit before it (FREEBSD.md#a-last-link-that-is-created)")
+            say!(page; "; write a limit before it (FREEBSD.md#a-last-link-that-is-created)\n")
         }
         Difference::CommandsGone => {
             say!(page; "a descriptor without FCNTL has no command to keep");
-            say!(page; "; write this limit before that of rights, or none (FREEBSD.md#commands-without-fcntl)")
+            say!(page; "; write this limit before that of rights, or none (FREEBSD.md#commands-without-fcntl)\n")
         }
         Difference::NoNumberLeft => {
             say!(page; "all sixteen numbers may be open, and a process may have more");
-            say!(page; "; write a close before it (FREEBSD.md#sixteen-numbers)")
+            say!(page; "; write a close before it (FREEBSD.md#sixteen-numbers)\n")
         }
         Difference::UnlistedLook => {
             say!(page; "LOOKUP reads the texts of links, and READ lists a directory");
-            say!(page; "; write look into the grant's ops (FREEBSD.md#what-a-right-does-beyond-its-calls)")
+            say!(page; "; write look into the grant's ops (FREEBSD.md#what-a-right-does-beyond-its-calls)\n")
         }
     }
 }
 
-/// What is warned of, and what to write.
-fn add_warned(page: &mut Page, warned: Warned<'_>) {
-    match warned {
-        Warned::OfCall(difference) => add_difference(page, difference),
-        Warned::FailedClose => {
-            say!(page; "a close that fails may free the number");
-            say!(page; "; write an else that leads to a halt (FREEBSD.md#a-close-that-fails)")
-        }
-        Warned::NoSandbox => {
-            say!(page; "a kernel may have no capability mode");
-            say!(page; "; write an else that leads to a halt (FREEBSD.md#no-sandbox-at-all)")
-        }
-        Warned::MoreRights { number } => {
-            say!(page; "descriptor ", number, " has more rights or commands than a task can name");
-            say!(page; "; write a limit of both before it (FREEBSD.md#more-calls-and-rights)")
-        }
-        Warned::WidestCeiling { grant } => {
-            say!(page; "a ceiling of all rights on ", grant, " has more of them than a task can name");
-            say!(page; "; write limits before the mode is entered (FREEBSD.md#more-calls-and-rights)")
-        }
+/// Begins a warning at a point.
+fn begin(page: &mut Page, scene: &Scene<'_>, program: u8, point: usize) {
+    say!(page; "  FreeBSD: ", scene.place(program, point as u8), ": ")
+}
+
+/// Adds what is warned of at a point.
+fn add_warning(page: &mut Page, scene: &Scene<'_>, program: u8, point: usize, warnings: &Warnings) {
+    for difference in &warnings.differences {
+        begin(page, scene, program, point);
+        add_difference(page, *difference);
+    }
+    if warnings.failed_close {
+        begin(page, scene, program, point);
+        say!(page; "a close that fails may free the number");
+        say!(page; "; write an else that leads to a halt (FREEBSD.md#a-close-that-fails)\n")
+    }
+    if warnings.no_sandbox {
+        begin(page, scene, program, point);
+        say!(page; "a kernel may have no capability mode");
+        say!(page; "; write an else that leads to a halt (FREEBSD.md#no-sandbox-at-all)\n")
+    }
+    for number in &warnings.numbers {
+        begin(page, scene, program, point);
+        say!(page; "descriptor ", *number, " has more rights or commands than a task can name");
+        say!(page; "; write a limit of both before it (FREEBSD.md#more-calls-and-rights)\n")
+    }
+}
+
+/// Adds the ceilings of an untrusted program that have all rights.
+fn add_widest(page: &mut Page, scene: &Scene<'_>, program: u8, name: &Name) {
+    let widest = widest_ceilings(page.alloc(), scene.cert, name);
+    for ceiling in &page.gathered(widest) {
+        begin(page, scene, program, 0);
+        say!(page; "a ceiling of all rights on ", ceiling.grant().as_bytes(), " has more of them than a task can name");
+        say!(page; "; write limits before the mode is entered (FREEBSD.md#more-calls-and-rights)\n")
     }
 }
 
 /// Adds the warnings on a program.
 pub(crate) fn add_warnings(page: &mut Page, scene: &Scene<'_>, program: usize) {
     let warnings = warnings_on(page.alloc(), scene.task, scene.cert, program);
-    for warning in &page.gathered(warnings) {
-        let Warning { point, warned } = *warning;
-        say!(page; "  FreeBSD: ", scene.place(program as u8, point as u8), ": ");
-        add_warned(page, warned);
-        say!(page; "\n");
+    for (point, warnings) in page.gathered(warnings).iter().enumerate() {
+        add_warning(page, scene, program as u8, point, warnings);
+    }
+    if let Some(named) = scene.task.programs().get(program) {
+        add_widest(page, scene, program as u8, &named.name);
     }
 }

@@ -4,11 +4,12 @@ use Rattle.certificate.specs.Bounds.{Bound}
 use Rattle.certificate.specs.Views.{bound_of}
 use Rattle.certificate.specs.declared.bounds.Bound.{Bound as BoundCode}
 use Rattle.instruction_set.specs.Views.{operand_of}
-use Rattle.remarks.specs.Warnings.{Lookup, one_beneath, Difference, Absolute_path, Way_out, Last_link, Commands_gone, No_number_left, Unlisted_look}
+use Rattle.remarks.specs.Warnings.{Lookup, one_beneath, Difference, Absolute_path, Way_out, Last_link, Commands_gone, No_number_left, Unlisted_look, Warned}
 use Rattle.remarks.specs.declared.warnings.Difference.{Difference as DifferenceCode}
 use Rattle.remarks.specs.declared.warnings.Difference.TheVariants as code
 use Rattle.remarks.specs.declared.looks.Looks.{Looks}
 use Rattle.remarks.specs.declared.looks.Look.{Look as LookCode}
+use Rattle.remarks.specs.declared.warnings.Warnings.{Warnings}
 use Rattle.remarks.specs.declared.ways.Ways.{Ways}
 
 abbrev pub listed : Option ℕ → List ℕ
@@ -36,3 +37,11 @@ difference_of code.LastLink = Last_link
 difference_of code.CommandsGone = Commands_gone
 difference_of code.NoNumberLeft = No_number_left
 difference_of code.UnlistedLook = Unlisted_look
+
+abbrev pub warned_of : Warnings → Warned
+warned_of w = record {
+  differences = map difference_of w.differences.items;
+  failed_close = w.failed_close;
+  no_sandbox = w.no_sandbox;
+  numbers = w.numbers.items;
+}

@@ -1,7 +1,7 @@
 -- Where FreeBSD does otherwise than the model, at the points of a program that it matters to: each is a fact of a point, its instruction
 -- and its bound. (own, after open(2), cap_enter(2), cap_rights_limit(2), cap_fcntls_limit(2), close(2); what isn't in a page is remembered)
-use Rattle.std.specs.Prelude.{◌&&◌, ◌||◌, ◌==◌, ◌-◌, not, ℕ, Bool, true, false, List, [], ◌∷◌, Option, Some, None, codes, is_some, length, map}
-use Rattle.std.specs.List.{list_all, list_any, slice_get}
+use Rattle.std.specs.Prelude.{◌&&◌, ◌||◌, ◌==◌, ◌-◌, not, ℕ, Bool, true, false, List, [], ◌∷◌, Option, Some, None, codes, filter, is_some, length, map}
+use Rattle.std.specs.List.{list_all, list_any, range_with_len, slice_get}
 use Rattle.std.specs.Str.{bytes_eq}
 use Rattle.rights.specs.Operations.{Look}
 use Rattle.rights.specs.Sets.{all_commands, all_rights, fcntl_right, is_within}
@@ -9,12 +9,14 @@ use Rattle.rights.specs.Values.{DescriptorNumber, Name, PathText}
 use Rattle.file_tree.specs.Nodes.{Node, is_link}
 use Rattle.file_tree.specs.Places.{slash}
 use Rattle.lookup.specs.Paths.{is_absolute}
-use Rattle.certificate.specs.Bounds.{Bound, Held, ModeBound, Off, On, Either, Slot, Target, In_grant, Any_node, Socket, Unknown, held_in}
+use Rattle.certificate.specs.Bounds.{Bound, Ceiling, Certificate, bound_at, Held, ModeBound, Off, On, Either, Slot, Target, In_grant, Any_node, Socket, Unknown, held_in}
 use Rattle.instruction_set.specs.Programs.{Instruction, Invoke, Operand, Syscall, Openat, Fstatat, Mkdirat, Unlinkat, Renameat, Cap_fcntls_limit, Cap_enter, Close}
+use Rattle.rights.specs.Limits.{most_descriptors}
+use Rattle.rules.specs.Authority.{authority_at}
 use Rattle.rules.specs.Demands.{demands}
 use Rattle.rules.specs.Outcomes.{enters_mode}
 use Rattle.rules.specs.Slots.{OpenSlot, may_be_on, slots_in}
-use Rattle.task.specs.Plans.{Grant, Plan}
+use Rattle.task.specs.Plans.{Grant, NamedProgram, Plan}
 use Rattle.task.specs.Policies.{grant_lists}
 use Rattle.texts.specs.Parts.{parts}
 use Rattle.remarks.specs.Remarks.{bound_here, held_here, holds_so, is_there}
@@ -155,3 +157,35 @@ has_more h = (h.greatest == all_rights) || is_within fcntl_right h.greatest && (
 
 abbrev pub takes_more_at : List Instruction → List (Option Bound) → DescriptorNumber → ℕ → Bool
 takes_more_at code bounds n point = is_there code enters_mode point && holds_so has_more (held_here bounds n point)
+
+-- ## What is warned of
+abbrev pub differences : List Difference
+differences = Absolute_path ∷ Way_out ∷ Last_link ∷ Commands_gone ∷ No_number_left ∷ Unlisted_look ∷ []
+
+-- at a point: by what its call is otherwise; whether the error of a close, or of entering the mode, goes on; and the numbers of which an
+-- untrusted program takes more into the mode than a task can name
+pub record Warned : Type 0 where
+  pub differences : List Difference
+  pub failed_close : Bool
+  pub no_sandbox : Bool
+  pub numbers : List DescriptorNumber
+
+abbrev pub warned_at : Plan → List Instruction → List (Option Bound) → Bool → ℕ → Warned
+warned_at plan code bounds marked point = record {
+  differences = filter (λ d. differs_at plan code bounds d point) differences;
+  failed_close = is_there code (goes_on_closing (calls_ahead code)) point;
+  no_sandbox = is_there code (goes_on_entering (calls_ahead code)) point;
+  numbers = filter (λ n. marked && takes_more_at code bounds n point) (range_with_len 0 most_descriptors);
+}
+
+-- at each point of a program, with the bounds of a certificate
+abbrev pub bounds_in : Certificate → NamedProgram → List (Option Bound)
+bounds_in c p = map (bound_at c p.name) (points p.code)
+
+abbrev pub warned_in : Plan → Certificate → Option NamedProgram → List Warned
+warned_in plan c None = []
+warned_in plan c (Some p) = map (warned_at plan p.code (bounds_in c p) p.marked) (points p.code)
+
+-- the ceilings of a program that have all rights, of which FreeBSD has more
+abbrev pub widest : Certificate → Name → List Ceiling
+widest c program = filter (λ (ceiling : Ceiling). ceiling.rights == all_rights) (authority_at c program).ceilings

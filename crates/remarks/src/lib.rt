@@ -12,4 +12,4 @@ mod ways;
 
 pub use policies::{TaskRemark, remarks_on_task};
 pub use remarks::{Remark, Remarked, remarks_on};
-pub use warnings::{Difference, Warned, Warning, warnings_on};
+pub use warnings::{Difference, Warnings, warnings_on, widest_ceilings};

@@ -1,8 +1,17 @@
 //! Remarks on a program: what a yes doesn't say of it, and what could be narrower, as values.
 
+ghost use Rattle.std.specs.Prelude.{◌≡◌, IfOk, map};
+ghost use Rattle.certificate.specs.Bounds.{bound_at};
+ghost use Rattle.instruction_set.specs.Views.{code_of};
+ghost use Rattle.remarks.specs.RemarkViews.{bounds_of};
+ghost use Rattle.remarks.specs.Warnings.{bounds_in};
+ghost use Rattle.remarks.specs.Ways.{points};
+ghost use Rattle.task.specs.Views.{program_of};
+
 use crate::bounded::Bounded;
 use crate::reaching::{points_reached, uses_ahead};
-use certificate::{Cert, Domain};
+use crate::ways::count;
+use certificate::{Bound, Cert, Domain};
 use instruction_set::{Instruction, Operand};
 use rights::limits::MAX_DESCRIPTORS;
 use rights::{Fcntls, Rights};
@@ -55,15 +64,34 @@ pub(crate) fn with_bounds<'a>(
     alloc: Global,
     cert: &Cert,
     program: &'a NamedProgram,
-) -> Result<Bounded<'a>, AllocError> {
+) -> Result<Bounded<'a>, AllocError>
+    ensures code { IfOk result (λ bounded. code_of bounded.code.now ≡ (program_of program.now).code) }
+    ensures bounds { IfOk result (λ bounded. bounds_of bounded.bounds.items ≡ bounds_in cert.now (program_of program.now)) }
+    ensures marked { IfOk result (λ bounded. bounded.untrusted ≡ (program_of program.now).marked) }
+{
     let (name, code) = (program.name.as_bytes(), program.program.code());
-    let bounds = (0..code.len()).map(|point| cert.bound_at(name, point));
     Ok(Bounded {
         name,
         code,
         untrusted: program.untrusted,
-        bounds: bounds.collect(alloc)?,
+        bounds: bounds_of(alloc, cert, name, code)?,
     })
+}
+
+/// The bounds that a certificate gives the points of the program of a name, if they have any.
+fn bounds_of(
+    alloc: Global,
+    cert: &Cert,
+    name: &[u8],
+    code: &[Instruction],
+) -> Result<Vec<Option<Bound>>, AllocError>
+    ensures { IfOk result (λ found. bounds_of found.items ≡ map (bound_at cert.now name.now) (points (code_of code.now))) }
+{
+    let mut bounds = Vec::new(alloc);
+    for point in 0..count(code) {
+        bounds.push(cert.bound_at(name, point))?;
+    }
+    Ok(bounds)
 }
 
 impl<'a> Remarks<'a> {

@@ -1,11 +1,18 @@
 //! Where FreeBSD does otherwise than the model, at the points of a program that it matters to. (docs/FREEBSD.md)
 
-ghost use Rattle.std.specs.Prelude.{◌≡◌, ◌&&◌, ◌||◌, ◌==◌, IfOk};
-ghost use Rattle.certificate.specs.Views.{bound_of, held_of};
+ghost use Rattle.std.specs.Prelude.{◌≡◌, ◌&&◌, ◌||◌, ◌==◌, IfOk, Some, filter, map};
+ghost use Rattle.std.specs.List.{range_with_len, slice_get};
+ghost use Rattle.certificate.specs.Views.{authorities_of, bound_of, ceiling_of, held_of};
 ghost use Rattle.instruction_set.specs.Views.{code_of, instruction_of, syscall_of};
-ghost use Rattle.remarks.specs.RemarkViews.{bounds_of, difference_of};
+ghost use Rattle.remarks.specs.RemarkViews.{bounds_of, difference_of, warned_of};
 ghost use Rattle.remarks.specs.Remarks.{is_there};
-ghost use Rattle.remarks.specs.Warnings.{calling_points, calls_ahead, differs, differs_at, goes_on_closing, goes_on_entering, has_more, is_call, takes_more_at};
+ghost use Rattle.remarks.specs.Warnings.{calling_points, calls_ahead, differences, differs, differs_at, goes_on_closing, goes_on_entering, has_more, is_call};
+ghost use Rattle.remarks.specs.Warnings.{takes_more_at, warned_at, warned_in, widest};
+ghost use Rattle.remarks.specs.Ways.{points};
+ghost use Rattle.rights.specs.Limits.{most_descriptors};
+ghost use Rattle.rules.specs.Authority.{authority_in};
+ghost use Rattle.task.specs.Views.{program_of};
+ghost use Rattle.texts.specs.Views.{name_of};
 
 use crate::bounded::Bounded;
 use crate::looks::{
@@ -13,12 +20,13 @@ use crate::looks::{
 };
 use crate::remarks::with_bounds;
 use crate::ways::{count, from_which, is_flagged};
-use certificate::{Authority, Bound, Cert, Held};
+use certificate::{Authority, Bound, Ceiling, Cert, Held};
 use instruction_set::{Instruction, Syscall};
 use rights::limits::MAX_DESCRIPTORS;
 use rights::{Fcntls, Rights};
 use std::alloc::{AllocError, Global};
-use task::Task;
+use task::{NamedProgram, Task};
+use texts::Name;
 
 /// By what a call may be otherwise there.
 #[derive(Clone, Copy)]
@@ -37,25 +45,17 @@ pub enum Difference {
     UnlistedLook,
 }
 
-/// What is warned of.
-#[derive(Clone, Copy)]
-pub enum Warned<'a> {
-    OfCall(Difference),
+/// What is warned of at a point.
+#[derive(Drop)]
+pub struct Warnings {
+    /// By what its call is otherwise.
+    pub differences: Vec<Difference>,
     /// The error of a close leads on, and the number may be free.
-    FailedClose,
+    pub failed_close: bool,
     /// The error of cap_enter leads on, without a sandbox.
-    NoSandbox,
-    /// An untrusted program takes a number into the mode with rights or commands of which FreeBSD has more.
-    MoreRights { number: u32 },
-    /// Its ceiling on a grant has all rights.
-    WidestCeiling { grant: &'a [u8] },
-}
-
-/// A warning at a point.
-#[derive(Clone, Copy)]
-pub struct Warning<'a> {
-    pub point: usize,
-    pub warned: Warned<'a>,
+    pub no_sandbox: bool,
+    /// The numbers that an untrusted program takes into the mode with rights or commands of which FreeBSD has more.
+    pub numbers: Vec<u32>,
 }
 
 /// By what calls may be otherwise, in the order in which it is told.
@@ -167,74 +167,160 @@ impl<'a> Bounded<'a> {
             }
     }
 
-    /// Adds what is warned of at a point.
-    fn add_warnings(
+    /// By what of these the call at a point is otherwise.
+    fn differing(
         &self,
-        list: &mut Vec<Warning<'a>>,
+        alloc: Global,
+        task: &Task,
+        among: &[Difference],
+        point: usize,
+    ) -> Result<Vec<Difference>, AllocError>
+        ensures { IfOk result (λ found. found.items
+            ≡ filter (λ d. differs_at task.now (code_of self.now.code.now) (bounds_of self.now.bounds.items) (difference_of d) point) among.now) }
+    {
+        among
+            .iter()
+            .copied()
+            .filter(|difference| self.differs_at(task, *difference, point))
+            .collect(alloc)
+    }
+
+    /// By what the call at a point is otherwise.
+    fn differences_at(
+        &self,
+        alloc: Global,
+        task: &Task,
+        point: usize,
+    ) -> Result<Vec<Difference>, AllocError>
+        ensures { IfOk result (λ found. map difference_of found.items
+            ≡ filter (λ d. differs_at task.now (code_of self.now.code.now) (bounds_of self.now.bounds.items) d point) differences) }
+    {
+        let found = self.differing(alloc, task, &DIFFERENCES, point)?;
+        Ok(found)
+    }
+
+    /// The numbers of which an untrusted program takes more into the mode at a point than a task can name.
+    fn numbers_at(&self, alloc: Global, point: usize) -> Result<Vec<u32>, AllocError>
+        ensures { IfOk result (λ found. found.items
+            ≡ filter (λ n. self.now.untrusted && takes_more_at (code_of self.now.code.now) (bounds_of self.now.bounds.items) n point) (range_with_len 0 most_descriptors)) }
+    {
+        (0..MAX_DESCRIPTORS as u32)
+            .filter(|number| self.untrusted && self.takes_more_at(*number, point))
+            .collect(alloc)
+    }
+
+    /// Whether the error of a close at a point leads to where a call comes.
+    fn fails_closing(&self, calls: &[bool], point: usize) -> bool
+        ensures { result ≡ is_there (code_of self.now.code.now) (goes_on_closing calls.now) point }
+    {
+        match self.code.get(point) {
+            None => false,
+            Some(instruction) => goes_on_closing(calls, instruction),
+        }
+    }
+
+    /// Whether the error of entering the mode at a point does.
+    fn fails_entering(&self, calls: &[bool], point: usize) -> bool
+        ensures { result ≡ is_there (code_of self.now.code.now) (goes_on_entering calls.now) point }
+    {
+        match self.code.get(point) {
+            None => false,
+            Some(instruction) => goes_on_entering(calls, instruction),
+        }
+    }
+
+    /// What is warned of at a point.
+    fn warnings_at(
+        &self,
+        alloc: Global,
         task: &Task,
         calls: &[bool],
         point: usize,
-    ) -> Result<(), AllocError> {
-        for difference in &DIFFERENCES {
-            if self.differs_at(task, *difference, point) {
-                let warned = Warned::OfCall(*difference);
-                list.push(Warning { point, warned })?;
-            }
+    ) -> Result<Warnings, AllocError>
+        requires { calls.now ≡ calls_ahead (code_of self.now.code.now) }
+        ensures { IfOk result (λ found. warned_of found
+            ≡ warned_at task.now (code_of self.now.code.now) (bounds_of self.now.bounds.items) self.now.untrusted point) }
+    {
+        Ok(Warnings {
+            differences: self.differences_at(alloc, task, point)?,
+            failed_close: self.fails_closing(calls, point),
+            no_sandbox: self.fails_entering(calls, point),
+            numbers: self.numbers_at(alloc, point)?,
+        })
+    }
+
+    /// What is warned of at each point.
+    fn all_warnings(&self, alloc: Global, task: &Task) -> Result<Vec<Warnings>, AllocError>
+        ensures { IfOk result (λ found. map warned_of found.items
+            ≡ map (warned_at task.now (code_of self.now.code.now) (bounds_of self.now.bounds.items) self.now.untrusted) (points (code_of self.now.code.now))) }
+    {
+        let calls = self.calls_ahead(alloc)?;
+        let mut list = Vec::new(alloc);
+        for point in 0..count(self.code) {
+            list.push(self.warnings_at(alloc, task, &calls, point)?)?;
         }
-        let Some(instruction) = self.code.get(point) else {
-            return Ok(());
-        };
-        if goes_on_closing(calls, instruction) {
-            let warned = Warned::FailedClose;
-            list.push(Warning { point, warned })?;
-        }
-        if goes_on_entering(calls, instruction) {
-            let warned = Warned::NoSandbox;
-            list.push(Warning { point, warned })?;
-        }
-        for number in 0..MAX_DESCRIPTORS as u32 {
-            if self.untrusted && self.takes_more_at(number, point) {
-                let warned = Warned::MoreRights { number };
-                list.push(Warning { point, warned })?;
-            }
-        }
-        Ok(())
+        Ok(list)
     }
 }
 
-/// Adds which ceilings of an authority have all rights.
-fn add_widest<'a>(list: &mut Vec<Warning<'a>>, authority: &'a Authority) -> Result<(), AllocError> {
-    for ceiling in authority.ceilings() {
-        if ceiling.rights() == Rights::all() {
-            let grant = ceiling.grant().as_bytes();
-            let warned = Warned::WidestCeiling { grant };
-            list.push(Warning { point: 0, warned })?;
-        }
-    }
-    Ok(())
-}
-
-/// Where FreeBSD does otherwise than the model at the points of a program, by its number, with the bounds of a certificate in which all
-/// are written.
-pub fn warnings_on<'a>(
+/// What is warned of at each point of a program.
+fn warnings_of(
     alloc: Global,
-    task: &'a Task,
-    cert: &'a Cert,
-    program: usize,
-) -> Result<Vec<Warning<'a>>, AllocError> {
-    let mut list = Vec::new(alloc);
-    let Some(named) = task.programs().get(program) else {
-        return Ok(list);
-    };
+    task: &Task,
+    cert: &Cert,
+    named: &NamedProgram,
+) -> Result<Vec<Warnings>, AllocError>
+    ensures { IfOk result (λ found. map warned_of found.items ≡ warned_in task.now cert.now (Some (program_of named.now))) }
+{
     let bounded = with_bounds(alloc, cert, named)?;
-    let calls = bounded.calls_ahead(alloc)?;
-    for point in 0..bounded.code.len() {
-        bounded.add_warnings(&mut list, task, &calls, point)?;
+    let found = bounded.all_warnings(alloc, task)?;
+    Ok(found)
+}
+
+/// Where FreeBSD does otherwise than the model: what is warned of at each point of a program, by its number, with the bounds of a certificate
+/// in which all are written.
+pub fn warnings_on(
+    alloc: Global,
+    task: &Task,
+    cert: &Cert,
+    program: usize,
+) -> Result<Vec<Warnings>, AllocError>
+    ensures { IfOk result (λ found. map warned_of found.items ≡ warned_in task.now cert.now (slice_get task.now.programs program)) }
+{
+    match task.programs().get(program) {
+        None => Ok(Vec::new(alloc)),
+        Some(named) => warnings_of(alloc, task, cert, named),
     }
-    for authority in cert.authorities() {
-        if authority.program().as_bytes() == named.name.as_bytes() {
-            add_widest(&mut list, authority)?;
+}
+
+/// The ceilings of the authority of the program of this name, the first of these.
+#[tactic(auto, unfolding(rules::specs::Authority::authority_in))]
+fn ceilings_among<'a>(authorities: &'a [Authority], program: &[u8]) -> &'a [Ceiling]
+    ensures { map ceiling_of result.now ≡ (authority_in (authorities_of authorities.now) program.now).ceilings }
+{
+    match authorities {
+        [] => &[],
+        [first, rest @ ..] => {
+            if first.program().as_bytes() == program {
+                return first.ceilings();
+            }
+            ceilings_among(rest, program)
         }
     }
-    Ok(list)
+}
+
+/// The ceilings of the program of this name that have all rights, of which FreeBSD has more.
+#[tactic(auto, using(crate::proofs::Lists::filtered_map))]
+pub fn widest_ceilings(
+    alloc: Global,
+    cert: &Cert,
+    program: &Name,
+) -> Result<Vec<Ceiling>, AllocError>
+    ensures { IfOk result (λ found. map ceiling_of found.items ≡ widest cert.now (name_of program.now)) }
+{
+    ceilings_among(cert.authorities(), program.as_bytes())
+        .iter()
+        .copied()
+        .filter(|ceiling| ceiling.rights() == Rights::all())
+        .collect(alloc)
 }
