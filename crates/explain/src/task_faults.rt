@@ -16,8 +16,7 @@ fn add_refusal(
     file: &[u8],
     fault: TaskFault,
 ) -> Result<(), TaskFault> {
-    let is_toml = !matches!(fault, TaskFault::NotToml);
-    add_faults(alloc, page, file, is_toml)?;
+    add_faults(alloc, page, file)?;
     let words = words_of(alloc, &Fault::Task(fault))?;
     say!(page; "the task is refused: ", words.as_str(), "\n");
     Ok(())

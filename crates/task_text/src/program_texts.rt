@@ -1,6 +1,6 @@
 //! The texts of a task's programs as they stand in its file, and where each instruction does.
 
-ghost use Rattle.std.specs.Prelude.{◌≡◌, IfOk};
+ghost use Rattle.std.specs.Prelude.{◌≡◌, IfOk, length};
 ghost use Rattle.instruction_set.specs.Views.{code_of};
 ghost use Rattle.task_text.specs.Instructions.{AreLinesOf, line_there, text_there};
 ghost use Rattle.task_text.specs.ProgramViews.{AreTextsOf, codes_in, span_at, texts_at};
@@ -96,14 +96,17 @@ pub fn texts_of_file(
     file: &[u8],
     task: &Task,
 ) -> Result<Vec<ProgramText>, AllocError>
-    ensures { IfOk result (λ texts. AreTextsOf texts.items (codes_in task.now.programs)) }
+    ensures each { IfOk result (λ texts. length texts.items ≡ length task.now.programs) }
+    ensures lines { IfOk result (λ texts. AreTextsOf texts.items (codes_in task.now.programs)) }
 {
     let mut codes = codes_of(alloc, file, &fields_of(alloc, file)?)?;
     let mut texts = Vec::new(alloc);
     for program in task.programs() {
-        let Some(code) = codes.pop_front() else {
-            return Ok(texts);
-        };
+        let code = codes.pop_front().unwrap_or(Decoded {
+            bytes: Vec::new(alloc),
+            offsets: Vec::new(alloc),
+            end: 0,
+        });
         let instructions = instructions_in(alloc, &code.bytes, program.program.code())?;
         texts.push(ProgramText { code, instructions })?;
     }

@@ -1,7 +1,8 @@
-use Rattle.std.proofs.Common.{◌+◌, ◌∷◌, [], length, ap, sym, ◌∙◌, subst, length-append}
+use Rattle.std.proofs.Common.{arith, ◌+◌, ◌∷◌, [], length, ap, sym, ◌∙◌, subst, length-append}
 use Rattle.std.specs.List.{slice_get}
 use Rattle.instruction_set.specs.Views.{code_of}
-use Rattle.task.specs.Views.{programs_of}
+use Rattle.std.proofs.lemmas.List.{length-map}
+use Rattle.task.specs.Views.{program_of, programs_of}
 use Rattle.task_text.specs.Instructions.{AreLinesOf}
 use Rattle.task_text.specs.ProgramViews.{AreTextsOf, codes_in, texts_at}
 use Rattle.task_text.proofs.TextLaws.{code-there, one-text}
@@ -13,7 +14,7 @@ loop-program-preserved c =
     let programs = c.programs-program-items.result.now in
     let program = c.program-item.result in
     let texts = c.loop-program.texts.items in
-    let text : ProgramText = record { code = c.in-Some.code; instructions = c.in_ok-instructions.instructions } in
+    let text : ProgramText = record { code = c.unwrap_or-code.result; instructions = c.in_ok-instructions.instructions } in
     let lines : AreLinesOf (texts_at text.code.bytes.items text.instructions.items) program.program =
     subst (AreLinesOf (texts_at text.code.bytes.items text.instructions.items)) c.code.ensures.value
     (subst (λ bytes. AreLinesOf (texts_at bytes text.instructions.items) (code_of c.code.result.now)) c.deref.ensures.value c.in_ok-instructions.ensures)
@@ -22,3 +23,8 @@ loop-program-preserved c =
       ap length c.in_ok-push.ensures.items ∙ length-append texts (text ∷ []) ∙ ap (λ n. n + 1) c.loop-program.invariant.0,
       subst (λ texts. AreTextsOf texts (codes_in (programs_of programs))) (sym c.in_ok-push.ensures.items) (one-text texts (codes_in (programs_of programs)) text program.program c.loop-program.invariant.1 there lines),
     )
+
+pub returns-clause-each : goal.returns-clause-each
+returns-clause-each c =
+    let programs = c.programs-program-items.result.now in
+    omega (arith, c.loop-program.invariant.0, c.loop-program-test.false, c.loop-program.auto.program-index-end, length-map programs program_of, ap length c.programs-program-items.ensures.programs)
