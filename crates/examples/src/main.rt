@@ -37,6 +37,9 @@ struct Case {
     /// Whether the output is a certificate that has to be accepted. Without `out` any such certificate will do.
     #[serde(default)]
     found: bool,
+
+    /// A text that stands nowhere in the output. Without `out` the output may be any other.
+    without: Option<String>,
 }
 
 /// All cases.
@@ -168,14 +171,28 @@ fn wanted(rt: &HostRuntime, name: &Option<String>) -> Result<Vec<u8>> {
     }
 }
 
+/// Whether a part stands somewhere in a text.
+fn has_part(text: &[u8], part: &[u8]) -> bool {
+    (0..text.len()).any(|at| match text.get(at..) {
+        None => false,
+        Some(rest) => rest.starts_with(part),
+    })
+}
+
 /// What differs of a case from what is wanted.
 fn differences(rt: &HostRuntime, case: &Case) -> Result<Vec<&'static str>> {
     let said = asked(rt, case.why, &case.words, None)?;
     let out = wanted(rt, &case.out)?;
     let err = wanted(rt, &case.err)?;
     let mut differ = Vec::new(rt.alloc());
-    if said.out != out && (!case.found || case.out.is_some()) {
+    let any_will_do = case.out.is_none() && (case.found || case.without.is_some());
+    if said.out != out && !any_will_do {
         differ.push("output")?;
+    }
+    if let Some(part) = &case.without {
+        if has_part(&said.out, part.as_bytes()) {
+            differ.push("what it is to be without")?;
+        }
     }
     if said.err != err {
         differ.push("error")?;
