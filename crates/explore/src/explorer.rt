@@ -165,7 +165,9 @@ impl<'a> Explorer<'a> {
                 }
                 self.kept.keep(*at, &mut self.runner)?;
             }
-            self.kept.load(*at, &mut self.runner)?;
+            if *at != place {
+                self.kept.load(*at, &mut self.runner)?;
+            }
         }
         Ok(())
     }
