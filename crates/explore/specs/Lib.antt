@@ -3,4 +3,5 @@ pub mod Broken
 pub mod BreachViews
 pub mod Texts
 pub mod FoundViews
+pub mod Moves
 pub mod Samples

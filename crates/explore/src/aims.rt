@@ -1,12 +1,10 @@
 //! The order in which a search goes on from states where it is told what to look for.
 
 use crate::digests::Digest;
-use crate::distances::{Distances, FAR, Goal, sending_points};
-use crate::runners::{Runner, call_of};
+use crate::distances::{Distances, FAR, Goal};
+use crate::runners::Runner;
 use crate::states::open_at;
 use fd_table::Object;
-use instruction_set::{Operand, Syscall};
-use process::Process;
 use rights::Memory;
 use rights::limits::{MAX_DESCRIPTORS, MAX_PROCESSES};
 use std::alloc::Global;
@@ -17,24 +15,35 @@ use task::Task;
 const STEP: u64 = 2;
 
 /// What a message on its way costs: who may take it goes first.
-const MESSAGE: u64 = 2;
+const MESSAGE: u64 = 8;
 
-/// What another state costs whose processes stand where they stood.
-const AGAIN: u64 = 1;
+/// What it costs that the kernel refused a call.
+const REFUSAL: u64 = 8;
 
 /// A state that costs more is taken as one that costs so much.
 const MOST_COST: u64 = 0xFFFF_FFFF;
 
+/// By what the states are compared that wait for their turn.
+#[derive(Clone, Copy)]
+pub(crate) enum Order {
+    /// By how many calls the kernel refused on their way.
+    Refusals,
+    /// By that, the steps that are left, and the messages on their way.
+    Cost,
+    /// By all this, and by how many were met before whose processes stood so.
+    Novelty,
+}
+
 /// The states that were met, by what it costs to go on from them.
 #[derive(Drop)]
-pub(crate) struct Aims<'a> {
-    task: &'a Task,
+pub(crate) struct Aims {
     to_goals: Distances,
-    to_sends: Distances,
     /// How often processes stood so.
     stood: HashMap<Digest, u64>,
     /// The states that wait for their turn, each as a number: the greatest is that of the one that costs least, and of these the last.
-    waiting: BinaryHeap<u64>,
+    by_refusals: BinaryHeap<u64>,
+    by_cost: BinaryHeap<u64>,
+    by_novelty: BinaryHeap<u64>,
 }
 
 /// How the processes stand to each other.
@@ -43,14 +52,6 @@ struct Standing {
     digest: Digest,
     /// How many messages are on their way.
     messages: u64,
-}
-
-/// The descriptor through which a call takes what another process sends, if it does.
-fn taken_from(call: &Syscall) -> Option<Operand> {
-    match call {
-        Syscall::Read { descriptor } | Syscall::Recvfd { descriptor } => Some(*descriptor),
-        _ => None,
-    }
 }
 
 /// How many messages are on their way from the ends that a process has open.
@@ -84,60 +85,33 @@ fn standing_of(runner: &Runner<'_>) -> Standing {
     Standing { digest, messages }
 }
 
-/// Whether a process stands at a call that waits for what another process sends.
-pub(crate) fn is_waiting(task: &Task, runner: &Runner<'_>, number: u8, process: &Process) -> bool {
-    let Some(call) = call_of(task, process) else {
-        return false;
-    };
-    let Some(operand) = taken_from(call) else {
-        return false;
-    };
-    match runner.descriptor(number, operand) {
-        None => false,
-        Some((_, description)) => match description.object {
-            Object::Node { .. } => false,
-            Object::End { end, .. } => runner.machine.files().front(end).is_none(),
-        },
-    }
+/// The number as which the state of a place waits for its turn.
+fn waiting_number(place: usize, cost: u64) -> u64 {
+    (MOST_COST - cost.min(MOST_COST)) << 32 | place as u64 & MOST_COST
 }
 
-impl<'a> Aims<'a> {
+impl Aims {
     /// No state yet.
-    pub(crate) fn new(alloc: Global, task: &'a Task, goals: &[Goal]) -> Result<Aims<'a>, Memory> {
+    pub(crate) fn new(alloc: Global, task: &Task, goals: &[Goal]) -> Result<Aims, Memory> {
         let to_goals = Distances::new(alloc, task, goals)?;
-        let senders = sending_points(alloc, task)?;
-        let to_sends = Distances::new(alloc, task, &senders)?;
         Ok(Aims {
-            task,
             to_goals,
-            to_sends,
             stood: HashMap::new(alloc),
-            waiting: BinaryHeap::new(alloc),
+            by_refusals: BinaryHeap::new(alloc),
+            by_cost: BinaryHeap::new(alloc),
+            by_novelty: BinaryHeap::new(alloc),
         })
     }
 
-    /// How many steps a state has at least to a point that is looked for. Where a process waits, another one has to send something first.
+    /// How many steps a state has at least to a point that is looked for.
     fn steps(&self, runner: &Runner<'_>) -> u16 {
-        let mut ready = FAR;
-        let mut waiting = FAR;
-        let mut sending = FAR;
-        for (number, process) in runner.machine.processes().iter().enumerate() {
-            if number >= MAX_PROCESSES {
-                break;
-            }
+        let mut least = FAR;
+        for process in runner.machine.processes() {
             if process.alive {
-                let own = self.to_goals.from(process.program, process.point);
-                if is_waiting(self.task, runner, number as u8, process) {
-                    waiting = waiting.min(own);
-                } else {
-                    ready = ready.min(own);
-                    sending = sending.min(self.to_sends.from(process.program, process.point));
-                }
+                least = least.min(self.to_goals.from(process.program, process.point));
             }
         }
-        ready
-            .min(waiting.saturating_add(sending).saturating_add(1))
-            .min(FAR)
+        least
     }
 
     /// How many states there were before whose processes stood so.
@@ -147,29 +121,36 @@ impl<'a> Aims<'a> {
         Ok(before)
     }
 
-    /// Adds the state of a place, at which a machine stands, and on whose way so much was spent.
+    /// Adds the state of a place, at which a machine stands, and on whose way the kernel refused so many calls.
     pub(crate) fn add(
         &mut self,
         place: usize,
         runner: &Runner<'_>,
-        spent: u16,
+        refusals: u32,
     ) -> Result<(), Memory> {
         let standing = standing_of(runner);
-        let again = self.count(standing.digest)?;
-        let cost = u64::from(spent)
+        let cost = (u64::from(refusals) * REFUSAL)
             .saturating_add(u64::from(self.steps(runner)) * STEP)
-            .saturating_add(standing.messages.saturating_mul(MESSAGE))
-            .saturating_add(again.saturating_mul(AGAIN))
-            .min(MOST_COST);
-        self.waiting.push((MOST_COST - cost) << 32 | place as u64)?;
+            .saturating_add(standing.messages.saturating_mul(MESSAGE));
+        let again = self.count(standing.digest)?;
+        self.by_refusals
+            .push(waiting_number(place, u64::from(refusals)))?;
+        self.by_cost.push(waiting_number(place, cost))?;
+        self.by_novelty
+            .push(waiting_number(place, cost.saturating_add(again)))?;
         Ok(())
     }
 
-    /// Takes one of the states that cost least: of those the one that was met last.
-    pub(crate) fn next(&mut self) -> Option<usize> {
-        match self.waiting.pop() {
+    /// Takes one of the states that cost least, and of these the one that was met last.
+    pub(crate) fn next(&mut self, order: Order) -> Option<usize> {
+        let number = match order {
+            Order::Refusals => self.by_refusals.pop(),
+            Order::Cost => self.by_cost.pop(),
+            Order::Novelty => self.by_novelty.pop(),
+        };
+        match number {
             None => None,
-            Some(number) => Some((number & 0xFFFF_FFFF) as usize),
+            Some(number) => Some((number & MOST_COST) as usize),
         }
     }
 }

@@ -83,15 +83,18 @@ fn lack_of(runner: &Runner<'_>, number: u8, process: &Process, need: Option<Need
 
 /// What is lacking for a call, as the kernel looks for it: first of the first descriptor, and last for a node that is replaced.
 fn first_lack(runner: &Runner<'_>, number: u8, process: &Process, call: &Syscall) -> Option<Lack> {
-    let lack = lack_of(runner, number, process, first_need(call));
-    if lack.is_some() {
-        return lack;
+    let needs = [
+        first_need(call),
+        second_need(call, false),
+        second_need(call, true),
+    ];
+    for need in needs {
+        let lack = lack_of(runner, number, process, need);
+        if lack.is_some() {
+            return lack;
+        }
     }
-    let lack = lack_of(runner, number, process, second_need(call, false));
-    if lack.is_some() {
-        return lack;
-    }
-    lack_of(runner, number, process, second_need(call, true))
+    None
 }
 
 /// Appends the names of a set of rights or commands, with commas between them.
@@ -149,19 +152,6 @@ fn push_detail(
     }
 }
 
-/// What the next step of a process of a machine breaks by its call.
-fn detail_at(
-    alloc: Global,
-    task: &Task,
-    runner: &Runner<'_>,
-    number: u8,
-    breach: &Breach,
-) -> Result<Vec<u8>, Memory> {
-    let mut text = Vec::new(alloc);
-    push_detail(&mut text, task, runner, number, breach)?;
-    Ok(text)
-}
-
 /// What stands behind the words of what the last of these events breaks: `: FSTAT of descriptor 3` of a missing right, `: open` of a call
 /// in capability mode, and nothing where that can't be told.
 pub(crate) fn detail_of(
@@ -170,10 +160,13 @@ pub(crate) fn detail_of(
     events: &[Event],
     breach: &Breach,
 ) -> Result<Vec<u8>, Memory> {
-    let Some((last, before)) = events.split_last() else {
-        return Ok(Vec::new(alloc));
-    };
-    let mut runner = Runner::start(alloc, task)?;
-    runner.run_again(before)?;
-    detail_at(alloc, task, &runner, last.process, breach)
+    let mut text = Vec::new(alloc);
+    if let Some((last, before)) = events.split_last() {
+        let mut runner = Runner::start(alloc, task)?;
+        for event in before {
+            runner.step(*event)?;
+        }
+        push_detail(&mut text, task, &runner, last.process, breach)?;
+    }
+    Ok(text)
 }

@@ -1,8 +1,8 @@
 //! How far the points of programs are from others.
 
-use instruction_set::{Instruction, Syscall};
+use instruction_set::Instruction;
 use rights::Memory;
-use rights::limits::{MAX_INSTRUCTIONS, MAX_PROGRAMS};
+use rights::limits::MAX_INSTRUCTIONS;
 use std::alloc::Global;
 use task::Task;
 
@@ -91,38 +91,6 @@ fn only_goals(
         }
     }
     Ok(steps)
-}
-
-/// The points of a task's programs at which something may be sent to another process.
-pub(crate) fn sending_points(alloc: Global, task: &Task) -> Result<Vec<Goal>, Memory> {
-    let mut points = Vec::new(alloc);
-    for (program, named) in task.programs().iter().enumerate() {
-        if program >= MAX_PROGRAMS {
-            break;
-        }
-        for (point, instruction) in named.program.code().iter().enumerate() {
-            if point >= MAX_INSTRUCTIONS {
-                break;
-            }
-            if is_sending(instruction) {
-                points.push(Goal {
-                    program: program as u8,
-                    point: point as u8,
-                })?;
-            }
-        }
-    }
-    Ok(points)
-}
-
-/// Whether an instruction may send something.
-fn is_sending(instruction: &Instruction) -> bool {
-    match instruction {
-        Instruction::Invoke { call, .. } => {
-            matches!(call, Syscall::Write { .. } | Syscall::Sendfd { .. })
-        }
-        _ => false,
-    }
 }
 
 impl Distances {

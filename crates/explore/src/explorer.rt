@@ -1,11 +1,11 @@
 //! The search for a run that breaks something, over the states of a task.
 
-use crate::aims::{Aims, is_waiting};
+use crate::aims::{Aims, Order};
 use crate::digests::Digest;
 use crate::distances::Goal;
 use crate::kept::Kept;
 use crate::moves::{Asked, bytes_to_try, next_moves};
-use crate::runners::Runner;
+use crate::runners::{Advance, Runner};
 use crate::states::Met;
 use crate::trails::Trails;
 use indexmap::IndexSet;
@@ -17,38 +17,6 @@ use task::Task;
 
 /// How many steps that are the only ones possible are run on before a state is kept.
 const MAX_FORCED: usize = 256;
-
-/// Of so many states that are gone on from, one is the next by breadth, where points are looked for.
-const SHARE: usize = 4;
-
-/// What it costs that the kernel refuses a call, and that a process is left that might go on.
-const REFUSAL: u16 = 8;
-
-const SWITCH: u16 = 4;
-
-/// What became of a machine that was run on.
-#[derive(Clone, Copy)]
-enum Arrival {
-    /// The last step breaks something.
-    Breaks,
-    /// It stands at a state where there is a choice, or where nothing can move; or too many steps were run on.
-    At { is_long: bool },
-    /// The event changed nothing.
-    Stays,
-}
-
-/// What became of the events of a state that were tried so far.
-#[derive(Clone, Copy)]
-struct Tried {
-    /// The process of the last event that led on, where that left names of a path.
-    walking: Option<u8>,
-    /// A new state was met.
-    any_new: bool,
-    /// The last one breaks something.
-    breaks: bool,
-    /// The machine still stands at the state.
-    stays: bool,
-}
 
 /// What was come to.
 #[derive(Clone, Copy)]
@@ -69,11 +37,11 @@ pub(crate) struct Explorer<'a> {
     alloc: Global,
     task: &'a Task,
     bytes: Vec<u8>,
-    met: Met,
+    met: Met<'a>,
     seen: IndexSet<Digest>,
     trails: Trails,
     kept: Kept<'a>,
-    aims: Aims<'a>,
+    aims: Aims,
     /// Some points are looked for.
     is_aimed: bool,
     /// How many states were gone on from, and those up to which place by breadth.
@@ -85,8 +53,6 @@ pub(crate) struct Explorer<'a> {
     last: Vec<Event>,
     forced: Vec<Event>,
     moves: Vec<Event>,
-    /// The process of the event that led to the state, if it can go on.
-    holder: Option<u8>,
     /// The run that breaks something, once there is one.
     found: Vec<Event>,
 }
@@ -107,7 +73,7 @@ impl<'a> Explorer<'a> {
             alloc,
             task,
             bytes,
-            met: Met::new(alloc),
+            met: Met::new(alloc, task)?,
             seen: IndexSet::new(alloc),
             trails: Trails::new(alloc),
             kept,
@@ -120,7 +86,6 @@ impl<'a> Explorer<'a> {
             last: Vec::new(alloc),
             forced: Vec::new(alloc),
             moves: Vec::new(alloc),
-            holder: None,
             found: Vec::new(alloc),
         })
     }
@@ -144,7 +109,7 @@ impl<'a> Explorer<'a> {
     }
 
     /// Runs the machine on as long as one event alone can come.
-    fn run_on(&mut self) -> Result<Arrival, Memory> {
+    fn run_on(&mut self) -> Result<Advance, Memory> {
         let asked = self.asked();
         for _ in 0..MAX_FORCED {
             next_moves(
@@ -155,44 +120,33 @@ impl<'a> Explorer<'a> {
                 &mut self.forced,
             )?;
             let [event] = self.forced.as_slice() else {
-                return Ok(Arrival::At { is_long: false });
+                break;
             };
             let event = *event;
-            let advance = self.runner.step(event)?;
-            if advance.is_waiting {
-                return Ok(Arrival::At { is_long: false });
-            }
-            self.last.push(event)?;
-            if advance.breaks {
-                return Ok(Arrival::Breaks);
+            match self.runner.step(event)? {
+                Advance::Stays => break,
+                Advance::Goes => self.last.push(event)?,
+                Advance::Breaks => {
+                    self.last.push(event)?;
+                    return Ok(Advance::Breaks);
+                }
             }
         }
-        Ok(Arrival::At { is_long: true })
+        Ok(Advance::Goes)
     }
 
     /// Runs the machine by one event, and on.
-    fn advance(&mut self, event: Event) -> Result<Arrival, Memory> {
+    fn advance(&mut self, event: Event) -> Result<Advance, Memory> {
         self.last.clear();
         let advance = self.runner.step(event)?;
-        if advance.is_waiting {
-            return Ok(Arrival::Stays);
+        if matches!(advance, Advance::Stays) {
+            return Ok(advance);
         }
         self.last.push(event)?;
-        if advance.breaks {
-            return Ok(Arrival::Breaks);
+        if matches!(advance, Advance::Breaks) {
+            return Ok(advance);
         }
-        self.runner.walking = advance.walking;
         self.run_on()
-    }
-
-    /// Runs the machine by the events to the state of a place from the one before it, at which it stands.
-    fn run_to(&mut self, place: usize) -> Result<(), Memory> {
-        if let Some(visit) = self.trails.get(place) {
-            if visit.parent == place {
-                self.runner = Runner::start(self.alloc, self.task)?;
-            }
-        }
-        self.runner.run_again(self.trails.events_to(place))
     }
 
     /// Sees to it that the machine at the state of a place is kept, and those on the way there from the nearest one that is.
@@ -202,46 +156,32 @@ impl<'a> Explorer<'a> {
         }
         let way = self.trails.way_to(place, &self.kept)?;
         for at in way.iter().rev() {
-            if self.kept.has(*at) {
-                self.kept.load(*at, &mut self.runner)?;
-            } else {
-                self.run_to(*at)?;
+            if !self.kept.has(*at) {
+                if self.trails.is_first(*at) {
+                    self.runner = Runner::start(self.alloc, self.task)?;
+                }
+                for event in self.trails.events_to(*at) {
+                    self.runner.step(*event)?;
+                }
                 self.kept.keep(*at, &mut self.runner)?;
+            }
+            if *at != place {
                 self.kept.load(*at, &mut self.runner)?;
             }
         }
         Ok(())
     }
 
-    /// What the way to a state costs that is come to from another one.
-    fn spent(&self, parent: Option<usize>) -> u16 {
-        let Some(place) = parent else {
-            return 0;
-        };
-        let Some(visit) = self.trails.get(place) else {
-            return 0;
-        };
-        let Some(event) = self.last.first() else {
-            return visit.spent;
-        };
-        let refusal = if event.refuse { REFUSAL } else { 0 };
-        let switch = match self.holder {
-            Some(holder) if holder != event.process => SWITCH,
-            _ => 0,
-        };
-        visit.spent.saturating_add(refusal).saturating_add(switch)
-    }
-
     /// Keeps the state at which the machine stands, to which the events lead that were run since the one before it, unless it was met
     /// before. Whether it is new is told.
-    fn keep(&mut self, parent: Option<usize>, is_long: bool) -> Result<bool, Memory> {
+    fn keep(&mut self, parent: Option<usize>) -> Result<bool, Memory> {
         let digest = self.runner.digest(&mut self.met)?;
         let (_, is_new) = self.seen.insert_full(digest)?;
         if is_new {
-            let spent = self.spent(parent);
-            let place = self.trails.add(parent, &self.last, spent, is_long)?;
+            let place = self.trails.add(parent, &self.last)?;
             if self.is_aimed {
-                self.aims.add(place, &self.runner, spent)?;
+                self.aims
+                    .add(place, &self.runner, self.trails.refusals(place))?;
             }
             // By breadth a state's turn comes behind those of all that were met before.
             if self.is_aimed || place.saturating_sub(self.next) < self.kept.room() {
@@ -252,75 +192,48 @@ impl<'a> Explorer<'a> {
     }
 
     /// Begins with the task's first state.
-    fn begin(&mut self) -> Result<Progress, Memory> {
-        match self.run_on()? {
-            Arrival::Breaks => {
-                self.found.extend_from_slice(&self.last)?;
-                return Ok(Progress::Found);
-            }
-            Arrival::Stays => {}
-            Arrival::At { is_long } => {
-                self.keep(None, is_long)?;
-            }
-        }
-        Ok(Progress::Goes)
-    }
-
-    /// Tries an event from the state of a place, whose machine is kept and, where this is the last event, taken away.
-    fn try_event(
-        &mut self,
-        place: usize,
-        event: Event,
-        is_last: bool,
-        tried: &mut Tried,
-    ) -> Result<(), Memory> {
-        if !tried.stays {
-            self.come_to(place)?;
-            if is_last {
-                self.kept.take(place, &mut self.runner);
-            } else {
-                self.kept.load(place, &mut self.runner)?;
-            }
-        }
-        tried.stays = false;
-        match self.advance(event)? {
-            Arrival::Stays => tried.stays = true,
-            Arrival::Breaks => {
-                self.found = self.trails.run_by(place, &self.last)?;
-                tried.breaks = true;
-            }
-            Arrival::At { is_long } => {
-                tried.walking = self.runner.walking;
-                let is_new = self.keep(Some(place), is_long)?;
-                tried.any_new = is_new || tried.any_new;
-            }
+    fn begin(&mut self) -> Result<(), Memory> {
+        if matches!(self.run_on()?, Advance::Breaks) {
+            self.found.extend_from_slice(&self.last)?;
+        } else {
+            self.keep(None)?;
         }
         Ok(())
     }
 
-    /// Tries the events that may be, from the state of a place, up to one that breaks something.
-    fn try_moves(&mut self, place: usize) -> Result<Tried, Memory> {
-        let mut tried = Tried {
-            walking: None,
-            any_new: false,
-            breaks: false,
-            stays: false,
-        };
+    /// Puts the machine at the state of a place, and keeps none there where it is needed no more.
+    fn stand_at(&mut self, place: usize, is_last: bool) -> Result<(), Memory> {
+        self.come_to(place)?;
+        if is_last {
+            self.kept.take(place, &mut self.runner);
+            return Ok(());
+        }
+        self.kept.load(place, &mut self.runner)
+    }
+
+    /// Tries the events that may be, from the state of a place, up to one that breaks something. Whether a new state was met is told.
+    fn try_moves(&mut self, place: usize) -> Result<bool, Memory> {
+        let mut any_new = false;
+        let mut is_there = false;
         let count = self.moves.len();
         for at in 0..count {
             let Some(event) = self.moves.get(at).copied() else {
                 break;
             };
-            // While names of a path are left, the kernel refuses nothing.
-            if event.refuse && tried.walking == Some(event.process) {
-                continue;
+            if !is_there {
+                self.stand_at(place, at + 1 == count)?;
             }
-            self.try_event(place, event, at + 1 == count, &mut tried)?;
-            if tried.breaks {
-                break;
+            is_there = false;
+            match self.advance(event)? {
+                Advance::Stays => is_there = true,
+                Advance::Goes => any_new = self.keep(Some(place))? || any_new,
+                Advance::Breaks => {
+                    self.found = self.trails.run_by(place, &self.last)?;
+                    break;
+                }
             }
         }
-        Ok(tried)
+        Ok(any_new)
     }
 
     /// Notes the events that may be tried from the state of a place. Whether those of one process are all that was asked for is told.
@@ -330,30 +243,21 @@ impl<'a> Explorer<'a> {
             self.moves.clear();
             return Ok(false);
         };
-        self.holder = None;
-        if let Some(event) = self.trails.events_to(place).last() {
-            if let Some(process) = runner.machine.processes().get(event.process as usize) {
-                if process.alive && !is_waiting(self.task, runner, event.process, process) {
-                    self.holder = Some(event.process);
-                }
-            }
-        }
         next_moves(self.task, runner, &self.bytes, asked, &mut self.moves)
     }
 
-    /// Goes on from the state of a place, by the events of one process, if that can be, and by all if these lead to nothing new.
-    fn expand(&mut self, place: usize, is_long: bool) -> Result<Progress, Memory> {
+    /// Goes on from the state of a place, by the events of one process, if that can be, and by all if these lead to nothing new, or were too
+    /// many already.
+    fn expand(&mut self, place: usize) -> Result<(), Memory> {
+        let is_long = self.trails.events_to(place).len() >= MAX_FORCED;
         let asked = if is_long { Asked::All } else { self.asked() };
         let is_alone = self.ask(place, asked)?;
-        let mut tried = self.try_moves(place)?;
-        if is_alone && !tried.any_new && !tried.breaks {
+        let any_new = self.try_moves(place)?;
+        if is_alone && !any_new && self.found.is_empty() {
             self.ask(place, Asked::All)?;
-            tried = self.try_moves(place)?;
+            self.try_moves(place)?;
         }
-        if tried.breaks {
-            return Ok(Progress::Found);
-        }
-        Ok(Progress::Goes)
+        Ok(())
     }
 
     /// The next state by breadth.
@@ -367,10 +271,10 @@ impl<'a> Explorer<'a> {
         None
     }
 
-    /// The next of those that are nearest to a point that is looked for.
-    fn next_by_aim(&mut self) -> Option<usize> {
+    /// The next of those that cost least.
+    fn next_by_aim(&mut self, order: Order) -> Option<usize> {
         for _ in 0..self.trails.len() {
-            let place = self.aims.next()?;
+            let place = self.aims.next(order)?;
             if self.trails.begin(place) {
                 return Some(place);
             }
@@ -378,38 +282,43 @@ impl<'a> Explorer<'a> {
         None
     }
 
-    /// The next state to go on from.
+    /// The next state to go on from: where points are looked for, in turn by each order and by breadth.
     fn next_place(&mut self) -> Option<usize> {
         self.turns = self.turns.wrapping_add(1);
-        if self.is_aimed && self.turns % SHARE != 0 {
-            let place = self.next_by_aim();
-            if place.is_some() {
-                return place;
-            }
+        let place = match self.turns % 4 {
+            1 if self.is_aimed => self.next_by_aim(Order::Refusals),
+            2 if self.is_aimed => self.next_by_aim(Order::Cost),
+            3 if self.is_aimed => self.next_by_aim(Order::Novelty),
+            _ => None,
+        };
+        if place.is_some() {
+            return place;
         }
         self.next_by_breadth()
     }
 
-    /// Goes on from so many states.
-    pub(crate) fn go_on(&mut self, states: usize) -> Result<Progress, Memory> {
+    /// Goes on from one state.
+    fn go_one(&mut self) -> Result<Progress, Memory> {
         if self.trails.len() == 0 {
-            let progress = self.begin()?;
-            if matches!(progress, Progress::Found) {
-                return Ok(progress);
-            }
-        }
-        for _ in 0..states {
-            if self.trails.len() >= self.bound {
-                return Ok(Progress::Bounded);
-            }
+            self.begin()?;
+        } else if self.trails.len() >= self.bound {
+            return Ok(Progress::Bounded);
+        } else {
             let Some(place) = self.next_place() else {
                 return Ok(Progress::Ended);
             };
-            let is_long = match self.trails.get(place) {
-                None => false,
-                Some(visit) => visit.is_long,
-            };
-            let progress = self.expand(place, is_long)?;
+            self.expand(place)?;
+        }
+        if self.found.is_empty() {
+            return Ok(Progress::Goes);
+        }
+        Ok(Progress::Found)
+    }
+
+    /// Goes on from so many states.
+    pub(crate) fn go_on(&mut self, states: usize) -> Result<Progress, Memory> {
+        for _ in 0..states {
+            let progress = self.go_one()?;
             if !matches!(progress, Progress::Goes) {
                 return Ok(progress);
             }

@@ -7,7 +7,7 @@ use std::alloc::Global;
 use std::mem;
 
 /// How many bytes the machines take that are kept, by a guess.
-const MOST_BYTES: usize = 24_000_000;
+const MOST_BYTES: usize = 40_000_000;
 
 /// What a machine takes by a guess, but for its nodes, and what a node takes.
 const BYTES: usize = 12_000;

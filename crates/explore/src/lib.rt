@@ -16,6 +16,7 @@ mod kept;
 pub mod laws;
 mod moves;
 mod policies;
+mod readable;
 mod runners;
 mod shared_trees;
 mod shrinking;

@@ -1,5 +1,10 @@
 //! The events that may come next.
 
+ghost use Rattle.std.specs.Prelude.{◌≡◌, ◌++◌, OnOk, map};
+ghost use Rattle.instruction_set.specs.Views.{instruction_of};
+ghost use Rattle.syscalls.specs.Views.{event_of};
+ghost use Rattle.explore.specs.Moves.{step_of, tried};
+
 use crate::runners::{Runner, instruction_of};
 use fd_table::Object;
 use instruction_set::{Instruction, Operand, Syscall};
@@ -70,39 +75,51 @@ fn is_own(runner: &Runner<'_>, process: u8, instruction: &Instruction) -> bool {
     }
 }
 
+/// Adds a step of a process for each byte.
+fn add_inputs(events: &mut Vec<Event>, bytes: &[u8], process: u8) -> Result<(), Memory>
+    ensures { OnOk result (map event_of events.new.items ≡ map event_of events.old.items ++ map (step_of process) bytes.now) }
+{
+    for input in bytes {
+        events.push(Event {
+            process,
+            input: *input,
+            refuse: false,
+        })?;
+    }
+    Ok(())
+}
+
 /// Adds the events of a process that stands at an instruction.
 fn add_events(
     events: &mut Vec<Event>,
     bytes: &[u8],
     process: u8,
     instruction: &Instruction,
-) -> Result<(), Memory> {
+) -> Result<(), Memory>
+    ensures { OnOk result (map event_of events.new.items ≡ map event_of events.old.items ++ tried bytes.now process (instruction_of instruction.now)) }
+{
+    let step = Event {
+        process,
+        input: 0,
+        refuse: false,
+    };
+    let refused = Event {
+        process,
+        input: 0,
+        refuse: true,
+    };
     match instruction {
-        Instruction::In { .. } => {
-            for input in bytes {
-                events.push(Event {
-                    process,
-                    input: *input,
-                    refuse: false,
-                })?;
-            }
+        Instruction::In { .. } => add_inputs(events, bytes, process),
+        Instruction::Invoke { call, .. } if call.may_be_refused() => {
+            events.push(step)?;
+            events.push(refused)?;
+            Ok(())
         }
-        _ => events.push(Event {
-            process,
-            input: 0,
-            refuse: false,
-        })?,
-    }
-    if let Instruction::Invoke { call, .. } = instruction {
-        if call.may_be_refused() {
-            events.push(Event {
-                process,
-                input: 0,
-                refuse: true,
-            })?;
+        _ => {
+            events.push(step)?;
+            Ok(())
         }
     }
-    Ok(())
 }
 
 /// Which events are tried from a state.

@@ -3,12 +3,12 @@
 use crate::breaking::watched_step;
 use crate::digests::Digest;
 use crate::shared_trees::SharedTree;
-use crate::states::{Met, digest_of_state, open_at};
+use crate::states::{Met, open_at};
 use crate::trees::{TreeDigest, digest_of_tree};
 use fd_table::{Description, Descriptor};
 use instruction_set::{Instruction, Operand, Syscall};
 use process::Process;
-use rights::{Memory, Op, Stop};
+use rights::{Memory, Op};
 use simulator::{LineResult, Machine};
 use std::alloc::Global;
 use std::rc::Rc;
@@ -21,8 +21,6 @@ pub(crate) struct Runner<'a> {
     alloc: Global,
     task: &'a Task,
     pub machine: Machine<'a, SharedTree>,
-    /// The process of the last choice, where that left names of a path.
-    pub walking: Option<u8>,
     /// The digest of the tree, made only where it is asked for.
     tree: Rc<TreeDigest>,
     /// The tree was changed since.
@@ -31,13 +29,13 @@ pub(crate) struct Runner<'a> {
 
 /// What a step came to, for the exploration.
 #[derive(Clone, Copy)]
-pub(crate) struct Advance {
-    /// The step breaks something.
-    pub breaks: bool,
-    /// The call couldn't go on, and nothing changed.
-    pub is_waiting: bool,
-    /// The process whose call has names of its path left.
-    pub walking: Option<u8>,
+pub(crate) enum Advance {
+    /// It breaks something.
+    Breaks,
+    /// The process went on.
+    Goes,
+    /// It couldn't go on, and nothing changed.
+    Stays,
 }
 
 /// The value of an operand.
@@ -73,8 +71,7 @@ pub(crate) fn call_of<'t>(task: &'t Task, process: &Process) -> Option<&'t Sysca
 impl<'a> Runner<'a> {
     /// The machine at the start of the task.
     pub(crate) fn start(alloc: Global, task: &'a Task) -> Result<Runner<'a>, Memory> {
-        let started: Result<Machine<'a, SharedTree>, Stop> = Machine::start(alloc, task);
-        let Ok(machine) = started else {
+        let Ok(machine) = Machine::start(alloc, task) else {
             return Err(Memory);
         };
         let tree = Rc::new(alloc, TreeDigest::none(alloc))?;
@@ -82,7 +79,6 @@ impl<'a> Runner<'a> {
             alloc,
             task,
             machine,
-            walking: None,
             tree,
             is_changed: true,
         })
@@ -96,7 +92,6 @@ impl<'a> Runner<'a> {
             alloc: self.alloc,
             task: self.task,
             machine,
-            walking: self.walking,
             tree,
             is_changed: self.is_changed,
         })
@@ -113,62 +108,29 @@ impl<'a> Runner<'a> {
         open_at(self.machine.files(), process, number)
     }
 
-    /// One step. What breaks is told.
+    /// One step.
     pub(crate) fn step(&mut self, event: Event) -> Result<Advance, Memory> {
         let Ok(watched) = watched_step(self.alloc, self.task, &mut self.machine, event) else {
             return Err(Memory);
         };
-        let breaks = watched.breach.is_some();
         let Some(acted) = &watched.line.acted else {
-            return Ok(Advance {
-                breaks,
-                is_waiting: true,
-                walking: None,
-            });
+            return Ok(Advance::Stays);
         };
-        if changes_tree(&acted.effects) {
-            self.is_changed = true;
-        }
-        let walking = match acted.outcome {
-            LineResult::Walking => Some(event.process),
-            _ => None,
-        };
-        Ok(Advance {
-            breaks,
-            is_waiting: matches!(acted.outcome, LineResult::Waiting | LineResult::Ended),
-            walking,
+        self.is_changed = self.is_changed || changes_tree(&acted.effects);
+        Ok(match acted.outcome {
+            LineResult::Waiting | LineResult::Ended => Advance::Stays,
+            _ if watched.breach.is_some() => Advance::Breaks,
+            _ => Advance::Goes,
         })
     }
 
-    /// Runs on by events that broke nothing when they came first.
-    pub(crate) fn run_again(&mut self, events: &[Event]) -> Result<(), Memory> {
-        for event in events {
-            match self.machine.step(*event) {
-                Ok(line) => {
-                    if let Some(acted) = &line.acted {
-                        if changes_tree(&acted.effects) {
-                            self.is_changed = true;
-                        }
-                    }
-                }
-                Err(_) => return Err(Memory),
-            }
-        }
-        Ok(())
-    }
-
     /// The digest of the state.
-    pub(crate) fn digest(&mut self, met: &mut Met) -> Result<Digest, Memory> {
+    pub(crate) fn digest(&mut self, met: &mut Met<'_>) -> Result<Digest, Memory> {
         if self.is_changed {
-            let tree = digest_of_tree(self.alloc, self.machine.tree())?;
+            let tree = digest_of_tree(self.alloc, self.machine.tree(), &met.readable)?;
             self.tree = Rc::new(self.alloc, tree)?;
             self.is_changed = false;
         }
-        digest_of_state(
-            met,
-            self.machine.processes(),
-            self.machine.files(),
-            &self.tree,
-        )
+        met.digest_of(self.machine.processes(), self.machine.files(), &self.tree)
     }
 }

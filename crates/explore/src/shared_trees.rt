@@ -9,7 +9,7 @@ use rights::Memory;
 use std::alloc::Global;
 use std::rc::Rc;
 
-/// A tree that others may have too. A change makes a tree of its own.
+/// A tree that others may have too. A change makes a tree of its own first, where they do.
 #[derive(Drop)]
 pub(crate) struct SharedTree {
     alloc: Global,
@@ -83,6 +83,9 @@ impl Tree for SharedTree {
     }
 
     fn create(&mut self, dir: NodeId, name: &[u8], what: New<'_>) -> Result<NodeId, TreeFault> {
+        if let Some(tree) = Rc::get_mut(&mut self.tree) {
+            return tree.create(dir, name, what);
+        }
         let mut tree = own(&self.tree)?;
         let node = tree.create(dir, name, what)?;
         self.tree = shared(self.alloc, tree)?;
@@ -90,6 +93,9 @@ impl Tree for SharedTree {
     }
 
     fn remove(&mut self, n: NodeId) -> Result<(), TreeFault> {
+        if let Some(tree) = Rc::get_mut(&mut self.tree) {
+            return tree.remove(n);
+        }
         let mut tree = own(&self.tree)?;
         tree.remove(n)?;
         self.tree = shared(self.alloc, tree)?;
@@ -97,6 +103,9 @@ impl Tree for SharedTree {
     }
 
     fn rename(&mut self, n: NodeId, dir: NodeId, name: &[u8]) -> Result<(), TreeFault> {
+        if let Some(tree) = Rc::get_mut(&mut self.tree) {
+            return tree.rename(n, dir, name);
+        }
         let mut tree = own(&self.tree)?;
         tree.rename(n, dir, name)?;
         self.tree = shared(self.alloc, tree)?;
@@ -112,6 +121,9 @@ impl Tree for SharedTree {
     }
 
     fn put_byte(&mut self, n: NodeId, at: usize, b: u8) -> Result<(), TreeFault> {
+        if let Some(tree) = Rc::get_mut(&mut self.tree) {
+            return tree.put_byte(n, at, b);
+        }
         let mut tree = own(&self.tree)?;
         tree.put_byte(n, at, b)?;
         self.tree = shared(self.alloc, tree)?;
@@ -119,6 +131,9 @@ impl Tree for SharedTree {
     }
 
     fn truncate(&mut self, n: NodeId, len: usize) -> Result<(), TreeFault> {
+        if let Some(tree) = Rc::get_mut(&mut self.tree) {
+            return tree.truncate(n, len);
+        }
         let mut tree = own(&self.tree)?;
         tree.truncate(n, len)?;
         self.tree = shared(self.alloc, tree)?;

@@ -7,16 +7,14 @@ use syscalls::Event;
 
 /// A state that was met.
 #[derive(Clone, Copy)]
-pub(crate) struct Visit {
-    /// The state before it; its own place where it is the first.
-    pub parent: usize,
+struct Visit {
+    /// The state before it, if it isn't the first.
+    parent: Option<usize>,
     /// Where the events lie that lead here from there.
     first: usize,
     count: usize,
-    /// What its way costs: refusals of the kernel, and switches from processes that might have gone on.
-    pub spent: u16,
-    /// The steps behind it were too many to be followed.
-    pub is_long: bool,
+    /// How many calls the kernel refused on its way.
+    refusals: u32,
     /// It was gone on from.
     is_done: bool,
 }
@@ -46,29 +44,40 @@ impl Trails {
     }
 
     /// Adds a state to which these events lead from the one before it, and gives its place.
-    pub(crate) fn add(
-        &mut self,
-        parent: Option<usize>,
-        events: &[Event],
-        spent: u16,
-        is_long: bool,
-    ) -> Result<usize, Memory> {
+    pub(crate) fn add(&mut self, parent: Option<usize>, events: &[Event]) -> Result<usize, Memory> {
         let place = self.visits.len();
+        let before = match parent {
+            None => 0,
+            Some(parent) => self.refusals(parent),
+        };
+        let refused = matches!(events.first(), Some(event) if event.refuse);
         self.visits.push(Visit {
-            parent: parent.unwrap_or(place),
+            parent,
             first: self.events.len(),
             count: events.len(),
-            spent,
-            is_long,
+            refusals: before.saturating_add(u32::from(refused)),
             is_done: false,
         })?;
         self.events.extend_from_slice(events)?;
         Ok(place)
     }
 
-    /// The state of a place.
-    pub(crate) fn get(&self, place: usize) -> Option<Visit> {
-        self.visits.get(place).copied()
+    /// The state before that of a place, if it isn't the first.
+    fn parent(&self, place: usize) -> Option<usize> {
+        self.visits.get(place)?.parent
+    }
+
+    /// Whether no state is before that of a place.
+    pub(crate) fn is_first(&self, place: usize) -> bool {
+        self.parent(place).is_none()
+    }
+
+    /// How many calls the kernel refused on the way to the state of a place.
+    pub(crate) fn refusals(&self, place: usize) -> u32 {
+        match self.visits.get(place) {
+            None => 0,
+            Some(visit) => visit.refusals,
+        }
     }
 
     /// Notes that the state of a place is gone on from. Whether it wasn't before is told.
@@ -97,17 +106,13 @@ impl Trails {
     /// The states on the way to one, itself first, up to one whose machine is kept, or to the first state.
     pub(crate) fn way_to(&self, place: usize, kept: &Kept<'_>) -> Result<Vec<usize>, Memory> {
         let mut way = Vec::new(self.alloc);
-        let mut at = place;
+        let mut next = Some(place);
         for _ in 0..self.visits.len() {
-            way.push(at)?;
-            let parent = match self.visits.get(at) {
-                None => at,
-                Some(visit) => visit.parent,
-            };
-            if parent == at || kept.has(at) {
+            let Some(at) = next else {
                 break;
-            }
-            at = parent;
+            };
+            way.push(at)?;
+            next = if kept.has(at) { None } else { self.parent(at) };
         }
         Ok(way)
     }

@@ -3,6 +3,7 @@
 ghost use Rattle.std.specs.Prelude.{◌<◌, length};
 
 use crate::digests::Digest;
+use crate::readable::Readable;
 use file_tree::{Kind, NodeId, Tree};
 use rights::Memory;
 use rights::limits::MAX_NODES;
@@ -34,11 +35,14 @@ fn kind_number(kind: Kind) -> u64 {
     }
 }
 
-/// Adds what a node is, with its content.
-fn add_content<T: Tree>(digest: &mut Digest, tree: &T, node: NodeId)
+/// Adds what a node is, with its content where that counts.
+fn add_content<T: Tree>(digest: &mut Digest, tree: &T, node: NodeId, counts: bool)
     requires { node < length (T.nodes tree.now) }
 {
     digest.add(kind_number(tree.kind(node)));
+    if !counts {
+        return;
+    }
     for at in 0..tree.len(node) {
         if let Some(byte) = tree.byte_at(node, at) {
             digest.add(u64::from(byte));
@@ -46,13 +50,16 @@ fn add_content<T: Tree>(digest: &mut Digest, tree: &T, node: NodeId)
     }
 }
 
-/// The digest of a tree. The order in which its nodes were made doesn't count, and neither do removed ones.
-pub(crate) fn digest_of_tree<T: Tree>(alloc: Global, tree: &T) -> Result<TreeDigest, Memory> {
+/// The digest of a tree. The order in which its nodes were made doesn't count, and neither do removed ones, and what no program can read.
+pub(crate) fn digest_of_tree<T: Tree>(
+    alloc: Global,
+    tree: &T,
+    readable: &Readable<'_>,
+) -> Result<TreeDigest, Memory> {
     let mut nodes = Vec::new(alloc);
     let mut whole = Digest::new();
     let mut text = Vec::new(alloc);
-    let made = tree.made();
-    for number in 0..made {
+    for number in 0..tree.made() {
         if number >= MAX_NODES {
             break;
         }
@@ -64,16 +71,14 @@ pub(crate) fn digest_of_tree<T: Tree>(alloc: Global, tree: &T) -> Result<TreeDig
                 return Err(Memory);
             }
             place.add_text(&text);
+            let mut all = place;
+            add_content(&mut all, tree, node, readable.holds(&text));
+            whole = whole.beside(all);
         } else {
             place.add(number as u64);
-            add_content(&mut place, tree, node);
+            add_content(&mut place, tree, node, true);
         }
         nodes.push(place)?;
-        if tree.is_linked(node) {
-            let mut all = place;
-            add_content(&mut all, tree, node);
-            whole = whole.beside(all);
-        }
     }
     Ok(TreeDigest { whole, nodes })
 }

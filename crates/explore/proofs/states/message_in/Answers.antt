@@ -5,7 +5,7 @@ use Rattle.std.proofs.lemmas.Option.{slice_get-map, slice_get_read}
 use Rattle.fd_table.specs.Filled.{by_message}
 use Rattle.fd_table.specs.StoredViews.{message_kept}
 use Rattle.fd_table.specs.Views.{descriptor_seen}
-use Rattle.explore.proofs.states.passed_in.Goals as goal
+use Rattle.explore.proofs.states.message_in.Goals as goal
 
 pub what-what-requires : goal.what-what-requires
 what-what-requires c =
