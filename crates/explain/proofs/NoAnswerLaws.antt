@@ -1,7 +1,6 @@
 -- What is no answer, by the files that are told.
 use Rattle.std.proofs.Common.{◌≡◌, ℕ, List, [], ◌∷◌, ◌++◌, Some, refl, inl, inr, subst, sym, ◌∙◌}
 use Rattle.std.specs.Prelude.{false, Option, Result, Ok, codes}
-use Rattle.std.specs.List.{concat}
 use Rattle.certificate.specs.Bounds.{Certificate}
 use Rattle.certificate_text.specs.Readings.{certificate_of_text}
 use Rattle.checker.specs.Findings.{BrokenRule, findings}
@@ -10,8 +9,7 @@ use Rattle.rules.specs.Expansions.{expansion}
 use Rattle.searcher.specs.Flat.{flat}
 use Rattle.task.specs.Plans.{Plan, program_name}
 use Rattle.task_reader.specs.Reading.{task_of}
-use Rattle.explain.specs.Answered.{Answers, SaysBroken, SaysFound, SaysOfFiles, SaysOfSearch, SaysWhether}
-use Rattle.explain.specs.Questions.{Broken, Unfound}
+use Rattle.explain.specs.Answered.{SaysBroken, SaysFound, SaysWhether}
 use Rattle.explain.specs.NoAnswers.{NoSaysWhether, NoneSaysWhether}
 use Rattle.explain.specs.Telling.{HasHead, Tells, TellsEach, none_yet, one_more, finding_text, point_with_line}
 
@@ -57,7 +55,7 @@ nothing_told plan last fs told (one_more f head sentence before has) is =
 
 no_head : (plan : Plan) (f : BrokenRule) → HasHead plan f false [] → ⊥
 no_head plan f has =
-    let clash = second_empty (point_with_line (program_name plan f.program) f.point has.0) (concat (codes ": " ∷ has.1 ∷ codes "\n" ∷ [])) (sym has.2) in
+    let clash = second_empty (point_with_line (program_name plan f.program) f.point has.0) ((codes ": " ++ (has.1 ++ codes "\n"))) (sym has.2) in
     cc
 
 not_silent : (plan : Plan) (fs : List BrokenRule) (text : List ℕ) → Tells plan fs text → text ≡ [] → ⊥

@@ -1,7 +1,6 @@
 -- How the rules that a certificate breaks are told. (own)
 use Rattle.std.specs.Prelude.{◌≡◌, ◌==◌, ◌&&◌, ℕ, Bool, true, false, List, [], ◌∷◌, ◌++◌, Option, Some, None, codes}
 use Rattle.std.specs.Fmt.{decimal}
-use Rattle.std.specs.List.{concat}
 use Rattle.checker.specs.Findings.{BrokenRule}
 use Rattle.task.specs.Plans.{Plan, program_name}
 
@@ -11,7 +10,7 @@ point_with_line program point line = program ++ codes ":" ++ decimal point ++ co
 
 -- The findings of a point stand under one line, which has the point and its instruction as it is written.
 abbrev pub head_text : List ℕ → ℕ → ℕ → List ℕ → List ℕ
-head_text program point line written = point_with_line program point line ++ codes ": " ++ written ++ codes "\n"
+head_text program point line written = point_with_line program point line ++ (codes ": " ++ (written ++ codes "\n"))
 
 -- whether a finding is of the same point as the one before it, if there is one
 abbrev pub is_same_point : Option BrokenRule → BrokenRule → Bool

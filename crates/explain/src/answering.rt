@@ -25,7 +25,7 @@ use checker::{BrokenRule, all_findings, expand};
 use console::statuses::{BROKEN, DONE};
 use console::{Fault, Source, status_of_verdict, tell};
 use explore::Watcher;
-use rights::{Out, write_all};
+use rights::{Memory, Out, write_all};
 use searcher::{propose, reached};
 use std::alloc::{AllocError, Global};
 use task::Task;
@@ -58,6 +58,18 @@ fn done<'a, F: FnOnce(&mut Page)>(alloc: Global, add: F) -> Result<Answer, Fault
     })
 }
 
+/// Adds the listing of a task without bounds, with warnings by those that the search reaches.
+fn add_unbounded(alloc: Global, page: &mut Page, scene: &Scene<'_>) -> Result<(), Memory> {
+    match reached(alloc, scene.task)? {
+        None => add_listing(page, scene, scene.cert, false),
+        Some(reached) => {
+            let expanded = expand(alloc, scene.task, &reached)?;
+            add_listing(page, scene, &expanded, false)
+        }
+    }
+    Ok(())
+}
+
 /// The listing of a task, without bounds; what is warned of goes by those that the search reaches.
 fn listing_alone<'a>(alloc: Global, file: &[u8]) -> Result<Answer, Fault<'a>>
     ensures { IfOk result (λ answer. answer.status ≡ 0) }
@@ -66,12 +78,12 @@ fn listing_alone<'a>(alloc: Global, file: &[u8]) -> Result<Answer, Fault<'a>>
     let texts = texts_of_file(alloc, file, &task)?;
     let cert = Cert::new(alloc, Version::One);
     let scene = Scene::new(file, &texts, &task, &cert);
-    let Some(reached) = reached(alloc, &task)? else {
-        return done(alloc, |page| add_listing(page, &scene, &scene, false));
-    };
-    let expanded = expand(alloc, &task, &reached)?;
-    let bounds = Scene::new(file, &texts, &task, &expanded);
-    done(alloc, |page| add_listing(page, &scene, &bounds, false))
+    let mut page = Page::new(alloc);
+    add_unbounded(alloc, &mut page, &scene)?;
+    Ok(Answer {
+        text: page.into_bytes()?,
+        status: DONE,
+    })
 }
 
 /// The listing of a task with the bounds of a certificate.
@@ -82,7 +94,7 @@ fn listing_with<'a>(alloc: Global, file: &[u8], cert: &[u8]) -> Result<Answer, F
     let texts = texts_of_file(alloc, file, &claim.task)?;
     let expanded = expand(alloc, &claim.task, &claim.cert)?;
     let scene = Scene::new(file, &texts, &claim.task, &expanded);
-    done(alloc, |page| add_listing(page, &scene, &scene, true))
+    done(alloc, |page| add_listing(page, &scene, scene.cert, true))
 }
 
 /// What is told of the rules that a certificate breaks.

@@ -118,6 +118,6 @@ pub(crate) fn add_unfound(
         add_first(page, &scene);
     }
     say!(page; "\nThe bounds that the search reached:\n");
-    add_listing(page, &scene, &scene, true);
+    add_listing(page, &scene, scene.cert, true);
     Ok(false)
 }

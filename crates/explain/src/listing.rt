@@ -4,7 +4,7 @@ use crate::remarking::{add_remarks, add_task_remarks};
 use crate::scenes::Scene;
 use crate::warning::add_warnings;
 use bitflags::Flags;
-use certificate::{Bound, Held, Slot, slots_within};
+use certificate::{Bound, Cert, Held, Slot, slots_within};
 use checker::allowance_at;
 use rights::Fcntls;
 use texts::{Name, Page, say};
@@ -62,8 +62,8 @@ fn without_bound(untrusted: bool, has_cert: bool) -> &'static str {
 }
 
 /// Adds each program with its remarks; the bounds are those of the certificate, if there is one. The numbers of a table are told
-/// where they aren't those of the point before. Warnings go by the bounds of another scene of the task.
-pub(crate) fn add_listing(page: &mut Page, scene: &Scene<'_>, bounds: &Scene<'_>, has_cert: bool) {
+/// where they aren't those of the point before. Warnings go by the bounds of another certificate.
+pub(crate) fn add_listing(page: &mut Page, scene: &Scene<'_>, bounds: &Cert, has_cert: bool) {
     for (number, program) in scene.task.programs().iter().enumerate() {
         let name = program.name.as_bytes();
         say!(page; name, "\n");
@@ -88,7 +88,7 @@ pub(crate) fn add_listing(page: &mut Page, scene: &Scene<'_>, bounds: &Scene<'_>
             }
         }
         add_remarks(page, scene, number, has_cert);
-        add_warnings(page, bounds, number);
+        add_warnings(page, scene, bounds, number as u8);
     }
     add_task_remarks(page, scene, has_cert);
 }

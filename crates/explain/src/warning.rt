@@ -1,6 +1,7 @@
 //! How warnings are written: where FreeBSD does otherwise, at a line, and what to write.
 
 use crate::scenes::Scene;
+use certificate::Cert;
 use remarks::{Difference, Warnings, warnings_on, widest_ceilings};
 use texts::{Name, Page, say};
 
@@ -35,12 +36,12 @@ fn add_difference(page: &mut Page, difference: Difference) {
 }
 
 /// Begins a warning at a point.
-fn begin(page: &mut Page, scene: &Scene<'_>, program: u8, point: usize) {
-    say!(page; "  FreeBSD: ", scene.place(program, point as u8), ": ")
+fn begin(page: &mut Page, scene: &Scene<'_>, program: u8, point: u8) {
+    say!(page; "  FreeBSD: ", scene.place(program, point), ": ")
 }
 
 /// Adds what is warned of at a point.
-fn add_warning(page: &mut Page, scene: &Scene<'_>, program: u8, point: usize, warnings: &Warnings) {
+fn add_warning(page: &mut Page, scene: &Scene<'_>, program: u8, point: u8, warnings: &Warnings) {
     for difference in &warnings.differences {
         begin(page, scene, program, point);
         add_difference(page, *difference);
@@ -63,8 +64,8 @@ fn add_warning(page: &mut Page, scene: &Scene<'_>, program: u8, point: usize, wa
 }
 
 /// Adds the ceilings of an untrusted program that have all rights.
-fn add_widest(page: &mut Page, scene: &Scene<'_>, program: u8, name: &Name) {
-    let widest = widest_ceilings(page.alloc(), scene.cert, name);
+fn add_widest(page: &mut Page, scene: &Scene<'_>, bounds: &Cert, program: u8, name: &Name) {
+    let widest = widest_ceilings(page.alloc(), bounds, name);
     for ceiling in &page.gathered(widest) {
         begin(page, scene, program, 0);
         say!(page; "a ceiling of all rights on ", ceiling.grant().as_bytes(), " has more of them than a task can name");
@@ -72,13 +73,15 @@ fn add_widest(page: &mut Page, scene: &Scene<'_>, program: u8, name: &Name) {
     }
 }
 
-/// Adds the warnings on a program.
-pub(crate) fn add_warnings(page: &mut Page, scene: &Scene<'_>, program: usize) {
-    let warnings = warnings_on(page.alloc(), scene.task, scene.cert, program);
+/// Adds the warnings on a program, by the bounds of a certificate.
+pub(crate) fn add_warnings(page: &mut Page, scene: &Scene<'_>, bounds: &Cert, program: u8) {
+    let warnings = warnings_on(page.alloc(), scene.task, bounds, usize::from(program));
     for (point, warnings) in page.gathered(warnings).iter().enumerate() {
-        add_warning(page, scene, program as u8, point, warnings);
+        if let Ok(point) = u8::try_from(point) {
+            add_warning(page, scene, program, point, warnings);
+        }
     }
-    if let Some(named) = scene.task.programs().get(program) {
-        add_widest(page, scene, program as u8, &named.name);
+    if let Some(named) = scene.task.programs().get(usize::from(program)) {
+        add_widest(page, scene, bounds, program, &named.name);
     }
 }

@@ -4,8 +4,8 @@ use Rattle.explain.proofs.answering.told.Goals as goal
 
 pub returns-then-is_empty : goal.returns-then-is_empty
 returns-then-is_empty c =
-    tells_none c.args.scene.now.task.now c.args.found.now c.new-page.result c.text.new.self c.into_bytes.result c.new-page.ensures.text
-    (sym c.is_empty.ensures ∙ c.if-is_empty.true) c.text.ensures c.into_bytes.ensures.whole c.into_bytes.ensures.ok
+    tells_none c.args.scene.now.task.now c.args.found.now c.new-page.result c.say.new.page c.into_bytes.result c.new-page.ensures.text
+    (sym c.is_empty.ensures ∙ c.if-is_empty.true) c.say.ensures c.into_bytes.ensures.whole c.into_bytes.ensures.ok
 
 pub returns : goal.returns
 returns c =

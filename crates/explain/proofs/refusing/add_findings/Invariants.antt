@@ -1,4 +1,3 @@
-use Rattle.std.proofs.Common.{◌≡◌}
 use Rattle.std.specs.Prelude.{map, option_map, take}
 use Rattle.checker.specs.FindingViews.{broken_rule_of}
 use Rattle.explain.proofs.Tellings.{ToldSoFar}
