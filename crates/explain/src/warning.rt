@@ -2,7 +2,7 @@
 
 use crate::scenes::Scene;
 use certificate::Cert;
-use remarks::{Difference, Warnings, warnings_on, widest_ceilings};
+use remarks::{Difference, Warnings, more_at_start, prying_ceilings, warnings_on, widest_ceilings};
 use texts::{Name, Page, say};
 
 /// What a call is otherwise by, what to write, and where docs/FREEBSD.md says more.
@@ -73,6 +73,30 @@ fn add_widest(page: &mut Page, scene: &Scene<'_>, bounds: &Cert, program: u8, na
     }
 }
 
+/// Adds the ceilings of an untrusted program that let names be looked up where the grant doesn't list looking.
+fn add_prying(page: &mut Page, scene: &Scene<'_>, bounds: &Cert, program: u8, name: &Name) {
+    let prying = prying_ceilings(page.alloc(), scene.task.grants(), bounds, name);
+    for ceiling in &page.gathered(prying) {
+        begin(page, scene, program, 0);
+        say!(page; "a ceiling on ", ceiling.grant().as_bytes(), " has LOOKUP, which reads the texts of links");
+        say!(page; "; write look into the grant's ops (FREEBSD.md#what-a-right-does-beyond-its-calls)\n")
+    }
+}
+
+/// Adds what the processes of an untrusted program that start in the mode have more of.
+fn add_starts(page: &mut Page, scene: &Scene<'_>, program: u8) {
+    for start in scene.task.starts() {
+        if start.mode && start.program == program {
+            let more = more_at_start(page.alloc(), start);
+            for first in &page.gathered(more) {
+                begin(page, scene, program, 0);
+                say!(page; "descriptor ", first.number, " starts with more rights or commands than a task can name");
+                say!(page; "; write rights and fcntls (FREEBSD.md#more-calls-and-rights)\n")
+            }
+        }
+    }
+}
+
 /// Adds the warnings on a program, by the bounds of a certificate.
 pub(crate) fn add_warnings(page: &mut Page, scene: &Scene<'_>, bounds: &Cert, program: u8) {
     let warnings = warnings_on(page.alloc(), scene.task, bounds, usize::from(program));
@@ -83,5 +107,9 @@ pub(crate) fn add_warnings(page: &mut Page, scene: &Scene<'_>, bounds: &Cert, pr
     }
     if let Some(named) = scene.task.programs().get(usize::from(program)) {
         add_widest(page, scene, bounds, program, &named.name);
+        add_prying(page, scene, bounds, program, &named.name);
+        if named.untrusted {
+            add_starts(page, scene, program);
+        }
     }
 }

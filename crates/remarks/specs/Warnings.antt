@@ -4,7 +4,7 @@ use Rattle.std.specs.Prelude.{◌&&◌, ◌||◌, ◌==◌, ◌-◌, not, ℕ, B
 use Rattle.std.specs.List.{list_all, list_any, range_with_len, slice_get}
 use Rattle.std.specs.Str.{bytes_eq}
 use Rattle.rights.specs.Operations.{Look}
-use Rattle.rights.specs.Sets.{all_commands, all_rights, fcntl_right, is_within}
+use Rattle.rights.specs.Sets.{all_commands, all_rights, fcntl_right, is_within, lookup_right}
 use Rattle.rights.specs.Values.{DescriptorNumber, Name, PathText}
 use Rattle.file_tree.specs.Nodes.{Node, is_link}
 use Rattle.file_tree.specs.Places.{slash}
@@ -16,7 +16,7 @@ use Rattle.rules.specs.Authority.{authority_at}
 use Rattle.rules.specs.Demands.{demands}
 use Rattle.rules.specs.Outcomes.{enters_mode}
 use Rattle.rules.specs.Slots.{OpenSlot, may_be_on, slots_in}
-use Rattle.task.specs.Plans.{Grant, NamedProgram, Plan}
+use Rattle.task.specs.Plans.{FirstDescriptor, Grant, NamedProgram, Plan}
 use Rattle.task.specs.Policies.{grant_lists}
 use Rattle.texts.specs.Parts.{parts}
 use Rattle.remarks.specs.Remarks.{bound_here, held_here, holds_so, is_there}
@@ -189,3 +189,14 @@ warned_in plan c (Some p) = map (warned_at plan p.code (bounds_in c p) p.marked)
 -- the ceilings of a program that have all rights, of which FreeBSD has more
 abbrev pub widest : Certificate → Name → List Ceiling
 widest c program = filter (λ (ceiling : Ceiling). ceiling.rights == all_rights) (authority_at c program).ceilings
+
+-- those that let names be looked up in a grant that doesn't list looking
+abbrev pub looks_beyond : List Grant → Ceiling → Bool
+looks_beyond grants ceiling = is_within lookup_right ceiling.rights && not (grant_lists grants ceiling.grant Look)
+
+abbrev pub prying : List Grant → Certificate → Name → List Ceiling
+prying grants c program = filter (looks_beyond grants) (authority_at c program).ceilings
+
+-- what a process that starts in the mode has more of, as at an entering
+abbrev pub starts_with_more : FirstDescriptor → Bool
+starts_with_more d = (d.rights == all_rights) || is_within fcntl_right d.rights && (d.fcntls == all_commands)

@@ -12,4 +12,6 @@ mod ways;
 
 pub use policies::{TaskRemark, remarks_on_task};
 pub use remarks::{Remark, Remarked, remarks_on};
-pub use warnings::{Difference, Warnings, warnings_on, widest_ceilings};
+pub use warnings::{
+    Difference, Warnings, more_at_start, prying_ceilings, warnings_on, widest_ceilings,
+};

@@ -7,11 +7,11 @@ ghost use Rattle.instruction_set.specs.Views.{code_of, instruction_of, syscall_o
 ghost use Rattle.remarks.specs.RemarkViews.{bounds_of, difference_of, warned_of};
 ghost use Rattle.remarks.specs.Remarks.{is_there};
 ghost use Rattle.remarks.specs.Warnings.{calling_points, calls_ahead, differences, differs, differs_at, goes_on_closing, goes_on_entering, has_more, is_call};
-ghost use Rattle.remarks.specs.Warnings.{takes_more_at, warned_at, warned_in, widest};
+ghost use Rattle.remarks.specs.Warnings.{looks_beyond, prying, starts_with_more, takes_more_at, warned_at, warned_in, widest};
 ghost use Rattle.remarks.specs.Ways.{points};
 ghost use Rattle.rights.specs.Limits.{most_descriptors};
 ghost use Rattle.rules.specs.Authority.{authority_in};
-ghost use Rattle.task.specs.Views.{program_of};
+ghost use Rattle.task.specs.Views.{first_descriptor_of, grants_of, program_of};
 ghost use Rattle.texts.specs.Views.{name_of};
 
 use crate::bounded::Bounded;
@@ -23,9 +23,9 @@ use crate::ways::{count, from_which, is_flagged};
 use certificate::{Authority, Bound, Ceiling, Cert, Held};
 use instruction_set::{Instruction, Syscall};
 use rights::limits::MAX_DESCRIPTORS;
-use rights::{Fcntls, Rights};
+use rights::{Fcntls, Op, Rights};
 use std::alloc::{AllocError, Global};
-use task::{NamedProgram, Task};
+use task::{FirstDescriptor, Grant, NamedProgram, Start, Task, grant_lists};
 use texts::Name;
 
 /// By what a call may be otherwise there.
@@ -322,5 +322,50 @@ pub fn widest_ceilings(
         .iter()
         .copied()
         .filter(|ceiling| ceiling.rights() == Rights::all())
+        .collect(alloc)
+}
+
+/// Whether a ceiling lets names be looked up in a grant that doesn't list looking.
+fn looks_beyond(grants: &[Grant], ceiling: &Ceiling) -> bool
+    ensures { result ≡ looks_beyond (grants_of grants.now) (ceiling_of ceiling.now) }
+{
+    ceiling.rights().contains(Rights::LOOKUP)
+        && !grant_lists(grants, ceiling.grant().as_bytes(), Op::Look)
+}
+
+/// The ceilings of the program of this name that let names be looked up in a grant that doesn't list looking.
+#[tactic(auto, using(crate::proofs::Lists::filtered_map))]
+pub fn prying_ceilings(
+    alloc: Global,
+    grants: &[Grant],
+    cert: &Cert,
+    program: &Name,
+) -> Result<Vec<Ceiling>, AllocError>
+    ensures { IfOk result (λ found. map ceiling_of found.items ≡ prying (grants_of grants.now) cert.now (name_of program.now)) }
+{
+    ceilings_among(cert.authorities(), program.as_bytes())
+        .iter()
+        .copied()
+        .filter(|ceiling| looks_beyond(grants, ceiling))
+        .collect(alloc)
+}
+
+/// Whether a first descriptor has all rights, or FCNTL with both commands.
+fn starts_with_more(first: FirstDescriptor) -> bool
+    ensures { result ≡ starts_with_more (first_descriptor_of first) }
+{
+    first.rights == Rights::all()
+        || first.rights.contains(Rights::FCNTL) && first.fcntls == Fcntls::all()
+}
+
+/// The descriptors with which a process starts that have all rights, or FCNTL with both commands: FreeBSD has more of each.
+pub fn more_at_start(alloc: Global, start: &Start) -> Result<Vec<FirstDescriptor>, AllocError>
+    ensures { IfOk result (λ found. found.items ≡ filter (λ d. starts_with_more (first_descriptor_of d)) start.now.descriptors.items) }
+{
+    start
+        .descriptors
+        .iter()
+        .copied()
+        .filter(|first| starts_with_more(*first))
         .collect(alloc)
 }
