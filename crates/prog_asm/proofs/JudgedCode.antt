@@ -105,7 +105,8 @@ line-judged before text old own labelled new number line wrong at_label at_instr
     )
     go false s = (
       sym count ∙ s.0,
-      s.1 ∙ ap (λ faults. faults ++ placed_fault TooMany number at_instruction ∷ []) told ∙ ap (λ n. faults_seen old.faults.items ++ faults_on before text ++ placed_fault TooMany n at_instruction ∷ []) is
+      s.1 ∙ ap (λ faults. faults ++ placed_fault TooMany number at_instruction ∷ []) told
+          ∙ ap (λ n. faults_seen old.faults.items ++ faults_on before text ++ placed_fault TooMany n at_instruction ∷ []) is
           ∙ ap (λ span. faults_seen old.faults.items ++ faults_on before text ++ placed_fault TooMany (length before + 1) span ∷ []) seen.instruction,
     )
 

@@ -119,11 +119,13 @@ same-call a b same =
                                   (
                                     λ x y same. ap programs.Mkdir (same-path x.0 y.0 same),
                                     (
-                                      λ x y same. let h0 = both _ _ same in let h1 = both _ _ h0.1 in three programs.Unlinkat (same-operand x.0 y.0 h0.0) (same-path x.1.0 y.1.0 h1.0) (same-truth x.1.1.0 y.1.1.0 h1.1),
+                                      λ x y same. let h0 = both _ _ same in let h1 = both _ _ h0.1 in
+                                          three programs.Unlinkat (same-operand x.0 y.0 h0.0) (same-path x.1.0 y.1.0 h1.0) (same-truth x.1.1.0 y.1.1.0 h1.1),
                                       (
                                         λ x y same. let h0 = both _ _ same in two programs.Unlink (same-path x.0 y.0 h0.0) (same-truth x.1.0 y.1.0 h0.1),
                                         (
-                                          λ x y same. let h0 = both _ _ same in let h1 = both _ _ h0.1 in let h2 = both _ _ h1.1 in four programs.Renameat (same-operand x.0 y.0 h0.0) (same-path x.1.0 y.1.0 h1.0) (same-operand x.1.1.0 y.1.1.0 h2.0) (same-path x.1.1.1.0 y.1.1.1.0 h2.1),
+                                          λ x y same. let h0 = both _ _ same in let h1 = both _ _ h0.1 in let h2 = both _ _ h1.1 in
+                                              four programs.Renameat (same-operand x.0 y.0 h0.0) (same-path x.1.0 y.1.0 h1.0) (same-operand x.1.1.0 y.1.1.0 h2.0) (same-path x.1.1.1.0 y.1.1.1.0 h2.1),
                                           (
                                             λ x y same. ap programs.Dup (same-operand x.0 y.0 same),
                                             (
@@ -171,7 +173,8 @@ same-call a b same =
 
 pub same-instruction : (a b : InstructionCode) → instruction_eq.ghosts.eq a b ≡ true → instruction_of a ≡ instruction_of b
 same-instruction a b same =
-    sym (ap instruction_of (instructions.enum.eta a)) ∙ tells-same instructions.enum.parts _ (λ c. instruction_of (instructions.enum.make c)) (instructions.enum.as_values a) (instructions.enum.as_values b) same (
+    sym (ap instruction_of (instructions.enum.eta a))
+    ∙ tells-same instructions.enum.parts _ (λ c. instruction_of (instructions.enum.make c)) (instructions.enum.as_values a) (instructions.enum.as_values b) same (
       λ x y same. let h0 = both _ _ same in two programs.Set (eqb-true x.0 y.0 h0.0) (eqb-true x.1.0 y.1.0 h0.1),
       (
         λ x y same. let h0 = both _ _ same in two programs.Mov (eqb-true x.0 y.0 h0.0) (eqb-true x.1.0 y.1.0 h0.1),

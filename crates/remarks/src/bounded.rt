@@ -4,9 +4,10 @@ ghost use Rattle.std.specs.Prelude.{◌≡◌, ◌&&◌, ◌||◌, ◌==◌, ◌
 ghost use Rattle.std.specs.List.{list_any};
 ghost use Rattle.certificate.specs.Views.{bound_of, held_of, mode_of, target_of};
 ghost use Rattle.remarks.specs.RemarkViews.{bounds_of, ways_of};
-ghost use Rattle.remarks.specs.Remarks.{are_both, are_sides, begins_way, bound_here, closing_points, doubled, has_mode, has_work, held_here, holds_so, idle, is_choice, is_doubled, is_either, is_fork};
-ghost use Rattle.remarks.specs.Remarks.{is_either_at, is_halt, stays_idle, is_led_by, is_off_at, is_on_at, is_skipping, is_stray, is_there, is_working, lies_nowhere, may_be_number, may_be_sent, parts_at};
-ghost use Rattle.remarks.specs.Remarks.{may_close, may_go_through, may_name_number, naming_points, skipping, strays, unsettled, working_points};
+ghost use Rattle.remarks.specs.Remarks.{are_both, are_sides, begins_way, bound_here, closing_points, doubled, has_mode, has_work, held_here, holds_so, idle, is_choice, is_doubled};
+ghost use Rattle.remarks.specs.Remarks.{is_either, is_either_at, is_fork, is_halt, stays_idle, is_led_by, is_off_at, is_on_at, is_skipping, is_stray, is_there, is_working};
+ghost use Rattle.remarks.specs.Remarks.{lies_nowhere, may_be_number, may_be_sent, parts_at, may_close, may_go_through, may_name_number, naming_points, skipping, strays, unsettled};
+ghost use Rattle.remarks.specs.Remarks.{working_points};
 ghost use Rattle.remarks.specs.Ways.{from_which, is_flagged, leads_from};
 ghost use Rattle.instruction_set.specs.Views.{code_of, instruction_of, operand_of, syscall_of};
 ghost use Rattle.rights.specs.Limits.{most_descriptors};

@@ -19,9 +19,12 @@ loop-program-preserved c =
     subst (AreLinesOf (texts_at text.code.bytes.items text.instructions.items)) c.code.ensures.value
     (subst (λ bytes. AreLinesOf (texts_at bytes text.instructions.items) (code_of c.code.result.now)) c.deref.ensures.value c.in_ok-instructions.ensures)
     in
-    let there = ap (λ n. slice_get (codes_in (programs_of programs)) n) c.loop-program.invariant.0 ∙ code-there programs c.loop-program.program-index program c.loop-program-test.true c.program-item.is in (
+    let there = ap (λ n. slice_get (codes_in (programs_of programs)) n) c.loop-program.invariant.0
+    ∙ code-there programs c.loop-program.program-index program c.loop-program-test.true c.program-item.is in (
       ap length c.in_ok-push.ensures.items ∙ length-append texts (text ∷ []) ∙ ap (λ n. n + 1) c.loop-program.invariant.0,
-      subst (λ texts. AreTextsOf texts (codes_in (programs_of programs))) (sym c.in_ok-push.ensures.items) (one-text texts (codes_in (programs_of programs)) text program.program c.loop-program.invariant.1 there lines),
+      subst (λ texts. AreTextsOf texts (codes_in (programs_of programs))) (sym c.in_ok-push.ensures.items) (
+          one-text texts (codes_in (programs_of programs)) text program.program c.loop-program.invariant.1 there lines
+          ),
     )
 
 pub returns-clause-each : goal.returns-clause-each
