@@ -302,7 +302,7 @@ module _ (w : World) (p : ℕ) (s : ProcessState) (e : Event) where
 
   -- ## renameat (rename(2))
   -- Into a free name, or over another node, whose kind has to fit. A node that is replaced is removed, which
-  -- needs the right to unlink too (own).
+  -- needs the right to unlink too (rights(4)).
   abbrev pub moves : NodeNumber → Place → Change
   moves n place = record same { tree = Move n place }
 

@@ -64,7 +64,7 @@ first_needs calls.Socketpair request = 0
 first_needs calls.Fork request = 0
 
 -- Of the second of two. A node that renameat replaces goes away as by unlinkat, and this is asked
--- too. (own) A descriptor that is sent needs nothing itself.
+-- too (rights(4)). A descriptor that is sent needs nothing itself.
 abbrev pub second_needs : Call → Bool → RightSet
 second_needs calls.Open replaces = 0
 second_needs calls.Openat replaces = 0
