@@ -1,0 +1,15 @@
+pub mod Same
+pub mod SetLaws
+pub mod LineLaws
+pub mod LoopLaws
+pub mod OneSpelling
+pub mod QuotedLaws
+pub mod NameLaws
+pub mod FlagLaws
+pub mod WordsBack
+pub mod LineBack
+pub mod TextBack
+pub mod Samples
+pub mod Rows
+pub mod PartLaws
+pub mod Limits

@@ -1,0 +1,15 @@
+pub mod Calls
+pub mod Named
+pub mod Sets
+pub mod Quoted
+pub mod Texts
+pub mod Readings
+pub mod OperandViews
+pub mod EntryViews
+pub mod ReadingViews
+pub mod RestViews
+pub mod RowViews
+pub mod QuotedViews
+pub mod BindingViews
+pub mod FaultViews
+pub mod CallsViews

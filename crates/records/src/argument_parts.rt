@@ -1,0 +1,117 @@
+//! The arguments of a call, as strace writes them.
+
+ghost use Rattle.std.specs.Prelude.{◌≡◌, ◌<◌, IfOk, IfSome, length, map};
+ghost use Rattle.texts.specs.Bytes.{comma};
+ghost use Rattle.texts.specs.Parts.{joined};
+
+use std::alloc::{AllocError, Global};
+
+/// Where a byte stands, of text and strings.
+#[derive(Clone, Copy, PartialEq, Eq)]
+enum Place {
+    Plain,
+    /// In a string in quotes.
+    Quoted,
+    /// Behind a backslash in one.
+    Escaped,
+}
+
+/// How deep a byte stands.
+#[derive(Clone, Copy)]
+struct Depth {
+    /// So many brackets are open.
+    brackets: usize,
+    /// So many `<` of a descriptor's note are.
+    notes: usize,
+    place: Place,
+    /// The byte before.
+    last: u8,
+}
+
+impl Depth {
+    /// That of the first byte.
+    fn first() -> Depth {
+        Depth {
+            brackets: 0,
+            notes: 0,
+            place: Place::Plain,
+            last: b' ',
+        }
+    }
+
+    /// Whether the byte belongs to no string, bracket or note.
+    fn is_top(self) -> bool {
+        self.brackets == 0 && self.notes == 0 && self.place == Place::Plain
+    }
+
+    /// So many brackets, behind a plain byte outside notes.
+    fn brackets_behind(self, byte: u8) -> usize {
+        match byte {
+            b'(' | b'[' | b'{' => self.brackets.saturating_add(1),
+            b')' | b']' | b'}' => self.brackets.saturating_sub(1),
+            _ => self.brackets,
+        }
+    }
+
+    /// So many notes, behind a plain byte. A note begins behind a number or `AT_FDCWD`, and `->` ends none.
+    fn notes_behind(self, byte: u8) -> usize {
+        let may_begin = self.notes > 0 || self.last.is_ascii_digit() || self.last == b'D';
+        match byte {
+            b'<' if may_begin => self.notes.saturating_add(1),
+            b'>' if self.last != b'-' => self.notes.saturating_sub(1),
+            _ => self.notes,
+        }
+    }
+
+    /// That of the byte behind this one.
+    fn behind(self, byte: u8) -> Depth {
+        let mut next = self;
+        next.last = byte;
+        match self.place {
+            Place::Escaped => next.place = Place::Quoted,
+            Place::Quoted if byte == b'"' => next.place = Place::Plain,
+            Place::Quoted if byte == b'\\' => next.place = Place::Escaped,
+            Place::Quoted => {}
+            Place::Plain if byte == b'"' && self.notes == 0 => next.place = Place::Quoted,
+            Place::Plain => {
+                next.notes = self.notes_behind(byte);
+                if self.notes == 0 {
+                    next.brackets = self.brackets_behind(byte);
+                }
+            }
+        }
+        next
+    }
+}
+
+/// Where the bracket stands that closes a call's arguments.
+pub(crate) fn close_of(text: &[u8]) -> Option<usize>
+    ensures { IfSome result (λ at. at < length text.now) }
+{
+    let mut depth = Depth::first();
+    for (at, byte) in text.iter().enumerate() {
+        if *byte == b')' && depth.is_top() {
+            return Some(at);
+        }
+        depth = depth.behind(*byte);
+    }
+    None
+}
+
+/// The arguments of a call: the parts between the commas that stand in no string, bracket or note. With the commas they are the text.
+pub fn arguments<'t>(alloc: Global, text: &'t [u8]) -> Result<Vec<&'t [u8]>, AllocError>
+    ensures { IfOk result (λ parts. joined comma (map (λ part. part.now) parts.items) ≡ text.entry.now) }
+{
+    let mut parts = Vec::new(alloc);
+    let mut depth = Depth::first();
+    let mut start = 0;
+    for (at, byte) in text.iter().enumerate() {
+        if *byte == b',' && depth.is_top() {
+            parts.push(&text[start..at])?;
+            start = at + 1;
+        }
+        depth = depth.behind(*byte);
+    }
+    parts.push(&text[start..])?;
+    Ok(parts)
+}

@@ -1,0 +1,120 @@
+//! The results of calls, as strace writes them.
+
+ghost use Rattle.std.specs.Prelude.{◌≤◌, length};
+
+use crate::strace_texts::{after, is_name, number, without_spaces};
+use texts::{first_part, read_hex};
+
+/// What a call came to.
+#[derive(Clone, Copy)]
+pub struct CallResult<'t> {
+    pub answer: Answer<'t>,
+    /// What is noted of the descriptor that it answers.
+    pub note: Option<&'t [u8]>,
+    /// The name of an error.
+    pub error: Option<&'t [u8]>,
+}
+
+/// What a call answers.
+#[derive(Clone, Copy)]
+pub enum Answer<'t> {
+    /// It isn't told.
+    Unknown,
+    /// A number that 32 bits hold.
+    Number(u32),
+    /// It fails.
+    Failure,
+    /// Another number, as it is written.
+    Other(&'t [u8]),
+}
+
+/// Where a word of a result ends: at a space, at a note, or at the end.
+fn word_end(text: &[u8]) -> usize
+    ensures { result ≤ length text.now }
+{
+    for (at, byte) in text.iter().enumerate() {
+        if *byte == b' ' || *byte == b'<' {
+            return at;
+        }
+    }
+    text.len()
+}
+
+/// Where a note ends that the text begins with, behind its last bracket.
+fn note_end(text: &[u8]) -> usize
+    ensures { result ≤ length text.now }
+{
+    let mut depth: usize = 0;
+    let mut last = b' ';
+    for (at, byte) in text.iter().enumerate() {
+        if *byte == b'<' {
+            depth = depth.saturating_add(1);
+        } else if *byte == b'>' && last != b'-' {
+            depth = depth.saturating_sub(1);
+            if depth == 0 {
+                return at + 1;
+            }
+        }
+        last = *byte;
+    }
+    text.len()
+}
+
+/// The number of some hexadecimal digits, if they are at most eight.
+fn short_hex(digits: &[u8]) -> Option<u32> {
+    if digits.len() > 8 {
+        return None;
+    }
+    read_hex(digits, digits.len())
+}
+
+/// The answer that a word tells.
+fn answer_of(word: &[u8]) -> Option<Answer<'_>> {
+    if word == b"?".as_slice() {
+        return Some(Answer::Unknown);
+    }
+    if word == b"-1".as_slice() {
+        return Some(Answer::Failure);
+    }
+    if let Some(number) = number(word) {
+        return Some(Answer::Number(number));
+    }
+    if let Some(digits) = after(word, b"0x") {
+        return Some(match short_hex(digits) {
+            Some(number) => Answer::Number(number),
+            None => Answer::Other(word),
+        });
+    }
+    match word {
+        [b'-' | b'0'..=b'9', ..] => Some(Answer::Other(word)),
+        _ => None,
+    }
+}
+
+/// The name of an error that a text begins with.
+fn error_of(text: &[u8]) -> Option<&[u8]> {
+    let (word, _behind) = first_part(without_spaces(text), b' ');
+    match word {
+        [b'E', ..] if is_name(word) => Some(word),
+        _ => None,
+    }
+}
+
+/// The result that stands behind a call's arguments.
+pub(crate) fn result_of(text: &[u8]) -> Option<CallResult<'_>> {
+    let text = after(without_spaces(text), b"= ")?;
+    let (word, rest) = text.split_at(word_end(text));
+    let answer = answer_of(word)?;
+    let (note, rest) = match rest {
+        [b'<', ..] => {
+            let (note, rest) = rest.split_at(note_end(rest));
+            (Some(note), rest)
+        }
+        _ => (None, rest),
+    };
+    Some(CallResult {
+        answer,
+        note,
+        error: error_of(rest),
+    })
+}

@@ -1,0 +1,52 @@
+//! Parts of the lines that strace writes.
+
+ghost use Rattle.std.specs.Prelude.{◌≡◌, ◌++◌, IfSome};
+ghost use Rattle.std.specs.List.{list_all};
+ghost use Rattle.records.specs.Calls.{is_call_name, is_call_name_byte};
+
+use crate::words::has_name_bytes;
+use texts::number_up_to;
+
+/// What stands behind a beginning.
+pub(crate) fn after<'t>(text: &'t [u8], beginning: &[u8]) -> Option<&'t [u8]>
+    ensures { IfSome result (λ rest. text.entry.now ≡ beginning.now ++ rest.now) }
+{
+    if text.len() < beginning.len() {
+        return None;
+    }
+    let (front, rest) = text.split_at(beginning.len());
+    if front == beginning { Some(rest) } else { None }
+}
+
+/// What stands before an ending.
+pub(crate) fn before<'t>(text: &'t [u8], ending: &[u8]) -> Option<&'t [u8]>
+    ensures { IfSome result (λ front. text.entry.now ≡ front.now ++ ending.now) }
+{
+    if text.len() < ending.len() {
+        return None;
+    }
+    let (front, rest) = text.split_at(text.len() - ending.len());
+    if rest == ending { Some(front) } else { None }
+}
+
+/// The text without the spaces that it begins with.
+pub(crate) fn without_spaces(text: &[u8]) -> &[u8] {
+    let mut rest = text;
+    while let [b' ', more @ ..] = rest {
+        rest = more;
+    }
+    rest
+}
+
+/// The number in decimal digits, if 32 bits hold it.
+pub(crate) fn number(word: &[u8]) -> Option<u32> {
+    number_up_to(word, u32::MAX).ok()
+}
+
+/// Whether a word is a name: letters, digits and `_`, and one of them at least.
+pub(crate) fn is_name(word: &[u8]) -> bool
+    ensures { result ≡ is_call_name word.now }
+{
+    let has_name_bytes = has_name_bytes(word);
+    !word.is_empty() && has_name_bytes
+}
