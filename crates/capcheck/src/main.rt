@@ -2,11 +2,11 @@
 #![tactic(auto)]
 
 use commands::{NAME, serve};
-use console::Session;
+use console::{ClosedPipe, Session};
 use std::process::ExitCode;
 
 fn main(rt: HostRuntime) -> ExitCode {
-    let session = &mut match Session::begin(&rt, NAME) {
+    let session = &mut match Session::begin(&rt, NAME, ClosedPipe::Fails) {
         Ok(session) => session,
         Err(status) => return ExitCode::from(status),
     };

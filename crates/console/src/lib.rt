@@ -12,4 +12,4 @@ pub use faults::{Fault, tell, words_of};
 pub use sessions::Session;
 pub use sources::{Disk, Source, fetched};
 pub use statuses::status_of_verdict;
-pub use streams::{Console, closed, write_bytes, write_pieces};
+pub use streams::{ClosedPipe, Console, Pipe, closed, write_bytes, write_pieces};

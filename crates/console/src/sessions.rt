@@ -6,9 +6,9 @@ ghost use Rattle.console.specs.Statuses.{is_fault_status};
 
 use crate::faults::{Fault, tell};
 use crate::sources::Disk;
-use crate::streams::{Console, closed};
+use crate::streams::{ClosedPipe, Console, Pipe, closed};
 use std::env;
-use std::io::{BufWriter, ErrorKind, Stderr, Stdout};
+use std::io::{BufWriter, ErrorKind, Stderr};
 
 /// A program that has begun.
 #[derive(Drop)]
@@ -19,13 +19,13 @@ pub struct Session<'a> {
     /// Its words, without its own name.
     pub words: Vec<String>,
     pub files: Disk<'a>,
-    pub out: Console<BufWriter<Stdout>>,
+    pub out: Console<BufWriter<Pipe>>,
     pub err: Console<Stderr>,
 }
 
 impl<'a> Session<'a> {
     /// Opens what a program of this name has. The fault is `Words`, where the words can't be had as text, or `Memory`.
-    fn open(rt: &'a HostRuntime, name: &'a str) -> Result<Session<'a>, Fault<'a>>
+    fn open(rt: &'a HostRuntime, name: &'a str, pipe: ClosedPipe) -> Result<Session<'a>, Fault<'a>>
         ensures out { IfOk result (λ session. session.out.failures ≡ 0) }
         ensures err { IfOk result (λ session. session.err.failures ≡ 0) }
     {
@@ -38,22 +38,24 @@ impl<'a> Session<'a> {
             name,
             words: args.skip(1).collect(rt.alloc())?,
             files: Disk::new(rt),
-            out: Console::new(BufWriter::new(rt.alloc(), rt.stdout()).map_err(|_| Fault::Memory)?),
+            out: Console::new(BufWriter::new(rt.alloc(), Pipe::new(rt.stdout(), pipe)).map_err(
+                |_| Fault::Memory,
+            )?),
             err: Console::new(rt.stderr()),
         })
     }
 
-    /// Begins a program of this name.
+    /// Begins a program of this name, which does this where its output is a closed pipe.
     ///
     /// # Errors
     ///
     /// The status of a fault, which was told: the words can't be had as text, or there is no memory.
-    pub fn begin(rt: &'a HostRuntime, name: &'a str) -> Result<Session<'a>, u8>
+    pub fn begin(rt: &'a HostRuntime, name: &'a str, pipe: ClosedPipe) -> Result<Session<'a>, u8>
         ensures out { IfOk result (λ session. session.out.failures ≡ 0) }
         ensures err { IfOk result (λ session. session.err.failures ≡ 0) }
         ensures refused { IfErr result (λ status. IsTrue (is_fault_status status)) }
     {
-        match Session::open(rt, name) {
+        match Session::open(rt, name, pipe) {
             Ok(session) => Ok(session),
             Err(fault) => Err(tell(rt.alloc(), name, &fault, &mut Console::new(rt.stderr()))),
         }

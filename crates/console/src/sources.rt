@@ -47,6 +47,7 @@ pub fn fetched<'a>(name: &'a str, read: io::Result<Vec<u8>>) -> Result<Vec<u8>, 
 #[derive(Drop)]
 pub struct Disk<'a> {
     rt: &'a HostRuntime,
+    why: Option<ErrorKind>,
 }
 
 impl<'a> Disk<'a> {
@@ -54,7 +55,14 @@ impl<'a> Disk<'a> {
     pub fn new(rt: &'a HostRuntime) -> Disk<'a>
         ensures { ⟦<Disk<'a> as Source>⟧.files result ≡ None }
     {
-        Disk { rt }
+        Disk { rt, why: None }
+    }
+
+    /// Why the last file that was fetched couldn't be read, as the system says it; none where it was read.
+    pub fn why(&self) -> Option<ErrorKind>
+        ensures { result ≡ self.now.why }
+    {
+        self.why
     }
 }
 
@@ -62,6 +70,11 @@ impl<'a> Source for Disk<'a> {
     ghost files = { λ _. None };
 
     fn fetch<'b>(&mut self, name: &'b str) -> Result<Vec<u8>, Fault<'b>> {
-        fetched(name, fs::read(self.rt, name))
+        let read = fs::read(self.rt, name);
+        self.why = match &read {
+            Ok(_) => None,
+            Err(error) => Some(error.kind()),
+        };
+        fetched(name, read)
     }
 }

@@ -10,7 +10,53 @@ ghost use Rattle.console.specs.Told.{TellsLine};
 use crate::faults::write_line;
 use crate::statuses::{REFUSED, STOPPED};
 use rights::{Out, OutFault, Stop, write_all};
-use std::io::Write;
+use std::io::{self, ErrorKind, Stdout, Write};
+
+/// What a program does whose output is a pipe that nobody reads any more.
+#[derive(Clone, Copy, PartialEq, Eq)]
+pub enum ClosedPipe {
+    /// Its output has failed.
+    Fails,
+    /// It drops what it would write.
+    Drops,
+}
+
+/// Standard output, and what is done where it is a closed pipe.
+#[derive(Drop)]
+pub struct Pipe {
+    stream: Stdout,
+    closed: ClosedPipe,
+}
+
+impl Pipe {
+    /// This stream.
+    pub fn new(stream: Stdout, closed: ClosedPipe) -> Pipe
+        ensures { result.closed ≡ closed }
+    {
+        Pipe { stream, closed }
+    }
+
+    /// Whether a failure is that of a closed pipe, and what is written there is dropped.
+    fn drops(&self, error: &io::Error) -> bool {
+        self.closed == ClosedPipe::Drops && error.kind() == ErrorKind::BrokenPipe
+    }
+}
+
+impl Write for Pipe {
+    fn write(&mut self, bytes: &[u8]) -> io::Result<usize> {
+        match self.stream.write(bytes) {
+            Err(error) if self.drops(&error) => Ok(bytes.len()),
+            written => written,
+        }
+    }
+
+    fn flush(&mut self) -> io::Result<()> {
+        match self.stream.flush() {
+            Err(error) if self.drops(&error) => Ok(()),
+            flushed => flushed,
+        }
+    }
+}
 
 /// A stream of the process, as a writer that counts its failures. `taken` tells nothing of it; where the stream underneath
 /// tells what it holds, the clause `appends` says that it gets what was taken and no more.

@@ -8,7 +8,7 @@ use anyhow::{Context, Result, bail};
 use commands::serve;
 use console::statuses::{DONE, STOPPED};
 use console::{Disk, Fault, Source};
-use explore::Watcher;
+use explore::{HowFar, Watcher};
 use rights::{Out, OutFault};
 use serde::Deserialize;
 use std::alloc::Global;
@@ -106,7 +106,7 @@ fn empty_sink(alloc: Global) -> Sink
 struct Nobody;
 
 impl Watcher for Nobody {
-    fn tell(&mut self, _states: usize) {}
+    fn tell(&mut self, _how_far: HowFar) {}
 }
 
 /// What the program makes of some words.

@@ -106,7 +106,7 @@ Answers files (Listing task certificate) status before after = status ≡ 0
 Answers files (Broken task certificate) status before after = SaysOfFiles files task certificate status before after
 Answers files (Unfound task) status before after = SaysOfSearch files task status
 Answers files (Breach task states) status before after = SaysOfRuns files task status before after
-Answers files (Proposed task) status before after = SaysOfTask files task status before after
+Answers files (Proposed task certificate) status before after = SaysOfTask files task status before after
 Answers files (Faulty task) status before after = SaysOfFile files task status
 
 -- The words ask something, and it is answered.

@@ -10,5 +10,5 @@ question_of (question.Listing task cert) = Listing task.now (option_map (λ name
 question_of (question.Broken task cert) = Broken task.now cert.now
 question_of (question.Unfound task) = Unfound task.now
 question_of (question.Breach task states) = Breach task.now states
-question_of (question.Proposed task) = Proposed task.now
+question_of (question.Proposed task cert) = Proposed task.now (option_map (λ name. name.now) cert)
 question_of (question.Faulty task) = Faulty task.now

@@ -7,14 +7,14 @@ use Rattle.command_line.specs.Orders.{is_dashed}
 
 -- what there is to ask; for a listing of a task, with the bounds of a certificate or without; for all rules that a certificate breaks;
 -- for what the search comes to; for a run that breaks the sandbox, among so many states at most; for a certificate, of untrusted programs
--- too; for the faults of a task's text
+-- too, or for one of an older text carried over; for the faults of a task's text
 pub data Question : Type 0 where
   Usage : Question
   Listing : (task : List ℕ) (certificate : Option (List ℕ)) → Question
   Broken : (task certificate : List ℕ) → Question
   Unfound : (task : List ℕ) → Question
   Breach : (task : List ℕ) (states : Option ℕ) → Question
-  Proposed : (task : List ℕ) → Question
+  Proposed : (task : List ℕ) (certificate : Option (List ℕ)) → Question
   Faulty : (task : List ℕ) → Question
 
 abbrev pub if_so : Bool → Question → Option Question
@@ -27,7 +27,7 @@ of_task command task =
     else if bytes_eq command (codes "list") then Some (Listing task None)
     else if bytes_eq command (codes "none") then Some (Unfound task)
     else if bytes_eq command (codes "breach") then Some (Breach task None)
-    else if bytes_eq command (codes "propose") then Some (Proposed task)
+    else if bytes_eq command (codes "propose") then Some (Proposed task None)
     else if_so (bytes_eq command (codes "text")) (Faulty task)
 
 -- a number of states
@@ -42,10 +42,11 @@ of_pair command task certificate =
     if is_dashed task || is_dashed certificate then None
     else if bytes_eq command (codes "list") then Some (Listing task (Some certificate))
     else if bytes_eq command (codes "breach") then among task (at_most most_states (number_of certificate))
+    else if bytes_eq command (codes "propose") then Some (Proposed task (Some certificate))
     else if_so (bytes_eq command (codes "no")) (Broken task certificate)
 
 -- No words, or `--help`; `list TASK`, `none TASK`, `breach TASK`, `propose TASK`, `text TASK`; `list TASK CERT`, `breach TASK STATES`,
--- `no TASK CERT`. No name begins with `-`, and a number of states fits 32 bits.
+-- `propose TASK CERT`, `no TASK CERT`. No name begins with `-`, and a number of states fits 32 bits.
 abbrev pub question_in : List (List ℕ) → Option Question
 question_in [] = Some Usage
 question_in (word ∷ []) = if_so (bytes_eq word (codes "--help")) Usage

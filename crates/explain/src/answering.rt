@@ -1,7 +1,8 @@
 //! What is answered to a question, and how.
 
-ghost use Rattle.std.specs.Prelude.{◌≡◌, ◌<◌, ◌-◌, ◌^◌, IfOk, IsTrue, Ok, OnOk, map, string_bytes, true};
+ghost use Rattle.std.specs.Prelude.{◌≡◌, ◌<◌, ◌-◌, ◌^◌, IfOk, IfSome, IsTrue, Ok, OnOk, map, string_bytes, true};
 ghost use Rattle.checker.specs.FindingViews.{broken_rule_of};
+ghost use Rattle.checker.specs.Verdicts.{IsAccepted};
 ghost use Rattle.console.specs.Statuses.{is_done_status, is_status};
 ghost use Rattle.task.specs.Plans.{Plan};
 ghost use Rattle.task_reader.specs.Reading.{task_of};
@@ -16,11 +17,12 @@ use crate::listing::add_listing;
 use crate::older::add_older;
 use crate::questions::{Question, read_question};
 use crate::refusing::add_findings;
+use crate::renewing::renewed;
 use crate::scenes::Scene;
 use crate::task_faults::add_task_faults;
 use crate::usage::USAGE;
 use certificate::{Cert, Version};
-use certificate_text::write_cert;
+use certificate_text::{read_cert, write_cert};
 use checker::{BrokenRule, all_findings, expand};
 use console::statuses::{BROKEN, DONE};
 use console::{Fault, Source, status_of_verdict, tell};
@@ -147,14 +149,41 @@ fn unfound<'a>(alloc: Global, file: &[u8]) -> Result<Answer, Fault<'a>>
     })
 }
 
-/// Writes a certificate of a task that is proposed, or `none`, and gives the status.
-fn offer<'a, W: Out>(alloc: Global, file: &[u8], out: &mut W) -> Result<u8, Fault<'a>>
+/// The certificate of an older text, if there is one.
+fn read_older<'a>(alloc: Global, text: Option<&[u8]>) -> Result<Option<Cert>, Fault<'a>> {
+    match text {
+        None => Ok(None),
+        Some(text) => match read_cert(alloc, text) {
+            Ok(cert) => Ok(Some(cert)),
+            Err(fault) => Err(Fault::Cert(fault)),
+        },
+    }
+}
+
+/// A certificate of a task: one that is proposed, or an older one with its points where the programs have them now.
+fn offered(alloc: Global, task: &Task, older: &Option<Cert>) -> Result<Option<Cert>, Memory>
+    ensures { IfOk result (λ found. IfSome found (λ cert. IsAccepted task.now cert)) }
+{
+    match older {
+        None => propose(alloc, task),
+        Some(cert) => renewed(alloc, task, cert),
+    }
+}
+
+/// Writes a certificate of a task, or `none`, and gives the status.
+fn offer<'a, W: Out>(
+    alloc: Global,
+    file: &[u8],
+    older: Option<&[u8]>,
+    out: &mut W,
+) -> Result<u8, Fault<'a>>
     requires { W.faults out.old < 2 ^ 64 - 1 }
     ensures task { IfOk result (λ status. (plan : Plan) × (task_of file.now ≡ Ok plan) × SaysOffered plan status (W.taken out.old) (W.taken out.new)) }
     ensures done { IfOk result (λ status. is_done_status status ≡ true) }
 {
     let task = read_task(alloc, file)?;
-    match propose(alloc, &task)? {
+    let older = read_older(alloc, older)?;
+    match offered(alloc, &task, &older)? {
         Some(cert) => {
             write_cert(&cert, out)?;
             Ok(DONE)
@@ -223,7 +252,15 @@ fn reply<'a, S: Source, W: Out, P: Watcher>(
         Question::Breach { task, states } => {
             answer_breach(alloc, &files.fetch(task)?, states, out, watcher)
         }
-        Question::Proposed { task } => offer(alloc, &files.fetch(task)?, out),
+        Question::Proposed { task, cert: None } => offer(alloc, &files.fetch(task)?, None, out),
+        Question::Proposed {
+            task,
+            cert: Some(cert),
+        } => {
+            let task_text = files.fetch(task)?;
+            let cert_text = files.fetch(cert)?;
+            offer(alloc, &task_text, Some(&cert_text), out)
+        }
         Question::Faulty { task } => written(faulty(alloc, &files.fetch(task)?)?, out),
     }
 }

@@ -78,11 +78,11 @@ pub(crate) fn answer_breach<'a, W: Out, P: Watcher>(
             Ok(BROKEN)
         }
         Explored::Ended(states) => {
-            let how_far = ", all to which the bytes lead that were tried";
+            let how_far = ", and there are no others with the bytes that were tried";
             write_unbroken(alloc, states, how_far, out)
         }
         Explored::Bounded(states) => {
-            let how_far = ", and there are more: a greater number may be given";
+            let how_far = ", and there are others: give a greater number to go on";
             write_unbroken(alloc, states, how_far, out)
         }
     }

@@ -12,15 +12,49 @@ use crate::refusing::add_findings;
 use crate::scenes::{Place, Scene};
 use crate::starting::Object;
 use checker::{BrokenRule, all_findings, expand};
+use file_tree::Kind;
 use instruction_set::{Instruction, Syscall};
 use rights::Memory;
 use searcher::{propose, reached, search};
 use std::alloc::Global;
-use task::{FirstObject, Task, node_begins, none_marked};
+use task::{FirstObject, Grant, Task, TaskNode, node_begins, none_marked};
 use task_text::ProgramText;
 use texts::{Page, say};
 
-/// Adds that the grant of a path would be needed that an instruction opens by itself and that is no grant's.
+/// The node of a task that stands at a path, if one does.
+fn node_at<'a>(task: &'a Task, path: &[u8]) -> Option<&'a TaskNode> {
+    for node in task.nodes() {
+        if node.place.text() == path {
+            return Some(node);
+        }
+    }
+    None
+}
+
+/// The first grant that a node lies in, if it lies in one.
+fn grant_over<'a>(task: &'a Task, node: &TaskNode) -> Option<&'a Grant> {
+    for grant in task.grants() {
+        if node.place.begins_with(&grant.path) {
+            return Some(grant);
+        }
+    }
+    None
+}
+
+/// Adds that a file is opened by its own path: it counts as a grant's only where it is opened beneath one.
+fn add_file(page: &mut Page, scene: &Scene<'_>, file: &TaskNode, place: Place<'_>) {
+    say!(page; place, " opens ", file.place.text(), " by its path, so it counts as no grant's: ");
+    match grant_over(scene.task, file) {
+        Some(grant) => {
+            say!(page; "open ", grant.path.text(), ", which is the grant ", grant.name.as_bytes())
+        }
+        None =>
+            say!(page; "a grant of ", file.place.text_above(), " would be needed, opened by its path"),
+    }
+    say!(page; ", and openat beneath it\n")
+}
+
+/// Adds what an instruction opens by a path that is no grant's, and which grant would be needed.
 fn add_open(page: &mut Page, scene: &Scene<'_>, instruction: &Instruction, place: Place<'_>) {
     let Instruction::Invoke {
         call: Syscall::Open { path, .. },
@@ -30,14 +64,22 @@ fn add_open(page: &mut Page, scene: &Scene<'_>, instruction: &Instruction, place
         return;
     };
     let path = path.bytes();
-    if !scene
-        .task
-        .grants()
-        .iter()
-        .any(|grant| grant.path.text() == path)
-    {
-        say!(page; "a grant of ", path, " would be needed, if it is a directory: ");
-        say!(page; place, " opens it by its path\n");
+    for grant in scene.task.grants() {
+        if grant.path.text() == path {
+            return;
+        }
+    }
+    match node_at(scene.task, path) {
+        Some(node) => match node.kind {
+            Kind::Dir => {
+                say!(page; "a grant of ", path, " would be needed: ", place, " opens it by its path\n")
+            }
+            Kind::File => add_file(page, scene, node, place),
+            Kind::Link =>
+                say!(page; place, " opens ", path, " by its path, and that is a link: a grant is of a directory\n"),
+        },
+        None =>
+            say!(page; place, " opens ", path, " by its path, where the task has nothing: it counts as no grant's\n"),
     }
 }
 

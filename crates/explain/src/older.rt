@@ -28,7 +28,7 @@ fn named_points(alloc: Global, code: &[Instruction]) -> Result<Vec<bool>, AllocE
 
 /// How points have moved: those from one on, so far on or back.
 #[derive(Clone, Copy)]
-struct Move {
+pub(crate) struct Move {
     from: usize,
     far: usize,
     is_on: bool,
@@ -36,7 +36,7 @@ struct Move {
 
 impl Move {
     /// Where a point has come to; none where that lies before the first.
-    fn place(&self, point: usize) -> Option<usize> {
+    pub(crate) fn place(&self, point: usize) -> Option<usize> {
         if point < self.from {
             return Some(point);
         }
@@ -71,30 +71,50 @@ fn shortest_move(points: &[usize], flags: &[bool]) -> Option<Move> {
     None
 }
 
-/// Adds that a program's bounds seem to be of an older text.
-fn add_move(page: &mut Page, program: &[u8], moved: Move) {
-    let way = if moved.is_on { "on" } else { "back" };
-    say!(page; "the certificate seems to be of an older text of ", program);
-    say!(page; ": it bounds points that no jump and no else names now; from point ", moved.from);
-    say!(page; " on its points would be ", moved.far, " further ", way, "\n");
+/// A program whose points have moved, and how.
+#[derive(Clone, Copy)]
+pub(crate) struct MovedProgram<'a> {
+    pub name: &'a [u8],
+    pub by: Move,
 }
 
-/// Adds, for each program whose bounds in version 2 or 3 stand at points that nothing names, and would all stand at named ones if
-/// some of them had moved, that they have.
-pub(crate) fn add_older(page: &mut Page, task: &Task, cert: &Cert) {
+/// The programs whose bounds in version 2 or 3 stand at points that nothing names, and would all stand at named ones if some of them
+/// had moved.
+pub(crate) fn moved_programs<'a>(
+    alloc: Global,
+    task: &'a Task,
+    cert: &Cert,
+) -> Result<Vec<MovedProgram<'a>>, AllocError> {
+    let mut list = Vec::new(alloc);
     if cert.version() == Version::One {
-        return;
+        return Ok(list);
     }
     for program in task.programs() {
         let name = program.name.as_bytes();
-        let code = program.program.code();
-        let points = points_of(page.alloc(), cert, name);
-        let flags = named_points(page.alloc(), code);
-        let (points, flags) = (page.gathered(points), page.gathered(flags));
-        if let Some(moved) = shortest_move(&points, &flags) {
-            if moved.far != 0 {
-                add_move(page, name, moved);
+        let points = points_of(alloc, cert, name)?;
+        let flags = named_points(alloc, program.program.code())?;
+        if let Some(by) = shortest_move(&points, &flags) {
+            if by.far != 0 {
+                list.push(MovedProgram { name, by })?;
             }
         }
+    }
+    Ok(list)
+}
+
+/// Adds that a program's bounds seem to be of an older text.
+fn add_move(page: &mut Page, program: &MovedProgram<'_>) {
+    let way = if program.by.is_on { "on" } else { "back" };
+    say!(page; "the certificate seems to be of an older text of ", program.name);
+    say!(page; ": it bounds points that no jump and no else names now; from point ", program.by.from);
+    say!(page; " on its points would be ", program.by.far, " further ", way);
+    say!(page; " (`capwhy propose TASK CERT` tries that)\n");
+}
+
+/// Adds which programs' points have moved.
+pub(crate) fn add_older(page: &mut Page, task: &Task, cert: &Cert) {
+    let moved = moved_programs(page.alloc(), task, cert);
+    for program in &page.gathered(moved) {
+        add_move(page, program);
     }
 }

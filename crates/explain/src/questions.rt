@@ -32,9 +32,11 @@ pub enum Question<'a> {
         task: &'a str,
         states: Option<u32>,
     },
-    /// `propose TASK`: a certificate of a task, untrusted programs or not.
+    /// `propose TASK`: a certificate of a task, untrusted programs or not. `propose TASK CERT`: one of an older text, with its points
+    /// where the programs have them now.
     Proposed {
         task: &'a str,
+        cert: Option<&'a str>,
     },
     /// `text TASK`: the faults of a task's text.
     Faulty {
@@ -60,7 +62,7 @@ fn of_task<'a>(command: &str, task: &'a str) -> Option<Question<'a>>
         "list" => Some(Question::Listing { task, cert: None }),
         "none" => Some(Question::Unfound { task }),
         "breach" => Some(Question::Breach { task, states: None }),
-        "propose" => Some(Question::Proposed { task }),
+        "propose" => Some(Question::Proposed { task, cert: None }),
         "text" => Some(Question::Faulty { task }),
         _ => None,
     }
@@ -87,6 +89,10 @@ fn of_pair<'a>(command: &str, task: &'a str, cert: &'a str) -> Option<Question<'
             cert: Some(cert),
         }),
         "breach" => among(task, cert),
+        "propose" => Some(Question::Proposed {
+            task,
+            cert: Some(cert),
+        }),
         "no" => Some(Question::Broken { task, cert }),
         _ => None,
     }

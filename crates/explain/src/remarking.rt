@@ -1,5 +1,6 @@
 //! How remarks are written.
 
+use crate::folding::folded;
 use crate::scenes::Scene;
 use remarks::{Remark, Remarked, TaskRemark, remarks_on, remarks_on_task};
 use texts::{Page, say};
@@ -72,19 +73,21 @@ fn add_text(page: &mut Page, name: &[u8], remark: &Remark) {
 
 /// Adds a remark with its points.
 fn add_remark(page: &mut Page, name: &[u8], remarked: &Remarked) {
-    say!(page; "  remark: ");
-    add_text(page, name, &remarked.remark);
+    let line = &mut Page::new(page.alloc());
+    say!(line; "  remark: ");
+    add_text(line, name, &remarked.remark);
     if !matches!(remarked.remark, Remark::Untrusted) {
-        say!(page; " at ");
-        add_points(page, &remarked.points);
+        say!(line; " at ");
+        add_points(line, &remarked.points);
     }
     if let Remark::Unsettled { from } = &remarked.remark {
         if !from.is_empty() {
-            say!(page; ": cap_enter is skipped from ");
-            add_points(page, from);
+            say!(line; ": cap_enter is skipped from ");
+            add_points(line, from);
         }
     }
-    say!(page; "\n");
+    let lines = folded(line, 0);
+    say!(page; &lines, "\n");
 }
 
 /// Adds the remarks on a program.
@@ -98,21 +101,30 @@ pub(crate) fn add_remarks(page: &mut Page, scene: &Scene<'_>, program: usize, ha
     }
 }
 
-/// Adds a remark on the task.
-fn add_task_remark(page: &mut Page, remark: TaskRemark<'_>) {
+/// Adds what is remarked on the task.
+fn add_task_text(page: &mut Page, remark: TaskRemark<'_>) {
     match remark {
         TaskRemark::Alone { pair, side } => {
-            say!(page; "remark: no process has side ", side.other(), " of pair ", pair, ", so it is closed: a read of side ", side);
-            say!(page; " meets its end, and a write fails\n")
+            say!(page; "no process has side ", side.other(), " of pair ", pair, ", so it is closed: a read of side ", side);
+            say!(page; " meets its end, and a write fails")
         }
         TaskRemark::Boundless { grant } => {
-            say!(page; "remark: the grant ", grant.name.as_bytes(), " holds the whole tree\n")
+            say!(page; "the grant ", grant.name.as_bytes(), " holds the whole tree")
         }
         TaskRemark::Unused { grant, operation } => {
-            say!(page; "remark: the grant ", grant.name.as_bytes(), " lists ", operation);
-            say!(page; ", which no call does there in the mode\n")
+            say!(page; "the grant ", grant.name.as_bytes(), " lists ", operation);
+            say!(page; ", which no call does there in the mode")
         }
     }
+}
+
+/// Adds a remark on the task.
+fn add_task_remark(page: &mut Page, remark: TaskRemark<'_>) {
+    let line = &mut Page::new(page.alloc());
+    say!(line; "remark: ");
+    add_task_text(line, remark);
+    let lines = folded(line, 0);
+    say!(page; &lines, "\n");
 }
 
 /// Adds the remarks on the task as a whole.

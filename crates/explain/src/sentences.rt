@@ -3,6 +3,7 @@
 use crate::arriving::{Leads, add_parts, arrivals, fits};
 use crate::authority_rules::{add_authority, add_beyond};
 use crate::call_rules::{Told, add_call_rule};
+use crate::folding::folded;
 use crate::scenes::{BoundedPoint, Scene};
 use crate::starting::add_start;
 use certificate::{Bound, Domain};
@@ -168,7 +169,7 @@ fn add_detail(page: &mut Page, scene: &Scene<'_>, found: BrokenRule) {
     }
 }
 
-/// What a rule that is broken at a point asks, and what it compares there.
+/// What a rule that is broken at a point asks, and what it compares there, as it stands behind the rule's number in lines of their own.
 pub(crate) fn sentence(alloc: Global, scene: &Scene<'_>, found: BrokenRule) -> Page {
     let mut detail = Page::new(alloc);
     add_detail(&mut detail, scene, found);
@@ -180,5 +181,6 @@ pub(crate) fn sentence(alloc: Global, scene: &Scene<'_>, found: BrokenRule) -> P
     if detail.finish().is_err() {
         sentence.fail();
     }
-    sentence
+    let column = if found.rule.number() < 10 { 5 } else { 6 };
+    folded(&sentence, column)
 }

@@ -7,6 +7,7 @@ capwhy no TASK CERT          all rules that a certificate breaks, with where and
 capwhy none TASK             what the search for a certificate came to
 capwhy breach TASK [STATES]  a run that breaks the sandbox, if one is found
 capwhy propose TASK          a certificate that is accepted, of untrusted programs too
+capwhy propose TASK CERT     the certificate of an older text, with its points where they are now
 capwhy text TASK             where the faults of a task's text are
 capwhy --help                this text
 ";

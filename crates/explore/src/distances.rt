@@ -1,6 +1,6 @@
 //! How far the points of programs are from others.
 
-use instruction_set::Instruction;
+use instruction_set::{Instruction, successors_at};
 use rights::Memory;
 use rights::limits::MAX_INSTRUCTIONS;
 use std::alloc::Global;
@@ -23,23 +23,6 @@ pub(crate) struct Distances {
     programs: Vec<Vec<u16>>,
 }
 
-/// The points that an instruction may lead to: the next, and that of its jump or its `else`.
-fn leads_to(instruction: &Instruction, point: usize) -> (Option<usize>, Option<usize>) {
-    let next = Some(point.saturating_add(1));
-    match instruction {
-        Instruction::Jmp { target } => (None, Some(usize::from(*target))),
-        Instruction::Jeq { target, .. } | Instruction::Jlt { target, .. } => {
-            (next, Some(usize::from(*target)))
-        }
-        Instruction::Halt => (None, None),
-        Instruction::Invoke { otherwise, .. } => (next, Some(usize::from(*otherwise))),
-        Instruction::Set { .. }
-        | Instruction::Mov { .. }
-        | Instruction::Add { .. }
-        | Instruction::In { .. } => (next, None),
-    }
-}
-
 /// The steps of a point, if it is there.
 fn steps_at(steps: &[u16], point: Option<usize>) -> u16 {
     match point {
@@ -49,9 +32,9 @@ fn steps_at(steps: &[u16], point: Option<usize>) -> u16 {
 }
 
 /// Notes for a point that it is a step more than the nearest one that it leads to. Whether it is nearer than before is told.
-fn come_nearer(instruction: &Instruction, point: usize, steps: &mut Vec<u16>) -> bool {
-    let (next, target) = leads_to(instruction, point);
-    let behind = steps_at(steps, next).min(steps_at(steps, target));
+fn come_nearer(code: &[Instruction], point: usize, steps: &mut Vec<u16>) -> bool {
+    let successors = successors_at(code, point);
+    let behind = steps_at(steps, successors.next).min(steps_at(steps, successors.other));
     match steps.get_mut(point) {
         Some(own) if behind.saturating_add(1) < *own => {
             *own = behind.saturating_add(1);
@@ -64,8 +47,8 @@ fn come_nearer(instruction: &Instruction, point: usize, steps: &mut Vec<u16>) ->
 /// The same for all points of a program.
 fn all_come_nearer(code: &[Instruction], steps: &mut Vec<u16>) -> bool {
     let mut is_nearer = false;
-    for (point, instruction) in code.iter().enumerate() {
-        if come_nearer(instruction, point, steps) {
+    for point in 0..code.len() {
+        if come_nearer(code, point, steps) {
             is_nearer = true;
         }
     }

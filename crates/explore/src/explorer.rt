@@ -3,6 +3,7 @@
 use crate::aims::{Aims, Order};
 use crate::digests::Digest;
 use crate::distances::Goal;
+use crate::exploring::HowFar;
 use crate::kept::Kept;
 use crate::moves::{Asked, bytes_to_try, next_moves};
 use crate::runners::{Advance, Runner};
@@ -93,6 +94,15 @@ impl<'a> Explorer<'a> {
     /// How many states were met.
     pub(crate) fn count(&self) -> usize {
         self.trails.len()
+    }
+
+    /// How far it has come.
+    pub(crate) fn how_far(&self) -> HowFar {
+        HowFar {
+            states: self.trails.len(),
+            bound: self.bound,
+            deepest: self.trails.deepest(),
+        }
     }
 
     /// The run that breaks something, taken away; no events where there is none.

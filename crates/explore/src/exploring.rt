@@ -17,10 +17,21 @@ use task::Task;
 /// How many states are gone on from before the watcher is told.
 const SLICE: usize = 1000;
 
+/// How far a search has come.
+#[derive(Clone, Copy)]
+pub struct HowFar {
+    /// How many states were met.
+    pub states: usize,
+    /// How many may be, at most.
+    pub bound: usize,
+    /// How many events the longest way has by which one was met.
+    pub deepest: usize,
+}
+
 /// Who is told how far a search has come.
 pub trait Watcher {
-    /// So many states were met.
-    fn tell(&mut self, states: usize);
+    /// It has come so far.
+    fn tell(&mut self, how_far: HowFar);
 }
 
 /// A run that breaks something at its last step.
@@ -79,7 +90,7 @@ fn go_through<W: Watcher>(
         if !matches!(progress, Progress::Goes) {
             return Ok(progress);
         }
-        watcher.tell(explorer.count());
+        watcher.tell(explorer.how_far());
     }
     Ok(Progress::Bounded)
 }

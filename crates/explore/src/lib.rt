@@ -28,5 +28,5 @@ pub mod writing;
 pub use breaches::Breach;
 pub use breaking::breaks;
 pub use distances::Goal;
-pub use exploring::{Explored, FoundRun, Watcher, explore};
+pub use exploring::{Explored, FoundRun, HowFar, Watcher, explore};
 pub use writing::write_breach;

@@ -13,6 +13,8 @@ struct Visit {
     /// Where the events lie that lead here from there.
     first: usize,
     count: usize,
+    /// How many events lead here from the first state.
+    depth: usize,
     /// How many calls the kernel refused on its way.
     refusals: u32,
     /// It was gone on from.
@@ -26,6 +28,8 @@ pub(crate) struct Trails {
     visits: Vec<Visit>,
     /// The events of all of them, one after another.
     events: Vec<Event>,
+    /// The greatest depth.
+    deepest: usize,
 }
 
 impl Trails {
@@ -35,6 +39,7 @@ impl Trails {
             alloc,
             visits: Vec::new(alloc),
             events: Vec::new(alloc),
+            deepest: 0,
         }
     }
 
@@ -46,20 +51,38 @@ impl Trails {
     /// Adds a state to which these events lead from the one before it, and gives its place.
     pub(crate) fn add(&mut self, parent: Option<usize>, events: &[Event]) -> Result<usize, Memory> {
         let place = self.visits.len();
-        let before = match parent {
-            None => 0,
-            Some(parent) => self.refusals(parent),
+        let (before, depth) = match parent {
+            None => (0, events.len()),
+            Some(parent) => (
+                self.refusals(parent),
+                self.depth(parent).saturating_add(events.len()),
+            ),
         };
         let refused = matches!(events.first(), Some(event) if event.refuse);
         self.visits.push(Visit {
             parent,
             first: self.events.len(),
             count: events.len(),
+            depth,
             refusals: before.saturating_add(u32::from(refused)),
             is_done: false,
         })?;
         self.events.extend_from_slice(events)?;
+        self.deepest = self.deepest.max(depth);
         Ok(place)
+    }
+
+    /// How many events lead to the state of a place from the first one.
+    fn depth(&self, place: usize) -> usize {
+        match self.visits.get(place) {
+            None => 0,
+            Some(visit) => visit.depth,
+        }
+    }
+
+    /// The greatest number of events that lead to a state.
+    pub(crate) fn deepest(&self) -> usize {
+        self.deepest
     }
 
     /// The state before that of a place, if it isn't the first.

@@ -5,6 +5,7 @@ use Rattle.rights.specs.Opens.{OpenRequest, open_request}
 use Rattle.instruction_set.specs.Programs.{Mov, Add, In, Jmp, Jeq, Jlt, Halt, Invoke, Open, Openat, Read, Cap_enter, Stat, Unlinkat, Renameat, Close, Cap_rights_limit, Cap_fcntls_limit}
 use Rattle.instruction_set.specs.Programs.{Sendfd, Recvfd, Socketpair, Fork, Number, Register}
 use Rattle.instruction_set.specs.Forms.{written_at, syscall_at, register_at, number_at, operand_at, path_at, flags_at, rights_at, commands_at, label_at, directory_at, else_at}
+use Rattle.instruction_set.specs.Successors.{successors_at}
 use Rattle.instruction_set.specs.Assembly.{assembly_of, line_read, fault, Word, Operand, NoLabel, TwiceLabel, TooMany, FallsOff}
 
 abbrev read_only : OpenRequest
@@ -309,3 +310,23 @@ example_of_the_page : assembly_of (codes
     Ok (Invoke Cap_enter 5 ∷ Invoke (Openat (Number 0) (codes "in") read_only) 5 ∷ Mov 1 0 ∷ Invoke (Read (Register 1)) 5 ∷ Jlt 0 256 3 ∷ Halt ∷ [])
 unfolding assembly_of line_read written_at syscall_at register_at number_at operand_at path_at flags_at rights_at commands_at label_at directory_at else_at
 example_of_the_page = refl
+
+-- ## Where points lead
+-- a call leads on and to its `else`, entering the mode on alone, and a halt nowhere
+a_call_leads_on_and_to_its_else : successors_at (Invoke (Read (Number 3)) 7 ∷ []) 0 ≡ 1 ∷ 7 ∷ []
+a_call_leads_on_and_to_its_else = refl
+
+entering_leads_on_alone : successors_at (Invoke Cap_enter 7 ∷ []) 0 ≡ 1 ∷ []
+entering_leads_on_alone = refl
+
+no_point_leads_from_a_halt : successors_at (Halt ∷ []) 0 ≡ []
+no_point_leads_from_a_halt = refl
+
+jump_leads_to_its_target : successors_at (Jmp 5 ∷ Jlt 0 3 9 ∷ []) 0 ≡ 5 ∷ []
+jump_leads_to_its_target = refl
+
+choice_leads_both_ways : successors_at (Jmp 5 ∷ Jlt 0 3 9 ∷ []) 1 ≡ 2 ∷ 9 ∷ []
+choice_leads_both_ways = refl
+
+no_point_follows_one_behind_the_end : successors_at (Halt ∷ []) 1 ≡ []
+no_point_follows_one_behind_the_end = refl

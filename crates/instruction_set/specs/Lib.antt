@@ -5,4 +5,5 @@ pub mod Forms
 pub mod Lines
 pub mod Paths
 pub mod Programs
+pub mod Successors
 pub mod Views

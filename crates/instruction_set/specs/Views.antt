@@ -1,11 +1,12 @@
 -- What the values of the code stand for.
-use Rattle.std.specs.Prelude.{List, map}
+use Rattle.std.specs.Prelude.{ℕ, List, [], ◌∷◌, ◌++◌, Option, Some, None, map}
 use Rattle.instruction_set.specs.declared.operands.Operand.{Operand as OperandCode}
 use Rattle.instruction_set.specs.declared.operands.Operand.TheVariants as operand
 use Rattle.instruction_set.specs.declared.instructions.Syscall.{Syscall as SyscallCode}
 use Rattle.instruction_set.specs.declared.instructions.Syscall.TheVariants as call
 use Rattle.instruction_set.specs.declared.instructions.Instruction.{Instruction as InstructionCode}
 use Rattle.instruction_set.specs.declared.instructions.Instruction.TheVariants as instruction
+use Rattle.instruction_set.specs.declared.successors.Successors.{Successors}
 use Rattle.instruction_set.specs.Programs.{Operand, Syscall, Instruction}
 use Rattle.instruction_set.specs.Programs as programs
 
@@ -55,3 +56,10 @@ instruction_of (instruction.Invoke call otherwise) = programs.Invoke (syscall_of
 
 abbrev pub code_of : List InstructionCode → List Instruction
 code_of code = map instruction_of code
+
+abbrev pub listed : Option ℕ → List ℕ
+listed None = []
+listed (Some point) = point ∷ []
+
+abbrev pub successors_of : Successors → List ℕ
+successors_of s = listed s.next ++ listed s.other

@@ -6,7 +6,9 @@ mod copies;
 pub mod instructions;
 pub mod operands;
 pub mod programs;
+pub mod successors;
 
 pub use instructions::{Instruction, Syscall};
 pub use operands::{Operand, Path, Register, is_valid_path};
 pub use programs::Program;
+pub use successors::{Successors, successors_at};

@@ -1,30 +1,22 @@
--- Rows of where instructions lead, of what is remarked and of what is warned, each with one of which it doesn't hold.
+-- Rows of from where points come, of what is remarked and of what is warned, each with one of which it doesn't hold.
 use Rattle.std.proofs.Common.{◌≡◌, ℕ, true, false, List, [], ◌∷◌, refl}
 use Rattle.std.specs.Prelude.{codes, Option, Some}
 use Rattle.rights.specs.Classes.{Initial}
+use Rattle.rights.specs.Operations.{Operation, Look, Read as Read_bytes}
 use Rattle.rights.specs.Sets.{all_commands, all_rights, read_right}
 use Rattle.rights.specs.Values.{CommandSet, RightSet}
-use Rattle.file_tree.specs.Nodes.{Node, File, Link}
+use Rattle.file_tree.specs.Nodes.{Kind, Node, File, Dir, Link}
 use Rattle.certificate.specs.Bounds.{Bound, ModeBound, Off, On, Either, Held, Target, In_grant, Any_node, Socket, Slot, Open, Closed}
 use Rattle.instruction_set.specs.Programs.{Instruction, Jmp, Jeq, Halt, Invoke, Cap_enter, Read, Close, Number}
 use Rattle.remarks.specs.Remarks.{doubled, idle, skipping, strays, unsettled}
 use Rattle.remarks.specs.TaskRemarks.{lone_sides}
-use Rattle.remarks.specs.Warnings.{calls_ahead, goes_on_closing, has_more, leads_out}
+use Rattle.remarks.specs.Warnings.{calls_ahead, goes_on_closing, has_more, leads_out, starts_listable, takes_directory_at}
 use Rattle.lookup.specs.Paths.{is_absolute}
-use Rattle.remarks.specs.Ways.{from_which, leads_from, within_steps}
-use Rattle.task.specs.Plans.{On_end, Start}
+use Rattle.remarks.specs.Ways.{from_which, within_steps}
+use Rattle.task.specs.Policies.{grant_named}
+use Rattle.task.specs.Plans.{FirstDescriptor, On_end, On_node, Plan, Start, plan_with, unmarked}
 
--- ## Where instructions lead
--- a call leads on and to its `else`, entering the mode on lone_sides, and a halt nowhere
-call_leads : leads_from (Invoke (Read (Number 3)) 7 ∷ []) 0 ≡ 1 ∷ 7 ∷ []
-call_leads = refl
-
-entering_leads : leads_from (Invoke Cap_enter 7 ∷ []) 0 ≡ 1 ∷ []
-entering_leads = refl
-
-halt_leads : leads_from (Halt ∷ []) 0 ≡ []
-halt_leads = refl
-
+-- ## From where points come
 -- the last point comes from the first through the third, and not from the second, which ends
 comes_from : from_which (Jmp 2 ∷ Halt ∷ Jmp 3 ∷ Halt ∷ []) (false ∷ false ∷ false ∷ true ∷ []) ≡ true ∷ false ∷ true ∷ true ∷ []
 unfolding within_steps
@@ -72,7 +64,7 @@ is_skipped = refl
 all_enter : unsettled may_skip (bound Off file Closed ∷ bound Off file Closed ∷ bound On file Closed ∷ bound On file Closed ∷ []) ≡ []
 all_enter = refl
 
--- The mode is entered with both numbers, and the first lone_sides is read from there on.
+-- The mode is entered with both numbers, and the first alone is read from there on.
 abbrev enter_then_read : List Instruction
 enter_then_read = Invoke Cap_enter 2 ∷ Invoke (Read (Number 0)) 2 ∷ Halt ∷ []
 
@@ -136,7 +128,7 @@ link_leads_out = refl
 name_stays : leads_out tree (codes "a/in") ≡ false
 name_stays = refl
 
--- The error of closing_points leads to a call, or to a halt lone_sides.
+-- The error of closing leads to a call, or to a halt alone.
 close_goes_on : goes_on_closing (calls_ahead (Invoke (Close (Number 0)) 1 ∷ Invoke (Read (Number 0)) 2 ∷ Halt ∷ [])) (Invoke (Close (Number 0)) 1) ≡ true
 unfolding within_steps
 close_goes_on = refl
@@ -150,3 +142,52 @@ all_is_more = refl
 
 some_is_not : has_more (held Any_node read_right all_commands) ≡ false
 some_is_not = refl
+
+-- A process starts with a node of a grant with some operations, at the number 0.
+abbrev of_node : RightSet → FirstDescriptor
+of_node rights = record { number = 0; object = On_node 0 (record { readable = true; writable = false }); rights = rights; fcntls = all_commands }
+
+abbrev starts_with_node : Kind → List Operation → Plan
+starts_with_node kind operations =
+    plan_with (record { kind = kind; place = codes "work" ∷ []; linked = true; content = [] } ∷ [])
+    (record { name = codes "work"; path = codes "work" ∷ []; operations = operations } ∷ []) (unmarked (codes "main") [] ∷ []) (
+    record {
+      program = 0;
+      mode = false;
+      descriptors = of_node all_rights ∷ [];
+    } ∷ []
+    )
+
+abbrev enter_then_close : List Instruction
+enter_then_close = Invoke Cap_enter 2 ∷ Invoke (Close (Number 0)) 2 ∷ Halt ∷ []
+
+directory_is_taken : takes_directory_at (starts_with_node Dir (Read_bytes ∷ [])) (codes "main") enter_then_read both_open 0 0 ≡ true
+unfolding grant_named
+directory_is_taken = refl
+
+file_is_not : takes_directory_at (starts_with_node File (Read_bytes ∷ [])) (codes "main") enter_then_read both_open 0 0 ≡ false
+unfolding grant_named
+file_is_not = refl
+
+looking_is_listed : takes_directory_at (starts_with_node Dir (Look ∷ Read_bytes ∷ [])) (codes "main") enter_then_read both_open 0 0 ≡ false
+unfolding grant_named
+looking_is_listed = refl
+
+directory_is_closed : takes_directory_at (starts_with_node Dir (Read_bytes ∷ [])) (codes "main") enter_then_close both_open 0 0 ≡ false
+unfolding grant_named
+directory_is_closed = refl
+
+mode_is_not_entered : takes_directory_at (starts_with_node Dir (Read_bytes ∷ [])) (codes "main") enter_then_read both_open 0 1 ≡ false
+mode_is_not_entered = refl
+
+directory_starts : starts_listable (starts_with_node Dir (Read_bytes ∷ [])) (of_node read_right) ≡ true
+directory_starts = refl
+
+file_starts : starts_listable (starts_with_node File (Read_bytes ∷ [])) (of_node read_right) ≡ false
+file_starts = refl
+
+looking_is_listed_at_start : starts_listable (starts_with_node Dir (Look ∷ Read_bytes ∷ [])) (of_node read_right) ≡ false
+looking_is_listed_at_start = refl
+
+nothing_is_listed_without_rights : starts_listable (starts_with_node Dir (Read_bytes ∷ [])) (of_node 0) ≡ false
+nothing_is_listed_without_rights = refl

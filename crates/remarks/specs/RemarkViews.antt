@@ -1,5 +1,5 @@
 -- What the code's remarks stand for.
-use Rattle.std.specs.Prelude.{ℕ, List, [], ◌∷◌, ◌++◌, Option, Some, None, map, option_map}
+use Rattle.std.specs.Prelude.{List, [], ◌++◌, Option, Some, None, map, option_map}
 use Rattle.certificate.specs.Bounds.{Bound}
 use Rattle.certificate.specs.Views.{bound_of}
 use Rattle.certificate.specs.declared.bounds.Bound.{Bound as BoundCode}
@@ -10,14 +10,6 @@ use Rattle.remarks.specs.declared.warnings.Difference.TheVariants as code
 use Rattle.remarks.specs.declared.looks.Looks.{Looks}
 use Rattle.remarks.specs.declared.looks.Look.{Look as LookCode}
 use Rattle.remarks.specs.declared.warnings.Warnings.{Warnings}
-use Rattle.remarks.specs.declared.ways.Ways.{Ways}
-
-abbrev pub listed : Option ℕ → List ℕ
-listed None = []
-listed (Some point) = point ∷ []
-
-abbrev pub ways_of : Ways → List ℕ
-ways_of ways = listed ways.next ++ listed ways.other
 
 abbrev pub bounds_of : List (Option BoundCode) → List (Option Bound)
 bounds_of bounds = map (option_map bound_of) bounds
@@ -44,4 +36,5 @@ warned_of w = record {
   failed_close = w.failed_close;
   no_sandbox = w.no_sandbox;
   numbers = w.numbers.items;
+  directories = w.directories.items;
 }

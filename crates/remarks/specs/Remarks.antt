@@ -8,10 +8,11 @@ use Rattle.certificate.specs.Bounds.{Bound, ModeBound, Off, On, Either, Held, Ta
 use Rattle.certificate.specs.Describes.{interval_describes}
 use Rattle.certificate.specs.Order.{same_class}
 use Rattle.instruction_set.specs.Programs.{Instruction, Jeq, Jlt, Halt, Invoke, Operand, Close, Fork}
+use Rattle.instruction_set.specs.Successors.{successors_at}
 use Rattle.rules.specs.Needs.{Through, Passed, Nothing, Sent, Received, needs}
 use Rattle.rules.specs.Outcomes.{enters_mode}
 use Rattle.rules.specs.Slots.{may_be_on, operand_interval}
-use Rattle.remarks.specs.Ways.{from_which, is_flagged, leads_from, points}
+use Rattle.remarks.specs.Ways.{from_which, is_flagged, points}
 
 -- ## A point, its instruction and its bound
 abbrev pub bound_here : List (Option Bound) → ℕ → Option Bound
@@ -88,7 +89,7 @@ unsettled code bounds = filter (λ point. is_either_at bounds point && not (is_t
 -- Outside the mode an instruction that doesn't enter it leads to a point where a process may be in the mode or not.
 abbrev pub is_skipping : List Instruction → List (Option Bound) → ℕ → Bool
 is_skipping code bounds point =
-    is_off_at bounds point && not (is_there code enters_mode point) && list_any (is_either_at bounds) (leads_from code point)
+    is_off_at bounds point && not (is_there code enters_mode point) && list_any (is_either_at bounds) (successors_at code point)
 
 abbrev pub skipping : List Instruction → List (Option Bound) → List ℕ
 skipping code bounds = filter (is_skipping code bounds) (points code)
@@ -129,7 +130,7 @@ working_points code = map (is_there code is_working) (points code)
 
 -- some point that is so leads to it
 abbrev pub is_led_by : List Instruction → (ℕ → Bool) → ℕ → Bool
-is_led_by code test point = list_any (λ before. test before && list_any (λ to. to == point) (leads_from code before)) (points code)
+is_led_by code test point = list_any (λ before. test before && list_any (λ to. to == point) (successors_at code before)) (points code)
 
 abbrev pub is_fork : Instruction → Bool
 is_fork (Invoke Fork otherwise) = true

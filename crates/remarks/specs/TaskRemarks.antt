@@ -29,7 +29,7 @@ abbrev pub is_alone : List Start → SideNumber → PairNumber → Bool
 is_alone starts side pair =
     list_any (starts_with pair side) starts && not (list_any (starts_with pair (other_side side)) starts)
 
--- the pairs of which processes have this side lone_sides
+-- the pairs of which processes have this side alone
 abbrev pub lone_sides : List Start → SideNumber → List PairNumber
 lone_sides starts side = filter (is_alone starts side) (range_with_len 0 most_pairs)
 

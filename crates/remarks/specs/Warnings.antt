@@ -3,11 +3,12 @@
 use Rattle.std.specs.Prelude.{◌&&◌, ◌||◌, ◌==◌, ◌-◌, not, ℕ, Bool, true, false, List, [], ◌∷◌, Option, Some, None, codes, filter, is_some, length, map}
 use Rattle.std.specs.List.{list_all, list_any, range_with_len, slice_get}
 use Rattle.std.specs.Str.{bytes_eq}
+use Rattle.rights.specs.OperationLists.{lists}
 use Rattle.rights.specs.Operations.{Look}
-use Rattle.rights.specs.Sets.{all_commands, all_rights, fcntl_right, is_within, lookup_right}
-use Rattle.rights.specs.Values.{DescriptorNumber, Name, PathText}
-use Rattle.file_tree.specs.Nodes.{Node, is_link}
-use Rattle.file_tree.specs.Places.{slash}
+use Rattle.rights.specs.Sets.{all_commands, all_rights, fcntl_right, is_within, lookup_right, read_right}
+use Rattle.rights.specs.Values.{DescriptorNumber, Name, PathText, RightSet}
+use Rattle.file_tree.specs.Nodes.{Node, is_dir, is_link, node}
+use Rattle.file_tree.specs.Places.{begins, slash}
 use Rattle.lookup.specs.Paths.{is_absolute}
 use Rattle.certificate.specs.Bounds.{Bound, Ceiling, Certificate, bound_at, Held, ModeBound, Off, On, Either, Slot, Target, In_grant, Any_node, Socket, Unknown, held_in}
 use Rattle.instruction_set.specs.Programs.{Instruction, Invoke, Operand, Syscall, Openat, Fstatat, Mkdirat, Unlinkat, Renameat, Cap_fcntls_limit, Cap_enter, Close}
@@ -16,10 +17,10 @@ use Rattle.rules.specs.Authority.{authority_at}
 use Rattle.rules.specs.Demands.{demands}
 use Rattle.rules.specs.Outcomes.{enters_mode}
 use Rattle.rules.specs.Slots.{OpenSlot, may_be_on, slots_in}
-use Rattle.task.specs.Plans.{FirstDescriptor, Grant, NamedProgram, Plan}
+use Rattle.task.specs.Plans.{FirstDescriptor, FirstObject, On_end, On_node, Grant, NamedProgram, Plan, Start, program_name}
 use Rattle.task.specs.Policies.{grant_lists}
 use Rattle.texts.specs.Parts.{parts}
-use Rattle.remarks.specs.Remarks.{bound_here, held_here, holds_so, is_there}
+use Rattle.remarks.specs.Remarks.{bound_here, held_here, holds_so, is_on_at, is_there, may_close}
 use Rattle.remarks.specs.Ways.{from_which, is_flagged, points}
 
 -- ## What is looked up beneath a descriptor
@@ -105,7 +106,7 @@ looks_unlisted grants b call =
     may_be_on b.mode
     && list_any (λ (q : Lookup). not (list_all (λ (s : OpenSlot). lets_look grants s.held.target) (slots_in b q.descriptor))) (beneath call)
 
--- the error of closing_points, or of entering the mode, leads on to some call
+-- the error of closing, or of entering the mode, leads on to some call
 abbrev pub is_call : Instruction → Bool
 is_call (Invoke call otherwise) = true
 is_call _ = false
@@ -158,24 +159,60 @@ has_more h = (h.greatest == all_rights) || is_within fcntl_right h.greatest && (
 abbrev pub takes_more_at : List Instruction → List (Option Bound) → DescriptorNumber → ℕ → Bool
 takes_more_at code bounds n point = is_there code enters_mode point && holds_so has_more (held_here bounds n point)
 
+-- ## A directory that is taken into the mode
+-- READ lists a directory's names, and LOOKUP reads the texts of its links
+abbrev pub can_list : RightSet → Bool
+can_list rights = is_within read_right rights || is_within lookup_right rights
+
+abbrev pub is_listable : List Grant → Held → Bool
+is_listable grants h = can_list h.greatest && not (lets_look grants h.target)
+
+abbrev pub is_directory_of : List Node → FirstObject → Bool
+is_directory_of nodes (On_node number access) = is_dir (node nodes number).kind
+is_directory_of nodes (On_end pair side) = false
+
+abbrev pub is_numbered_directory : List Node → DescriptorNumber → FirstDescriptor → Bool
+is_numbered_directory nodes n d = (d.number == n) && is_directory_of nodes d.object
+
+-- some process of the program starts with a directory at the number
+abbrev pub starts_with_directory : Plan → Name → DescriptorNumber → Start → Bool
+starts_with_directory plan program n s =
+    bytes_eq (program_name plan s.program) program && list_any (is_numbered_directory plan.nodes n) s.descriptors
+
+abbrev pub is_closed_at : List Instruction → List (Option Bound) → DescriptorNumber → ℕ → Bool
+is_closed_at code bounds n point = is_there code (may_close n (bound_here bounds point)) point
+
+-- the mode is entered at a point, or the program starts in it
+abbrev pub begins_mode : List Instruction → List (Option Bound) → ℕ → Bool
+begins_mode code bounds point = is_there code enters_mode point || (point == 0) && is_on_at bounds point
+
+-- Nothing closes the number, so it is that directory still.
+abbrev pub takes_directory_at : Plan → Name → List Instruction → List (Option Bound) → DescriptorNumber → ℕ → Bool
+takes_directory_at plan program code bounds n point =
+    begins_mode code bounds point && holds_so (is_listable plan.grants) (held_here bounds n point)
+    && list_any (starts_with_directory plan program n) plan.starts
+    && not (list_any (is_closed_at code bounds n) (points code))
+
 -- ## What is warned of
 abbrev pub differences : List Difference
 differences = Absolute_path ∷ Way_out ∷ Last_link ∷ Commands_gone ∷ No_number_left ∷ Unlisted_look ∷ []
 
 -- at a point: by what its call is otherwise; whether the error of a close, or of entering the mode, goes on; and the numbers of which an
--- untrusted program takes more into the mode than a task can name
+-- untrusted program takes more into the mode than a task can name, and those of directories whose grant doesn't list looking
 pub record Warned : Type 0 where
   pub differences : List Difference
   pub failed_close : Bool
   pub no_sandbox : Bool
   pub numbers : List DescriptorNumber
+  pub directories : List DescriptorNumber
 
-abbrev pub warned_at : Plan → List Instruction → List (Option Bound) → Bool → ℕ → Warned
-warned_at plan code bounds marked point = record {
+abbrev pub warned_at : Plan → Name → List Instruction → List (Option Bound) → Bool → ℕ → Warned
+warned_at plan program code bounds marked point = record {
   differences = filter (λ d. differs_at plan code bounds d point) differences;
   failed_close = is_there code (goes_on_closing (calls_ahead code)) point;
   no_sandbox = is_there code (goes_on_entering (calls_ahead code)) point;
   numbers = filter (λ n. marked && takes_more_at code bounds n point) (range_with_len 0 most_descriptors);
+  directories = filter (λ n. takes_directory_at plan program code bounds n point) (range_with_len 0 most_descriptors);
 }
 
 -- at each point of a program, with the bounds of a certificate
@@ -184,7 +221,7 @@ bounds_in c p = map (bound_at c p.name) (points p.code)
 
 abbrev pub warned_in : Plan → Certificate → Option NamedProgram → List Warned
 warned_in plan c None = []
-warned_in plan c (Some p) = map (warned_at plan p.code (bounds_in c p) p.marked) (points p.code)
+warned_in plan c (Some p) = map (warned_at plan p.name p.code (bounds_in c p) p.marked) (points p.code)
 
 -- the ceilings of a program that have all rights, of which FreeBSD has more
 abbrev pub widest : Certificate → Name → List Ceiling
@@ -200,3 +237,12 @@ prying grants c program = filter (looks_beyond grants) (authority_at c program).
 -- what a process that starts in the mode has more of, as at an entering
 abbrev pub starts_with_more : FirstDescriptor → Bool
 starts_with_more d = (d.rights == all_rights) || is_within fcntl_right d.rights && (d.fcntls == all_commands)
+
+-- a directory in a grant that doesn't list looking, with READ or LOOKUP
+abbrev pub is_unlooked : List Node → FirstObject → Grant → Bool
+is_unlooked nodes (On_node number access) g = begins g.path (node nodes number).place && not (lists g.operations Look)
+is_unlooked nodes (On_end pair side) g = false
+
+abbrev pub starts_listable : Plan → FirstDescriptor → Bool
+starts_listable plan d =
+    can_list d.rights && is_directory_of plan.nodes d.object && list_any (is_unlooked plan.nodes d.object) plan.grants

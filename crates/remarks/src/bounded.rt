@@ -3,21 +3,21 @@
 ghost use Rattle.std.specs.Prelude.{◌≡◌, ◌&&◌, ◌||◌, ◌==◌, ◌<◌, IfOk, not, option_map, true};
 ghost use Rattle.std.specs.List.{list_any};
 ghost use Rattle.certificate.specs.Views.{bound_of, held_of, mode_of, target_of};
-ghost use Rattle.remarks.specs.RemarkViews.{bounds_of, ways_of};
+ghost use Rattle.remarks.specs.RemarkViews.{bounds_of};
 ghost use Rattle.remarks.specs.Remarks.{are_both, are_sides, begins_way, bound_here, closing_points, doubled, has_mode, has_work, held_here, holds_so, idle, is_choice, is_doubled};
 ghost use Rattle.remarks.specs.Remarks.{is_either, is_either_at, is_fork, is_halt, stays_idle, is_led_by, is_off_at, is_on_at, is_skipping, is_stray, is_there, is_working};
 ghost use Rattle.remarks.specs.Remarks.{lies_nowhere, may_be_number, may_be_sent, parts_at, may_close, may_go_through, may_name_number, naming_points, skipping, strays, unsettled};
 ghost use Rattle.remarks.specs.Remarks.{working_points};
-ghost use Rattle.remarks.specs.Ways.{from_which, is_flagged, leads_from};
-ghost use Rattle.instruction_set.specs.Views.{code_of, instruction_of, operand_of, syscall_of};
+ghost use Rattle.remarks.specs.Ways.{from_which, is_flagged};
+ghost use Rattle.instruction_set.specs.Views.{code_of, instruction_of, operand_of, successors_of, syscall_of};
 ghost use Rattle.rights.specs.Limits.{most_descriptors};
 ghost use Rattle.rules.specs.Outcomes.{enters_mode as enters_mode_seen};
 ghost use Rattle.rules.specs.Slots.{may_be_on};
 ghost use Rattle.transfer.specs.Views.{passed_of, through_of};
 
-use crate::ways::{Ways, count, from_which, is_flagged, leads_from};
+use crate::ways::{count, from_which, is_flagged};
 use certificate::{Bound, Domain, Held, ModeBound, Target};
-use instruction_set::{Instruction, Operand, Syscall};
+use instruction_set::{Instruction, Operand, Successors, Syscall, successors_at};
 use std::alloc::{AllocError, Global};
 use transfer::{Passed, Through, enters_mode, may_be_on, needed, operand_interval};
 
@@ -236,15 +236,15 @@ impl<'a> Bounded<'a> {
             .collect(alloc)
     }
 
-    /// Whether a way leads to a point where the mode may be either.
-    fn leads_to_either(&self, ways: Ways) -> bool
-        ensures { result ≡ list_any (is_either_at (bounds_of self.now.bounds.items)) (ways_of ways) }
+    /// Whether one of these is a point where the mode may be either.
+    fn leads_to_either(&self, successors: Successors) -> bool
+        ensures { result ≡ list_any (is_either_at (bounds_of self.now.bounds.items)) (successors_of successors) }
     {
-        let next = match ways.next {
+        let next = match successors.next {
             None => false,
             Some(point) => self.is_either_at(point),
         };
-        let other = match ways.other {
+        let other = match successors.other {
             None => false,
             Some(point) => self.is_either_at(point),
         };
@@ -257,7 +257,7 @@ impl<'a> Bounded<'a> {
     {
         self.is_off_at(point)
             && !self.enters_at(point)
-            && self.leads_to_either(leads_from(self.code, point))
+            && self.leads_to_either(successors_at(self.code, point))
     }
 
     /// The points from which a process comes, without entering the mode, to one where it may be in it or not.
@@ -280,7 +280,7 @@ impl<'a> Bounded<'a> {
     }
 
     /// Whether the instruction there may close a number.
-    fn closes_at(&self, number: u32, point: usize) -> bool
+    pub(crate) fn closes_at(&self, number: u32, point: usize) -> bool
         ensures { result ≡ is_there (code_of self.now.code.now) (may_close number (bound_here (bounds_of self.now.bounds.items) point)) point }
     {
         match self.code.get(point) {
@@ -314,7 +314,7 @@ impl<'a> Bounded<'a> {
         ensures { result ≡ is_led_by (code_of self.now.code.now) (is_there (code_of self.now.code.now) is_fork) point }
     {
         (0..count(self.code)).any(|before| self.forks_at(before)
-            && leads_from(self.code, before).has(point))
+            && successors_at(self.code, before).has(point))
     }
 
     /// Whether the instruction there is a fork.
@@ -332,7 +332,7 @@ impl<'a> Bounded<'a> {
         ensures { result ≡ is_led_by (code_of self.now.code.now) (is_there (code_of self.now.code.now) enters_mode_seen) point }
     {
         (0..count(self.code)).any(|before| self.enters_at(before)
-            && leads_from(self.code, before).has(point))
+            && successors_at(self.code, before).has(point))
     }
 
     /// Whether a choice leads to a point at which parent and child part.
@@ -340,7 +340,7 @@ impl<'a> Bounded<'a> {
         ensures { result ≡ is_led_by (code_of self.now.code.now) (parts_at (code_of self.now.code.now)) point }
     {
         (0..count(self.code)).any(|before| self.parts_at(before)
-            && leads_from(self.code, before).has(point))
+            && successors_at(self.code, before).has(point))
     }
 
     /// Whether a way begins at a point: where the program starts, where the mode is entered, and where parent and child part.

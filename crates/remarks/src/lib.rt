@@ -3,6 +3,7 @@
 #![tactic(auto)]
 
 mod bounded;
+pub mod directories;
 mod looks;
 pub mod policies;
 mod reaching;
@@ -10,6 +11,7 @@ pub mod remarks;
 pub mod warnings;
 mod ways;
 
+pub use directories::directories_at_start;
 pub use policies::{TaskRemark, remarks_on_task};
 pub use remarks::{Remark, Remarked, remarks_on};
 pub use warnings::{

@@ -132,7 +132,7 @@ struct LetsLook<'a> {
 }
 
 /// Whether a grant lists looking, if it is one.
-fn lets_look(grants: &[Grant], target: &Target) -> bool
+pub(crate) fn lets_look(grants: &[Grant], target: &Target) -> bool
     ensures { result ≡ lets_look (grants_of grants.now) (target_of target.now) }
 {
     match target {

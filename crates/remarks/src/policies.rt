@@ -83,7 +83,7 @@ fn is_alone(starts: &[Start], side: Side, pair: u8) -> bool
     any_starts_with(pair, side, starts) && !any_starts_with(pair, side.other(), starts)
 }
 
-/// The initial pairs of which processes have this side lone_sides.
+/// The initial pairs of which processes have this side alone.
 fn lone_sides(alloc: Global, starts: &[Start], side: Side) -> Result<Vec<u8>, AllocError>
     ensures { IfOk result (λ found. found.items ≡ lone_sides (starts_of starts.now) (side_seen side)) }
 {
@@ -235,7 +235,7 @@ fn unused(alloc: Global, task: &Task, cert: &Cert, grant: &Grant) -> Result<Vec<
         .collect(alloc)
 }
 
-/// Adds the initial pairs of which processes have this side lone_sides.
+/// Adds the initial pairs of which processes have this side alone.
 fn add_alone(
     alloc: Global,
     list: &mut Vec<TaskRemark<'_>>,

@@ -1,8 +1,7 @@
-//! What the calls need that come from a point on, by the text of a program lone_sides, and which points come from the first.
+//! What the calls need that come from a point on, by the text of a program alone, and which points come from the first.
 
-use crate::ways::leads_from;
 use certificate::{Bound, Domain, Target};
-use instruction_set::{Instruction, Operand};
+use instruction_set::{Instruction, Operand, successors_at};
 use rights::{Fcntls, Rights};
 use std::alloc::{AllocError, Global};
 use transfer::{Need, Passed, Through, needed, operand_interval};
@@ -107,8 +106,8 @@ pub(crate) fn uses_ahead(
         .collect(alloc)?;
     for _ in 0..code.len() {
         for point in 0..code.len() {
-            let ways = leads_from(code, point);
-            let later = at(&uses, ways.next).with(at(&uses, ways.other));
+            let successors = successors_at(code, point);
+            let later = at(&uses, successors.next).with(at(&uses, successors.other));
             if let Some(here) = uses.get_mut(point) {
                 *here = here.with(later);
             }
@@ -131,9 +130,9 @@ pub(crate) fn points_reached(alloc: Global, code: &[Instruction]) -> Result<Vec<
     for _ in 0..code.len() {
         for point in 0..code.len() {
             if reached.get(point) == Some(&true) {
-                let ways = leads_from(code, point);
-                set(&mut reached, ways.next);
-                set(&mut reached, ways.other);
+                let successors = successors_at(code, point);
+                set(&mut reached, successors.next);
+                set(&mut reached, successors.other);
             }
         }
     }

@@ -68,6 +68,7 @@ pub(crate) fn with_bounds<'a>(
     ensures code { IfOk result (λ bounded. code_of bounded.code.now ≡ (program_of program.now).code) }
     ensures bounds { IfOk result (λ bounded. bounds_of bounded.bounds.items ≡ bounds_in cert.now (program_of program.now)) }
     ensures marked { IfOk result (λ bounded. bounded.untrusted ≡ (program_of program.now).marked) }
+    ensures name { IfOk result (λ bounded. bounded.name.now ≡ (program_of program.now).name) }
 {
     let (name, code) = (program.name.as_bytes(), program.program.code());
     Ok(Bounded {

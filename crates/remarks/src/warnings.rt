@@ -56,6 +56,8 @@ pub struct Warnings {
     pub no_sandbox: bool,
     /// The numbers that an untrusted program takes into the mode with rights or commands of which FreeBSD has more.
     pub numbers: Vec<u32>,
+    /// Those of directories that are taken into it with READ or LOOKUP, and whose grant doesn't list looking.
+    pub directories: Vec<u32>,
 }
 
 /// By what calls may be otherwise, in the order in which it is told.
@@ -239,20 +241,21 @@ impl<'a> Bounded<'a> {
     ) -> Result<Warnings, AllocError>
         requires { calls.now ≡ calls_ahead (code_of self.now.code.now) }
         ensures { IfOk result (λ found. warned_of found
-            ≡ warned_at task.now (code_of self.now.code.now) (bounds_of self.now.bounds.items) self.now.untrusted point) }
+            ≡ warned_at task.now self.now.name.now (code_of self.now.code.now) (bounds_of self.now.bounds.items) self.now.untrusted point) }
     {
         Ok(Warnings {
             differences: self.differences_at(alloc, task, point)?,
             failed_close: self.fails_closing(calls, point),
             no_sandbox: self.fails_entering(calls, point),
             numbers: self.numbers_at(alloc, point)?,
+            directories: self.directories_at(alloc, task, point)?,
         })
     }
 
     /// What is warned of at each point.
     fn all_warnings(&self, alloc: Global, task: &Task) -> Result<Vec<Warnings>, AllocError>
         ensures { IfOk result (λ found. map warned_of found.items
-            ≡ map (warned_at task.now (code_of self.now.code.now) (bounds_of self.now.bounds.items) self.now.untrusted) (points (code_of self.now.code.now))) }
+            ≡ map (warned_at task.now self.now.name.now (code_of self.now.code.now) (bounds_of self.now.bounds.items) self.now.untrusted) (points (code_of self.now.code.now))) }
     {
         let calls = self.calls_ahead(alloc)?;
         let mut list = Vec::new(alloc);

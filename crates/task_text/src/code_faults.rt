@@ -1,9 +1,10 @@
 //! Faults in the programs of a task's text.
 
-use crate::code_forms::{add_meant, has_known_words, wanted, words_of};
+use crate::code_forms::{add_meant, has_known_words, kind_of_word, wanted, words_of};
 use crate::decoded::Decoded;
 use crate::faults::Faults;
 use crate::fields::Fields;
+use crate::known_words::{OF_FREEBSD, is_of_freebsd};
 use crate::near::meant;
 use crate::places::part;
 use crate::program_texts::codes_of;
@@ -144,12 +145,34 @@ impl<'a> CodeFault<'a> {
         Ok(())
     }
 
+    /// Tells of the first word of a list that isn't known, where others are, or that is FreeBSD's. Whether there is one.
+    fn add_unknown(&self, faults: &mut Faults<'_>, form: Form) -> bool {
+        let (list, known) = (self.word(), words_of(form));
+        let is_list = list.contains(&b',');
+        let mut at = self.fault.span.start;
+        for word in list.split(|byte| *byte == b',') {
+            if is_of_freebsd(word) {
+                faults.add_of(self.offset_of(at), word, OF_FREEBSD);
+                return true;
+            }
+            if is_list && meant(word, known).is_none() {
+                faults.add_word(self.offset_of(at), kind_of_word(form), word, known);
+                return true;
+            }
+            at = at.saturating_add(word.len()).saturating_add(1);
+        }
+        false
+    }
+
     /// Tells of an operand that isn't of the form that its place wants, with what was meant.
     fn add_form(&self, faults: &mut Faults<'_>, form: Form) {
         let (word, known) = (self.word(), words_of(form));
         if !known.is_empty() && has_known_words(word, known) {
             self.add(faults, "has a word twice, or words that don't go together");
-        } else if known.is_empty() || !self.add_list(faults, self.offset(), word, form) {
+        } else if known.is_empty()
+            || !self.add_list(faults, self.offset(), word, form)
+                && !self.add_unknown(faults, form)
+        {
             faults.add_of(self.offset(), word, parts_of!("isn't ", wanted(form)));
         }
     }

@@ -31,6 +31,16 @@ pub(crate) fn words_of(form: Form) -> &'static [&'static str] {
     }
 }
 
+/// What a word of a list of this form is.
+pub(crate) fn kind_of_word(form: Form) -> &'static str {
+    match form {
+        Form::Flags => "flag",
+        Form::Rights => "right",
+        Form::Commands => "command",
+        _ => "word",
+    }
+}
+
 /// Adds a list with its words as they were meant, parted by commas. Whether all its words are known then.
 pub(crate) fn add_meant(page: &mut Page, list: &[u8], known: &[&str]) -> bool {
     let mut separator = b"".as_slice();

@@ -3,7 +3,9 @@
 use crate::decoded::decode;
 use crate::faults::Faults;
 use crate::fields::{Entry, Fields, Item, Table, TableKind, kind_beneath};
-use crate::known_words::{Value, keys_of, kind_name, needed_keys, value_of};
+use crate::known_words::{
+    OF_FREEBSD, Value, is_of_freebsd, keys_of, kind_name, needed_keys, value_of,
+};
 use crate::near::is_known;
 use crate::places::part;
 use crate::tokens::{Token, TokenKind};
@@ -114,6 +116,8 @@ fn add_item(faults: &mut Faults<'_>, fields: &Fields, number: usize, item: Item)
     let start = item.word.start;
     if !matches!(item.word.kind, TokenKind::Text(_)) {
         faults.add_of(start, word, "is to be in quotes");
+    } else if is_of_freebsd(word) {
+        faults.add_of(start, word, OF_FREEBSD);
     } else if !is_known(word, known) {
         faults.add_word(start, key, word, known);
     } else if is_twice(faults.file, fields, number, item) {

@@ -31,6 +31,28 @@ const OPERATIONS: &[&str] = &["look", "read", "write", "create", "remove"];
 /// The flags of an open.
 pub(crate) const FLAGS: &[&str] = &["read", "write", "append", "create", "trunc"];
 
+/// The rights and fcntl commands of FreeBSD that a task can't name. (rights(4), cap_fcntls_limit(2))
+const FREEBSD_WORDS: &str =
+    "ACCEPT ACL_CHECK ACL_DELETE ACL_GET ACL_SET BIND BINDAT CHFLAGSAT CONNECT CONNECTAT EVENT \
+    EXTATTR_DELETE EXTATTR_GET EXTATTR_LIST EXTATTR_SET FCHDIR FCHFLAGS FCHMOD FCHMODAT FCHOWN FCHOWNAT \
+    FEXECVE FLOCK FPATHCONF FSCK FSTATFS FUTIMES FUTIMESAT GETOWN GETPEERNAME GETSOCKNAME GETSOCKOPT \
+    IOCTL KQUEUE KQUEUE_CHANGE KQUEUE_EVENT LINKAT_SOURCE LINKAT_TARGET LISTEN MAC_GET MAC_SET MKFIFOAT \
+    MKNODAT MMAP MMAP_R MMAP_RW MMAP_RWX MMAP_RX MMAP_W MMAP_WX MMAP_X PDGETPID PDKILL PEELOFF PREAD \
+    PWRITE SEM_GETVALUE SEM_POST SEM_WAIT SETOWN SETSOCKOPT SHUTDOWN SYMLINKAT TTYHOOK";
+
+/// Whether a word is one of these, with `CAP_` before it or without.
+pub(crate) fn is_of_freebsd(word: &[u8]) -> bool {
+    let name = word.strip_prefix(b"CAP_".as_slice()).unwrap_or(word);
+    FREEBSD_WORDS
+        .as_bytes()
+        .split(|byte| *byte == b' ')
+        .any(|one| one == name)
+}
+
+/// What is told of such a word.
+pub(crate) const OF_FREEBSD: &str =
+    "is a word of FreeBSD that a task can't name (FREEBSD.md#more-calls-and-rights)";
+
 /// What the value of a key is.
 #[derive(Clone, Copy)]
 pub(crate) enum Value {

@@ -13,6 +13,7 @@ mod near;
 mod path_faults;
 mod places;
 mod program_texts;
+mod table_faults;
 mod tokens;
 
 pub use faults::add_faults;

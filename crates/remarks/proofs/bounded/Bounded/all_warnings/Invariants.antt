@@ -9,4 +9,4 @@ use Rattle.remarks.proofs.bounded.Bounded.all_warnings.Given as goal
 abbrev pub invariant-loop-point : goal.invariant-loop-point
 invariant-loop-point l =
     map warned_of l.list.items
-    ≡ map (warned_at l.task (code_of l.self.code.now) (bounds_of l.self.bounds.items) l.self.untrusted) (range_with_len 0 l.point)
+    ≡ map (warned_at l.task l.self.name.now (code_of l.self.code.now) (bounds_of l.self.bounds.items) l.self.untrusted) (range_with_len 0 l.point)
