@@ -14,7 +14,7 @@ use Rattle.searcher.specs.Flat.{flat}
 use Rattle.task.specs.Plans.{Plan}
 use Rattle.task_reader.specs.Reading.{task_of}
 use Rattle.explore.specs.Breaches as explore
-use Rattle.explore.specs.Broken.{Breaks, IsRefuted}
+use Rattle.explore.specs.Broken.{Breaks, IsRefuted, Move, own_moves}
 use Rattle.explore.specs.Texts.{WritesRun}
 use Rattle.explain.specs.Questions.{Question, Usage, Listing, Broken, Unfound, Breach, Proposed, Faulty, question_in}
 use Rattle.explain.specs.Telling.{Tells}
@@ -74,16 +74,23 @@ pub record Offers (plan : Plan) (before after : Option (List ℕ)) : Type 0 wher
 abbrev pub SaysOffered : Plan → ℕ → Option (List ℕ) → Option (List ℕ) → Type 0
 SaysOffered plan status before after = ((status ≡ 0) × Offers plan before after) ⊎ ((status ≡ 1) × Took before after (codes "none\n"))
 
--- A run is written whose last step breaks something, with status 1, and the task is neither sandboxed nor confined; 0 claims nothing.
+-- A run is written whose last step breaks something, with status 1, and the task is neither sandboxed nor confined; or there is one in which
+-- attackers do what they like, with status 1 too, and the task isn't confined; 0 claims nothing.
 pub record Refutes (plan : Plan) (before after : Option (List ℕ)) : Type 0 where
   pub events : List Event
   pub breach : explore.Breach
-  pub breaks : Breaks plan events (Some breach)
-  pub refuted : IsRefuted plan
+  pub breaks : Breaks plan (own_moves events) (Some breach)
+  pub refuted : IsRefuted plan (own_moves events)
   pub writes : WritesRun plan events breach before after
 
+pub record Attacks (plan : Plan) : Type 0 where
+  pub moves : List Move
+  pub breach : explore.Breach
+  pub breaks : Breaks plan moves (Some breach)
+  pub refuted : IsRefuted plan moves
+
 abbrev pub SaysRefuted : Plan → ℕ → Option (List ℕ) → Option (List ℕ) → Type 0
-SaysRefuted plan status before after = (status ≡ 0) ⊎ ((status ≡ 1) × Refutes plan before after)
+SaysRefuted plan status before after = (status ≡ 0) ⊎ ((status ≡ 1) × (Refutes plan before after ⊎ Attacks plan))
 
 pub record SaysOfRuns (files : Files) (name : List ℕ) (status : ℕ) (before after : Option (List ℕ)) : Type 0 where
   pub text : List ℕ

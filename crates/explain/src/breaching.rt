@@ -6,10 +6,11 @@ ghost use Rattle.task.specs.Plans.{Plan};
 ghost use Rattle.task_reader.specs.Reading.{task_of};
 ghost use Rattle.explain.specs.Answered.{SaysRefuted};
 
+use crate::attacking::write_attack;
 use checker::all_findings;
 use console::Fault;
 use console::statuses::{BROKEN, DONE};
-use explore::{Explored, Goal, Watcher, explore, write_breach};
+use explore::{Deeds, Explored, Goal, Watcher, explore, write_breach};
 use rights::{Memory, Out, write_all};
 use searcher::reached;
 use std::alloc::Global;
@@ -68,7 +69,10 @@ pub(crate) fn answer_breach<'a, W: Out, P: Watcher>(
     let Ok(goals) = goals_of(alloc, &task) else {
         return Err(Fault::Memory);
     };
-    let Ok(explored) = explore(alloc, &task, &goals, bound, watcher) else {
+    let Ok(deeds) = Deeds::new(alloc, &task) else {
+        return Err(Fault::Memory);
+    };
+    let Ok(explored) = explore(alloc, &task, &deeds, &goals, bound, watcher) else {
         return Err(Fault::Memory);
     };
     match explored {
@@ -77,6 +81,7 @@ pub(crate) fn answer_breach<'a, W: Out, P: Watcher>(
             write_breach(alloc, &task, events, breach, &found.detail, out)?;
             Ok(BROKEN)
         }
+        Explored::Attacked(found) => write_attack(alloc, file, &task, &found, out),
         Explored::Ended(states) => {
             let how_far = ", and there are no others with the bytes that were tried";
             write_unbroken(alloc, states, how_far, out)

@@ -5,10 +5,12 @@
 
 pub mod answering;
 mod arriving;
+mod attacking;
 mod authority_rules;
 mod breaching;
 mod breaking;
 mod call_rules;
+mod deeds;
 mod failing;
 mod folding;
 pub mod laws;

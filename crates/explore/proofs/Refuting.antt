@@ -1,14 +1,15 @@
--- A task some run of which breaks something is neither sandboxed nor confined.
-use Rattle.std.proofs.Common.{◌≡◌, Bool, true, false, List, [], ◌∷◌, map, refl, ap, ◌∙◌}
+-- A task some run of which breaks something isn't confined, and without an attacker's move it isn't sandboxed.
+use Rattle.std.proofs.Common.{◌≡◌, Bool, true, false, List, [], ◌∷◌, map, refl, ap, subst, ◌∙◌}
 use Rattle.std.specs.Prelude.{Option, Some, None, option_map, IfSome, if◌then◌else◌}
 use Rattle.std.specs.List.{list_any, slice_get}
 use Rattle.rights.specs.Errors.{Cause, CapMode, BadDescriptor, MissingRight, Kind, Escape, Path, Access, Full, Refused}
 use Rattle.process.specs.State.{ProcessState}
 use Rattle.kernel.specs.World.{World, Choice, IsFresh}
 use Rattle.kernel.specs.Answers.{Event, Effect, AreEvents}
-use Rattle.kernel.specs.Hostile.{Act, Own}
+use Rattle.kernel.specs.Hostile.{Act, Own, Does, about, step_as}
 use Rattle.kernel.specs.Steps.{LineResult, No_call, Halted, Value, Failed, Waiting, Walks_on, Ended, Acted, Programs, step}
 use Rattle.kernel.specs.WellFormed.{ArePrograms, IsWellFormed}
+use Rattle.kernel.proofs.Hostile.{about_well_formed, files_about}
 use Rattle.kernel.proofs.Keeping.{next_formed}
 use Rattle.syscalls.specs.Shows.{shown}
 use Rattle.task.specs.Begins.{first_world}
@@ -20,7 +21,7 @@ use Rattle.task.proofs.Allowances.{allowed_is_tested}
 use Rattle.task.proofs.FirstWorlds.{first_well_formed}
 use Rattle.simulator.specs.Lines.{shown_step}
 use Rattle.explore.specs.Breaches.{Breach, Outside, allows_shown, breach_in, either_breach, outside, refusal, refusal_for}
-use Rattle.explore.specs.Broken.{BreachesRefute, Breaks, EndsWith, IsRefuted, broken_at}
+use Rattle.explore.specs.Broken.{BreachesRefute, Breaks, EndsWith, IsRefuted, Move, are_own, broken_at, events_in}
 use Rattle.explore.specs.BreachViews.{breach_of}
 use Rattle.explore.specs.declared.breaches.Breach.{Breach as BreachCode}
 use Rattle.explore.proofs.Shown.{allowed-shown}
@@ -73,45 +74,43 @@ nothing-broken grants (Some s) (Some a) allowed unrefused =
     neither-breach _ _ (if-true s.mode (outside grants (map shown a.effects)) (λ on. nothing-outside grants a.effects (allowed on)))
     (if-false s.marked (refusal a.outcome) (λ off. no-refusal a.outcome (unrefused off)))
 
-abbrev own_acts : List Event → List (Event × Act)
-own_acts [] = []
-own_acts (e ∷ events) = (e, Own) ∷ own_acts events
-
 module _ (programs : Programs) (grants : List Grant) (valid : ArePrograms programs) (breach : Breach) where
-  not-sandboxed : (w : World) (before : Option Breach) (events : List Event) → IsWellFormed programs w → AreEvents events → before ≡ None →
-      EndsWith programs grants w before events (Some breach) → Sandboxed programs grants w events → ⊥
-  not-sandboxed w before [] good bytes none ends sandboxed = absurd cc
-  not-sandboxed w before (e ∷ events) good bytes none ends sandboxed =
+  not-sandboxed : (w : World) (before : Option Breach) (moves : List Move) → are_own moves ≡ true → IsWellFormed programs w → AreEvents (events_in moves) → before ≡ None →
+      EndsWith programs grants w before moves (Some breach) → Sandboxed programs grants w (events_in moves) → ⊥
+  not-sandboxed w before [] own good bytes none ends sandboxed = absurd cc
+  not-sandboxed w before ((e, Does deed) ∷ moves) own good bytes none ends sandboxed = absurd cc
+  not-sandboxed w before ((e, Own) ∷ moves) own good bytes none ends sandboxed =
       let next = next_formed programs w e valid good bytes.0 in
       let choice : Choice = next.some.0 in
       let fresh : IsFresh w.files choice = next.some.1 in
       let here = sandboxed choice fresh in
-      not-sandboxed (step programs w e choice).world (broken_at grants w e (step programs w e choice).acted) events (next.each choice fresh) bytes.1
+      not-sandboxed (step programs w e choice).world (broken_at grants w e (step programs w e choice).acted) moves own (next.each choice fresh) bytes.1
       (nothing-broken grants (slice_get w.processes e.process) (step programs w e choice).acted here.0.allowed (λ trusted. here.0.unrefused))
-      (ends choice fresh) here.1
+      (ends.1 choice fresh) here.1
 
-  not-confined : (w : World) (before : Option Breach) (events : List Event) → IsWellFormed programs w → AreEvents events → before ≡ None →
-      EndsWith programs grants w before events (Some breach) → Confined programs grants w (own_acts events) → ⊥
+  not-confined : (w : World) (before : Option Breach) (moves : List Move) → IsWellFormed programs w → AreEvents (events_in moves) → before ≡ None →
+      EndsWith programs grants w before moves (Some breach) → Confined programs grants w moves → ⊥
   not-confined w before [] good bytes none ends confined = absurd cc
-  not-confined w before (e ∷ events) good bytes none ends confined =
-      let next = next_formed programs w e valid good bytes.0 in
+  not-confined w before ((e, act) ∷ moves) good bytes none ends confined =
+      let next = next_formed programs (about w e.process act) e valid (about_well_formed programs w e.process act good ends.0) bytes.0 in
       let choice : Choice = next.some.0 in
-      let fresh : IsFresh w.files choice = next.some.1 in
-      let here = confined choice fresh bytes.0 tt in
-      not-confined (step programs w e choice).world (broken_at grants w e (step programs w e choice).acted) events (next.each choice fresh) bytes.1
-      (nothing-broken grants (slice_get w.processes e.process) (step programs w e choice).acted here.0.allowed here.0.unrefused)
-      (ends choice fresh) here.1
+      let fresh : IsFresh w.files choice = subst (λ f. IsFresh f choice) (files_about w e.process act) next.some.1 in
+      let here = confined choice fresh bytes.0 ends.0 in
+      not-confined (step_as programs w e act choice).world (broken_at grants w e (step_as programs w e act choice).acted) moves (next.each choice next.some.1) bytes.1
+      (nothing-broken grants (slice_get w.processes e.process) (step_as programs w e act choice).acted here.0.allowed here.0.unrefused)
+      (ends.1 choice fresh) here.1
 
 pub breaches_refute : BreachesRefute
-breaches_refute plan events breach valid bytes breaks =
+breaches_refute plan moves breach valid bytes breaks =
     let formed = first_well_formed plan valid in
     record {
-      sandbox = λ sandboxed. not-sandboxed (programs_of_plan plan) plan.grants formed.0 breach (first_world plan) None events formed.1.formed bytes refl breaks (sandboxed events bytes);
-      confinement = λ confined. not-confined (programs_of_plan plan) plan.grants formed.0 breach (first_world plan) None events formed.1.formed bytes refl breaks (confined (own_acts events));
+      confinement = λ confined. not-confined (programs_of_plan plan) plan.grants formed.0 breach (first_world plan) None moves formed.1.formed bytes refl breaks (confined moves);
+      sandbox = λ own sandboxed.
+          not-sandboxed (programs_of_plan plan) plan.grants formed.0 breach (first_world plan) None moves own formed.1.formed bytes refl breaks (sandboxed (events_in moves) bytes);
     }
 
 -- what a run breaks, if it breaks something, refutes the task
-pub refuted-if : (plan : Plan) (events : List Event) (found : Option BreachCode) → is_plan plan ≡ true → AreEvents events →
-    Breaks plan events (option_map breach_of found) → IfSome found (λ breach. IsRefuted plan)
-refuted-if plan events None valid bytes breaks = tt
-refuted-if plan events (Some breach) valid bytes breaks = breaches_refute plan events (breach_of breach) valid bytes breaks
+pub refuted-if : (plan : Plan) (moves : List Move) (found : Option BreachCode) → is_plan plan ≡ true → AreEvents (events_in moves) →
+    Breaks plan moves (option_map breach_of found) → IfSome found (λ breach. IsRefuted plan moves)
+refuted-if plan moves None valid bytes breaks = tt
+refuted-if plan moves (Some breach) valid bytes breaks = breaches_refute plan moves (breach_of breach) valid bytes breaks

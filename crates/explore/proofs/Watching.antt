@@ -1,47 +1,51 @@
--- How far a machine has come in the runs of some events, and what the last step broke.
+-- How far a machine has come in the runs of some moves, and what the last step broke.
 use Rattle.std.proofs.Common.{◌≡◌, true, List, [], ◌∷◌, refl, ap, sym, subst, ◌∙◌}
 use Rattle.std.specs.Prelude.{Option, None, option_map}
 use Rattle.std.specs.List.{slice_get}
-use Rattle.kernel.specs.World.{World, Choice}
+use Rattle.kernel.specs.World.{World, Choice, IsFresh}
 use Rattle.kernel.specs.Answers.{Event, IsEvent}
-use Rattle.kernel.specs.Steps.{Programs, step}
+use Rattle.kernel.specs.Hostile.{Act, IsAct, about, step_as}
+use Rattle.kernel.specs.Steps.{Programs}
 use Rattle.kernel.specs.Renamings.{DiffersInNumbers}
 use Rattle.kernel.specs.WellFormed.{ArePrograms, IsWellFormed}
 use Rattle.kernel.proofs.Aimed.{steps_alike}
 use Rattle.kernel.proofs.Determined.{alike_share, differs_twice}
+use Rattle.kernel.proofs.Hostile.{about_well_formed, differs_about, files_about}
 use Rattle.kernel.proofs.Keeping.{next_formed}
 use Rattle.task.specs.Begins.{first_world}
 use Rattle.task.specs.Limits.{is_plan}
 use Rattle.task.specs.Plans.{Plan, programs_of_plan}
 use Rattle.task.proofs.FirstWorlds.{first_well_formed}
 use Rattle.simulator.specs.Lines.{Line, line_at, shown_step}
-use Rattle.simulator.specs.Steps.{StepsMachine}
+use Rattle.simulator.specs.Steps.{StepsMachineAs}
 use Rattle.explore.specs.Breaches.{Breach, breach_in}
-use Rattle.explore.specs.Broken.{Breaks, EndsWith, broken_at}
+use Rattle.explore.specs.Broken.{Breaks, EndsWith, Move, broken_at}
 
 -- What ends so from each world that differs from this one in numbers alone ends so from the first world on.
-abbrev pub Leads : Plan → List Event → World → Option Breach → List Event → Type 0
-Leads plan events w before left =
+abbrev pub Leads : Plan → List Move → World → Option Breach → List Move → Type 0
+Leads plan moves w before left =
     (last : Option Breach)
     → ((v : World) → IsWellFormed (programs_of_plan plan) v → DiffersInNumbers v w → EndsWith (programs_of_plan plan) plan.grants v before left last)
-    → Breaks plan events last
+    → Breaks plan moves last
 
-pub leads-start : (plan : Plan) (events : List Event) (w : World) → is_plan plan ≡ true → DiffersInNumbers (first_world plan) w → Leads plan events w None events
-leads-start plan events w valid differs last ends = ends (first_world plan) (first_well_formed plan valid).1.formed differs
+pub leads-start : (plan : Plan) (moves : List Move) (w : World) → is_plan plan ≡ true → DiffersInNumbers (first_world plan) w → Leads plan moves w None moves
+leads-start plan moves w valid differs last ends = ends (first_world plan) (first_well_formed plan valid).1.formed differs
 
 -- what a step breaks is the same in worlds that differ in numbers alone
-same-broken : (plan : Plan) (w v : World) (e : Event) (line : Line) (j k : Choice) → DiffersInNumbers v w →
-    (step (programs_of_plan plan) w e k).acted ≡ (step (programs_of_plan plan) v e j).acted → line ≡ line_at e (step (programs_of_plan plan) w e k).acted →
-    broken_at plan.grants v e (step (programs_of_plan plan) v e j).acted ≡ breach_in plan.grants (slice_get w.processes e.process) line.acted
-same-broken plan w v e line j k differs same is =
-    ap (λ processes. breach_in plan.grants (slice_get processes e.process) (option_map shown_step (step (programs_of_plan plan) v e j).acted)) (sym differs.processes)
+same-broken : (plan : Plan) (w v : World) (e : Event) (act : Act) (line : Line) (j k : Choice) → DiffersInNumbers v w →
+    (step_as (programs_of_plan plan) w e act k).acted ≡ (step_as (programs_of_plan plan) v e act j).acted → line ≡ line_at e (step_as (programs_of_plan plan) w e act k).acted →
+    broken_at plan.grants v e (step_as (programs_of_plan plan) v e act j).acted ≡ breach_in plan.grants (slice_get w.processes e.process) line.acted
+same-broken plan w v e act line j k differs same is =
+    ap (λ processes. breach_in plan.grants (slice_get processes e.process) (option_map shown_step (step_as (programs_of_plan plan) v e act j).acted)) (sym differs.processes)
     ∙ ap (λ acted. breach_in plan.grants (slice_get w.processes e.process) (option_map shown_step acted)) (sym same)
     ∙ ap (λ (l : Line). breach_in plan.grants (slice_get w.processes e.process) l.acted) (sym is)
 
-pub leads-step : (plan : Plan) (events : List Event) (w next : World) (before breach : Option Breach) (e : Event) (left : List Event) (line : Line) →
-    is_plan plan ≡ true → IsWellFormed (programs_of_plan plan) w → IsEvent e → StepsMachine (programs_of_plan plan) w e line next →
-    breach ≡ breach_in plan.grants (slice_get w.processes e.process) line.acted → Leads plan events w before (e ∷ left) → Leads plan events next breach left
-leads-step plan events w next before breach e left line valid good byte s is leads last ends = leads last go
+pub leads-step : (plan : Plan) (moves : List Move) (w next : World) (before breach : Option Breach) (e : Event) (act : Act) (left : List Move) (line : Line) →
+    is_plan plan ≡ true → IsWellFormed (programs_of_plan plan) w → IsEvent e →
+    ((v : World) → IsWellFormed (programs_of_plan plan) v → IsAct (programs_of_plan plan) v e.process act) →
+    StepsMachineAs (programs_of_plan plan) w e act line next →
+    breach ≡ breach_in plan.grants (slice_get w.processes e.process) line.acted → Leads plan moves w before ((e, act) ∷ left) → Leads plan moves next breach left
+leads-step plan moves w next before breach e act left line valid good byte may s is leads last ends = leads last go
   where
     programs : Programs
     programs = programs_of_plan plan
@@ -49,13 +53,23 @@ leads-step plan events w next before breach e left line valid good byte s is lea
     formed : ArePrograms programs
     formed = (first_well_formed plan valid).0
 
-    go : (v : World) → IsWellFormed programs v → DiffersInNumbers v w → EndsWith programs plan.grants v before (e ∷ left) last
-    go v fine differs choice fresh =
-        let both = steps_alike programs v w e choice s.choice formed fine good differs fresh s.fresh in
-        subst (λ b. EndsWith programs plan.grants (step programs v e choice).world b left last)
-        (is ∙ sym (same-broken plan w v e line choice s.choice differs both.line s.line_is))
-        (ends (step programs v e choice).world ((next_formed programs v e formed fine byte).each choice fresh)
-        (differs_twice _ _ _ both.next (alike_share _ _ s.world_is)))
+    fresh_about : (v : World) (choice : Choice) → IsFresh v.files choice → IsFresh (about v e.process act).files choice
+    fresh_about v choice fresh = subst (λ f. IsFresh f choice) (sym (files_about v e.process act)) fresh
 
-pub leads-end : (plan : Plan) (events : List Event) (w : World) (before : Option Breach) → Leads plan events w before [] → Breaks plan events before
-leads-end plan events w before leads = leads before (λ v fine differs. refl)
+    go : (v : World) → IsWellFormed programs v → DiffersInNumbers v w → EndsWith programs plan.grants v before ((e, act) ∷ left) last
+    go v fine differs = (
+      may v fine,
+      λ choice fresh.
+          let there = about_well_formed programs v e.process act fine (may v fine) in
+          let both =
+          steps_alike programs (about v e.process act) (about w e.process act) e choice s.choice formed there (about_well_formed programs w e.process act good (may w good))
+          (differs_about v w e.process act differs) (fresh_about v choice fresh) s.fresh
+          in
+          subst (λ b. EndsWith programs plan.grants (step_as programs v e act choice).world b left last)
+          (is ∙ sym (same-broken plan w v e act line choice s.choice differs both.line s.line_is))
+          (ends (step_as programs v e act choice).world ((next_formed programs (about v e.process act) e formed there byte).each choice (fresh_about v choice fresh))
+          (differs_twice _ _ _ both.next (alike_share _ _ s.world_is))),
+    )
+
+pub leads-end : (plan : Plan) (moves : List Move) (w : World) (before : Option Breach) → Leads plan moves w before [] → Breaks plan moves before
+leads-end plan moves w before leads = leads before (λ v fine differs. refl)

@@ -1,6 +1,8 @@
+pub mod Attacks
 pub mod Breaches
 pub mod Broken
 pub mod BreachViews
+pub mod MoveViews
 pub mod Texts
 pub mod FoundViews
 pub mod Moves

@@ -1,14 +1,26 @@
 -- Runs that break something, each in another way, and runs that don't.
-use Rattle.std.specs.Prelude.{false, [], ◌∷◌, codes, Some, None}
+use Rattle.std.specs.Prelude.{ℕ, false, [], ◌∷◌, codes, Some, None}
 use Rattle.rights.specs.Operations.{Write, Create}
+use Rattle.instruction_set.specs.Programs.{Invoke, Mkdirat, Number, Sendfd, Syscall}
 use Rattle.kernel.specs.Answers.{Event}
+use Rattle.kernel.specs.Hostile.{Own, Does}
 use Rattle.task.specs.Breaches.{reading_plan, opening_plan, writing_plan, moving_plan}
+use Rattle.task.specs.Escapes.{making_plan, trusting_plan}
+use Rattle.explore.specs.Attacks.{deed_by}
 use Rattle.explore.specs.Breaches.{Outside, Missing_right, Capability_mode}
-use Rattle.explore.specs.Broken.{Breaks}
+use Rattle.explore.specs.Broken.{Breaks, Move}
 
--- an event of the first process
-abbrev pub first_moves : Event
-first_moves = record { process = 0; input = 0; refuse = false }
+-- an event of a process
+abbrev pub event_of_process : ℕ → Event
+event_of_process process = record { process = process; input = 0; refuse = false }
+
+-- the first process goes on with its program
+abbrev pub first_moves : Move
+first_moves = (event_of_process 0, Own)
+
+-- the second process makes this call, whatever its program has
+abbrev pub child_calls : Syscall → Move
+child_calls call = (event_of_process 1, Does (deed_by (Invoke call 0)))
 
 pub record SomeRunsBreak : Type 0 where
   pub right : Breaks reading_plan (first_moves ∷ first_moves ∷ []) (Some Missing_right)
@@ -17,3 +29,8 @@ pub record SomeRunsBreak : Type 0 where
   pub second_effect : Breaks moving_plan (first_moves ∷ first_moves ∷ []) (Some (Outside Create (codes "/work/new")))
   pub too_early : Breaks reading_plan (first_moves ∷ []) None
   pub nothing_moves : Breaks reading_plan [] None
+  -- of attackers: one makes what no grant allows, and one sends what a trusted process is refused for
+  pub made : Breaks making_plan (child_calls (Mkdirat (Number 1) (codes "x")) ∷ []) (Some (Outside Create (codes "/work/x")))
+  pub sent : Breaks trusting_plan (child_calls (Sendfd (Number 0) (Number 1) (Number 0)) ∷ first_moves ∷ first_moves ∷ []) (Some Missing_right)
+  pub only_sent : Breaks trusting_plan (child_calls (Sendfd (Number 0) (Number 1) (Number 0)) ∷ first_moves ∷ []) None
+  pub as_written : Breaks making_plan ((event_of_process 1, Own) ∷ []) None

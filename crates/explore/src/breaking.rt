@@ -1,25 +1,27 @@
 //! Runs whose last step breaks something.
 
-ghost use Rattle.std.specs.Prelude.{◌≡◌, ◌<◌, IfOk, IfSome, IsErrOf, OnErr, OnOk, Some, false, map, option_map};
+ghost use Rattle.std.specs.Prelude.{◌≡◌, ◌<◌, IfOk, IfSome, IsErrOf, OnErr, OnOk, Some, false, map, option_map, true};
 ghost use Rattle.std.specs.List.{slice_get};
 ghost use Rattle.kernel.specs.WellFormed.{IsWellFormed};
 ghost use Rattle.process.specs.State.{ProcessState};
 ghost use Rattle.syscalls.specs.Views.{event_of};
 ghost use Rattle.task.specs.Plans.{programs_of_plan};
 ghost use Rattle.simulator.specs.Machines.{machine_world};
-ghost use Rattle.simulator.specs.Steps.{StepsMachine};
+ghost use Rattle.simulator.specs.Steps.{StepsMachineAs};
 ghost use Rattle.simulator.specs.Views.{line_of};
 ghost use Rattle.explore.specs.Breaches.{breach_in};
 ghost use Rattle.explore.specs.Broken.{Breaks, IsRefuted};
 ghost use Rattle.explore.specs.BreachViews.{breach_of, standing_of};
+ghost use Rattle.explore.specs.MoveViews.{act_of, are_paths_of, move_of};
 
+use crate::attacks::Move;
 use crate::breaches::{Breach, Standing, broken};
 use file_tree::Tree;
 use link_tree::LinkTree;
 use rights::Stop;
+use rights::limits::REGISTERS;
 use simulator::{Line, Machine};
 use std::alloc::Global;
-use syscalls::Event;
 use task::Task;
 
 /// A step's line, and what the step breaks.
@@ -42,43 +44,67 @@ fn standing<T: Tree>(machine: &Machine<'_, T>, process: u8) -> Option<Standing>
     }
 }
 
-/// One step of the task's machine, with what it breaks.
+/// One step of a machine by a move.
+fn step_by<T: Tree>(machine: &mut Machine<'_, T>, next: &Move<'_>) -> Result<Line, Stop>
+    ensures step { IfOk result (λ line. StepsMachineAs (programs_of_plan machine.old.plan) (machine_world machine.old) (event_of next.now.event)
+        (act_of next.now) (line_of line) (machine_world machine.new)) }
+    ensures paths { OnOk result (are_paths_of next.now ≡ true) }
+    ensures well_formed { OnOk result (IsWellFormed (programs_of_plan machine.new.plan) (machine_world machine.new)) }
+    ensures plan { machine.new.plan ≡ machine.old.plan }
+    ensures runs_on { OnOk result (machine.new.spent ≡ false) }
+    ensures byte { OnOk result (next.now.event.input < 256) }
+    ensures memory { machine.old.spent ≡ false → IsWellFormed (programs_of_plan machine.old.plan) (machine_world machine.old)
+        → OnErr result (IsErrOf result Stop.Memory) }
+{
+    let Some(deed) = next.deed else {
+        return machine.step(next.event);
+    };
+    // (each program has a point 0, so where that can't be told the machine has stopped before)
+    if !machine.may_stand_at(next.event.process, 0) {
+        return Err(Stop::Spent);
+    }
+    machine.step_as(next.event, deed.instruction(), [0; REGISTERS], 0)
+}
+
+/// One step of the task's machine by a move, with what it breaks.
 pub(crate) fn watched_step<T: Tree>(
     alloc: Global,
     task: &Task,
     machine: &mut Machine<'_, T>,
-    event: Event,
+    next: &Move<'_>,
 ) -> Result<Watched, Stop>
-    ensures step { IfOk result (λ watched. StepsMachine (programs_of_plan machine.old.plan) (machine_world machine.old) (event_of event)
-        (line_of watched.line) (machine_world machine.new)) }
+    ensures step { IfOk result (λ watched. StepsMachineAs (programs_of_plan machine.old.plan) (machine_world machine.old) (event_of next.now.event)
+        (act_of next.now) (line_of watched.line) (machine_world machine.new)) }
     ensures breach { IfOk result (λ watched. option_map breach_of watched.breach
-        ≡ breach_in task.now.grants (slice_get machine.old.processes event.process) (line_of watched.line).acted) }
+        ≡ breach_in task.now.grants (slice_get machine.old.processes next.now.event.process) (line_of watched.line).acted) }
+    ensures paths { OnOk result (are_paths_of next.now ≡ true) }
     ensures well_formed { OnOk result (IsWellFormed (programs_of_plan machine.new.plan) (machine_world machine.new)) }
     ensures plan { machine.new.plan ≡ machine.old.plan }
     ensures runs_on { OnOk result (machine.new.spent ≡ false) }
-    ensures byte { OnOk result (event.input < 256) }
-    ensures memory { machine.old.spent ≡ false → OnErr result (IsErrOf result Stop.Memory) }
+    ensures byte { OnOk result (next.now.event.input < 256) }
+    ensures memory { machine.old.spent ≡ false → IsWellFormed (programs_of_plan machine.old.plan) (machine_world machine.old)
+        → OnErr result (IsErrOf result Stop.Memory) }
 {
-    let standing = standing(machine, event.process);
-    let line = machine.step(event)?;
+    let standing = standing(machine, next.event.process);
+    let line = step_by(machine, next)?;
     let breach = broken(alloc, task.grants(), standing, line.acted.as_ref())?;
     Ok(Watched { line, breach })
 }
 
-/// Runs the task over the events, and answers what the last step breaks, if it breaks something: an effect outside the policy of a
+/// Runs the task by the moves, and answers what the last step breaks, if it breaks something: an effect outside the policy of a
 /// process in capability mode, or the refusal of a call of a trusted program for a missing right or by capability mode. What the
 /// steps before break doesn't count. Want of memory is the only error.
 ///
-/// Where something is broken, the task is neither sandboxed nor confined.
-pub fn breaks(alloc: Global, task: &Task, events: &[Event]) -> Result<Option<Breach>, Stop>
-    ensures breach { IfOk result (λ found. Breaks task.now (map event_of events.now) (option_map breach_of found)) }
-    ensures refuted { IfOk result (λ found. IfSome found (λ breach. IsRefuted task.now)) }
+/// Where something is broken, the task isn't confined; and where no move is an attacker's, it isn't sandboxed.
+pub fn breaks(alloc: Global, task: &Task, moves: &[Move<'_>]) -> Result<Option<Breach>, Stop>
+    ensures breach { IfOk result (λ found. Breaks task.now (map move_of moves.now) (option_map breach_of found)) }
+    ensures refuted { IfOk result (λ found. IfSome found (λ breach. IsRefuted task.now (map move_of moves.now))) }
     ensures memory { OnErr result (IsErrOf result Stop.Memory) }
 {
     let mut machine: Machine<'_, LinkTree> = Machine::start(alloc, task)?;
     let mut breach = None;
-    for event in events {
-        let watched = watched_step(alloc, task, &mut machine, *event)?;
+    for next in moves {
+        let watched = watched_step(alloc, task, &mut machine, next)?;
         breach = watched.breach;
     }
     Ok(breach)

@@ -1,5 +1,6 @@
 //! What is missing where a call is refused, as a text.
 
+use crate::attacks::Move;
 use crate::breaches::Breach;
 use crate::runners::{Runner, call_of, value_of};
 use bitflags::Flags;
@@ -8,7 +9,6 @@ use instruction_set::{Operand, Syscall};
 use process::Process;
 use rights::{Call, Fcntls, Memory, OpenFlags, Position, Rights, needs};
 use std::alloc::{AllocError, Global};
-use syscalls::Event;
 use task::Task;
 use texts::Decimal;
 
@@ -152,21 +152,21 @@ fn push_detail(
     }
 }
 
-/// What stands behind the words of what the last of these events breaks: `: FSTAT of descriptor 3` of a missing right, `: open` of a call
+/// What stands behind the words of what the last of these moves breaks: `: FSTAT of descriptor 3` of a missing right, `: open` of a call
 /// in capability mode, and nothing where that can't be told.
 pub(crate) fn detail_of(
     alloc: Global,
     task: &Task,
-    events: &[Event],
+    moves: &[Move<'_>],
     breach: &Breach,
 ) -> Result<Vec<u8>, Memory> {
     let mut text = Vec::new(alloc);
-    if let Some((last, before)) = events.split_last() {
+    if let Some((last, before)) = moves.split_last() {
         let mut runner = Runner::start(alloc, task)?;
-        for event in before {
-            runner.step(*event)?;
+        for next in before {
+            runner.step(next)?;
         }
-        push_detail(&mut text, task, &runner, last.process, breach)?;
+        push_detail(&mut text, task, &runner, last.event.process, breach)?;
     }
     Ok(text)
 }

@@ -1,11 +1,12 @@
 //! The search for a run that breaks something, over the states of a task.
 
 use crate::aims::{Aims, Order};
+use crate::attacks::{Deeds, Move};
 use crate::digests::Digest;
 use crate::distances::Goal;
 use crate::exploring::HowFar;
 use crate::kept::Kept;
-use crate::moves::{Asked, bytes_to_try, next_moves};
+use crate::moves::{Asked, bytes_to_try, first_moves, next_moves};
 use crate::runners::{Advance, Runner};
 use crate::states::Met;
 use crate::trails::Trails;
@@ -13,7 +14,6 @@ use indexmap::IndexSet;
 use rights::Memory;
 use std::alloc::Global;
 use std::mem;
-use syscalls::Event;
 use task::Task;
 
 /// How many steps that are the only ones possible are run on before a state is kept.
@@ -37,10 +37,11 @@ pub(crate) enum Progress {
 pub(crate) struct Explorer<'a> {
     alloc: Global,
     task: &'a Task,
+    deeds: &'a Deeds,
     bytes: Vec<u8>,
     met: Met<'a>,
     seen: IndexSet<Digest>,
-    trails: Trails,
+    trails: Trails<'a>,
     kept: Kept<'a>,
     aims: Aims,
     /// Some points are looked for.
@@ -50,12 +51,12 @@ pub(crate) struct Explorer<'a> {
     next: usize,
     bound: usize,
     runner: Runner<'a>,
-    /// The events that were run since the last state, those that come next there, and those that may be tried from it.
-    last: Vec<Event>,
-    forced: Vec<Event>,
-    moves: Vec<Event>,
+    /// The moves that were made since the last state, those that come next there, and those that may be tried from it.
+    last: Vec<Move<'a>>,
+    forced: Vec<Move<'a>>,
+    moves: Vec<Move<'a>>,
     /// The run that breaks something, once there is one.
-    found: Vec<Event>,
+    found: Vec<Move<'a>>,
 }
 
 impl<'a> Explorer<'a> {
@@ -63,6 +64,7 @@ impl<'a> Explorer<'a> {
     pub(crate) fn new(
         alloc: Global,
         task: &'a Task,
+        deeds: &'a Deeds,
         goals: &[Goal],
         bound: usize,
     ) -> Result<Explorer<'a>, Memory> {
@@ -73,6 +75,7 @@ impl<'a> Explorer<'a> {
         Ok(Explorer {
             alloc,
             task,
+            deeds,
             bytes,
             met: Met::new(alloc, task)?,
             seen: IndexSet::new(alloc),
@@ -105,12 +108,12 @@ impl<'a> Explorer<'a> {
         }
     }
 
-    /// The run that breaks something, taken away; no events where there is none.
-    pub(crate) fn take_found(&mut self) -> Vec<Event> {
+    /// The run that breaks something, taken away; no moves where there is none.
+    pub(crate) fn take_found(&mut self) -> Vec<Move<'a>> {
         mem::replace(&mut self.found, Vec::new(self.alloc))
     }
 
-    /// Which events are tried from a state, unless all are.
+    /// Which moves are tried from a state, unless all are.
     fn asked(&self) -> Asked {
         if self.is_aimed {
             return Asked::OwnButInputs;
@@ -118,26 +121,31 @@ impl<'a> Explorer<'a> {
         Asked::OwnFirst
     }
 
-    /// Runs the machine on as long as one event alone can come.
-    fn run_on(&mut self) -> Result<Advance, Memory> {
+    /// Notes the moves that come next, or none where an attacker may do something.
+    fn note_forced(&mut self) -> Result<(), Memory> {
         let asked = self.asked();
+        let (task, runner, bytes) = (self.task, &self.runner, &self.bytes);
+        if runner.has_attacker() {
+            first_moves(task, runner, bytes, asked, &mut self.forced)?;
+        } else {
+            next_moves(task, self.deeds, runner, bytes, asked, &mut self.forced)?;
+        }
+        Ok(())
+    }
+
+    /// Runs the machine on as long as one move alone can come, and that is no attacker's.
+    fn run_on(&mut self) -> Result<Advance, Memory> {
         for _ in 0..MAX_FORCED {
-            next_moves(
-                self.task,
-                &self.runner,
-                &self.bytes,
-                asked,
-                &mut self.forced,
-            )?;
-            let [event] = self.forced.as_slice() else {
+            self.note_forced()?;
+            let [next] = self.forced.as_slice() else {
                 break;
             };
-            let event = *event;
-            match self.runner.step(event)? {
+            let next = *next;
+            match self.runner.step(&next)? {
                 Advance::Stays => break,
-                Advance::Goes => self.last.push(event)?,
+                Advance::Goes => self.last.push(next)?,
                 Advance::Breaks => {
-                    self.last.push(event)?;
+                    self.last.push(next)?;
                     return Ok(Advance::Breaks);
                 }
             }
@@ -145,14 +153,14 @@ impl<'a> Explorer<'a> {
         Ok(Advance::Goes)
     }
 
-    /// Runs the machine by one event, and on.
-    fn advance(&mut self, event: Event) -> Result<Advance, Memory> {
+    /// Runs the machine by one move, and on.
+    fn advance(&mut self, next: &Move<'a>) -> Result<Advance, Memory> {
         self.last.clear();
-        let advance = self.runner.step(event)?;
+        let advance = self.runner.step(next)?;
         if matches!(advance, Advance::Stays) {
             return Ok(advance);
         }
-        self.last.push(event)?;
+        self.last.push(*next)?;
         if matches!(advance, Advance::Breaks) {
             return Ok(advance);
         }
@@ -170,8 +178,10 @@ impl<'a> Explorer<'a> {
                 if self.trails.is_first(*at) {
                     self.runner = Runner::start(self.alloc, self.task)?;
                 }
-                for event in self.trails.events_to(*at) {
-                    self.runner.step(*event)?;
+                for number in 0..self.trails.count_to(*at) {
+                    if let Some(next) = self.trails.move_to(*at, number) {
+                        self.runner.step(&next)?;
+                    }
                 }
                 self.kept.keep(*at, &mut self.runner)?;
             }
@@ -182,7 +192,7 @@ impl<'a> Explorer<'a> {
         Ok(())
     }
 
-    /// Keeps the state at which the machine stands, to which the events lead that were run since the one before it, unless it was met
+    /// Keeps the state at which the machine stands, to which the moves lead that were made since the one before it, unless it was met
     /// before. Whether it is new is told.
     fn keep(&mut self, parent: Option<usize>) -> Result<bool, Memory> {
         let digest = self.runner.digest(&mut self.met)?;
@@ -221,20 +231,20 @@ impl<'a> Explorer<'a> {
         self.kept.load(place, &mut self.runner)
     }
 
-    /// Tries the events that may be, from the state of a place, up to one that breaks something. Whether a new state was met is told.
+    /// Tries the moves that may be, from the state of a place, up to one that breaks something. Whether a new state was met is told.
     fn try_moves(&mut self, place: usize) -> Result<bool, Memory> {
         let mut any_new = false;
         let mut is_there = false;
         let count = self.moves.len();
         for at in 0..count {
-            let Some(event) = self.moves.get(at).copied() else {
+            let Some(next) = self.moves.get(at).copied() else {
                 break;
             };
             if !is_there {
                 self.stand_at(place, at + 1 == count)?;
             }
             is_there = false;
-            match self.advance(event)? {
+            match self.advance(&next)? {
                 Advance::Stays => is_there = true,
                 Advance::Goes => any_new = self.keep(Some(place))? || any_new,
                 Advance::Breaks => {
@@ -246,20 +256,27 @@ impl<'a> Explorer<'a> {
         Ok(any_new)
     }
 
-    /// Notes the events that may be tried from the state of a place. Whether those of one process are all that was asked for is told.
+    /// Notes the moves that may be tried from the state of a place. Whether those of one process are all that was asked for is told.
     fn ask(&mut self, place: usize, asked: Asked) -> Result<bool, Memory> {
         self.come_to(place)?;
         let Some(runner) = self.kept.get(place) else {
             self.moves.clear();
             return Ok(false);
         };
-        next_moves(self.task, runner, &self.bytes, asked, &mut self.moves)
+        next_moves(
+            self.task,
+            self.deeds,
+            runner,
+            &self.bytes,
+            asked,
+            &mut self.moves,
+        )
     }
 
-    /// Goes on from the state of a place, by the events of one process, if that can be, and by all if these lead to nothing new, or were too
+    /// Goes on from the state of a place, by the moves of one process, if that can be, and by all if these lead to nothing new, or were too
     /// many already.
     fn expand(&mut self, place: usize) -> Result<(), Memory> {
-        let is_long = self.trails.events_to(place).len() >= MAX_FORCED;
+        let is_long = self.trails.count_to(place) >= MAX_FORCED;
         let asked = if is_long { Asked::All } else { self.asked() };
         let is_alone = self.ask(place, asked)?;
         let any_new = self.try_moves(place)?;

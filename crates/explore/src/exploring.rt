@@ -1,8 +1,12 @@
 //! The search for a run that breaks something, and what it comes to.
 
-ghost use Rattle.std.specs.Prelude.{IfOk};
+ghost use Rattle.std.specs.Prelude.{◌≡◌, IfOk, map};
+ghost use Rattle.syscalls.specs.Views.{event_of};
+ghost use Rattle.explore.specs.Broken.{are_own};
 ghost use Rattle.explore.specs.FoundViews.{IsExplored};
+ghost use Rattle.explore.specs.MoveViews.{event_at, move_of};
 
+use crate::attacks::{Deeds, Move};
 use crate::breaches::Breach;
 use crate::breaking::breaks;
 use crate::details::detail_of;
@@ -44,39 +48,79 @@ pub struct FoundRun {
     pub detail: Vec<u8>,
 }
 
+/// A run that breaks something at its last step, at which attackers do what they like.
+#[derive(Drop)]
+pub struct FoundAttack<'a> {
+    pub moves: Vec<Move<'a>>,
+    pub breach: Breach,
+    /// As that of a `FoundRun`.
+    pub detail: Vec<u8>,
+}
+
 /// What a search came to.
 #[derive(Drop)]
-pub enum Explored {
+pub enum Explored<'a> {
     /// A run breaks something.
     Breaks(FoundRun),
+    /// A run breaks something in which attackers do what they like.
+    Attacked(FoundAttack<'a>),
     /// All states that the tried bytes lead to were visited, so many. That claims nothing.
     Ended(usize),
     /// So many states were met, and the search stopped. That claims nothing.
     Bounded(usize),
 }
 
+/// Whether no move is an attacker's.
+fn are_own(moves: &[Move<'_>]) -> bool
+    ensures { result ≡ are_own (map move_of moves.now) }
+{
+    match moves {
+        [] => true,
+        [next, moves @ ..] => next.deed.is_none() && are_own(moves),
+    }
+}
+
+/// The events of moves.
+fn events_of(alloc: Global, moves: &[Move<'_>]) -> Result<Vec<Event>, Memory>
+    ensures { IfOk result (λ events. map event_of events.items ≡ map event_at moves.now) }
+{
+    let mut events = Vec::new(alloc);
+    for next in moves {
+        events.push(next.event)?;
+    }
+    Ok(events)
+}
+
 /// Checks a run that was found, and shortens it.
-fn check_found(
+fn check_found<'a>(
     alloc: Global,
     task: &Task,
-    events: Vec<Event>,
+    moves: Vec<Move<'a>>,
     states: usize,
-) -> Result<Explored, Memory>
+) -> Result<Explored<'a>, Memory>
     ensures { IfOk result (IsExplored task.now) }
 {
-    let events = shrink(alloc, task, events)?;
-    match breaks(alloc, task, &events) {
-        Err(_) => Err(Memory),
-        Ok(None) => Ok(Explored::Bounded(states)),
-        Ok(Some(breach)) => {
-            let detail = detail_of(alloc, task, &events, &breach)?;
-            Ok(Explored::Breaks(FoundRun {
-                events,
-                breach,
-                detail,
-            }))
-        }
+    let moves = shrink(alloc, task, moves)?;
+    let Ok(breach) = breaks(alloc, task, &moves) else {
+        return Err(Memory);
+    };
+    let Some(breach) = breach else {
+        return Ok(Explored::Bounded(states));
+    };
+    let detail = detail_of(alloc, task, &moves, &breach)?;
+    if are_own(&moves) {
+        let events = events_of(alloc, &moves)?;
+        return Ok(Explored::Breaks(FoundRun {
+            events,
+            breach,
+            detail,
+        }));
     }
+    Ok(Explored::Attacked(FoundAttack {
+        moves,
+        breach,
+        detail,
+    }))
 }
 
 /// Goes through states in slices, at most so many, and tells the watcher behind each.
@@ -96,13 +140,13 @@ fn go_through<W: Watcher>(
 }
 
 /// What a search comes to, over at most so many states.
-fn searched<W: Watcher>(
+fn searched<'a, W: Watcher>(
     alloc: Global,
     task: &Task,
-    explorer: &mut Explorer<'_>,
+    explorer: &mut Explorer<'a>,
     bound: usize,
     watcher: &mut W,
-) -> Result<Explored, Memory>
+) -> Result<Explored<'a>, Memory>
     ensures { IfOk result (IsExplored task.now) }
 {
     let progress = go_through(explorer, bound, watcher)?;
@@ -116,16 +160,18 @@ fn searched<W: Watcher>(
 
 /// Searches a run that breaks something, over at most so many states, and tells the watcher now and then how many were met. It goes first
 /// from states whose processes have few steps to some points, and now and then by breadth; by breadth alone where there are none. What is
-/// found is checked by `breaks`, and no event of it can be left out.
-pub fn explore<W: Watcher>(
+/// found is checked by `breaks`, and no move of it can be left out. Processes of untrusted programs in capability mode do these deeds, and nothing
+/// else; the others do what is written.
+pub fn explore<'a, W: Watcher>(
     alloc: Global,
-    task: &Task,
+    task: &'a Task,
+    deeds: &'a Deeds,
     goals: &[Goal],
     bound: usize,
     watcher: &mut W,
-) -> Result<Explored, Memory>
+) -> Result<Explored<'a>, Memory>
     ensures { IfOk result (IsExplored task.now) }
 {
-    let mut explorer = Explorer::new(alloc, task, goals, bound)?;
+    let mut explorer = Explorer::new(alloc, task, deeds, goals, bound)?;
     searched(alloc, task, &mut explorer, bound, watcher)
 }

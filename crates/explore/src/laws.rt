@@ -3,14 +3,15 @@
 ghost use Rattle.explore.specs.Broken.{BreachesRefute};
 ghost use Rattle.explore.specs.Samples.{SomeRunsBreak};
 
-/// A task some run of which breaks something at its last step is neither sandboxed nor confined.
+/// A task some run of which breaks something at its last step isn't confined, and without an attacker's move it isn't sandboxed.
 pub fn breaches_refute()
     ensures { BreachesRefute }
 {}
 
 /// To break something says something. In two steps a process reads without the right to, opens a file by its path alone in the mode,
 /// writes in a grant that lists reading alone, or moves a file in a grant that lists removing alone, where the second of two effects
-/// isn't allowed. The first step of each breaks nothing, and neither does no step.
+/// isn't allowed. In one step an attacker makes a directory where its grant doesn't list that, and in three it sends what a trusted process is
+/// refused for. The first step of a run of two breaks nothing, and neither does no step, nor what the attacked program has.
 pub fn some_runs_break()
     ensures { SomeRunsBreak }
 {}

@@ -5,6 +5,7 @@
 #![tactic(auto)]
 
 mod aims;
+pub mod attacks;
 pub mod breaches;
 pub mod breaking;
 mod details;
@@ -21,12 +22,15 @@ mod runners;
 mod shared_trees;
 mod shrinking;
 mod states;
+pub mod taking_over;
 mod trails;
 mod trees;
 pub mod writing;
 
+pub use attacks::{Deed, Deeds, Move};
 pub use breaches::Breach;
 pub use breaking::breaks;
 pub use distances::Goal;
-pub use exploring::{Explored, FoundRun, HowFar, Watcher, explore};
+pub use exploring::{Explored, FoundAttack, FoundRun, HowFar, Watcher, explore};
+pub use taking_over::{Entry, Takeover, takeovers};
 pub use writing::write_breach;

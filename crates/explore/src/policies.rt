@@ -27,6 +27,13 @@ fn is_beneath(place: &Place, text: &[u8]) -> bool
     }
 }
 
+/// The place in a policy of the first grant that holds the place of a text.
+pub(crate) fn grant_holding(grants: &[Grant], text: &[u8]) -> Option<usize> {
+    grants
+        .iter()
+        .position(|grant| is_beneath(&grant.path, text))
+}
+
 /// Whether some grant allows an effect.
 pub(crate) fn is_allowed(grants: &[Grant], effect: &Effect) -> bool
     ensures { result ≡ list_any (allows_shown (effect_of effect.now)) (grants_of grants.now) }

@@ -48,7 +48,8 @@ impl<'a> Readable<'a> {
             .iter()
             .any(|node| matches!(node.kind, Kind::Link));
         for named in task.programs() {
-            any = any || named.program.code().iter().any(moves);
+            // (an attacker reads and moves what it likes)
+            any = any || named.untrusted || named.program.code().iter().any(moves);
             for path in named.program.code().iter().filter_map(path_read) {
                 names.push(last_name(path.bytes()))?;
             }

@@ -1,18 +1,20 @@
 //! A machine on its way.
 
+use crate::attacks::Move;
 use crate::breaking::watched_step;
 use crate::digests::Digest;
 use crate::shared_trees::SharedTree;
 use crate::states::{Met, open_at};
 use crate::trees::{TreeDigest, digest_of_tree};
 use fd_table::{Description, Descriptor};
+use file_tree::NodeId;
 use instruction_set::{Instruction, Operand, Syscall};
 use process::Process;
 use rights::{Memory, Op};
 use simulator::{LineResult, Machine};
 use std::alloc::Global;
 use std::rc::Rc;
-use syscalls::{Effect, Event};
+use syscalls::Effect;
 use task::Task;
 
 /// A machine that has run so far, and the digest of its tree.
@@ -108,9 +110,28 @@ impl<'a> Runner<'a> {
         open_at(self.machine.files(), process, number)
     }
 
+    /// Whether a process may do anything.
+    pub(crate) fn has_attacker(&self) -> bool {
+        self.machine
+            .processes()
+            .iter()
+            .any(|process| process.is_hostile())
+    }
+
+    /// Whether the grant in which a node stood when the tree was looked through lists an operation.
+    pub(crate) fn lists(&self, node: NodeId, op: Op) -> bool {
+        let Some(Some(at)) = self.tree.grants.get(node.number()) else {
+            return false;
+        };
+        match self.task.grants().get(*at) {
+            None => false,
+            Some(grant) => op.is_listed(&grant.operations),
+        }
+    }
+
     /// One step.
-    pub(crate) fn step(&mut self, event: Event) -> Result<Advance, Memory> {
-        let Ok(watched) = watched_step(self.alloc, self.task, &mut self.machine, event) else {
+    pub(crate) fn step(&mut self, next: &Move<'_>) -> Result<Advance, Memory> {
+        let Ok(watched) = watched_step(self.alloc, self.task, &mut self.machine, next) else {
             return Err(Memory);
         };
         let Some(acted) = &watched.line.acted else {
@@ -127,7 +148,7 @@ impl<'a> Runner<'a> {
     /// The digest of the state.
     pub(crate) fn digest(&mut self, met: &mut Met<'_>) -> Result<Digest, Memory> {
         if self.is_changed {
-            let tree = digest_of_tree(self.alloc, self.machine.tree(), &met.readable)?;
+            let tree = digest_of_tree(self.alloc, self.machine.tree(), &met.readable, met.policy)?;
             self.tree = Rc::new(self.alloc, tree)?;
             self.is_changed = false;
         }

@@ -11,7 +11,7 @@ use process::{Process, Walking};
 use rights::Memory;
 use rights::limits::{MAX_DESCRIPTORS, MAX_LINKS, MAX_MESSAGES, MAX_PROCESSES};
 use std::alloc::Global;
-use task::Task;
+use task::{Grant, Task};
 
 /// How many pairs are open at most: each has two ends.
 const MAX_MET: usize = 512;
@@ -23,6 +23,8 @@ const MAX_LEFT: usize = 512 * (MAX_LINKS as usize + 1);
 #[derive(Drop)]
 pub(crate) struct Met<'a> {
     pub readable: Readable<'a>,
+    /// The policy, where attackers are to be measured by it.
+    pub policy: &'a [Grant],
     digest: Digest,
     descriptions: Vec<DescriptionId>,
     pairs: Vec<PairId>,
@@ -78,8 +80,10 @@ fn class_number(class: Class) -> u64 {
 impl<'a> Met<'a> {
     pub(crate) fn new(alloc: Global, task: &'a Task) -> Result<Met<'a>, Memory> {
         let readable = Readable::new(alloc, task)?;
+        let is_any = task.programs().iter().any(|named| named.untrusted);
         Ok(Met {
             readable,
+            policy: if is_any { task.grants() } else { &[] },
             digest: Digest::new(),
             descriptions: Vec::new(alloc),
             pairs: Vec::new(alloc),

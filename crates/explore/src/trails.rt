@@ -1,19 +1,19 @@
-//! The states that were met, and the events that lead to them.
+//! The states that were met, and the moves that lead to them.
 
+use crate::attacks::Move;
 use crate::kept::Kept;
 use rights::Memory;
 use std::alloc::Global;
-use syscalls::Event;
 
 /// A state that was met.
 #[derive(Clone, Copy)]
 struct Visit {
     /// The state before it, if it isn't the first.
     parent: Option<usize>,
-    /// Where the events lie that lead here from there.
+    /// Where the moves lie that lead here from there.
     first: usize,
     count: usize,
-    /// How many events lead here from the first state.
+    /// How many moves lead here from the first state.
     depth: usize,
     /// How many calls the kernel refused on its way.
     refusals: u32,
@@ -23,22 +23,22 @@ struct Visit {
 
 /// The states that were met, in the order in which they were.
 #[derive(Drop)]
-pub(crate) struct Trails {
+pub(crate) struct Trails<'a> {
     alloc: Global,
     visits: Vec<Visit>,
-    /// The events of all of them, one after another.
-    events: Vec<Event>,
+    /// The moves of all of them, one after another.
+    moves: Vec<Move<'a>>,
     /// The greatest depth.
     deepest: usize,
 }
 
-impl Trails {
+impl<'a> Trails<'a> {
     /// No state yet.
-    pub(crate) fn new(alloc: Global) -> Trails {
+    pub(crate) fn new(alloc: Global) -> Trails<'a> {
         Trails {
             alloc,
             visits: Vec::new(alloc),
-            events: Vec::new(alloc),
+            moves: Vec::new(alloc),
             deepest: 0,
         }
     }
@@ -48,31 +48,35 @@ impl Trails {
         self.visits.len()
     }
 
-    /// Adds a state to which these events lead from the one before it, and gives its place.
-    pub(crate) fn add(&mut self, parent: Option<usize>, events: &[Event]) -> Result<usize, Memory> {
+    /// Adds a state to which these moves lead from the one before it, and gives its place.
+    pub(crate) fn add(
+        &mut self,
+        parent: Option<usize>,
+        moves: &[Move<'a>],
+    ) -> Result<usize, Memory> {
         let place = self.visits.len();
         let (before, depth) = match parent {
-            None => (0, events.len()),
+            None => (0, moves.len()),
             Some(parent) => (
                 self.refusals(parent),
-                self.depth(parent).saturating_add(events.len()),
+                self.depth(parent).saturating_add(moves.len()),
             ),
         };
-        let refused = matches!(events.first(), Some(event) if event.refuse);
+        let refused = matches!(moves.first(), Some(next) if next.event.refuse);
         self.visits.push(Visit {
             parent,
-            first: self.events.len(),
-            count: events.len(),
+            first: self.moves.len(),
+            count: moves.len(),
             depth,
             refusals: before.saturating_add(u32::from(refused)),
             is_done: false,
         })?;
-        self.events.extend_from_slice(events)?;
+        self.moves.extend_from_slice(moves)?;
         self.deepest = self.deepest.max(depth);
         Ok(place)
     }
 
-    /// How many events lead to the state of a place from the first one.
+    /// How many moves lead to the state of a place from the first one.
     fn depth(&self, place: usize) -> usize {
         match self.visits.get(place) {
             None => 0,
@@ -80,7 +84,7 @@ impl Trails {
         }
     }
 
-    /// The greatest number of events that lead to a state.
+    /// The greatest number of moves that lead to a state.
     pub(crate) fn deepest(&self) -> usize {
         self.deepest
     }
@@ -115,15 +119,21 @@ impl Trails {
         }
     }
 
-    /// The events that lead to the state of a place from the one before it.
-    pub(crate) fn events_to(&self, place: usize) -> &[Event] {
+    /// How many moves lead to the state of a place from the one before it.
+    pub(crate) fn count_to(&self, place: usize) -> usize {
         match self.visits.get(place) {
-            None => &[],
-            Some(visit) => {
-                let behind = self.events.get(visit.first..).unwrap_or(&[]);
-                behind.get(..visit.count).unwrap_or(&[])
-            }
+            None => 0,
+            Some(visit) => visit.count,
         }
+    }
+
+    /// One of these moves, by its number from 0 on.
+    pub(crate) fn move_to(&self, place: usize, number: usize) -> Option<Move<'a>> {
+        let visit = self.visits.get(place)?;
+        if number >= visit.count {
+            return None;
+        }
+        self.moves.get(visit.first.saturating_add(number)).copied()
     }
 
     /// The states on the way to one, itself first, up to one whose machine is kept, or to the first state.
@@ -140,12 +150,16 @@ impl Trails {
         Ok(way)
     }
 
-    /// The run to the state of a place from the first one on, and on by further events.
-    pub(crate) fn run_by(&self, place: usize, last: &[Event]) -> Result<Vec<Event>, Memory> {
+    /// The run to the state of a place from the first one on, and on by further moves.
+    pub(crate) fn run_by(&self, place: usize, last: &[Move<'a>]) -> Result<Vec<Move<'a>>, Memory> {
         let way = self.way_to(place, &Kept::none(self.alloc))?;
         let mut run = Vec::new(self.alloc);
         for at in way.iter().rev() {
-            run.extend_from_slice(self.events_to(*at))?;
+            for number in 0..self.count_to(*at) {
+                if let Some(next) = self.move_to(*at, number) {
+                    run.push(next)?;
+                }
+            }
         }
         run.extend_from_slice(last)?;
         Ok(run)

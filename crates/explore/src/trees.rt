@@ -3,17 +3,20 @@
 ghost use Rattle.std.specs.Prelude.{◌<◌, length};
 
 use crate::digests::Digest;
+use crate::policies::grant_holding;
 use crate::readable::Readable;
 use file_tree::{Kind, NodeId, Tree};
 use rights::Memory;
 use rights::limits::MAX_NODES;
 use std::alloc::Global;
+use task::Grant;
 
-/// The digest of a tree, and of where each of its nodes stands, by number.
+/// The digest of a tree, and of where each of its nodes stands, by number, with the grant in which it stands, by its place in the policy.
 #[derive(Drop)]
 pub(crate) struct TreeDigest {
     pub whole: Digest,
     pub nodes: Vec<Digest>,
+    pub grants: Vec<Option<usize>>,
 }
 
 impl TreeDigest {
@@ -22,6 +25,7 @@ impl TreeDigest {
         TreeDigest {
             whole: Digest::new(),
             nodes: Vec::new(alloc),
+            grants: Vec::new(alloc),
         }
     }
 }
@@ -50,13 +54,16 @@ fn add_content<T: Tree>(digest: &mut Digest, tree: &T, node: NodeId, counts: boo
     }
 }
 
-/// The digest of a tree. The order in which its nodes were made doesn't count, and neither do removed ones, and what no program can read.
+/// The digest of a tree. The order in which its nodes were made doesn't count, and neither do removed ones, and what no program can read. The grants are
+/// those of this policy.
 pub(crate) fn digest_of_tree<T: Tree>(
     alloc: Global,
     tree: &T,
     readable: &Readable<'_>,
+    policy: &[Grant],
 ) -> Result<TreeDigest, Memory> {
     let mut nodes = Vec::new(alloc);
+    let mut grants = Vec::new(alloc);
     let mut whole = Digest::new();
     let mut text = Vec::new(alloc);
     for number in 0..tree.made() {
@@ -65,12 +72,14 @@ pub(crate) fn digest_of_tree<T: Tree>(
         }
         let node = NodeId::at(number);
         let mut place = Digest::new();
+        let mut grant = None;
         text.clear();
         if tree.is_linked(node) {
             if tree.place_text(node, &mut text).is_err() {
                 return Err(Memory);
             }
             place.add_text(&text);
+            grant = grant_holding(policy, &text);
             let mut all = place;
             add_content(&mut all, tree, node, readable.holds(&text));
             whole = whole.beside(all);
@@ -79,6 +88,11 @@ pub(crate) fn digest_of_tree<T: Tree>(
             add_content(&mut place, tree, node, true);
         }
         nodes.push(place)?;
+        grants.push(grant)?;
     }
-    Ok(TreeDigest { whole, nodes })
+    Ok(TreeDigest {
+        whole,
+        nodes,
+        grants,
+    })
 }
