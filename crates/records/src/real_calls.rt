@@ -1,0 +1,178 @@
+//! Calls with real operands, of the kinds that each call is given.
+
+ghost use Rattle.std.specs.Prelude.{◌≡◌, [], ◌∷◌, map, true};
+ghost use Rattle.rights.specs.Views.{call_of};
+ghost use Rattle.records.specs.OperandViews.{operand_seen};
+ghost use Rattle.records.specs.Calls.{A_choice, A_number, A_path, Open_flags, are_of_kinds, operand_kinds};
+
+use crate::operands::Operand;
+use rights::{Call, OpenFlags};
+use std::alloc::{AllocError, Global};
+
+/// A call with what it was given.
+#[derive(Drop)]
+pub(crate) struct RealCall {
+    pub(crate) call: Call,
+    pub(crate) operands: Vec<Operand>,
+    pub ghost kinds: { are_of_kinds (operand_kinds (call_of call)) (map operand_seen operands.items) ≡ true },
+}
+
+impl RealCall {
+    /// A call that is given nothing.
+    pub(crate) fn alone(alloc: Global, call: Call) -> RealCall
+        requires { operand_kinds (call_of call) ≡ [] }
+    {
+        RealCall {
+            call,
+            operands: Vec::new(alloc),
+        }
+    }
+
+    /// A call that is given a number.
+    pub(crate) fn on(alloc: Global, call: Call, number: u32) -> Result<RealCall, AllocError>
+        requires { operand_kinds (call_of call) ≡ A_number ∷ [] }
+    {
+        let mut operands = Vec::new(alloc);
+        operands.push(Operand::Number(number))?;
+        Ok(RealCall { call, operands })
+    }
+
+    /// A call that is given two numbers.
+    pub(crate) fn with(
+        alloc: Global,
+        call: Call,
+        number: u32,
+        value: u32,
+    ) -> Result<RealCall, AllocError>
+        requires { operand_kinds (call_of call) ≡ A_number ∷ A_number ∷ [] }
+    {
+        let mut operands = Vec::new(alloc);
+        operands.push(Operand::Number(number))?;
+        operands.push(Operand::Number(value))?;
+        Ok(RealCall { call, operands })
+    }
+
+    /// The sending of a descriptor with a byte.
+    pub(crate) fn sendfd(
+        alloc: Global,
+        number: u32,
+        sent: u32,
+        byte: u32,
+    ) -> Result<RealCall, AllocError> {
+        let mut operands = Vec::new(alloc);
+        operands.push(Operand::Number(number))?;
+        operands.push(Operand::Number(sent))?;
+        operands.push(Operand::Number(byte))?;
+        Ok(RealCall {
+            call: Call::Sendfd,
+            operands,
+        })
+    }
+
+    /// A call that is given a path.
+    pub(crate) fn at(alloc: Global, call: Call, path: Vec<u8>) -> Result<RealCall, AllocError>
+        requires { operand_kinds (call_of call) ≡ A_path ∷ [] }
+    {
+        let mut operands = Vec::new(alloc);
+        operands.push(Operand::Path(path))?;
+        Ok(RealCall { call, operands })
+    }
+
+    /// A call that is given a directory's descriptor and a path.
+    pub(crate) fn beneath(
+        alloc: Global,
+        call: Call,
+        number: u32,
+        path: Vec<u8>,
+    ) -> Result<RealCall, AllocError>
+        requires { operand_kinds (call_of call) ≡ A_number ∷ A_path ∷ [] }
+    {
+        let mut operands = Vec::new(alloc);
+        operands.push(Operand::Number(number))?;
+        operands.push(Operand::Path(path))?;
+        Ok(RealCall { call, operands })
+    }
+
+    /// An open of a path.
+    pub(crate) fn open(
+        alloc: Global,
+        path: Vec<u8>,
+        flags: OpenFlags,
+    ) -> Result<RealCall, AllocError> {
+        let mut operands = Vec::new(alloc);
+        operands.push(Operand::Path(path))?;
+        operands.push(Operand::Flags(flags))?;
+        Ok(RealCall {
+            call: Call::Open,
+            operands,
+        })
+    }
+
+    /// An open of a path beneath a directory.
+    pub(crate) fn openat(
+        alloc: Global,
+        number: u32,
+        path: Vec<u8>,
+        flags: OpenFlags,
+    ) -> Result<RealCall, AllocError> {
+        let mut operands = Vec::new(alloc);
+        operands.push(Operand::Number(number))?;
+        operands.push(Operand::Path(path))?;
+        operands.push(Operand::Flags(flags))?;
+        Ok(RealCall {
+            call: Call::Openat,
+            operands,
+        })
+    }
+
+    /// The removal of a path.
+    pub(crate) fn unlink(
+        alloc: Global,
+        path: Vec<u8>,
+        directory: bool,
+    ) -> Result<RealCall, AllocError> {
+        let mut operands = Vec::new(alloc);
+        operands.push(Operand::Path(path))?;
+        operands.push(Operand::Directory(directory))?;
+        Ok(RealCall {
+            call: Call::Unlink,
+            operands,
+        })
+    }
+
+    /// The removal of a path beneath a directory.
+    pub(crate) fn unlinkat(
+        alloc: Global,
+        number: u32,
+        path: Vec<u8>,
+        directory: bool,
+    ) -> Result<RealCall, AllocError> {
+        let mut operands = Vec::new(alloc);
+        operands.push(Operand::Number(number))?;
+        operands.push(Operand::Path(path))?;
+        operands.push(Operand::Directory(directory))?;
+        Ok(RealCall {
+            call: Call::Unlinkat,
+            operands,
+        })
+    }
+
+    /// A rename from one directory to another.
+    pub(crate) fn renameat(
+        alloc: Global,
+        number: u32,
+        path: Vec<u8>,
+        target: u32,
+        target_path: Vec<u8>,
+    ) -> Result<RealCall, AllocError> {
+        let mut operands = Vec::new(alloc);
+        operands.push(Operand::Number(number))?;
+        operands.push(Operand::Path(path))?;
+        operands.push(Operand::Number(target))?;
+        operands.push(Operand::Path(target_path))?;
+        Ok(RealCall {
+            call: Call::Renameat,
+            operands,
+        })
+    }
+}
